@@ -1,0 +1,5 @@
+pub mod Ties
+pub mod IdKind
+pub mod EntityId
+pub mod Kind
+pub mod Event

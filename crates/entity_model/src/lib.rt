@@ -1,0 +1,12 @@
+//! The values that the whole workspace speaks of: the ids of Wikidata's items and properties, the
+//! events of their pages with the order in which they are applied, and the reasons for which the
+//! bytes of a page are no document.
+#![tactic(auto)]
+
+mod event;
+mod id;
+mod unfit;
+
+pub use event::{Event, Kind};
+pub use id::{EntityId, IdKind};
+pub use unfit::Unfit;
