@@ -1,5 +1,5 @@
-ghost use Rattle.std.specs.Prelude.{◌≡◌, IsTrue, ◌↔◌};
-ghost use Rattle.std.specs.Ordering.{nat_cmp, on};
+ghost use Rattle.std.specs.Prelude.{◌≡◌};
+ghost use Rattle.std.specs.Ordering.{nat_cmp, on, is_lt};
 ghost use Rattle.entity_model.specs.Kind.{kind_place};
 
 use crate::id::EntityId;
@@ -49,7 +49,7 @@ impl Event {
     /// Says whether this event is applied before the other: by time, then by revision, then by
     /// kind, then by entity.
     pub fn key_before(&self, other: &Event) -> bool
-        ensures { IsTrue result ↔ (event_cmp self.now other.now ≡ Ordering.Less) }
+        ensures { result ≡ is_lt (event_cmp self.now other.now) }
     {
         self < other
     }

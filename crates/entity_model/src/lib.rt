@@ -1,6 +1,6 @@
-//! The values that the whole workspace speaks of: the ids of Wikidata's items and properties, the
-//! events of their pages with the order in which they are applied, and the reasons for which the
-//! bytes of a page are no document.
+// The values that the whole workspace speaks of: the ids of Wikidata's items and properties, the
+// events of their pages with the order in which they are applied, and the reasons for which the
+// bytes of a page are no document.
 #![tactic(auto)]
 
 mod event;

@@ -1,0 +1,9 @@
+// The state of an entity, which its events decide one by one in their order, and the record that the
+// program keeps of an entity: its state, the revision that it holds, and the last reconciliation.
+#![tactic(auto)]
+
+mod record;
+mod state;
+
+pub use record::{Held, Record};
+pub use state::{Mode, State, step};

@@ -1,0 +1,41 @@
+// The record of an entity.
+
+ghost use Rattle.std.specs.Prelude.{◌≡◌};
+
+use crate::state::State;
+use entity_model::Event;
+
+/// A revision of an entity's page that was fetched.
+#[derive(Debug, Drop)]
+pub struct Held<H> {
+    /// Its number.
+    pub revision: u64,
+    /// What was fetched.
+    pub content: H,
+}
+
+/// What is kept of one entity.
+#[derive(Debug, Drop)]
+pub struct Record<H> {
+    /// What its applied events say of its page.
+    pub state: State,
+    /// The revision that it holds.
+    pub held: Option<Held<H>>,
+    /// The last of its applied reconciliations, in the order of events.
+    pub reconciled: Option<Event>,
+}
+
+impl<H> Record<H> {
+    ghost use Rattle.entity_state.specs.Record.{blank};
+
+    /// The record of an entity before its first event.
+    pub fn blank() -> Record<H>
+        ensures { result ≡ blank }
+    {
+        Record {
+            state: State::unknown(),
+            held: None,
+            reconciled: None,
+        }
+    }
+}

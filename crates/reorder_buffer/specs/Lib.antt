@@ -1,0 +1,2 @@
+pub mod Watermarks
+pub mod Buffered

@@ -1,0 +1,12 @@
+// What an event is when it is taken.
+
+/// What an event is when it is taken.
+#[derive(Clone, Copy, PartialEq, Eq, Debug)]
+pub enum Taken {
+    /// It waits to be applied in its order.
+    New,
+    /// An equal event was taken before, and nothing changes.
+    Repeat,
+    /// The watermark is at or above its time, so it is remembered and doesn't wait.
+    Late,
+}
