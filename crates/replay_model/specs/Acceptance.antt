@@ -1,0 +1,76 @@
+-- Which events of a list of deliveries are accepted, late, due and known.
+use Rattle.std.specs.Prelude.{ℤ, Bool, not, ◌&&◌, cond, List, [], ◌∷◌, ◌++◌, Option, None, Some, fold, filter, filter_map, option_and_then}
+use Rattle.rising.specs.Rising.{has}
+use Rattle.entity_model.specs.declared.event.Event.{Event}
+use Rattle.entity_model.specs.Event.{event_cmp}
+use Rattle.event_line.specs.declared.Delivery.{Delivery}
+use Rattle.event_line.specs.declared.Delivery.TheVariants.{Event as Told, Watermark}
+use Rattle.reorder_buffer.specs.Watermarks.{greater, reached, is_due}
+
+-- a delivery and the deliveries before it
+pub record Arrival : Type 0 where
+  pub before : List Delivery
+  pub delivery : Delivery
+
+-- each delivery with those before it, where some came before all of them
+abbrev pub arrivals_after : List Delivery → List Delivery → List Arrival
+arrivals_after before [] = []
+arrivals_after before (d ∷ ds) = record { before = before; delivery = d } ∷ arrivals_after (before ++ d ∷ []) ds
+
+-- each delivery with those before it
+abbrev pub arrivals : List Delivery → List Arrival
+arrivals ds = arrivals_after [] ds
+
+-- the event that a delivery tells of
+abbrev pub event_of : Delivery → Option Event
+event_of (Told e) = Some e
+event_of _ = None
+
+-- the watermark that a delivery is
+abbrev pub watermark_of : Delivery → Option ℤ
+watermark_of (Watermark w) = Some w
+watermark_of _ = None
+
+-- the events that were delivered, with their repeats
+abbrev pub events : List Delivery → List Event
+events ds = filter_map event_of ds
+
+-- the mark: the greatest watermark so far
+abbrev pub mark : List Delivery → Option ℤ
+mark ds = fold greater None (filter_map watermark_of ds)
+
+-- whether the event was delivered before
+abbrev pub is_repeat : List Delivery → Event → Bool
+is_repeat before e = has event_cmp e (events before)
+
+-- whether the event comes for the first time, and at or below the mark
+abbrev pub is_late : List Delivery → Event → Bool
+is_late before e = not (is_repeat before e) && reached (mark before) e.time
+
+-- whether the event comes for the first time, and above the mark
+abbrev pub is_accepted : List Delivery → Event → Bool
+is_accepted before e = not (is_repeat before e) && not (reached (mark before) e.time)
+
+-- the event of a delivery, if it passes a test on what came before and itself
+abbrev pub event_passing : (List Delivery → Event → Bool) → Arrival → Option Event
+event_passing test a = option_and_then (λ e. cond (test a.before e) (Some e) None) (event_of a.delivery)
+
+-- the events that pass the test where they come
+abbrev pub events_passing : (List Delivery → Event → Bool) → List Delivery → List Event
+events_passing test ds = filter_map (event_passing test) (arrivals ds)
+
+-- the accepted events, in the order of their first deliveries
+abbrev pub accepted : List Delivery → List Event
+accepted ds = events_passing is_accepted ds
+
+-- the late events, in the order of their first deliveries
+abbrev pub late : List Delivery → List Event
+late ds = events_passing is_late ds
+
+-- the accepted events at or below the mark, and all of them where the end of the input closes the deliveries
+abbrev pub due : Bool → List Delivery → List Event
+due closed ds = filter (is_due closed (mark ds)) (accepted ds)
+
+-- the delivered events at or below the mark, late ones included, and all of them where the end closes the deliveries
+abbrev pub known : Bool → List Delivery → List Event
+known closed ds = filter (is_due closed (mark ds)) (events ds)

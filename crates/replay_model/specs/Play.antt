@@ -1,0 +1,145 @@
+-- The replay of a list of deliveries, where each fetch gives what a function of the applied event and the revision says.
+use Rattle.std.specs.Prelude.{ℕ, Bool, false, true, not, ◌&&◌, cond, List, [], ◌∷◌, ◌++◌, Option, None, Some, Result, Ok, Err, MatchResult, fold, filter, flat_map, length, min, ◌+◌, ◌-◌, ◌^◌}
+use Rattle.std.specs.FinMap as map
+use Rattle.std.specs.Ordering.{is_lt}
+use Rattle.entity_model.specs.declared.event.Event.{Event}
+use Rattle.entity_model.specs.declared.event.Kind.{Kind}
+use Rattle.entity_model.specs.declared.event.Kind.TheVariants.{Edit, Delete, Undelete, ReconcileDeleted, ReconcileKept}
+use Rattle.entity_model.specs.Event.{event_cmp}
+use Rattle.entity_state.specs.declared.state.State.{State}
+use Rattle.entity_state.specs.declared.record.Held.{Held}
+use Rattle.entity_state.specs.declared.record.Record.{Record}
+use Rattle.entity_state.specs.State.{state_after}
+use Rattle.side_output.specs.declared.Cause.{Cause}
+use Rattle.side_output.specs.declared.Entry.{Entry}
+use Rattle.side_output.specs.declared.Entry.TheVariants.{Late, Revision}
+use Rattle.event_line.specs.declared.Delivery.{Delivery}
+use Rattle.event_line.specs.declared.Delivery.TheVariants.{Event as Told, Watermark}
+use Rattle.reorder_buffer.specs.Watermarks.{is_due}
+use Rattle.replay_model.specs.Acceptance.{Arrival, arrivals, mark, is_late, due}
+use Rattle.replay_model.specs.Fate.{in_order}
+use Rattle.replay_model.specs.Records.{Bytes, Records, record_of, is_deleted, wants}
+
+-- what the fetch that the application of an event makes of a revision gives: a document's bytes, or the cause of an entry
+abbrev pub Replies : Type 0
+Replies = Event → ℕ → Result Bytes Cause
+
+-- the records and the side output
+pub record Played : Type 0 where
+  pub records : Records
+  pub side : List Entry
+
+-- nothing was played
+abbrev pub nothing_played : Played
+nothing_played = record { records = map.empty; side = [] }
+
+-- what is held after a fetch of a revision
+abbrev pub held_after_fetch : ℕ → Result Bytes Cause → Option (Held Bytes) → Option (Held Bytes)
+held_after_fetch r (Ok bytes) held = Some (record { revision = r; content = bytes })
+held_after_fetch r (Err cause) held = held
+
+-- what is held in a new state: what a fetch gives where the state wants one, nothing where the page was deleted, and else what was held
+abbrev pub held_after : State → Result Bytes Cause → Option (Held Bytes) → Option (Held Bytes)
+held_after s reply held = cond (wants s held) (held_after_fetch s.rev reply held) (cond (is_deleted s.mode) None held)
+
+-- whether the event says what the wiki has
+abbrev pub is_reconciliation : Kind → Bool
+is_reconciliation Edit = false
+is_reconciliation Delete = false
+is_reconciliation Undelete = false
+is_reconciliation ReconcileDeleted = true
+is_reconciliation ReconcileKept = true
+
+-- whether the event's key is below that of the reconciliation, if there is one
+abbrev pub is_below : Event → Option Event → Bool
+is_below e None = false
+is_below e (Some r) = is_lt (event_cmp e r)
+
+-- the greatest reconciliation so far and an event
+abbrev pub reconciled_after : Option Event → Event → Option Event
+reconciled_after None e = cond (is_reconciliation e.kind) (Some e) None
+reconciled_after (Some r) e = cond (is_reconciliation e.kind && is_lt (event_cmp r e)) (Some e) (Some r)
+
+-- the record of the event's entity after the event is applied
+abbrev pub record_after : Replies → Event → Record Bytes → Record Bytes
+record_after replies e r = record {
+  state = state_after r.state e;
+  held = held_after (state_after r.state e) (replies e (state_after r.state e).rev) r.held;
+  reconciled = reconciled_after r.reconciled e;
+}
+
+-- the entry of a fetch that gave no document
+abbrev pub entry_of : Event → ℕ → Result Bytes Cause → List Entry
+entry_of e r (Ok bytes) = []
+entry_of e r (Err cause) = Revision e r cause ∷ []
+
+-- the entries that the application of the event makes
+abbrev pub entries_after : Replies → Event → Record Bytes → List Entry
+entries_after replies e r = cond (wants (state_after r.state e) r.held) (entry_of e (state_after r.state e).rev (replies e (state_after r.state e).rev)) []
+
+-- one event is applied
+abbrev pub apply : Replies → Played → Event → Played
+apply replies p e = record {
+  records = map.insert p.records e.entity (record_after replies e (record_of p.records e.entity));
+  side = p.side ++ entries_after replies e (record_of p.records e.entity);
+}
+
+-- the events are applied, one after the other
+abbrev pub apply_all : Replies → Played → List Event → Played
+apply_all replies p es = fold (apply replies) p es
+
+-- the events that are due after some deliveries and weren't due before, in the order in which they are applied
+abbrev pub newly_due : List Delivery → Bool → List Delivery → List Event
+newly_due before closed after = in_order (filter (λ e. not (is_due false (mark before) e)) (due closed after))
+
+-- what a delivery does: an event that is late is named in the side output, and a watermark applies what is due now
+abbrev pub happens : Replies → List Delivery → Delivery → Played → Played
+happens replies before (Told e) p = record { records = p.records; side = p.side ++ cond (is_late before e) (Late e ∷ []) [] }
+happens replies before (Watermark w) p = apply_all replies p (newly_due before false (before ++ Watermark w ∷ []))
+
+-- the replay of the deliveries
+abbrev pub play : Replies → List Delivery → Played
+play replies ds = fold (λ p (a : Arrival). happens replies a.before a.delivery p) nothing_played (arrivals ds)
+
+-- the replay of the deliveries and of the end of the input, which applies all that waits
+abbrev pub play_to_end : Replies → List Delivery → Played
+play_to_end replies ds = apply_all replies (play replies ds) (newly_due ds true ds)
+
+-- the replay, perhaps with the end of the input
+abbrev pub played : Bool → Replies → List Delivery → Played
+played false replies ds = play replies ds
+played true replies ds = play_to_end replies ds
+
+-- a fetch: the event whose application makes it, and the revision that it asks for
+pub record Fetch : Type 0 where
+  pub event : Event
+  pub revision : ℕ
+
+-- the fetches that the application of an event makes, at most one
+abbrev pub fetches_of : Event → Record Bytes → List Fetch
+fetches_of e r = cond (wants (state_after r.state e) r.held) (record { event = e; revision = (state_after r.state e).rev } ∷ []) []
+
+-- the fetches that events make, applied one after the other
+abbrev pub fetches_of_all : Replies → Played → List Event → List Fetch
+fetches_of_all replies p [] = []
+fetches_of_all replies p (e ∷ es) = fetches_of e (record_of p.records e.entity) ++ fetches_of_all replies (apply replies p e) es
+
+-- the fetches that a delivery makes
+abbrev pub fetches_at : Replies → Arrival → List Fetch
+fetches_at replies a = fetches_by a.delivery
+  where
+    fetches_by : Delivery → List Fetch
+    fetches_by (Watermark w) = fetches_of_all replies (play replies a.before) (newly_due a.before false (a.before ++ a.delivery ∷ []))
+    fetches_by _ = []
+
+-- the fetches of the replay, in the order in which they are made
+abbrev pub fetches : Replies → List Delivery → List Fetch
+fetches replies ds = flat_map (fetches_at replies) (arrivals ds)
+
+-- the fetches of the replay and of the end of the input
+abbrev pub fetches_to_end : Replies → List Delivery → List Fetch
+fetches_to_end replies ds = fetches replies ds ++ fetches_of_all replies (play replies ds) (newly_due ds true ds)
+
+-- a count in 64 bits that has risen n times and stays at its last value
+abbrev pub risen_by : ℕ → ℕ → ℕ
+risen_by n count = min (count + n) (2 ^ 64 - 1)

@@ -1,0 +1,40 @@
+-- What a source of revisions with known contents replies.
+use Rattle.std.specs.Prelude.{ℕ, cond, List, [], ◌∷◌, Option, None, Some, Result, Ok, Err, filter_map}
+use Rattle.rising.specs.Rising.{has}
+use Rattle.entity_model.specs.declared.id.EntityId.{EntityId}
+use Rattle.entity_model.specs.declared.event.Event.{Event}
+use Rattle.entity_model.specs.declared.unfit.Unfit.{Unfit}
+use Rattle.entity_model.specs.Event.{event_cmp}
+use Rattle.side_output.specs.declared.Cause.{Cause}
+use Rattle.side_output.specs.declared.Cause.TheVariants.{Missing, Failed, Unfit as NoDocument}
+use Rattle.side_output.specs.declared.Entry.{Entry}
+use Rattle.side_output.specs.declared.Entry.TheVariants.{Late, Revision}
+use Rattle.replay_model.specs.Records.{Bytes}
+use Rattle.replay_model.specs.Play.{Replies}
+
+-- why bytes are no document of an entity, or nothing where they are one
+abbrev pub Judgement : Type 0
+Judgement = EntityId → Bytes → Option Unfit
+
+-- the bytes, if they are a document
+abbrev pub judged : Option Unfit → Bytes → Result Bytes Cause
+judged None bytes = Ok bytes
+judged (Some unfit) bytes = Err (NoDocument unfit)
+
+-- what is there, as a reply to a fetch for the entity
+abbrev pub reply_there : Judgement → EntityId → Option Bytes → Result Bytes Cause
+reply_there unfit x None = Err Missing
+reply_there unfit x (Some bytes) = judged (unfit x bytes) bytes
+
+-- the replies of a source with these bytes at each revision, where the fetches of the events in the list failed
+abbrev pub source_replies : Judgement → (ℕ → Option Bytes) → List Event → Replies
+source_replies unfit contents failed e r = cond (has event_cmp e failed) (Err Failed) (reply_there unfit e.entity (contents r))
+
+-- the event of an entry whose fetch failed
+abbrev pub failed_event : Entry → Option Event
+failed_event (Revision e r Failed) = Some e
+failed_event _ = None
+
+-- the events whose fetches failed, as the side output names them
+abbrev pub failed_events : List Entry → List Event
+failed_events side = filter_map failed_event side

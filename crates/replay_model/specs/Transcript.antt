@@ -1,0 +1,37 @@
+-- What a replay prints.
+use Rattle.std.specs.Prelude.{ℕ, Bool, cond, List, [], ◌∷◌, ◌++◌, flat_map, length, decimal, codes}
+use Rattle.std.specs.declared.cmp.Ordering.{Ordering}
+use Rattle.event_line.specs.declared.Delivery.{Delivery}
+use Rattle.replay_model.specs.Acceptance.{Arrival, arrivals}
+use Rattle.replay_model.specs.Records.{Records}
+use Rattle.replay_model.specs.Play.{Replies, Played, play_to_end}
+use Rattle.replay_model.specs.Union.{Meaning, union}
+
+-- which sections are printed at the end
+pub record Sections : Type 0 where
+  pub export : Bool
+
+-- the line `# export: <count> triples`
+unfoldable pub export_head : ℕ → List ℕ
+export_head count = codes "# export: " ++ decimal count ++ codes " triples\n"
+
+module _ {Triple : Type 0} (order : Triple → Triple → Ordering) (meaning : Meaning Triple) (text : Triple → List ℕ) where
+  -- the section of an export: its head and the line of each triple
+  abbrev pub export_section : List Triple → List ℕ
+  export_section triples = export_head (length triples) ++ flat_map text triples
+
+  -- what is printed at a delivery: nothing, until a delivery asks
+  abbrev pub said_at : Replies → Arrival → List ℕ
+  said_at replies a = []
+
+  -- what is printed at the deliveries
+  abbrev pub said : Replies → List Delivery → List ℕ
+  said replies ds = flat_map (said_at replies) (arrivals ds)
+
+  -- what is printed after the end
+  abbrev pub closing : Sections → Played → List ℕ
+  closing sections p = cond sections.export (export_section (union order meaning p.records)) []
+
+  -- all that is printed
+  abbrev pub transcript : Sections → Replies → List Delivery → List ℕ
+  transcript sections replies ds = said replies ds ++ closing sections (play_to_end replies ds)
