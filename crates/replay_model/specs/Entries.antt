@@ -1,19 +1,20 @@
 -- Which entries of the side output are open.
-use Rattle.std.specs.Prelude.{ℕ, Bool, false, not, ◌&&◌, List, filter, nat_eq}
+use Rattle.std.specs.Prelude.{Bool, false, not, ◌&&◌, List}
 use Rattle.std.specs.List.{list_any}
 use Rattle.std.specs.Ordering.{is_lt}
 use Rattle.entity_model.specs.declared.id.EntityId.{EntityId}
 use Rattle.entity_model.specs.declared.event.Event.{Event}
 use Rattle.entity_model.specs.Event.{event_cmp}
 use Rattle.entity_state.specs.declared.record.Record.{Record}
-use Rattle.side_output.specs.declared.Entry.{Entry}
-use Rattle.side_output.specs.declared.Entry.TheVariants.{Late, Revision}
-use Rattle.replay_model.specs.Records.{Bytes, is_kept, holds}
-use Rattle.replay_model.specs.Fate.{is_of, events_of}
-use Rattle.replay_model.specs.Acceptance.{late}
+use Rattle.entity_state.specs.Record.{held_revision}
+use Rattle.side_output.specs.declared.entry.Entry.{Entry}
+use Rattle.side_output.specs.declared.entry.Entry.TheVariants.{Late, Revision}
+use Rattle.side_output.specs.Entry.{is_open}
+use Rattle.replay_model.specs.Fate.{is_of}
+use Rattle.replay_model.specs.Records.{Bytes, Records, record_of}
 use Rattle.replay_model.specs.Play.{is_reconciliation}
 
--- whether the event r is a reconciliation of the entity of e with a greater key
+-- whether the event r is a reconciliation of the entity of e, and after e in the order of events
 abbrev pub settles : Event → Event → Bool
 settles e r = is_of e.entity r && (is_reconciliation r.kind && is_lt (event_cmp e r))
 
@@ -21,11 +22,15 @@ settles e r = is_of e.entity r && (is_reconciliation r.kind && is_lt (event_cmp 
 abbrev pub is_open_late : List Event → Event → Bool
 is_open_late due e = not (list_any (settles e) due)
 
--- whether an entry is an open revision entry of the entity x: it names the revision that the state wants and that isn't held
-abbrev pub is_open_revision : EntityId → Record Bytes → Entry → Bool
-is_open_revision x record_of_x (Late e) = false
-is_open_revision x record_of_x (Revision e r cause) = is_of x e && (is_kept record_of_x.state.mode && (nat_eq record_of_x.state.rev r && not (holds r record_of_x.held)))
+-- whether an entry is open, by the record of its entity
+abbrev pub is_open_by : Record Bytes → Entry → Bool
+is_open_by r entry = is_open entry r.state (held_revision r.held) r.reconciled
+
+-- whether an entry tells of a revision of the entity x
+abbrev pub is_revision_of : EntityId → Entry → Bool
+is_revision_of x (Late e) = false
+is_revision_of x (Revision e r cause) = is_of x e
 
 -- whether the side output has an open revision entry of the entity x
-abbrev pub has_open_revision : EntityId → Record Bytes → List Entry → Bool
-has_open_revision x record_of_x side = list_any (is_open_revision x record_of_x) side
+abbrev pub has_open_revision : Records → List Entry → EntityId → Bool
+has_open_revision records side x = list_any (λ entry. is_revision_of x entry && is_open_by (record_of records x) entry) side

@@ -6,3 +6,4 @@ pub mod Replies
 pub mod Entries
 pub mod Union
 pub mod Transcript
+pub mod ReplayState

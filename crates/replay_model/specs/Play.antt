@@ -9,16 +9,17 @@ use Rattle.entity_model.specs.Event.{event_cmp}
 use Rattle.entity_state.specs.declared.state.State.{State}
 use Rattle.entity_state.specs.declared.record.Held.{Held}
 use Rattle.entity_state.specs.declared.record.Record.{Record}
-use Rattle.entity_state.specs.State.{state_after}
-use Rattle.side_output.specs.declared.Cause.{Cause}
-use Rattle.side_output.specs.declared.Entry.{Entry}
-use Rattle.side_output.specs.declared.Entry.TheVariants.{Late, Revision}
-use Rattle.event_line.specs.declared.Delivery.{Delivery}
-use Rattle.event_line.specs.declared.Delivery.TheVariants.{Event as Told, Watermark}
+use Rattle.entity_state.specs.State.{state_after, is_deleted}
+use Rattle.entity_state.specs.Record.{held_revision}
+use Rattle.side_output.specs.declared.entry.Cause.{Cause}
+use Rattle.side_output.specs.declared.entry.Entry.{Entry}
+use Rattle.side_output.specs.declared.entry.Entry.TheVariants.{Late, Revision}
+use Rattle.event_line.specs.declared.delivery.Delivery.{Delivery}
+use Rattle.event_line.specs.declared.delivery.Delivery.TheVariants.{Event as Told, Watermark}
 use Rattle.reorder_buffer.specs.Watermarks.{is_due}
 use Rattle.replay_model.specs.Acceptance.{Arrival, arrivals, mark, is_late, due}
 use Rattle.replay_model.specs.Fate.{in_order}
-use Rattle.replay_model.specs.Records.{Bytes, Records, record_of, is_deleted, wants}
+use Rattle.replay_model.specs.Records.{Bytes, Records, record_of, wants}
 
 -- what the fetch that the application of an event makes of a revision gives: a document's bytes, or the cause of an entry
 abbrev pub Replies : Type 0
@@ -40,7 +41,7 @@ held_after_fetch r (Err cause) held = held
 
 -- what is held in a new state: what a fetch gives where the state wants one, nothing where the page was deleted, and else what was held
 abbrev pub held_after : State → Result Bytes Cause → Option (Held Bytes) → Option (Held Bytes)
-held_after s reply held = cond (wants s held) (held_after_fetch s.rev reply held) (cond (is_deleted s.mode) None held)
+held_after s reply held = cond (wants s (held_revision held)) (held_after_fetch s.rev reply held) (cond (is_deleted s.mode) None held)
 
 -- whether the event says what the wiki has
 abbrev pub is_reconciliation : Kind → Bool
@@ -49,11 +50,6 @@ is_reconciliation Delete = false
 is_reconciliation Undelete = false
 is_reconciliation ReconcileDeleted = true
 is_reconciliation ReconcileKept = true
-
--- whether the event's key is below that of the reconciliation, if there is one
-abbrev pub is_below : Event → Option Event → Bool
-is_below e None = false
-is_below e (Some r) = is_lt (event_cmp e r)
 
 -- the greatest reconciliation so far and an event
 abbrev pub reconciled_after : Option Event → Event → Option Event
@@ -75,7 +71,7 @@ entry_of e r (Err cause) = Revision e r cause ∷ []
 
 -- the entries that the application of the event makes
 abbrev pub entries_after : Replies → Event → Record Bytes → List Entry
-entries_after replies e r = cond (wants (state_after r.state e) r.held) (entry_of e (state_after r.state e).rev (replies e (state_after r.state e).rev)) []
+entries_after replies e r = cond (wants (state_after r.state e) (held_revision r.held)) (entry_of e (state_after r.state e).rev (replies e (state_after r.state e).rev)) []
 
 -- one event is applied
 abbrev pub apply : Replies → Played → Event → Played
@@ -117,7 +113,7 @@ pub record Fetch : Type 0 where
 
 -- the fetches that the application of an event makes, at most one
 abbrev pub fetches_of : Event → Record Bytes → List Fetch
-fetches_of e r = cond (wants (state_after r.state e) r.held) (record { event = e; revision = (state_after r.state e).rev } ∷ []) []
+fetches_of e r = cond (wants (state_after r.state e) (held_revision r.held)) (record { event = e; revision = (state_after r.state e).rev } ∷ []) []
 
 -- the fetches that events make, applied one after the other
 abbrev pub fetches_of_all : Replies → Played → List Event → List Fetch

@@ -5,10 +5,10 @@ use Rattle.entity_model.specs.declared.id.EntityId.{EntityId}
 use Rattle.entity_model.specs.declared.event.Event.{Event}
 use Rattle.entity_model.specs.declared.unfit.Unfit.{Unfit}
 use Rattle.entity_model.specs.Event.{event_cmp}
-use Rattle.side_output.specs.declared.Cause.{Cause}
-use Rattle.side_output.specs.declared.Cause.TheVariants.{Missing, Failed, Unfit as NoDocument}
-use Rattle.side_output.specs.declared.Entry.{Entry}
-use Rattle.side_output.specs.declared.Entry.TheVariants.{Late, Revision}
+use Rattle.side_output.specs.declared.entry.Cause.{Cause}
+use Rattle.side_output.specs.declared.entry.Cause.TheVariants.{Missing, Failed, Unfit as NoDocument}
+use Rattle.side_output.specs.declared.entry.Entry.{Entry}
+use Rattle.side_output.specs.declared.entry.Entry.TheVariants.{Late, Revision}
 use Rattle.replay_model.specs.Records.{Bytes}
 use Rattle.replay_model.specs.Play.{Replies}
 

@@ -1,7 +1,7 @@
 -- What a replay prints.
 use Rattle.std.specs.Prelude.{ℕ, Bool, cond, List, [], ◌∷◌, ◌++◌, flat_map, length, decimal, codes}
 use Rattle.std.specs.declared.cmp.Ordering.{Ordering}
-use Rattle.event_line.specs.declared.Delivery.{Delivery}
+use Rattle.event_line.specs.declared.delivery.Delivery.{Delivery}
 use Rattle.replay_model.specs.Acceptance.{Arrival, arrivals}
 use Rattle.replay_model.specs.Records.{Records}
 use Rattle.replay_model.specs.Play.{Replies, Played, play_to_end}

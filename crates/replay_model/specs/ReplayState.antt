@@ -1,0 +1,93 @@
+-- A world as a value: the buffer and what was played, and what each delivery makes of them.
+use Rattle.std.specs.Prelude.{ℤ, Bool, true, false, not, cond, List, [], ◌∷◌, ◌++◌, Option, None, Some, filter}
+use Rattle.entity_model.specs.declared.event.Event.{Event}
+use Rattle.side_output.specs.declared.entry.Entry.{Entry}
+use Rattle.side_output.specs.declared.entry.Entry.TheVariants.{Late as LateEntry}
+use Rattle.event_line.specs.declared.delivery.Delivery.{Delivery}
+use Rattle.event_line.specs.declared.delivery.Delivery.TheVariants.{Event as Told, Watermark}
+use Rattle.reorder_buffer.specs.declared.taken.Taken.{Taken}
+use Rattle.reorder_buffer.specs.declared.taken.Taken.TheVariants.{New, Repeat, Late}
+use Rattle.reorder_buffer.specs.Watermarks.{is_due}
+use Rattle.reorder_buffer.specs.Buffered.{Buffered, nothing_taken, answer_to, after_taking, after_raising, after_closing, first_due, after_dropping}
+use Rattle.replay_model.specs.Acceptance.{mark, events, accepted}
+use Rattle.replay_model.specs.Fate.{in_order}
+use Rattle.replay_model.specs.Play.{Replies, Played, nothing_played, apply, apply_all, play, play_to_end}
+
+-- the events that were taken and wait, and what was played of them
+pub record ReplayState : Type 0 where
+  pub buffer : Buffered
+  pub played : Played
+
+-- before the first delivery
+abbrev pub nothing_delivered : ReplayState
+nothing_delivered = record { buffer = nothing_taken; played = nothing_played }
+
+-- the entry that taking an event makes
+abbrev pub taken_entries : Taken → Event → List Entry
+taken_entries New e = []
+taken_entries Repeat e = []
+taken_entries Late e = LateEntry e ∷ []
+
+-- after taking an event
+abbrev pub after_event : ReplayState → Event → ReplayState
+after_event w e = record {
+  buffer = after_taking w.buffer e;
+  played = record { records = w.played.records; side = w.played.side ++ taken_entries (answer_to w.buffer e) e };
+}
+
+-- after taking a watermark
+abbrev pub after_mark : ReplayState → ℤ → ReplayState
+after_mark w m = record { buffer = after_raising w.buffer m; played = w.played }
+
+-- after the end of the input is taken
+abbrev pub after_end : ReplayState → ReplayState
+after_end w = record { buffer = after_closing w.buffer; played = w.played }
+
+-- after one due event is applied
+abbrev pub after_applying : Replies → ReplayState → Option Event → ReplayState
+after_applying replies w None = w
+after_applying replies w (Some e) = record { buffer = after_dropping w.buffer; played = apply replies w.played e }
+
+-- after the least due event is applied, if there is one
+abbrev pub after_next : Replies → ReplayState → ReplayState
+after_next replies w = after_applying replies w (first_due w.buffer)
+
+-- the waiting events that are due, in their order
+abbrev pub due_now : Buffered → List Event
+due_now b = filter (is_due b.closed b.mark) b.waiting
+
+-- the waiting events that aren't due
+abbrev pub not_due : Buffered → List Event
+not_due b = filter (λ e. not (is_due b.closed b.mark e)) b.waiting
+
+-- after all due events are applied
+abbrev pub after_due : Replies → ReplayState → ReplayState
+after_due replies w = record { buffer = record w.buffer { waiting = not_due w.buffer }; played = apply_all replies w.played (due_now w.buffer) }
+
+-- after a delivery: an event is taken, and after a watermark what is due is applied
+abbrev pub delivered : Replies → ReplayState → Delivery → ReplayState
+delivered replies w (Told e) = after_event w e
+delivered replies w (Watermark m) = after_due replies (after_mark w m)
+
+-- after the end of the input, which makes every event due
+abbrev pub ended : Replies → ReplayState → ReplayState
+ended replies w = after_due replies (after_end w)
+
+-- the state that a replay has after a list of deliveries
+abbrev pub following : Replies → List Delivery → ReplayState
+following replies ds = record {
+  buffer = record {
+    taken = in_order (events ds);
+    waiting = in_order (filter (λ e. not (is_due false (mark ds) e)) (accepted ds));
+    mark = mark ds;
+    closed = false;
+  };
+  played = play replies ds;
+}
+
+-- the state that a replay has after a list of deliveries and the end of the input
+abbrev pub following_to_end : Replies → List Delivery → ReplayState
+following_to_end replies ds = record {
+  buffer = record { taken = in_order (events ds); waiting = []; mark = mark ds; closed = true };
+  played = play_to_end replies ds;
+}
