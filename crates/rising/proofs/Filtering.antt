@@ -91,3 +91,39 @@ module _ {K : Type 0} where
         (IsRising-append R _ _ (IsRising-filter R p s rising) (IsRising-filter R (λ x. not (p x)) s rising) (parts_below R p below s s))
         (λ q. sym (has-append R q (filter p s) (filter (λ x. not (p x)) s) ∙ ap (λ b. b || has R q (filter (λ x. not (p x)) s)) (has-filter R same p q s) ∙ ap (λ b. (p q && has R q s) || b) (has-filter R same (λ x. not (p x)) q s) ∙ either_way (p q) (has R q s)))
       ∙ ap (λ l. l ++ filter (λ x. not (p x)) s) (sym low) ∙ ap (λ l. sorted R (filter p xs) ++ l) (sym high)
+
+module _ {K : Type 0} where
+  -- after a weaker filter, a filter keeps what it keeps alone
+  pub filter_stronger : (p q : K → Bool) → ((x : K) → p x ≡ true → q x ≡ true) → (xs : List K) → filter p (filter q xs) ≡ filter p xs
+  filter_stronger p q h [] = refl
+  filter_stronger p q h (x ∷ xs) =
+      elim (p x) as (λ a. p x ≡ a → filter p (cond (q x) (x ∷ filter q xs) (filter q xs)) ≡ cond a (x ∷ filter p xs) (filter p xs)) [
+        | true ↦ λ e. ap (λ b. filter p (cond b (x ∷ filter q xs) (filter q xs))) (h x e) ∙ ap (λ b. cond b (x ∷ filter p (filter q xs)) (filter p (filter q xs))) e ∙ ap (λ l. x ∷ l) (filter_stronger p q h xs)
+        | false ↦ λ e.
+            elim (q x) as (λ b. filter p (cond b (x ∷ filter q xs) (filter q xs)) ≡ filter p xs) [
+              | true ↦ ap (λ b. cond b (x ∷ filter p (filter q xs)) (filter p (filter q xs))) e ∙ filter_stronger p q h xs
+              | false ↦ filter_stronger p q h xs
+            ]
+      ] refl
+
+  -- a filter that each element passes keeps the list
+  pub filter_all : (p : K → Bool) (xs : List K) → ((x : K) → p x ≡ true) → filter p xs ≡ xs
+  filter_all p [] h = refl
+  filter_all p (x ∷ xs) h = ap (λ b. cond b (x ∷ filter p xs) (filter p xs)) (h x) ∙ ap (λ l. x ∷ l) (filter_all p xs h)
+
+  -- two filters in either order keep the same
+  pub filter_swap : (p q : K → Bool) (xs : List K) → filter p (filter q xs) ≡ filter q (filter p xs)
+  filter_swap p q [] = refl
+  filter_swap p q (x ∷ xs) =
+      elim (p x) as (λ a. p x ≡ a → filter p (cond (q x) (x ∷ filter q xs) (filter q xs)) ≡ filter q (cond a (x ∷ filter p xs) (filter p xs))) [
+        | true ↦ λ e.
+            elim (q x) as (λ b. filter p (cond b (x ∷ filter q xs) (filter q xs)) ≡ cond b (x ∷ filter q (filter p xs)) (filter q (filter p xs))) [
+              | true ↦ ap (λ a. cond a (x ∷ filter p (filter q xs)) (filter p (filter q xs))) e ∙ ap (λ l. x ∷ l) (filter_swap p q xs)
+              | false ↦ filter_swap p q xs
+            ]
+        | false ↦ λ e.
+            elim (q x) as (λ b. filter p (cond b (x ∷ filter q xs) (filter q xs)) ≡ filter q (filter p xs)) [
+              | true ↦ ap (λ a. cond a (x ∷ filter p (filter q xs)) (filter p (filter q xs))) e ∙ filter_swap p q xs
+              | false ↦ filter_swap p q xs
+            ]
+      ] refl

@@ -1,4 +1,5 @@
 pub mod Bools
 pub mod Filtering
+pub mod Finding
 pub mod Pushes
 pub mod Rising
