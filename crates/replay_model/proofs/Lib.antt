@@ -1,2 +1,5 @@
 pub mod Arrivals
+pub mod Deliveries
+pub mod DueParts
+pub mod PlayedRecords
 pub mod Times

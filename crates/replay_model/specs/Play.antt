@@ -73,10 +73,14 @@ entry_of e r (Err cause) = Revision e r cause ∷ []
 abbrev pub entries_after : Replies → Event → Record Bytes → List Entry
 entries_after replies e r = cond (wants (state_after r.state e) (held_revision r.held)) (entry_of e (state_after r.state e).rev (replies e (state_after r.state e).rev)) []
 
+-- the records after the event is applied
+abbrev pub records_after : Replies → Records → Event → Records
+records_after replies records e = map.insert records e.entity (record_after replies e (record_of records e.entity))
+
 -- one event is applied
 abbrev pub apply : Replies → Played → Event → Played
 apply replies p e = record {
-  records = map.insert p.records e.entity (record_after replies e (record_of p.records e.entity));
+  records = records_after replies p.records e;
   side = p.side ++ entries_after replies e (record_of p.records e.entity);
 }
 

@@ -1,0 +1,53 @@
+-- What one more event or watermark adds to the accepted, late, due and known events.
+use Rattle.std.proofs.Common.{◌≡◌, Bool, true, false, not, cond, ◌&&◌, ℤ, List, [], ◌∷◌, ◌++◌, Option, None, Some, refl, sym, ◌∙◌, ap, append-nil, fold, filter, option_and_then}
+use Rattle.std.specs.List.{cons_option}
+use Rattle.std.proofs.lemmas.List.Elements.{filter-append}
+use Rattle.entity_model.specs.declared.event.Event.{Event}
+use Rattle.event_line.specs.declared.delivery.Delivery.{Delivery}
+use Rattle.event_line.specs.declared.delivery.Delivery.TheVariants.{Event as Told, Watermark}
+use Rattle.reorder_buffer.specs.Watermarks.{greater, reached, is_due}
+use Rattle.replay_model.specs.Acceptance.{event_of, watermark_of, events, mark, event_passing, events_passing, is_repeat, is_accepted, is_late, accepted, late, due, known}
+use Rattle.replay_model.proofs.Arrivals.{events-push, mark-push, events_passing-push}
+
+-- a delivery that is no watermark leaves the mark
+pub mark-kept : (ds : List Delivery) (d : Delivery) → watermark_of d ≡ None → mark (ds ++ d ∷ []) ≡ mark ds
+mark-kept ds d e = mark-push ds d ∙ ap (λ o. fold greater (mark ds) (cons_option o [])) e
+
+-- a delivery that tells no event leaves the events that pass a test
+pub events_passing-kept : (test : List Delivery → Event → Bool) (ds : List Delivery) (d : Delivery) → event_of d ≡ None → events_passing test (ds ++ d ∷ []) ≡ events_passing test ds
+events_passing-kept test ds d e =
+    events_passing-push test ds d
+    ∙ ap (λ o. events_passing test ds ++ cons_option (option_and_then (λ e. cond (test ds e) (Some e) None) o) []) e
+    ∙ append-nil (events_passing test ds)
+
+pub events-kept : (ds : List Delivery) (d : Delivery) → event_of d ≡ None → events (ds ++ d ∷ []) ≡ events ds
+events-kept ds d e = events-push ds d ∙ ap (λ o. events ds ++ cons_option o []) e ∙ append-nil (events ds)
+
+-- an event is one more of those that pass a test, if it does
+pub events_passing-told : (test : List Delivery → Event → Bool) (ds : List Delivery) (e : Event) → events_passing test (ds ++ Told e ∷ []) ≡ events_passing test ds ++ cond (test ds e) (e ∷ []) []
+events_passing-told test ds e = events_passing-push test ds (Told e) ∙ ap (λ l. events_passing test ds ++ l) (one (test ds e))
+  where
+    one : (b : Bool) → cons_option (cond b (Some e) None) [] ≡ cond b (e ∷ []) []
+    one true = refl
+    one false = refl
+
+pub events-told : (ds : List Delivery) (e : Event) → events (ds ++ Told e ∷ []) ≡ events ds ++ e ∷ []
+events-told ds e = events-push ds (Told e)
+
+-- an event that is told now isn't due yet
+pub due-told : (ds : List Delivery) (e : Event) → due false (ds ++ Told e ∷ []) ≡ due false ds
+due-told ds e =
+    ap (λ m. filter (is_due false m) (accepted (ds ++ Told e ∷ []))) (mark-kept ds (Told e) refl)
+    ∙ ap (filter (is_due false (mark ds))) (events_passing-told is_accepted ds e)
+    ∙ filter-append (is_due false (mark ds)) (accepted ds) (cond (is_accepted ds e) (e ∷ []) [])
+    ∙ ap (λ l. due false ds ++ l) (above (is_repeat ds e) (reached (mark ds) e.time) refl)
+    ∙ append-nil (due false ds)
+  where
+    above : (a b : Bool) → reached (mark ds) e.time ≡ b → filter (is_due false (mark ds)) (cond (not a && not b) (e ∷ []) []) ≡ []
+    above true b h = refl
+    above false true h = refl
+    above false false h = ap (λ t. cond t (e ∷ []) []) h
+
+-- the mark after a watermark
+pub mark-watermark : (ds : List Delivery) (w : ℤ) → mark (ds ++ Watermark w ∷ []) ≡ greater (mark ds) w
+mark-watermark ds w = mark-push ds (Watermark w)

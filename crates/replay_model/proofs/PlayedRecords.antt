@@ -1,0 +1,42 @@
+-- The records of a replay are those that the due events leave, applied in order.
+use Rattle.std.proofs.Common.{◌≡◌, Bool, true, false, List, [], ◌∷◌, ◌++◌, fold, refl, sym, ◌∙◌, ap}
+use Rattle.std.specs.FinMap as map
+use Rattle.std.proofs.lemmas.List.Sums.{fold-append}
+use Rattle.entity_model.specs.declared.event.Event.{Event}
+use Rattle.event_line.specs.declared.delivery.Delivery.{Delivery}
+use Rattle.event_line.specs.declared.delivery.Delivery.TheVariants.{Event as Told, Watermark}
+use Rattle.rising.proofs.Pushes.{by_pushes}
+use Rattle.replay_model.specs.Acceptance.{due}
+use Rattle.replay_model.specs.Fate.{in_order}
+use Rattle.replay_model.specs.Records.{Records}
+use Rattle.replay_model.specs.Play.{Replies, Played, records_after, apply, apply_all, newly_due, happens, play, play_to_end, played}
+use Rattle.replay_model.proofs.Arrivals.{play-push}
+use Rattle.replay_model.proofs.Deliveries.{due-told}
+use Rattle.replay_model.proofs.DueParts.{due-watermark, due-end}
+
+pub records-apply_all : (replies : Replies) (p : Played) (es : List Event) → (apply_all replies p es).records ≡ fold (records_after replies) p.records es
+records-apply_all replies p [] = refl
+records-apply_all replies p (e ∷ es) = records-apply_all replies (apply replies p e) es
+
+-- the records that these events leave
+abbrev pub records_of : Replies → List Event → Records
+records_of replies es = fold (records_after replies) map.empty es
+
+records-more : (replies : Replies) (p : Played) (es fs gs : List Event) → p.records ≡ records_of replies es → gs ≡ es ++ fs → (apply_all replies p fs).records ≡ records_of replies gs
+records-more replies p es fs gs before parts =
+    records-apply_all replies p fs
+    ∙ ap (λ m. fold (records_after replies) m fs) before
+    ∙ sym (fold-append (records_after replies) map.empty es fs)
+    ∙ ap (records_of replies) (sym parts)
+
+records-delivery : (replies : Replies) (ds : List Delivery) (d : Delivery) → (play replies ds).records ≡ records_of replies (in_order (due false ds)) → (happens replies ds d (play replies ds)).records ≡ records_of replies (in_order (due false (ds ++ d ∷ [])))
+records-delivery replies ds (Told e) before = before ∙ ap (λ l. records_of replies (in_order l)) (sym (due-told ds e))
+records-delivery replies ds (Watermark w) before = records-more replies (play replies ds) (in_order (due false ds)) (newly_due ds false (ds ++ Watermark w ∷ [])) _ before (due-watermark ds w)
+
+records-play : (replies : Replies) (ds : List Delivery) → (play replies ds).records ≡ records_of replies (in_order (due false ds))
+records-play replies = by_pushes (λ ds. (play replies ds).records ≡ records_of replies (in_order (due false ds))) refl
+    (λ ds d before. ap (λ p. p.records) (play-push replies ds d) ∙ records-delivery replies ds d before)
+
+pub records-played : (closed : Bool) (replies : Replies) (ds : List Delivery) → (played closed replies ds).records ≡ records_of replies (in_order (due closed ds))
+records-played false replies ds = records-play replies ds
+records-played true replies ds = records-more replies (play replies ds) (in_order (due false ds)) (newly_due ds true ds) _ (records-play replies ds) (due-end ds)
