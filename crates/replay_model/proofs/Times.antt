@@ -14,11 +14,11 @@ lt_from m s t a b = grind (arith, ints)
 not_lt : (m w t : ℤ) → int_lt m w ≡ true → int_lt m t ≡ false → int_lt w t ≡ false
 not_lt m w t a b = grind (arith, ints)
 
-not_true : (b : Bool) → not b ≡ true → b ≡ false
+pub not_true : (b : Bool) → not b ≡ true → b ≡ false
 not_true true e = sym e
 not_true false e = refl
 
-not_false : (b : Bool) → not b ≡ false → b ≡ true
+pub not_false : (b : Bool) → not b ≡ false → b ≡ true
 not_false true e = refl
 not_false false e = sym e
 

@@ -1,5 +1,5 @@
 -- Which entries of the side output are open.
-use Rattle.std.specs.Prelude.{Bool, false, not, ◌&&◌, List}
+use Rattle.std.specs.Prelude.{Bool, false, not, ◌&&◌, List, Option, None, Some, filter_map}
 use Rattle.std.specs.List.{list_any}
 use Rattle.std.specs.Ordering.{is_lt}
 use Rattle.entity_model.specs.declared.id.EntityId.{EntityId}
@@ -13,6 +13,15 @@ use Rattle.side_output.specs.Entry.{is_open}
 use Rattle.replay_model.specs.Fate.{is_of}
 use Rattle.replay_model.specs.Records.{Bytes, Records, record_of}
 use Rattle.replay_model.specs.Play.{is_reconciliation}
+
+-- the event of a late entry
+abbrev pub late_event : Entry → Option Event
+late_event (Late e) = Some e
+late_event (Revision e r cause) = None
+
+-- the events of the late entries
+abbrev pub late_events : List Entry → List Event
+late_events side = filter_map late_event side
 
 -- whether the event r is a reconciliation of the entity of e, and after e in the order of events
 abbrev pub settles : Event → Event → Bool

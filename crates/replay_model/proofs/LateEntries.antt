@@ -1,0 +1,60 @@
+-- The late entries of a replay are the late events, in the order of their first deliveries.
+use Rattle.std.proofs.Common.{◌≡◌, Bool, true, false, cond, List, [], ◌∷◌, ◌++◌, Option, None, Some, Result, Ok, Err, filter_map, refl, sym, ◌∙◌, ap, append-nil}
+use Rattle.std.proofs.lemmas.List.Elements.{filter_map-append}
+use Rattle.entity_model.specs.declared.event.Event.{Event}
+use Rattle.entity_state.specs.declared.record.Record.{Record}
+use Rattle.entity_state.specs.State.{state_after}
+use Rattle.entity_state.specs.Record.{held_revision}
+use Rattle.side_output.specs.declared.entry.Cause.{Cause}
+use Rattle.side_output.specs.declared.entry.Entry.{Entry}
+use Rattle.side_output.specs.declared.entry.Entry.TheVariants.{Late, Revision}
+use Rattle.event_line.specs.declared.delivery.Delivery.{Delivery}
+use Rattle.event_line.specs.declared.delivery.Delivery.TheVariants.{Event as Told, Watermark}
+use Rattle.rising.proofs.Pushes.{by_pushes}
+use Rattle.replay_model.specs.Acceptance.{is_late, late}
+use Rattle.replay_model.specs.Records.{Bytes, record_of, wants}
+use Rattle.replay_model.specs.Play.{Replies, Played, entry_of, entries_after, apply, apply_all, newly_due, happens, play, play_to_end, played}
+use Rattle.replay_model.specs.Entries.{late_event, late_events}
+use Rattle.replay_model.proofs.Arrivals.{play-push}
+use Rattle.replay_model.proofs.Deliveries.{events_passing-told, events_passing-kept}
+
+late-entry_of : (e : Event) (r : _) (reply : Result Bytes Cause) → filter_map late_event (entry_of e r reply) ≡ []
+late-entry_of e r (Ok bytes) = refl
+late-entry_of e r (Err cause) = refl
+
+-- applying an event makes no late entry
+late-entries_after : (replies : Replies) (e : Event) (r : Record Bytes) → late_events (entries_after replies e r) ≡ []
+late-entries_after replies e r = only (wants (state_after r.state e) (held_revision r.held))
+  where
+    only : (b : Bool) → late_events (cond b (entry_of e (state_after r.state e).rev (replies e (state_after r.state e).rev)) []) ≡ []
+    only true = late-entry_of e (state_after r.state e).rev (replies e (state_after r.state e).rev)
+    only false = refl
+
+late-append : (side more : List Entry) → late_events more ≡ [] → late_events (side ++ more) ≡ late_events side
+late-append side more h = filter_map-append late_event side more ∙ ap (λ l. late_events side ++ l) h ∙ append-nil (late_events side)
+
+pub late-apply_all : (replies : Replies) (p : Played) (es : List Event) → late_events (apply_all replies p es).side ≡ late_events p.side
+late-apply_all replies p [] = refl
+late-apply_all replies p (e ∷ es) =
+    late-apply_all replies (apply replies p e) es
+    ∙ late-append p.side (entries_after replies e (record_of p.records e.entity)) (late-entries_after replies e (record_of p.records e.entity))
+
+late-happens : (replies : Replies) (ds : List Delivery) (d : Delivery) (p : Played) → late_events p.side ≡ late ds → late_events (happens replies ds d p).side ≡ late (ds ++ d ∷ [])
+late-happens replies ds (Told e) p before =
+    filter_map-append late_event p.side (cond (is_late ds e) (Late e ∷ []) [])
+    ∙ ap (λ l. l ++ late_events (cond (is_late ds e) (Late e ∷ []) [])) before
+    ∙ ap (λ l. late ds ++ l) (one (is_late ds e))
+    ∙ sym (events_passing-told is_late ds e)
+  where
+    one : (b : Bool) → late_events (cond b (Late e ∷ []) []) ≡ cond b (e ∷ []) []
+    one true = refl
+    one false = refl
+late-happens replies ds (Watermark w) p before = late-apply_all replies p (newly_due ds false (ds ++ Watermark w ∷ [])) ∙ before ∙ sym (events_passing-kept is_late ds (Watermark w) refl)
+
+late-play : (replies : Replies) (ds : List Delivery) → late_events (play replies ds).side ≡ late ds
+late-play replies = by_pushes (λ ds. late_events (play replies ds).side ≡ late ds) refl
+    (λ ds d before. ap (λ (p : Played). late_events p.side) (play-push replies ds d) ∙ late-happens replies ds d (play replies ds) before)
+
+pub late-played : (closed : Bool) (replies : Replies) (ds : List Delivery) → late_events (played closed replies ds).side ≡ late ds
+late-played false replies ds = late-play replies ds
+late-played true replies ds = late-apply_all replies (play replies ds) (newly_due ds true ds) ∙ late-play replies ds
