@@ -1,7 +1,10 @@
 pub mod Arrivals
+pub mod Confluence
 pub mod Deliveries
 pub mod DueParts
+pub mod Known
 pub mod LateEntries
+pub mod OpenLate
 pub mod PlayedRecords
 pub mod RecordOf
 pub mod Settled

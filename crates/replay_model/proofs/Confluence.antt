@@ -1,0 +1,22 @@
+-- Closed lists of deliveries with the same accepted events give the same records.
+use Rattle.std.proofs.Common.{◌≡◌, true, List, sym, ◌∙◌, ap, refl}
+use Rattle.entity_model.specs.declared.event.Event.{Event}
+use Rattle.entity_model.specs.Event.{event_cmp, event_cmp_total, event_cmp_same}
+use Rattle.event_line.specs.declared.delivery.Delivery.{Delivery}
+use Rattle.reorder_buffer.specs.Watermarks.{is_due}
+use Rattle.rising.specs.Rising.{has}
+use Rattle.rising.proofs.Rising.{sorted_same}
+use Rattle.rising.proofs.Filtering.{filter_all}
+use Rattle.replay_model.specs.Acceptance.{mark, accepted, due}
+use Rattle.replay_model.specs.Play.{Replies, play_to_end}
+use Rattle.replay_model.proofs.PlayedRecords.{records_of, records-played}
+
+-- at the end all accepted events are due
+pub due-closed : (ds : List Delivery) → due true ds ≡ accepted ds
+due-closed ds = filter_all (is_due true (mark ds)) (accepted ds) (λ e. refl)
+
+pub records-confluent : (replies : Replies) (ds es : List Delivery) → ((e : Event) → has event_cmp e (accepted ds) ≡ has event_cmp e (accepted es)) → (play_to_end replies ds).records ≡ (play_to_end replies es).records
+records-confluent replies ds es same =
+    records-played true replies ds
+    ∙ ap (records_of replies) (sorted_same event_cmp_total event_cmp_same (due true ds) (due true es) (λ e. ap (has event_cmp e) (due-closed ds) ∙ same e ∙ sym (ap (has event_cmp e) (due-closed es))))
+    ∙ sym (records-played true replies es)
