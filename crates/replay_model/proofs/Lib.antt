@@ -5,6 +5,7 @@ pub mod DueParts
 pub mod Known
 pub mod LateEntries
 pub mod OpenLate
+pub mod Owners
 pub mod PlayedRecords
 pub mod RecordOf
 pub mod Settled

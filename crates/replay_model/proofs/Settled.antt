@@ -20,6 +20,7 @@ use Rattle.side_output.specs.declared.entry.Entry.TheVariants.{Late, Revision}
 use Rattle.event_line.specs.declared.delivery.Delivery.{Delivery}
 use Rattle.event_line.specs.declared.delivery.Delivery.TheVariants.{Event as Told, Watermark}
 use Rattle.rising.proofs.Bools.{or_true, and_right, and_left, and_none, and_all}
+use Rattle.rising.proofs.Finding.{list_any_weaker, list_any_never}
 use Rattle.rising.proofs.Pushes.{by_pushes}
 use Rattle.replay_model.specs.Acceptance.{is_late}
 use Rattle.replay_model.specs.Fate.{is_of}
@@ -41,19 +42,6 @@ pub record Tells (side : List Entry) (x : EntityId) (r : Record Bytes) : Type 0 
   pub empty_unless_kept : is_kept r.state.mode ≡ false → r.held ≡ None
   -- a revision that the state wants and that isn't held is named
   pub named : wants r.state (held_revision r.held) ≡ true → list_any (names x r.state.rev) side ≡ true
-
--- what passes a test passes a weaker one
-weaker : {A : Type 0} (p q : A → Bool) → ((x : A) → p x ≡ true → q x ≡ true) → (xs : List A) → list_any p xs ≡ true → list_any q xs ≡ true
-weaker p q h [] e = e
-weaker p q h (x ∷ xs) e =
-    elim (p x) as (λ b. p x ≡ b → (b || list_any p xs) ≡ true → (q x || list_any q xs) ≡ true) [
-      | true ↦ λ px _. ap (λ b. b || list_any q xs) (h x px)
-      | false ↦ λ _ rest. or_true (q x) _ (weaker p q h xs rest)
-    ] refl e
-
-never : {A : Type 0} (p : A → Bool) → ((x : A) → p x ≡ false) → (xs : List A) → list_any p xs ≡ false
-never p h [] = refl
-never p h (x ∷ xs) = ap (λ b. b || list_any p xs) (h x) ∙ never p h xs
 
 contradicts : {G : Type 0} (b : Bool) → b ≡ true → b ≡ false → G
 contradicts b p q = absurd (true≢false (sym p ∙ q))
@@ -163,8 +151,8 @@ named_open x r w (Revision e q cause) n =
 settled_by : (side : List Entry) (x : EntityId) (r : Record Bytes) → Tells side x r → is_settled r ≡ not (list_any (is_open_of x r) side)
 settled_by side x r t =
     elim (wants r.state (held_revision r.held)) as (λ w. wants r.state (held_revision r.held) ≡ w → is_settled r ≡ not (list_any (is_open_of x r) side)) [
-      | true ↦ λ w. unsettled r.state.mode w ∙ ap not (sym (weaker (names x r.state.rev) (is_open_of x r) (named_open x r w) side (t.named w)))
-      | false ↦ λ w. settled r.state.mode w t.empty_unless_kept ∙ ap not (sym (never (is_open_of x r) (none_open x r w) side))
+      | true ↦ λ w. unsettled r.state.mode w ∙ ap not (sym (list_any_weaker (names x r.state.rev) (is_open_of x r) (named_open x r w) side (t.named w)))
+      | false ↦ λ w. settled r.state.mode w t.empty_unless_kept ∙ ap not (sym (list_any_never (is_open_of x r) (none_open x r w) side))
     ] refl
   where
     unsettled : (m : Mode) → (is_kept m && not (is_held r.state.rev (held_revision r.held))) ≡ true → settles_at m r.state.rev (held_revision r.held) ≡ false

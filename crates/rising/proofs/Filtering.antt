@@ -3,22 +3,18 @@ use Rattle.std.proofs.Common.{◌≡◌, Bool, true, false, not, cond, ◌&&◌,
 use Rattle.std.specs.FinMap.{IsAntisymmetric}
 use Rattle.std.specs.Cmp.{IsTotalOrder}
 use Rattle.std.specs.Ordering.{eq_by_cmp}
-use Rattle.rising.specs.Rising.{sorted, has, Above, IsRising}
-use Rattle.rising.proofs.Bools.{clash, equal, either_way}
+use Rattle.rising.specs.Rising.{sorted, has, Above, IsRising, difference}
+use Rattle.rising.proofs.Bools.{clash, equal, and_none, either_way}
 use Rattle.rising.proofs.Rising.{has-append, has-sorted, IsRising-sorted, same_rising, sorted_same}
 
 module _ {K : Type 0} where
-  -- a filtered set has what the set has and the filter passes
-  pub has-filter : (R : K → K → Ordering) → IsAntisymmetric R → (p : K → Bool) (q : K) (xs : List K) → has R q (filter p xs) ≡ (p q && has R q xs)
-  has-filter R same p q [] = none (p q)
-    where
-      none : (a : Bool) → false ≡ (a && false)
-      none true = refl
-      none false = refl
-  has-filter R same p q (x ∷ xs) =
+  -- a filtered set has what the set has and the filter passes, where the filter treats equal elements alike
+  pub has-filter_alike : (R : K → K → Ordering) (p : K → Bool) → ((x y : K) → R x y ≡ Equal → p x ≡ p y) → (q : K) (xs : List K) → has R q (filter p xs) ≡ (p q && has R q xs)
+  has-filter_alike R p alike q [] = sym (and_none (p q))
+  has-filter_alike R p alike q (x ∷ xs) =
       elim (p x) as (λ a. p x ≡ a → has R q (cond a (x ∷ filter p xs) (filter p xs)) ≡ (p q && (eq_by_cmp R q x || has R q xs))) [
-        | true ↦ λ e. ap (λ b. eq_by_cmp R q x || b) (has-filter R same p q xs) ∙ kept (p q) (eq_by_cmp R q x) (has R q xs) (λ t. ap p (same q x (equal _ t)) ∙ e)
-        | false ↦ λ e. has-filter R same p q xs ∙ left_out (p q) (eq_by_cmp R q x) (has R q xs) (λ t. ap p (same q x (equal _ t)) ∙ e)
+        | true ↦ λ e. ap (λ b. eq_by_cmp R q x || b) (has-filter_alike R p alike q xs) ∙ kept (p q) (eq_by_cmp R q x) (has R q xs) (λ t. alike q x (equal _ t) ∙ e)
+        | false ↦ λ e. has-filter_alike R p alike q xs ∙ left_out (p q) (eq_by_cmp R q x) (has R q xs) (λ t. alike q x (equal _ t) ∙ e)
       ] refl
     where
       kept : (a b c : Bool) → (b ≡ true → a ≡ true) → (b || (a && c)) ≡ (a && (b || c))
@@ -29,6 +25,19 @@ module _ {K : Type 0} where
       left_out true true c h = clash refl (h refl)
       left_out true false c h = refl
       left_out false b c h = refl
+
+  -- the same, where only equal elements tie
+  pub has-filter : (R : K → K → Ordering) → IsAntisymmetric R → (p : K → Bool) (q : K) (xs : List K) → has R q (filter p xs) ≡ (p q && has R q xs)
+  has-filter R same p q xs = has-filter_alike R p (λ x y e. ap p (same x y e)) q xs
+
+  -- elements that tie are in the same sets
+  pub has_tied : {R : K → K → Ordering} → IsTotalOrder R → (x y : K) → R x y ≡ Equal → (zs : List K) → has R x zs ≡ has R y zs
+  has_tied o x y e [] = refl
+  has_tied {R} o x y e (z ∷ zs) = ap (λ r. is_eq r || has R x zs) (o.congr x y z e) ∙ ap (λ b. eq_by_cmp R y z || b) (has_tied o x y e zs)
+
+  -- a difference has what the first set has and the second lacks
+  pub has-difference : {R : K → K → Ordering} → IsTotalOrder R → (q : K) (xs ys : List K) → has R q (difference R xs ys) ≡ (not (has R q ys) && has R q xs)
+  has-difference {R} o q xs ys = has-filter_alike R (λ x. not (has R x ys)) (λ x y e. ap not (has_tied o x y e ys)) q xs
 
   Above-filter : (R : K → K → Ordering) (p : K → Bool) (k : K) (xs : List K) → Above R k xs → Above R k (filter p xs)
   Above-filter R p k [] h = tt

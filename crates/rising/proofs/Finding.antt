@@ -5,7 +5,7 @@ use Rattle.std.specs.FinMap.{IsAntisymmetric}
 use Rattle.std.specs.List.{list_any}
 use Rattle.std.specs.Ordering.{match_ordering}
 use Rattle.rising.specs.Rising.{sorted}
-use Rattle.rising.proofs.Bools.{or_swap}
+use Rattle.rising.proofs.Bools.{or_swap, or_true}
 
 module _ {K : Type 0} where
   pub list_any-insert_key : (R : K → K → Ordering) → IsAntisymmetric R → (p : K → Bool) (k : K) (xs : List K) → list_any p (insert_key R xs k) ≡ (p k || list_any p xs)
@@ -37,3 +37,17 @@ module _ {K : Type 0} where
   pub list_any_agree : (p q : K → Bool) → ((x : K) → p x ≡ q x) → (xs : List K) → list_any p xs ≡ list_any q xs
   list_any_agree p q h [] = refl
   list_any_agree p q h (x ∷ xs) = ap (λ b. b || list_any p xs) (h x) ∙ ap (λ b. q x || b) (list_any_agree p q h xs)
+
+  -- what passes a test passes a weaker one
+  pub list_any_weaker : (p q : K → Bool) → ((x : K) → p x ≡ true → q x ≡ true) → (xs : List K) → list_any p xs ≡ true → list_any q xs ≡ true
+  list_any_weaker p q h [] e = e
+  list_any_weaker p q h (x ∷ xs) e =
+      elim (p x) as (λ b. p x ≡ b → (b || list_any p xs) ≡ true → (q x || list_any q xs) ≡ true) [
+        | true ↦ λ px _. ap (λ b. b || list_any q xs) (h x px)
+        | false ↦ λ _ rest. or_true (q x) _ (list_any_weaker p q h xs rest)
+      ] refl e
+
+  -- a test that nothing passes
+  pub list_any_never : (p : K → Bool) → ((x : K) → p x ≡ false) → (xs : List K) → list_any p xs ≡ false
+  list_any_never p h [] = refl
+  list_any_never p h (x ∷ xs) = ap (λ b. b || list_any p xs) (h x) ∙ list_any_never p h xs
