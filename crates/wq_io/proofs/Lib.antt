@@ -1,0 +1,6 @@
+pub mod FailingLaws
+pub mod Pieces
+pub mod LineFeeds
+pub mod Taken
+pub mod NextLine
+pub mod LineLists

@@ -1,0 +1,96 @@
+-- The search for the next line: what stands between its start and each read, and what follows at its ends.
+use Rattle.std.proofs.Common.{refl, sym, ◌∙◌, ap, ◌≡◌, ◌↔◌, ℕ, ◌+◌, ◌<◌, ◌≤◌, true, List, [], ◌∷◌, Option, Some, None, IfSome, IsNone, ◌++◌, length, arith, append_assoc, length-append}
+use Rattle.std.proofs.lemmas.List.{take-append-le, append-nil}
+use Rattle.wq_io.specs.Streams.{before_known, IsAtEnd}
+use Rattle.wq_io.specs.Lines.{Reading, IsSound, IsOneLine, IsLineLong, GivesLine, HasCause, line_feed, lines, lines_of, before_lines, longest_line, unread, room}
+use Rattle.wq_io.specs.Taking.{IsOverLong, IsRefusedLine}
+use Rattle.wq_io.specs.declared.lines.LineFault.{LineFault}
+use Rattle.wq_io.specs.declared.lines.LineFault.TheVariants.{ReadFault, TooLong, LineLong, OutOfMemory}
+use Rattle.wq_io.proofs.LineLists.{lines-line, lines-last, one_line-append, one_line-take}
+
+-- the line so far was taken from the front of what was unread, and it is one line that isn't too long
+pub record Going (start now : Reading) (left_start left : Option (List ℕ)) (line : List ℕ) (faults_start faults : ℕ) : Type 0 where
+  pub front : unread start left_start ≡ before_known line (unread now left)
+  pub in_line : IsOneLine line
+  pub short : length line ≤ longest_line
+  pub others : now ≡ record start { held = now.held; consumed = start.consumed + length line; ended = now.ended }
+  pub sound : IsSound now
+  pub counted : start.given ≤ start.consumed
+  pub ended : now.ended ≡ true → IsAtEnd left
+  pub later : faults_start ≤ faults
+
+last_line : (u left line : List ℕ) (n : ℕ) → u ≡ line ++ left → left ≡ [] → IsOneLine line → (line ≡ [] → IsNone {T = ℕ} (Some n)) →
+    lines u ≡ line ∷ lines left
+last_line u left [] n front empty in_line none = let no = none refl in cc
+last_line u left (b ∷ bs) n front empty in_line none =
+    rw (front, empty) (ap lines (append-nil (b ∷ bs)) ∙ lines-last b bs in_line)
+
+nothing_left : (u left line : List ℕ) → u ≡ line ++ left → left ≡ [] → line ≡ [] → u ≡ []
+nothing_left u left line front empty none = rw (front, empty, none) refl
+
+-- at the end: the line so far is the last one, or there is none
+pub at_end : (unread_start left : Option (List ℕ)) (line : List ℕ) (number : Option ℕ) →
+    unread_start ≡ before_known line (before_known [] left) → IsAtEnd left → IsOneLine line → (IsNone number ↔ (line ≡ [])) →
+    GivesLine unread_start (before_known [] left) number line
+at_end unread_start None line None front end in_line none = rw front (tt, refl)
+at_end unread_start (Some xs) line None front end in_line none =
+    let is : line ≡ [] = none.0 refl in
+    rw front (nothing_left (line ++ xs) xs line refl end is, ap Some (rw is refl))
+at_end unread_start None line (Some n) front end in_line none = rw front refl
+at_end unread_start (Some xs) line (Some n) front end in_line none =
+    rw front (ap Some (last_line (line ++ xs) xs line n refl end in_line none.1))
+
+-- the line ended: it is the first one of what was unread
+pub line_ended : (unread_start left : Option (List ℕ)) (line moved held held_now : List ℕ) →
+    unread_start ≡ before_known line (before_known held left) → held ≡ moved ++ line_feed ∷ held_now → IsOneLine line → IsOneLine moved →
+    lines_of unread_start ≡ before_lines (line ++ moved) (lines_of (before_known held_now left))
+line_ended unread_start None line moved held held_now front is in_line in_moved = rw front refl
+line_ended unread_start (Some xs) line moved held held_now front is in_line in_moved =
+    let grouped : line ++ ((moved ++ line_feed ∷ held_now) ++ xs) ≡ (line ++ moved) ++ line_feed ∷ (held_now ++ xs) =
+    ap (λ ys. line ++ ys) (append_assoc moved (line_feed ∷ held_now) xs) ∙ sym (append_assoc line moved (line_feed ∷ (held_now ++ xs))) in
+    rw (front, is) (ap Some (ap lines grouped ∙ lines-line (line ++ moved) (held_now ++ xs) (one_line-append line moved in_line in_moved)))
+
+-- bytes moved: they stand behind the line so far
+pub moved_behind : (unread_start left : Option (List ℕ)) (line moved held held_now : List ℕ) →
+    unread_start ≡ before_known line (before_known held left) → held ≡ moved ++ held_now →
+    unread_start ≡ before_known (line ++ moved) (before_known held_now left)
+moved_behind unread_start None line moved held held_now front is = front
+moved_behind unread_start (Some xs) line moved held held_now front is =
+    rw (front, is) (ap Some (ap (λ ys. line ++ ys) (append_assoc moved held_now xs) ∙ sym (append_assoc line moved (held_now ++ xs))))
+
+long_line : (line moved others xs : List ℕ) (room_start room_now : ℕ) → IsOneLine line → IsOneLine moved → length line ≤ longest_line →
+    longest_line < length line + length moved → length moved ≤ room_now → (0 < room_now → room_start ≡ room_now + length line) →
+    IsLineLong room_start (line ++ ((moved ++ others) ++ xs))
+long_line line moved others xs room_start room_now in_line in_moved short over within rooms =
+    let some : 0 < room_now = omega arith in
+    let grouped : line ++ ((moved ++ others) ++ xs) ≡ (line ++ moved) ++ (others ++ xs) =
+    ap (λ ys. line ++ ys) (append_assoc moved others xs) ∙ sym (append_assoc line moved (others ++ xs)) in
+    let both : length (line ++ moved) ≡ length line + length moved = length-append line moved in
+    let behind : length ((line ++ moved) ++ (others ++ xs)) ≡ length (line ++ moved) + length (others ++ xs) = length-append (line ++ moved) (others ++ xs) in
+    let reaches : longest_line + 1 ≤ length (line ++ moved) = omega arith in
+    rw grouped (record {
+      more = omega arith;
+      within = omega (arith, rooms some);
+      in_line = rw (take-append-le (longest_line + 1) (line ++ moved) (others ++ xs) reaches) (one_line-take (longest_line + 1) (line ++ moved) (one_line-append line moved in_line in_moved));
+    })
+
+-- a line that gets too long is too long where it began
+pub over_long : (unread_start left : Option (List ℕ)) (line : List ℕ) (start now : Reading) →
+    unread_start ≡ before_known line (before_known now.held left) → IsOneLine line → length line ≤ longest_line →
+    now.consumed ≡ start.consumed + length line → now.max_bytes ≡ start.max_bytes → IsOverLong now line →
+    IfSome unread_start (IsLineLong (room start))
+over_long unread_start None line start now front in_line short consumed limit over = rw front tt
+over_long unread_start (Some xs) line start now front in_line short consumed limit over =
+    let rooms : 0 < room now → room start ≡ room now + length line = λ some. omega (arith, consumed, limit) in
+    rw (front, over.held) (long_line line over.moved over.others xs (room start) (room now) in_line over.in_line short over.over over.within rooms)
+
+-- a refusal of the held bytes is a fault of the line where it began
+pub cause_of : (fault : LineFault) (start now : Reading) (left_start left : Option (List ℕ)) (line : List ℕ) (before after : ℕ) →
+    unread start left_start ≡ before_known line (unread now left) → IsOneLine line → length line ≤ longest_line →
+    now.consumed ≡ start.consumed + length line → now.max_bytes ≡ start.max_bytes → now.given ≡ start.given →
+    IsRefusedLine fault now line → HasCause fault start left_start before after
+cause_of ReadFault start now left_start left line before after front in_line short consumed limit given cause = absurd cause
+cause_of TooLong start now left_start left line before after front in_line short consumed limit given cause = absurd cause
+cause_of (LineLong number) start now left_start left line before after front in_line short consumed limit given cause =
+    (cause.0 ∙ ap (λ n. n + 1) given, over_long (unread start left_start) left line start now front in_line short consumed limit cause.1)
+cause_of OutOfMemory start now left_start left line before after front in_line short consumed limit given cause = tt

@@ -1,0 +1,44 @@
+-- What is given at the end, at a line feed and where the line gets too long.
+use Rattle.std.proofs.Common.{◌≡◌, ◌∙◌, sym, ap, ℕ, List, [], Option}
+use Rattle.std.proofs.lemmas.Result.{err_from_is_err_and}
+use Rattle.wq_io.specs.Streams.{before_known, IsAtEnd}
+use Rattle.wq_io.specs.Lines.{Reading}
+use Rattle.wq_io.specs.Taking.{HasByte, IsEnded, Takes}
+use Rattle.wq_io.proofs.NextLine.{at_end, cause_of, line_ended}
+use Rattle.std.proofs.Common.{true}
+use Rattle.wq_io.proofs.lines.Lines.next_line.Goals as goal
+
+pub returns-in_err-take_held-clause-cause : goal.returns-in_err-take_held-clause-cause
+returns-in_err-take_held-clause-cause g c =
+    let p = err_from_is_err_and c.from_residual-in_err-take_held.result c.from_residual-in_err-take_held.ensures.1 in
+    let left : Option (List ℕ) = g.S.Source.left c.has_byte.new.source in
+    let going = c.loop-self.invariant in
+    let line : List ℕ = c.loop-self.line.items in
+    let has : HasByte c.loop-self.self c.has_byte.new.self (g.S.Source.left c.loop-self.source) left = rw c.if-not-branch.false at c.in_ok-has_byte.ensures.reads in
+    let front = going.front ∙ ap (λ (u : Option (List ℕ)). before_known line u) (sym has.same) in
+    let consumed = ap (λ (r : Reading). r.consumed) has.others ∙ ap (λ (r : Reading). r.consumed) going.others in
+    let limit = ap (λ (r : Reading). r.max_bytes) has.others ∙ ap (λ (r : Reading). r.max_bytes) going.others in
+    let given = ap (λ (r : Reading). r.given) has.others ∙ ap (λ (r : Reading). r.given) going.others in
+    rw (p.1, p.2) (cause_of _ c.args.self.now c.has_byte.new.self (g.S.Source.left c.args.source.now) left line _ _ front going.in_line going.short consumed limit given c.in_err-take_held.ensures.cause)
+
+pub returns-then-not-branch-clause-line : goal.returns-then-not-branch-clause-line
+returns-then-not-branch-clause-line g c =
+    let left_loop : Option (List ℕ) = g.S.Source.left c.loop-self.source in
+    let left : Option (List ℕ) = g.S.Source.left c.has_byte.new.source in
+    let going = c.loop-self.invariant in
+    let line : List ℕ = c.loop-self.line.items in
+    let ended : IsEnded c.loop-self.self c.has_byte.new.self left_loop left = rw c.if-not-branch.true at c.in_ok-has_byte.ensures.reads in
+    let held : c.last_line.new.self.held ≡ [] = c.last_line.ensures.held ∙ ap (λ (r : Reading). r.held) ended.others ∙ ended.empty in
+    let front = going.front ∙ ap (λ (h : List ℕ). before_known line (before_known h left_loop)) ended.empty ∙ ap (λ (l : Option (List ℕ)). before_known line (before_known [] l)) (sym ended.told) in
+    let end : IsAtEnd left = rw ended.told ended.at_end in
+    rw held (at_end _ left line c.last_line.result front end going.in_line c.last_line.ensures.none)
+
+pub returns-then-branch-clause-line : goal.returns-then-branch-clause-line
+returns-then-branch-clause-line g c =
+    let left : Option (List ℕ) = g.S.Source.left c.has_byte.new.source in
+    let going = c.loop-self.invariant in
+    let line : List ℕ = c.loop-self.line.items in
+    let has : HasByte c.loop-self.self c.has_byte.new.self (g.S.Source.left c.loop-self.source) left = rw c.if-not-branch.false at c.in_ok-has_byte.ensures.reads in
+    let takes : Takes c.has_byte.new.self c.take_held.new.self line c.take_held.new.line.items true = rw c.if-branch.true at c.in_ok-take_held.ensures.takes in
+    let front = going.front ∙ ap (λ (u : Option (List ℕ)). before_known line u) (sym has.same) in
+    rw (takes.line, c.count_line.ensures.counted) (line_ended _ left line takes.moved c.has_byte.new.self.held c.take_held.new.self.held front takes.held going.in_line takes.in_line)

@@ -1,0 +1,5 @@
+pub mod Failing
+pub mod Lines
+pub mod Memory
+pub mod Streams
+pub mod Taking

@@ -1,0 +1,109 @@
+-- The lines of an input, and what it is that a reader of lines gives the next one.
+use Rattle.std.specs.Prelude.{◌≡◌, ℕ, ◌+◌, ◌-◌, ◌<◌, ◌≤◌, ◌==◌, Bool, false, List, [], ◌∷◌, length, take, Option, cond, MatchOption, IfSome, ⊤}
+use Rattle.std.specs.Option.{option_map}
+use Rattle.std.specs.List.{list_any}
+use Rattle.wq_io.specs.Streams.{before_known, IsAtEnd, Rose}
+use Rattle.wq_io.specs.declared.lines.LineFault.{LineFault}
+use Rattle.wq_io.specs.declared.lines.LineFault.TheVariants.{ReadFault, TooLong, LineLong, OutOfMemory}
+
+-- the byte that ends a line
+abbrev pub line_feed : ℕ
+line_feed = 10
+
+-- the most bytes that a line may have without its line feed
+abbrev pub longest_line : ℕ
+longest_line = 65536
+
+-- the bytes have no line feed
+abbrev pub IsOneLine : List ℕ → Type 0
+IsOneLine bytes = list_any (λ b. b == line_feed) bytes ≡ false
+
+-- the byte stands before the first line
+abbrev pub onto_first_line : ℕ → List (List ℕ) → List (List ℕ)
+onto_first_line b [] = (b ∷ []) ∷ []
+onto_first_line b (line ∷ lines) = (b ∷ line) ∷ lines
+
+-- the lines of an input, without their line feeds; the last line may lack it, and nothing after the last line feed
+-- is no line
+abbrev pub lines : List ℕ → List (List ℕ)
+lines [] = []
+lines (b ∷ bs) = cond (b == line_feed) ([] ∷ lines bs) (onto_first_line b (lines bs))
+
+-- the lines of an input that is told
+abbrev pub lines_of : Option (List ℕ) → Option (List (List ℕ))
+lines_of known = option_map lines known
+
+-- the line, and then those that are told
+abbrev pub before_lines : List ℕ → Option (List (List ℕ)) → Option (List (List ℕ))
+before_lines line known = option_map (λ ls. line ∷ ls) known
+
+-- where a reader of lines stands: the bytes that it holds and hasn't given, how many bytes it gave away in lines,
+-- the number of its last line, the most bytes that the input may have, whether the source was read to its end, and
+-- whether the reader refused to go on
+pub record Reading : Type 0 where
+  pub held : List ℕ
+  pub consumed : ℕ
+  pub given : ℕ
+  pub max_bytes : ℕ
+  pub ended : Bool
+  pub failed : Bool
+
+-- a reader that hasn't read yet
+abbrev pub fresh : ℕ → Reading
+fresh max_bytes = record { held = []; consumed = 0; given = 0; max_bytes = max_bytes; ended = false; failed = false }
+
+-- how many bytes were taken from the source
+abbrev pub taken : Reading → ℕ
+taken r = r.consumed + length r.held
+
+-- what holds of each reader: no more bytes went into lines than the input may have, each line had a byte or a line
+-- feed, and at most one byte past the limit was taken
+pub record IsSound (r : Reading) : Type 0 where
+  pub within : r.consumed ≤ r.max_bytes
+  pub counted : r.given ≤ r.consumed
+  pub bounded : taken r ≤ r.max_bytes + 1
+
+-- how many further bytes the input may have
+abbrev pub room : Reading → ℕ
+room r = r.max_bytes - r.consumed
+
+-- what the reader has still to give, where the source tells what it has left
+abbrev pub unread : Reading → Option (List ℕ) → Option (List ℕ)
+unread r left = before_known r.held left
+
+-- the length of the whole input, where it is told
+abbrev pub input_length : Reading → Option (List ℕ) → Option ℕ
+input_length r left = option_map (λ bytes. r.consumed + length bytes) (unread r left)
+
+-- the next line was given, or there was none
+abbrev pub GivesLine : Option (List ℕ) → Option (List ℕ) → Option ℕ → List ℕ → Type 0
+GivesLine old new number line =
+    MatchOption number (IsAtEnd old × (new ≡ old)) (λ _. lines_of old ≡ before_lines line (lines_of new))
+
+-- the byte that is needed next is the first one past the most that the input may have: neither a line's end nor a
+-- line that is too long comes before it
+pub record IsTooLong (room : ℕ) (bytes : List ℕ) : Type 0 where
+  pub more : room < length bytes
+  pub before_line_long : room ≤ longest_line
+  pub in_line : IsOneLine (take room bytes)
+
+-- the line has a byte more than a line may have, and this byte lies within the input's limit
+pub record IsLineLong (room : ℕ) (bytes : List ℕ) : Type 0 where
+  pub more : longest_line < length bytes
+  pub within : longest_line < room
+  pub in_line : IsOneLine (take (longest_line + 1) bytes)
+
+-- the cause of a fault, where the source tells what it has left: the source's count of faults rose, or the byte that
+-- decides it stands in the input
+abbrev pub HasCause : LineFault → Reading → Option (List ℕ) → ℕ → ℕ → Type 0
+HasCause ReadFault old left before now = Rose before now
+HasCause TooLong old left before now = IfSome (unread old left) (IsTooLong (room old))
+HasCause (LineLong number) old left before now = (number ≡ old.given + 1) × IfSome (unread old left) (IsLineLong (room old))
+HasCause OutOfMemory old left before now = ⊤
+
+-- the reader after a line or the end
+pub record GoesOn (old new : Reading) (line : List ℕ) : Type 0 where
+  pub limit : new.max_bytes ≡ old.max_bytes
+  pub short : length line ≤ longest_line
+  pub sound : IsSound new
+  pub going : new.failed ≡ false

@@ -1,0 +1,29 @@
+-- What a read takes and a write puts, where the bytes are told, and what it is that a count rose.
+use Rattle.std.specs.Prelude.{◌≡◌, ℕ, ◌+◌, ◌-◌, ◌^◌, ◌≤◌, List, [], ◌++◌, take, min, Option, Result, IfSome, MatchResult}
+use Rattle.std.specs.Option.{option_map}
+
+-- the bytes, and then the ones that are told
+abbrev pub before_known : List ℕ → Option (List ℕ) → Option (List ℕ)
+before_known bytes known = option_map (λ xs. bytes ++ xs) known
+
+-- the ones that are told, and then the bytes
+abbrev pub after_known : Option (List ℕ) → List ℕ → Option (List ℕ)
+after_known known bytes = option_map (λ xs. xs ++ bytes) known
+
+-- where they are told, there are none
+abbrev pub IsAtEnd : Option (List ℕ) → Type 0
+IsAtEnd known = IfSome known (λ xs. xs ≡ [])
+
+-- a read that gave n bytes moved the first n bytes left into the buffer's front, and only at the end n is 0;
+-- a read that failed took none
+abbrev pub ReadTakes : {E : Type 0} → Option (List ℕ) → Option (List ℕ) → Result ℕ E → List ℕ → Type 0
+ReadTakes old new outcome buffer =
+    MatchResult outcome (λ n. (old ≡ before_known (take n buffer) new) × (n ≡ 0 → IsAtEnd old)) (λ _. new ≡ old)
+
+-- a write that took n bytes put the first n bytes at the end; one that failed put none
+abbrev pub WritePuts : {E : Type 0} → Option (List ℕ) → Option (List ℕ) → Result ℕ E → List ℕ → Type 0
+WritePuts old new outcome bytes = MatchResult outcome (λ n. new ≡ after_known old (take n bytes)) (λ _. new ≡ old)
+
+-- a count of 64 bits rose: it is greater than before, or stands at its last value
+abbrev pub Rose : ℕ → ℕ → Type 0
+Rose before now = min (before + 1) (2 ^ 64 - 1) ≤ now

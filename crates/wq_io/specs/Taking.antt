@@ -1,0 +1,57 @@
+-- One step of a reader of lines: a read, and the move of held bytes into a line.
+use Rattle.std.specs.Prelude.{◌≡◌, ℕ, suc, ◌+◌, ◌<◌, ◌≤◌, Bool, true, List, [], ◌∷◌, ◌++◌, length, take, drop, Option, MatchBool, cond, ⊤}
+use Rattle.wq_io.specs.Streams.{IsAtEnd}
+use Rattle.wq_io.specs.Lines.{Reading, IsSound, IsOneLine, line_feed, longest_line, room, unread}
+use Rattle.wq_io.specs.declared.lines.LineFault.{LineFault}
+use Rattle.wq_io.specs.declared.lines.LineFault.TheVariants.{ReadFault, TooLong, LineLong, OutOfMemory}
+
+-- the first line feed stands at the place
+pub record EndsAt (place : ℕ) (bytes : List ℕ) : Type 0 where
+  pub within : place < length bytes
+  pub in_line : IsOneLine (take place bytes)
+  pub is : bytes ≡ take place bytes ++ line_feed ∷ drop (suc place) bytes
+
+-- a byte is held: nothing was read, or what a read gave is held now
+pub record HasByte (old new : Reading) (left_old left_new : Option (List ℕ)) : Type 0 where
+  pub some : 0 < length new.held
+  pub grows : length old.held ≤ length new.held
+  pub same : unread new left_new ≡ unread old left_old
+  pub others : new ≡ record old { held = new.held; ended = new.ended }
+  pub ended : new.ended ≡ true → IsAtEnd left_new
+  pub sound : IsSound new
+
+-- the source is at its end
+pub record IsEnded (old new : Reading) (left_old left_new : Option (List ℕ)) : Type 0 where
+  pub empty : old.held ≡ []
+  pub at_end : IsAtEnd left_old
+  pub told : left_new ≡ left_old
+  pub others : new ≡ record old { ended = true }
+  pub sound : IsSound new
+
+-- bytes of one line moved from what is held into the line; where it ended, its line feed went too
+pub record Takes (old new : Reading) (before after : List ℕ) (ended : Bool) : Type 0 where
+  pub moved : List ℕ
+  pub some : MatchBool ended ⊤ (0 < length moved)
+  pub in_line : IsOneLine moved
+  pub line : after ≡ before ++ moved
+  pub short : length after ≤ longest_line
+  pub held : MatchBool ended (old.held ≡ moved ++ line_feed ∷ new.held) (old.held ≡ moved ++ new.held)
+  pub consumed : new.consumed ≡ old.consumed + length moved + cond ended 1 0
+  pub others : new ≡ record old { held = new.held; consumed = new.consumed }
+  pub sound : IsSound new
+
+-- with bytes of one line that are held and lie within the limit, the line gets too long
+pub record IsOverLong (old : Reading) (before : List ℕ) : Type 0 where
+  pub moved : List ℕ
+  pub others : List ℕ
+  pub held : old.held ≡ moved ++ others
+  pub in_line : IsOneLine moved
+  pub over : longest_line < length before + length moved
+  pub within : length moved ≤ room old
+
+-- why held bytes aren't taken: the line has too many, within the limit, or memory was refused
+abbrev pub IsRefusedLine : LineFault → Reading → List ℕ → Type 0
+IsRefusedLine ReadFault old before = ⊥
+IsRefusedLine TooLong old before = ⊥
+IsRefusedLine (LineLong number) old before = (number ≡ old.given + 1) × IsOverLong old before
+IsRefusedLine OutOfMemory old before = ⊤

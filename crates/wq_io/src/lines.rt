@@ -1,0 +1,332 @@
+// The lines of a source, one by one.
+
+ghost use Rattle.std.specs.Prelude.{◌≡◌, ◌+◌, ◌<◌, ◌≤◌, ◌^◌, ◌↔◌, true, false, [], ◌∷◌, ◌++◌, length, take, drop, IsTrue, IfOk, IfErr, OnOk, IsErr, is_err, MatchOption, MatchBool, vec_len, position, ◌==◌, ◌≢◌, IsNone, ◌⊎◌};
+ghost use Rattle.wq_io.specs.Streams.{before_known, IsAtEnd, Rose};
+ghost use Rattle.wq_io.specs.Lines.{fresh, taken, room, unread, input_length, GivesLine, GoesOn, HasCause, IsOneLine, IsSound, line_feed, longest_line};
+ghost use Rattle.wq_io.specs.Taking.{EndsAt, HasByte, IsEnded, IsRefusedLine, Takes};
+ghost use Rattle.wq_io.specs.declared.lines.LineFault.TheVariants.{ReadFault as NotRead, LineLong as OverLong, OutOfMemory as Refused};
+
+use crate::source::Source;
+use rdf_term::OutOfMemory;
+use std::marker::Model;
+use thiserror::Error;
+
+/// The most bytes that one read asks for.
+const BUFFER: usize = 4_096;
+
+/// The most bytes that a line may have without its line feed.
+const LONGEST_LINE: usize = 65_536;
+
+/// Why there is no next line.
+#[derive(Clone, Copy, Debug, PartialEq, Eq, Error)]
+pub enum LineFault {
+    /// The source failed.
+    #[error("read fault")]
+    ReadFault,
+    /// The input has more bytes than it may have.
+    #[error("input too long")]
+    TooLong,
+    /// The line with this number, from 1, has more bytes than a line may have.
+    #[error("line {0} too long")]
+    LineLong(u64),
+    /// A request for memory was refused.
+    #[error("out of memory")]
+    OutOfMemory,
+}
+
+impl From<OutOfMemory> for LineFault {
+    ghost from_gives = { λ _ e. e ≡ Refused };
+
+    fn from(_refused: OutOfMemory) -> LineFault {
+        LineFault::OutOfMemory
+    }
+}
+
+/// Splits a source at its line feeds, reading no further than it has to.
+#[derive(Debug, Drop)]
+pub struct Lines {
+    buffer: [u8; BUFFER],
+    start: usize,
+    end: usize,
+    consumed: u64,
+    given: u64,
+    max_bytes: u64,
+    ended: bool,
+    failed: bool,
+}
+
+impl Model for Lines {
+    ghost use Rattle.std.specs.Prelude.{◌+◌, ◌-◌, ◌^◌, ◌≤◌, take, drop};
+    ghost use Rattle.wq_io.specs.Lines.{Reading};
+
+    ghost Value = { Reading };
+
+    ghost view = { λ a. record {
+      held = take (a.end - a.start) (drop a.start a.buffer);
+      consumed = a.consumed;
+      given = a.given;
+      max_bytes = a.max_bytes;
+      ended = a.ended;
+      failed = a.failed;
+    } };
+
+    ghost invariant = { λ a. (a.start ≤ a.end) × (a.end ≤ 4096) × (a.max_bytes ≤ 2 ^ 40) × (a.consumed ≤ a.max_bytes)
+        × (a.given ≤ a.consumed) × (a.consumed + (a.end - a.start) ≤ a.max_bytes + 1) };
+}
+
+impl Lines {
+    /// A reader of an input that may have at most `max_bytes` bytes.
+    pub fn new(max_bytes: u64) -> Lines
+        requires { max_bytes ≤ 2 ^ 40 }
+        ensures { result ≡ fresh max_bytes }
+    {
+        Lines {
+            buffer: [0; BUFFER],
+            start: 0,
+            end: 0,
+            consumed: 0,
+            given: 0,
+            max_bytes,
+            ended: false,
+            failed: false,
+        }
+    }
+
+    /// Puts the next line without its line feed into `line` and answers its number, from 1; None is the end of the
+    /// input. A last line without line feed is a line. The source is the one of the calls before.
+    pub fn next<S: Source>(
+        &mut self,
+        source: &mut S,
+        line: &mut Vec<u8>,
+    ) -> Result<Option<u64>, LineFault>
+        requires going { self.old.failed ≡ false }
+        requires ended { self.old.ended ≡ true → IsAtEnd (S.left source.old) }
+        ensures line { IfOk result (λ number.
+            GivesLine (unread self.old (S.left source.old)) (unread self.new (S.left source.new)) number line.new.items) }
+        ensures number { IfOk result (λ number. MatchOption number (self.new.given ≡ self.old.given)
+            (λ n. (n ≡ self.old.given + 1) × (n ≡ self.new.given))) }
+        ensures length { OnOk result
+            (input_length self.new (S.left source.new) ≡ input_length self.old (S.left source.old)) }
+        ensures goes_on { OnOk result (GoesOn self.old self.new line.new.items) }
+        ensures ended { OnOk result (self.new.ended ≡ true → IsAtEnd (S.left source.new)) }
+        ensures later { S.faults source.old ≤ S.faults source.new }
+        ensures cause { IfErr result (λ fault.
+            HasCause fault self.old (S.left source.old) (S.faults source.old) (S.faults source.new)) }
+        ensures refused { IsErr result → self.new.failed ≡ true }
+    {
+        let outcome = self.next_line(source, line);
+        self.failed = outcome.is_err();
+        outcome
+    }
+
+    /// The number of bytes that were taken from the source.
+    pub fn taken(&self) -> u64
+        ensures { result ≡ taken self.now }
+    {
+        self.consumed + (self.end - self.start) as u64
+    }
+
+    // The next line, or the fault, without a note of the fault.
+    fn next_line<S: Source>(
+        &mut self,
+        source: &mut S,
+        line: &mut Vec<u8>,
+    ) -> Result<Option<u64>, LineFault>
+        requires going { self.old.failed ≡ false }
+        requires ended { self.old.ended ≡ true → IsAtEnd (S.left source.old) }
+        ensures line { IfOk result (λ number.
+            GivesLine (unread self.old (S.left source.old)) (unread self.new (S.left source.new)) number line.new.items) }
+        ensures number { IfOk result (λ number. MatchOption number (self.new.given ≡ self.old.given)
+            (λ n. (n ≡ self.old.given + 1) × (n ≡ self.new.given))) }
+        ensures length { OnOk result
+            (input_length self.new (S.left source.new) ≡ input_length self.old (S.left source.old)) }
+        ensures goes_on { OnOk result (GoesOn self.old self.new line.new.items) }
+        ensures ended { OnOk result (self.new.ended ≡ true → IsAtEnd (S.left source.new)) }
+        ensures later { S.faults source.old ≤ S.faults source.new }
+        ensures cause { IfErr result (λ fault.
+            HasCause fault self.old (S.left source.old) (S.faults source.old) (S.faults source.new)) }
+    {
+        let _ = &self.given;
+        line.clear();
+        loop {
+            if !self.has_byte(source)? {
+                return Ok(self.last_line(line));
+            }
+            if self.is_at_limit() {
+                return Err(LineFault::TooLong);
+            }
+            if self.take_held(line)? {
+                return Ok(Some(self.count_line()));
+            }
+        }
+    }
+
+    // Whether no byte is held.
+    fn is_empty(&self) -> bool
+        ensures answer { IsTrue result ↔ (self.now.held ≡ []) }
+        ensures sound { IsSound self.now }
+    {
+        self.start == self.end
+    }
+
+    // Whether as many bytes went into lines as the input may have.
+    fn is_at_limit(&self) -> bool
+        ensures { IsTrue result ↔ (self.now.consumed ≡ self.now.max_bytes) }
+    {
+        self.consumed == self.max_bytes
+    }
+
+    // Reads where nothing is held, and says whether a byte is held then.
+    fn has_byte<S: Source>(&mut self, source: &mut S) -> Result<bool, LineFault>
+        requires ended { self.old.ended ≡ true → IsAtEnd (S.left source.old) }
+        ensures reads { IfOk result (λ more. MatchBool more
+            (HasByte self.old self.new (S.left source.old) (S.left source.new))
+            (IsEnded self.old self.new (S.left source.old) (S.left source.new))) }
+        ensures later { S.faults source.old ≤ S.faults source.new }
+        ensures cause { IfErr result (λ fault. (fault ≡ NotRead) × Rose (S.faults source.old) (S.faults source.new)) }
+    {
+        if self.is_empty() {
+            return self.has_more(source);
+        }
+        Ok(true)
+    }
+
+    // Reads where the source isn't at its end, and says whether a byte is held then.
+    fn has_more<S: Source>(&mut self, source: &mut S) -> Result<bool, LineFault>
+        requires empty { self.old.held ≡ [] }
+        requires ended { self.old.ended ≡ true → IsAtEnd (S.left source.old) }
+        ensures reads { IfOk result (λ more. MatchBool more
+            (HasByte self.old self.new (S.left source.old) (S.left source.new))
+            (IsEnded self.old self.new (S.left source.old) (S.left source.new))) }
+        ensures later { S.faults source.old ≤ S.faults source.new }
+        ensures cause { IfErr result (λ fault. (fault ≡ NotRead) × Rose (S.faults source.old) (S.faults source.new)) }
+    {
+        if self.ended {
+            return Ok(false);
+        }
+        self.refill(source)
+    }
+
+    // Reads once.
+    fn refill<S: Source>(&mut self, source: &mut S) -> Result<bool, LineFault>
+        requires empty { self.old.held ≡ [] }
+        ensures reads { IfOk result (λ more. MatchBool more
+            (HasByte self.old self.new (S.left source.old) (S.left source.new))
+            (IsEnded self.old self.new (S.left source.old) (S.left source.new))) }
+        ensures later { S.faults source.old ≤ S.faults source.new }
+        ensures cause { IfErr result (λ fault. (fault ≡ NotRead) × Rose (S.faults source.old) (S.faults source.new)) }
+    {
+        let allowed = self.max_bytes + 1 - self.consumed;
+        let count = allowed.min(BUFFER as u64) as usize;
+        let Ok(read) = source.read(&mut self.buffer[..count]) else {
+            return Err(LineFault::ReadFault);
+        };
+        self.start = 0;
+        self.end = read;
+        self.ended = read == 0;
+        Ok(read > 0)
+    }
+
+    // The bytes that are held and lie within the limit.
+    fn usable(&self) -> &[u8]
+        ensures { result.now ≡ take (room self.now) self.now.held }
+    {
+        let held = &self.buffer[self.start..self.end];
+        let count = (self.max_bytes - self.consumed).min(held.len() as u64) as usize;
+        &held[..count]
+    }
+
+    // Moves the held bytes up to the line feed, or all within the limit, and says whether the line ended.
+    fn take_held(&mut self, line: &mut Vec<u8>) -> Result<bool, LineFault>
+        requires held { self.old.held ≢ [] }
+        requires room { 0 < room self.old }
+        requires short { length line.old.items ≤ longest_line }
+        ensures takes { IfOk result (λ ended. Takes self.old self.new line.old.items line.new.items ended) }
+        ensures cause { IfErr result (λ fault. IsRefusedLine fault self.old line.old.items) }
+    {
+        let number = self.given + 1;
+        let usable = self.usable();
+        match line_feed_at(usable) {
+            Some(place) => {
+                append(line, &usable[..place], number)?;
+                self.advance(place + 1);
+                Ok(true)
+            }
+            None => {
+                let count = usable.len();
+                append(line, usable, number)?;
+                self.advance(count);
+                Ok(false)
+            }
+        }
+    }
+
+    // Lets held bytes go.
+    fn advance(&mut self, count: usize)
+        requires held { count ≤ length self.old.held }
+        requires within { self.old.consumed + count ≤ self.old.max_bytes }
+        ensures moved { self.new ≡ record self.old {
+          held = drop count self.old.held;
+          consumed = self.old.consumed + count;
+        } }
+        ensures sound { IsSound self.new }
+    {
+        self.start += count;
+        self.consumed += count as u64;
+    }
+
+    // A line was given.
+    fn count_line(&mut self) -> u64
+        requires { self.old.given < self.old.consumed }
+        ensures number { result ≡ self.old.given + 1 }
+        ensures counted { self.new ≡ record self.old { given = self.old.given + 1 } }
+        ensures sound { IsSound self.new }
+    {
+        self.given += 1;
+        self.given
+    }
+
+    // The line at the end of the input, where it isn't empty.
+    fn last_line(&mut self, line: &Vec<u8>) -> Option<u64>
+        requires { self.old.given + length line.now.items ≤ self.old.consumed }
+        ensures none { IsNone result ↔ (line.now.items ≡ []) }
+        ensures held { self.new.held ≡ self.old.held }
+        ensures number { MatchOption result (self.new ≡ self.old)
+            (λ n. (n ≡ self.old.given + 1) × (self.new ≡ record self.old { given = self.old.given + 1 })) }
+        ensures sound { IsSound self.new }
+    {
+        let _ = &self.given;
+        if line.is_empty() {
+            return None;
+        }
+        Some(self.count_line())
+    }
+}
+
+// The place of the first line feed.
+fn line_feed_at(bytes: &[u8]) -> Option<usize>
+    ensures { MatchOption result (IsOneLine bytes.now) (λ place. EndsAt place bytes.now) }
+{
+    first_line_feed(bytes)
+}
+
+// The same place, by std's search.
+fn first_line_feed(bytes: &[u8]) -> Option<usize>
+    ensures { result ≡ position (λ b. b == line_feed) bytes.now }
+{
+    bytes.iter().position(|byte| *byte == b'\n')
+}
+
+// Puts bytes at the end of the line with this number, which may not get too long by them.
+fn append(line: &mut Vec<u8>, bytes: &[u8], number: u64) -> Result<(), LineFault>
+    requires { length line.old.items ≤ longest_line }
+    ensures ok { OnOk result ((line.new.items ≡ line.old.items ++ bytes.now) × (length line.new.items ≤ longest_line)) }
+    ensures cause { IfErr result (λ fault. (fault ≡ Refused)
+        ⊎ ((fault ≡ OverLong number) × (longest_line < length line.old.items + length bytes.now))) }
+{
+    if bytes.len() > LONGEST_LINE - line.len() {
+        return Err(LineFault::LineLong(number));
+    }
+    line.extend_from_slice(bytes).map_err(OutOfMemory::from)?;
+    Ok(())
+}

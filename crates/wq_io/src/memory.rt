@@ -1,0 +1,135 @@
+// A source and a sink in memory, with calls that are to fail.
+
+ghost use Rattle.std.specs.Prelude.{◌≡◌, ◌≤◌, Some, [], vec_len};
+ghost use Rattle.wq_io.specs.Failing.{failures};
+
+use crate::failing::FailingCalls;
+use crate::sink::{NoWrite, Sink};
+use crate::source::{Failed, Source};
+use rdf_term::{List, OutOfMemory};
+use std::alloc::Global;
+use std::marker::Model;
+
+/// A source over bytes in memory.
+#[derive(Debug, Drop)]
+pub struct MemorySource {
+    bytes: Vec<u8>,
+    at: usize,
+    piece: usize,
+    failing: FailingCalls,
+}
+
+impl Model for MemorySource {
+    ghost use Rattle.std.specs.Prelude.{drop, ◌≤◌, vec_len};
+    ghost use Rattle.wq_io.specs.Memory.{Reads};
+
+    ghost Value = { Reads };
+
+    ghost view = { λ a. record { left = drop a.at a.bytes.items; piece = a.piece; calls = a.failing } };
+
+    ghost invariant = { λ a. (a.at ≤ vec_len a.bytes) × (1 ≤ a.piece) };
+}
+
+impl MemorySource {
+    /// Gives `bytes`, at most `piece` of them a call; the calls whose numbers, from 1, are in `failing` fail.
+    pub fn new(bytes: Vec<u8>, piece: usize, failing: List<u64>) -> MemorySource
+        requires { 1 ≤ piece }
+        ensures { result ≡ record {
+          left = bytes.items;
+          piece = piece;
+          calls = record { numbers = failing; calls = 0 };
+        } }
+    {
+        MemorySource {
+            bytes,
+            at: 0,
+            piece,
+            failing: FailingCalls::new(failing),
+        }
+    }
+
+    // The bytes that no read has given yet.
+    fn rest(&self) -> &[u8]
+        ensures { result.now ≡ self.now.left }
+    {
+        &self.bytes[self.at..]
+    }
+}
+
+impl Source for MemorySource {
+    ghost left = { λ s. Some s.left };
+
+    ghost faults = { λ s. failures s.calls };
+
+    fn read(&mut self, buf: &mut [u8]) -> Result<usize, Failed> {
+        if self.failing.next_fails() {
+            return Err(Failed);
+        }
+        let left = self.rest();
+        let count = self.piece.min(buf.len()).min(left.len());
+        buf[..count].copy_from_slice(&left[..count]);
+        self.at += count;
+        Ok(count)
+    }
+}
+
+/// A sink that keeps its bytes in memory.
+#[derive(Debug, Drop)]
+pub struct MemorySink {
+    bytes: Vec<u8>,
+    piece: usize,
+    failing: FailingCalls,
+}
+
+impl Model for MemorySink {
+    ghost use Rattle.std.specs.Prelude.{◌≤◌};
+    ghost use Rattle.wq_io.specs.Memory.{Writes};
+
+    ghost Value = { Writes };
+
+    ghost view = { λ a. record { held = a.bytes.items; piece = a.piece; calls = a.failing } };
+
+    ghost invariant = { λ a. 1 ≤ a.piece };
+}
+
+impl MemorySink {
+    /// Takes at most `piece` bytes a call; the calls whose numbers, from 1, are in `failing` fail.
+    pub fn new(alloc: Global, piece: usize, failing: List<u64>) -> MemorySink
+        requires { 1 ≤ piece }
+        ensures { result ≡ record {
+          held = [];
+          piece = piece;
+          calls = record { numbers = failing; calls = 0 };
+        } }
+    {
+        MemorySink {
+            bytes: Vec::new(alloc),
+            piece,
+            failing: FailingCalls::new(failing),
+        }
+    }
+
+    /// The bytes that were taken, in order.
+    pub fn bytes(&self) -> &[u8]
+        ensures { result.now ≡ self.now.held }
+    {
+        self.bytes.as_slice()
+    }
+}
+
+impl Sink for MemorySink {
+    ghost held = { λ s. Some s.held };
+
+    ghost faults = { λ s. failures s.calls };
+
+    fn write(&mut self, bytes: &[u8]) -> Result<usize, NoWrite> {
+        if self.failing.next_fails() {
+            return Err(NoWrite::Failed);
+        }
+        let count = self.piece.min(bytes.len());
+        self.bytes
+            .extend_from_slice(&bytes[..count])
+            .map_err(|_| NoWrite::OutOfMemory)?;
+        Ok(count)
+    }
+}

@@ -1,0 +1,44 @@
+// What bytes are written to.
+
+ghost use Rattle.std.specs.Prelude.{◌≡◌, ℕ, ◌<◌, ◌≤◌, List, Option, length, IfOk, IfErr};
+ghost use Rattle.wq_io.specs.Streams.{WritePuts, Rose};
+ghost use Rattle.wq_io.specs.declared.sink.NoWrite.TheVariants.{Failed as CallFailed, OutOfMemory as Refused};
+
+use rdf_term::OutOfMemory;
+use thiserror::Error;
+
+/// Why a write took nothing.
+#[derive(Clone, Copy, Debug, PartialEq, Eq, Error)]
+pub enum NoWrite {
+    /// The call failed.
+    #[error("the call failed")]
+    Failed,
+    /// A request for memory was refused.
+    #[error("out of memory")]
+    OutOfMemory,
+}
+
+impl From<OutOfMemory> for NoWrite {
+    ghost from_gives = { λ _ e. e ≡ Refused };
+
+    fn from(_refused: OutOfMemory) -> NoWrite {
+        NoWrite::OutOfMemory
+    }
+}
+
+/// What bytes are written to.
+pub trait Sink {
+    // the bytes held, where they are told; whether they are told never changes
+    ghost held: { Self → Option (List ℕ) };
+
+    // how many calls failed, as far as 64 bits count them
+    ghost faults: { Self → ℕ };
+
+    /// Takes bytes from the front of `bytes`, at least one, and answers their number.
+    fn write(&mut self, bytes: &[u8]) -> Result<usize, NoWrite>
+        requires { 0 < length bytes.now }
+        ensures bound { IfOk result (λ n. (0 < n) × (n ≤ length bytes.now)) }
+        ensures bytes { WritePuts (held self.old) (held self.new) result bytes.now }
+        ensures later { faults self.old ≤ faults self.new }
+        ensures cause { IfErr result (λ e. e ≡ CallFailed → Rose (faults self.old) (faults self.new)) };
+}

@@ -1,0 +1,28 @@
+// What bytes are read from.
+
+ghost use Rattle.std.specs.Prelude.{◌≡◌, ℕ, ◌<◌, ◌≤◌, List, Option, length, IfOk, OnErr};
+ghost use Rattle.wq_io.specs.Streams.{ReadTakes, Rose};
+
+use thiserror::Error;
+
+/// A call to the outside failed.
+#[derive(Clone, Copy, Debug, PartialEq, Eq, Error)]
+#[error("the call failed")]
+pub struct Failed;
+
+/// What bytes are read from.
+pub trait Source {
+    // the bytes left, where they are told; whether they are told never changes
+    ghost left: { Self → Option (List ℕ) };
+
+    // how many calls failed, as far as 64 bits count them
+    ghost faults: { Self → ℕ };
+
+    /// Moves bytes into the front of `buf` and answers their number; 0 is the end.
+    fn read(&mut self, buf: &mut [u8]) -> Result<usize, Failed>
+        requires { 0 < length buf.old }
+        ensures bound { IfOk result (λ n. n ≤ length buf.new) }
+        ensures bytes { ReadTakes (left self.old) (left self.new) result buf.new }
+        ensures later { faults self.old ≤ faults self.new }
+        ensures cause { OnErr result (Rose (faults self.old) (faults self.new)) };
+}
