@@ -1,0 +1,55 @@
+// The trait of the outside for revisions.
+
+ghost use Rattle.std.specs.Prelude.{◌≡◌, ℕ, ◌≤◌, Option, Some, IfSome, IfErr, MatchResult};
+ghost use Rattle.revisions.specs.Revisions.{Contents, AgreesWith, HasCause, counted};
+ghost use Rattle.revisions.specs.declared.revisions.NoRevision.TheVariants.{OutOfMemory as Refused};
+
+use rdf_term::OutOfMemory;
+use std::alloc::Global;
+use thiserror::Error;
+
+/// Why a fetch gave no bytes.
+#[derive(Clone, Copy, Debug, PartialEq, Eq, Error)]
+pub enum NoRevision {
+    /// Nothing is there.
+    #[error("no such revision")]
+    Missing,
+    /// The call failed.
+    #[error("the fetch failed")]
+    Failed,
+    /// A request for memory was refused.
+    #[error("out of memory")]
+    OutOfMemory,
+}
+
+impl From<OutOfMemory> for NoRevision {
+    ghost from_gives = { λ _ e. e ≡ Refused };
+
+    fn from(_refused: OutOfMemory) -> NoRevision {
+        NoRevision::OutOfMemory
+    }
+}
+
+/// A source of the pages' revisions.
+pub trait Revisions {
+    // what is at each place and revision, where it is told; whether it is told never changes, nor do calls change it
+    ghost contents: { Self → Option Contents };
+
+    // how many calls were made, failed, and found nothing, as far as 64 bits count them
+    ghost calls: { Self → ℕ };
+
+    ghost faults: { Self → ℕ };
+
+    ghost misses: { Self → ℕ };
+
+    /// The bytes of revision `rev` at `place`.
+    fn fetch(&mut self, alloc: Global, place: &str, rev: u64) -> Result<Vec<u8>, NoRevision>
+        ensures told { contents self.new ≡ contents self.old }
+        ensures called { calls self.new ≡ counted (calls self.old) }
+        ensures bytes { IfSome (contents self.old) (λ there.
+            MatchResult result (λ v. there place.now rev ≡ Some v.items) (λ e. AgreesWith e (there place.now rev))) }
+        ensures cause { IfErr result (λ e.
+            HasCause e (misses self.old) (misses self.new) (faults self.old) (faults self.new)) }
+        ensures more_faults { faults self.old ≤ faults self.new }
+        ensures more_misses { misses self.old ≤ misses self.new };
+}
