@@ -8,22 +8,22 @@ use Rattle.rdf_term.specs.Order.{bytes_cmp}
 use Rattle.rdf_term.specs.Text.{escaped, escaped_byte}
 
 -- the byte is written as it is
-record Stands (x : ℕ) : Type 0 where
-  is : escaped_byte x ≡ x ∷ []
-  not_quote : x ≢ 34
-  not_backslash : x ≢ 92
+pub record Stands (x : ℕ) : Type 0 where
+  pub is : escaped_byte x ≡ x ∷ []
+  pub not_quote : x ≢ 34
+  pub not_backslash : x ≢ 92
 
 -- the byte that the letter behind a backslash stands for
-abbrev byte_of : ℕ → ℕ
+abbrev pub byte_of : ℕ → ℕ
 byte_of letter = if letter == 110 then 10 else (if letter == 114 then 13 else letter)
 
 -- the byte is written as a backslash and a letter
-record Escapes (x : ℕ) : Type 0 where
-  letter : ℕ
-  is : escaped_byte x ≡ 92 ∷ letter ∷ []
-  byte : byte_of letter ≡ x
+pub record Escapes (x : ℕ) : Type 0 where
+  pub letter : ℕ
+  pub is : escaped_byte x ≡ 92 ∷ letter ∷ []
+  pub byte : byte_of letter ≡ x
 
-kind : (x : ℕ) → Stands x ⊎ Escapes x
+pub kind : (x : ℕ) → Stands x ⊎ Escapes x
 kind x =
     ⊎_elim (λ e. inr (record { letter = 34; is = ap escaped_byte e; byte = sym e }))
     (λ a. ⊎_elim (λ e. inr (record { letter = 92; is = ap escaped_byte e; byte = sym e }))
