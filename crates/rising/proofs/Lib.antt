@@ -3,3 +3,4 @@ pub mod Filtering
 pub mod Finding
 pub mod Pushes
 pub mod Rising
+pub mod Sorting

@@ -1,0 +1,109 @@
+-- Different terms have different canonical texts: a text can be undone.
+use Rattle.std.proofs.Common.{◌≡◌, ℕ, List, [], ◌∷◌, ◌++◌, Bool, true, false, refl, sym, ap, ◌∙◌, ⊎_elim, if◌then◌else◌, ◌==◌, Ordering, Less, Equal, Greater, eq-eqb, ne_eqb}
+use Rattle.std.specs.Cmp.{IsTotalOrder}
+use Rattle.std.specs.FinMap.{IsAntisymmetric, nat_cmp-IsAntisymmetric, slice_cmp-IsAntisymmetric}
+use Rattle.std.specs.Ordering.{ordering_then}
+use Rattle.rdf_term.specs.declared.term.Term.{Term}
+use Rattle.rdf_term.specs.declared.term.Term.TheVariants.{Iri, Blank, Plain, Lang, Typed}
+use Rattle.rdf_term.specs.declared.triple.Triple.{Triple}
+use Rattle.rdf_term.specs.Order.{bytes_cmp, term_cmp, triple_cmp}
+use Rattle.rdf_term.specs.Text.{escaped, escaped_byte, quoted, in_brackets, term_text}
+use Rattle.rdf_term.proofs.Escapes.{kind, byte_of}
+
+-- all but the last
+front_of : ℕ → List ℕ → List ℕ
+front_of x [] = []
+front_of x (y ∷ ys) = x ∷ front_of y ys
+
+front : List ℕ → List ℕ
+front [] = []
+front (x ∷ xs) = front_of x xs
+
+front_of-push : (x : ℕ) (xs : List ℕ) (y : ℕ) → front_of x (xs ++ y ∷ []) ≡ x ∷ xs
+unfolding front_of
+front_of-push x [] y = refl
+front_of-push x (z ∷ zs) y = ap (λ l. x ∷ l) (front_of-push z zs y)
+
+front-push : (xs : List ℕ) (y : ℕ) → front (xs ++ y ∷ []) ≡ xs
+unfolding front front_of
+front-push [] y = refl
+front-push (x ∷ xs) y = front_of-push x xs y
+
+-- a text up to its closing quote, and what follows; `true` is behind a backslash
+record Split : Type 0 where
+  text : List ℕ
+  rest : List ℕ
+
+put : ℕ → Split → Split
+put x s = record { text = x ∷ s.text; rest = s.rest }
+
+scan : Bool → List ℕ → Split
+scan behind [] = record { text = []; rest = [] }
+scan true (x ∷ xs) = put (byte_of x) (scan false xs)
+scan false (x ∷ xs) = if x == 34 then record { text = []; rest = xs } else (if x == 92 then scan true xs else put x (scan false xs))
+
+scan-escaped : (text rest : List ℕ) → scan false (escaped text ++ 34 ∷ rest) ≡ record { text = text; rest = rest }
+unfolding scan put
+scan-escaped [] rest = refl
+scan-escaped (x ∷ xs) rest =
+    ⊎_elim
+    (λ k. rw (k.is, ne_eqb x 34 k.not_quote, ne_eqb x 92 k.not_backslash) (ap (put x) (scan-escaped xs rest)))
+    (λ k. rw k.is (ap (put (byte_of k.letter)) (scan-escaped xs rest) ∙ ap (λ b. record { text = b ∷ xs; rest = rest }) k.byte))
+    (kind x)
+
+-- what a literal is, by its text and what stands behind the closing quote
+literal : List ℕ → List ℕ → Term
+literal text [] = Plain text
+literal text (x ∷ xs) = if x == 64 then Lang text xs else Typed text (front (after_two xs))
+  where
+    after_two : List ℕ → List ℕ
+    after_two [] = []
+    after_two (y ∷ []) = []
+    after_two (y ∷ z ∷ zs) = zs
+
+literal_of : Split → Term
+literal_of s = literal s.text s.rest
+
+-- the term of a canonical text
+undo : List ℕ → Term
+undo [] = Plain []
+undo (x ∷ xs) = if x == 60 then Iri (front xs) else (if x == 34 then literal_of (scan false xs) else Blank (after_one xs))
+  where
+    after_one : List ℕ → List ℕ
+    after_one [] = []
+    after_one (y ∷ ys) = ys
+
+undo-term_text : (t : Term) → undo (term_text t) ≡ t
+unfolding undo literal literal_of
+undo-term_text (Iri iri) = ap Iri (front-push iri 62)
+undo-term_text (Blank label) = refl
+undo-term_text (Plain text) = ap literal_of (scan-escaped text [])
+undo-term_text (Lang text tag) = ap literal_of (scan-escaped text (64 ∷ tag))
+undo-term_text (Typed text datatype) = ap literal_of (scan-escaped text (94 ∷ 94 ∷ in_brackets datatype)) ∙ ap (Typed text) (front-push datatype 62)
+
+-- different terms have different texts
+pub same_text : (t u : Term) → term_text t ≡ term_text u → t ≡ u
+same_text t u e = sym (undo-term_text t) ∙ ap undo e ∙ undo-term_text u
+
+-- only equal terms tie
+pub term_cmp-IsAntisymmetric : IsAntisymmetric term_cmp
+term_cmp-IsAntisymmetric t u e = same_text t u (slice_cmp-IsAntisymmetric nat_cmp-IsAntisymmetric (term_text t) (term_text u) e)
+
+then_first : (a b : Ordering) → ordering_then a b ≡ Equal → a ≡ Equal
+then_first Less b e = cc
+then_first Equal b e = refl
+then_first Greater b e = cc
+
+then_second : (a b : Ordering) → ordering_then a b ≡ Equal → b ≡ Equal
+then_second Less b e = cc
+then_second Equal b e = e
+then_second Greater b e = cc
+
+-- only equal triples tie
+pub triple_cmp-IsAntisymmetric : IsAntisymmetric triple_cmp
+triple_cmp-IsAntisymmetric a b e =
+    let rest = then_second (term_cmp a.subject b.subject) _ e in
+    let subject = term_cmp-IsAntisymmetric a.subject b.subject (then_first _ _ e) in
+    let predicate = term_cmp-IsAntisymmetric a.predicate b.predicate (then_first _ _ rest) in
+    let object = term_cmp-IsAntisymmetric a.object b.object (then_second (term_cmp a.predicate b.predicate) _ rest) in
+    λ i. record { subject = subject i; predicate = predicate i; object = object i }

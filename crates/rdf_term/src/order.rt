@@ -1,0 +1,150 @@
+// The order of triples by the bytes of their canonical texts, without building a text.
+
+ghost use Rattle.std.specs.Prelude.{◌≡◌, ◌++◌, ◌∷◌, [], slice_index};
+ghost use Rattle.std.specs.Ordering.{ordering_then};
+ghost use Rattle.rdf_term.specs.Order.{bytes_cmp, term_cmp, triple_cmp};
+ghost use Rattle.rdf_term.specs.Text.{escaped, escaped_byte};
+
+use crate::escape::escape_of;
+use crate::term::Term;
+use crate::text::Text;
+use crate::triple::Triple;
+use std::cmp::Ordering;
+
+/// The order of triples: by the bytes of the canonical texts of the subjects, then of the predicates, then
+/// of the objects. It takes no memory and stops at the first byte that differs.
+pub fn compare(a: &Triple, b: &Triple) -> Ordering
+    ensures { result ≡ triple_cmp a.now b.now }
+{
+    match compare_terms(&a.subject, &b.subject) {
+        Ordering::Equal => compare_rest(a, b),
+        decided => decided,
+    }
+}
+
+// The order of the predicates, then of the objects.
+fn compare_rest(a: &Triple, b: &Triple) -> Ordering
+    ensures { result ≡ ordering_then (term_cmp a.now.predicate b.now.predicate) (term_cmp a.now.object b.now.object) }
+{
+    match compare_terms(&a.predicate, &b.predicate) {
+        Ordering::Equal => compare_terms(&a.object, &b.object),
+        decided => decided,
+    }
+}
+
+/// The order of terms by the bytes of their canonical texts. It takes no memory.
+#[tactic(auto, using(crate::proofs::Escapes::quoted_then))]
+pub fn compare_terms(a: &Term, b: &Term) -> Ordering
+    ensures { result ≡ term_cmp a.now b.now }
+{
+    match (a, b) {
+        (Term::Iri(a), Term::Iri(b)) => compare_iris(bytes(a), bytes(b)),
+        (Term::Blank(a), Term::Blank(b)) => compare_texts(a, b),
+        (Term::Iri(_), Term::Blank(_)) => Ordering::Less,
+        (Term::Blank(_), Term::Iri(_)) => Ordering::Greater,
+        (Term::Iri(_) | Term::Blank(_), _) => Ordering::Greater,
+        (_, Term::Iri(_) | Term::Blank(_)) => Ordering::Less,
+        (Term::Plain(a), Term::Plain(b)) => compare_quoted(bytes(a), bytes(b)),
+        (Term::Plain(a), Term::Lang(b, _) | Term::Typed(b, _)) => {
+            compare_quoted(bytes(a), bytes(b)).then(Ordering::Less)
+        }
+        (Term::Lang(a, _) | Term::Typed(a, _), Term::Plain(b)) => {
+            compare_quoted(bytes(a), bytes(b)).then(Ordering::Greater)
+        }
+        (Term::Lang(a, _), Term::Typed(b, _)) => {
+            compare_quoted(bytes(a), bytes(b)).then(Ordering::Less)
+        }
+        (Term::Typed(a, _), Term::Lang(b, _)) => {
+            compare_quoted(bytes(a), bytes(b)).then(Ordering::Greater)
+        }
+        (Term::Lang(a, x), Term::Lang(b, y)) => {
+            compare_quoted(bytes(a), bytes(b)).then_with(|| compare_texts(x, y))
+        }
+        (Term::Typed(a, x), Term::Typed(b, y)) => {
+            compare_quoted(bytes(a), bytes(b)).then_with(|| compare_iris(bytes(x), bytes(y)))
+        }
+    }
+}
+
+// The order of two texts.
+fn compare_texts(a: &Text, b: &Text) -> Ordering
+    ensures { result ≡ bytes_cmp a.now b.now }
+{
+    bytes(a).cmp(bytes(b))
+}
+
+// The bytes of the text.
+fn bytes(text: &Text) -> &[u8]
+    ensures { result.now ≡ text.now }
+{
+    text.as_str().as_bytes()
+}
+
+// The order of two IRIs with the bracket that closes them.
+#[tactic(auto, using(crate::proofs::Escapes::shorter))]
+fn compare_iris(a: &[u8], b: &[u8]) -> Ordering
+    ensures { result ≡ bytes_cmp (a.now ++ 62 ∷ []) (b.now ++ 62 ∷ []) }
+{
+    let mut left = a;
+    let mut right = b;
+    loop {
+        match (left.split_first(), right.split_first()) {
+            (Some((x, left_rest)), Some((y, right_rest))) => {
+                if x != y {
+                    return x.cmp(y);
+                }
+                left = left_rest;
+                right = right_rest;
+            }
+            (Some((x, _)), None) => return x.cmp(&b'>').then(Ordering::Greater),
+            (None, Some((y, _))) => return b'>'.cmp(y).then(Ordering::Less),
+            (None, None) => return Ordering::Equal,
+        }
+    }
+}
+
+// The order of two texts as they stand between the quotes, with the quote that closes them.
+#[tactic(auto, using(crate::proofs::Escapes::same_byte, crate::proofs::Escapes::quote_first, crate::proofs::Escapes::quote_second, crate::proofs::Escapes::differ))]
+fn compare_quoted(a: &[u8], b: &[u8]) -> Ordering
+    ensures { result ≡ bytes_cmp (escaped a.now ++ 34 ∷ []) (escaped b.now ++ 34 ∷ []) }
+{
+    let mut left = a;
+    let mut right = b;
+    loop {
+        match (left.split_first(), right.split_first()) {
+            (Some((x, left_rest)), Some((y, right_rest))) => {
+                if x != y {
+                    return compare_written(*x, *y);
+                }
+                left = left_rest;
+                right = right_rest;
+            }
+            (Some((x, _)), None) => return first_written(*x).cmp(&b'"'),
+            (None, Some((y, _))) => return b'"'.cmp(&first_written(*y)),
+            (None, None) => return Ordering::Equal,
+        }
+    }
+}
+
+// The order of what is written for two bytes of a literal's text.
+#[tactic(auto, using(crate::proofs::Escapes::then_equal))]
+fn compare_written(x: u8, y: u8) -> Ordering
+    ensures { result ≡ bytes_cmp (escaped_byte x) (escaped_byte y) }
+{
+    match (escape_of(x), escape_of(y)) {
+        (Some(x_letter), Some(y_letter)) => x_letter.cmp(&y_letter),
+        (Some(_), None) => b'\\'.cmp(&y).then(Ordering::Greater),
+        (None, Some(_)) => x.cmp(&b'\\').then(Ordering::Less),
+        (None, None) => x.cmp(&y),
+    }
+}
+
+// The first byte that is written for a byte of a literal's text.
+fn first_written(byte: u8) -> u8
+    ensures { result ≡ slice_index (escaped_byte byte) 0 }
+{
+    match escape_of(byte) {
+        Some(_) => b'\\',
+        None => byte,
+    }
+}

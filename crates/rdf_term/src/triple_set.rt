@@ -1,0 +1,60 @@
+// A set of triples.
+
+ghost use Rattle.std.specs.Prelude.{◌≡◌, IsOkAnd};
+ghost use Rattle.rising.specs.Rising.{IsRising, has, sorted};
+
+use crate::list::List;
+use crate::memory::OutOfMemory;
+use crate::triple::Triple;
+use std::marker::Model;
+
+/// A set of triples. Contracts see the list of its triples, which rises strictly.
+#[derive(Debug, Drop)]
+pub struct TripleSet {
+    rows: List<Triple>,
+}
+
+impl Model for TripleSet {
+    ghost use Rattle.std.specs.Prelude.{List};
+    ghost use Rattle.rising.specs.Rising.{IsRising};
+    ghost use Rattle.rdf_term.specs.declared.triple.Triple.{Triple};
+    ghost use Rattle.rdf_term.specs.Order.{triple_cmp};
+
+    ghost Value = { List Triple };
+
+    ghost view = { λ set. set.rows };
+
+    ghost invariant = { λ set. IsRising triple_cmp set.rows };
+}
+
+impl TripleSet {
+    ghost use Rattle.rdf_term.specs.Order.{triple_cmp};
+
+    /// The set of the list's triples. It sorts once, drops the triples that stand there again, and takes no
+    /// memory.
+    pub fn from_list(list: List<Triple>) -> Result<TripleSet, OutOfMemory>
+        ensures { IsOkAnd result (λ set. set ≡ sorted triple_cmp list) }
+    {
+        let mut rows = list.into_vec();
+        rows.sort_unstable();
+        rows.dedup();
+        Ok(TripleSet {
+            rows: List::from_vec(rows),
+        })
+    }
+
+    /// The triples in strictly rising order.
+    pub fn items(&self) -> &[Triple]
+        ensures items { result.now ≡ self.now }
+        ensures rising { IsRising triple_cmp self.now }
+    {
+        self.rows.as_slice()
+    }
+
+    /// Whether the triple is in the set, by binary search.
+    pub fn contains(&self, triple: &Triple) -> bool
+        ensures { result ≡ has triple_cmp triple.now self.now }
+    {
+        self.rows.as_slice().binary_search(triple).is_ok()
+    }
+}
