@@ -1,10 +1,14 @@
 // The reorder buffer.
 
-ghost use Rattle.std.specs.Prelude.{◌≡◌, false, length, OnOk, OnErr, IfOk, IsSome};
+ghost use Rattle.std.specs.Prelude.{◌≡◌, false, length, OnOk, OnErr, IfOk, IsSome, IfSome, All};
 ghost use Rattle.std.specs.Option.{option_copied};
+ghost use Rattle.std.specs.BTreeMap.Range.{IsLeBy};
+ghost use Rattle.entity_model.specs.Event.{event_cmp};
+ghost use Rattle.reorder_buffer.specs.Watermarks.{is_due};
 ghost use Rattle.reorder_buffer.specs.Buffered.{nothing_taken, answer_to, after_taking, after_raising, after_closing, first_due, after_dropping};
 
 use crate::taken::Taken;
+use crate::watermarks;
 use entity_model::Event;
 use rdf_term::OutOfMemory;
 use std::alloc::Global;
@@ -53,14 +57,16 @@ impl Buffer {
         if !self.taken.insert(event)? {
             return Ok(Taken::Repeat);
         }
-        if self.is_reached(event.time) {
+        if watermarks::reached(self.mark, event.time) {
             return Ok(Taken::Late);
         }
-        if self.waiting.insert(event).is_err() {
-            self.taken.remove(&event);
-            return Err(OutOfMemory);
+        match self.waiting.insert(event) {
+            Ok(_) => Ok(Taken::New),
+            Err(_) => {
+                self.taken.remove(&event);
+                Err(OutOfMemory)
+            }
         }
-        Ok(Taken::New)
     }
 
     /// Takes a watermark: events up to its time, in microseconds since 1970-01-01T00:00:00Z, are
@@ -68,7 +74,7 @@ impl Buffer {
     pub fn raise(&mut self, mark: i64)
         ensures { self.new ≡ after_raising self.old mark }
     {
-        self.mark = Some(self.mark.map_or(mark, |before| before.max(mark)));
+        self.mark = watermarks::greater(self.mark, mark);
     }
 
     /// Makes all events due, since no more come.
@@ -78,14 +84,17 @@ impl Buffer {
         self.closed = true;
     }
 
-    /// The first of the waiting events that are due.
+    /// The first of the waiting events that are due, which is the first of all that wait.
     pub fn least_due(&self) -> Option<Event>
-        ensures { result ≡ first_due self.now }
+        ensures due { result ≡ first_due self.now }
+        ensures least { IfSome result (λ event. All (IsLeBy event_cmp event) self.now.waiting) }
     {
-        self.waiting
-            .first()
-            .copied()
-            .filter(|event| self.is_due(event))
+        let first = self.waiting.first()?;
+        if self.is_due(first) {
+            Some(*first)
+        } else {
+            None
+        }
     }
 
     /// Drops the first of the waiting events that are due.
@@ -101,5 +110,12 @@ impl Buffer {
         ensures { result ≡ length self.now.waiting }
     {
         self.waiting.len()
+    }
+
+    /// Whether an event is due.
+    fn is_due(&self, event: &Event) -> bool
+        ensures { result ≡ is_due self.now.closed self.now.mark event.now }
+    {
+        self.closed || watermarks::reached(self.mark, event.time)
     }
 }

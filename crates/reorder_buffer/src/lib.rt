@@ -4,6 +4,7 @@
 
 mod buffer;
 mod taken;
+mod watermarks;
 
 pub use buffer::Buffer;
 pub use taken::Taken;
