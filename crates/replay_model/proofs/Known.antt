@@ -24,11 +24,10 @@ use Rattle.rising.proofs.Finding.{list_any-sorted, list_any-filter}
 use Rattle.replay_model.specs.Acceptance.{mark, events, is_repeat, is_late, is_accepted, accepted, late, due, known}
 use Rattle.replay_model.specs.Fate.{is_of, events_of, in_order, fate}
 use Rattle.replay_model.specs.Play.{is_reconciliation}
-use Rattle.replay_model.specs.Entries.{settles, is_open_late}
+use Rattle.replay_model.specs.Entries.{is_later, settles, is_open_late}
 use Rattle.replay_model.proofs.Times.{not_false, reached-greater}
 use Rattle.replay_model.proofs.Deliveries.{mark-kept, mark-watermark, events-kept, events-told, events_passing-kept, events_passing-told}
 use Rattle.replay_model.proofs.RecordOf.{entity_of, events_of-in_order}
-use Rattle.replay_model.proofs.OpenLate.{is_later}
 
 contradicts : {G : Type 0} (b : Bool) → b ≡ true → b ≡ false → G
 contradicts b p q = absurd (true≢false (sym p ∙ q))
