@@ -36,10 +36,20 @@ pub struct EntityId {
 
 impl EntityId {
     ghost use Rattle.entity_model.specs.EntityId.{id_text, IsId};
+    ghost use Rattle.entity_model.specs.IdOf.{id_of};
 
     /// Reads an id: the letter P or Q, and then a number from 1 to 4,294,967,295 in decimal without
     /// a leading zero. Any other text is none.
     pub fn read(text: &str) -> Option<EntityId>
+        ensures sound { IfSome result (λ id. IsId id × (id_text id ≡ text.now)) }
+        ensures complete { (id : EntityId) → IsId id → id_text id ≡ text.now → result ≡ Some id }
+        ensures value { result ≡ id_of text.now }
+    {
+        EntityId::parse(text)
+    }
+
+    // The same, by its parts.
+    fn parse(text: &str) -> Option<EntityId>
         ensures sound { IfSome result (λ id. IsId id × (id_text id ≡ text.now)) }
         ensures complete { (id : EntityId) → IsId id → id_text id ≡ text.now → result ≡ Some id }
     {
