@@ -8,7 +8,7 @@ use std::alloc::Global;
 use std::cmp::Ordering;
 
 /// The kind of an entity, by the letter of its id.
-#[derive(Clone, Copy, PartialEq, Eq, PartialOrd, Ord, Debug)]
+#[derive(Clone, Copy, PartialEq, Eq, PartialOrd, Ord, Hash, Debug)]
 pub enum IdKind {
     /// A property, as P31.
     P,
@@ -26,7 +26,7 @@ impl IdKind {
 }
 
 /// The id of an entity of Wikidata: a letter and a number from 1, as Q42.
-#[derive(Clone, Copy, Debug)]
+#[derive(Clone, Copy, Hash, Debug)]
 pub struct EntityId {
     /// The letter.
     pub kind: IdKind,
