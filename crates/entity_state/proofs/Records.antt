@@ -14,6 +14,8 @@ use Rattle.std.proofs.lemmas.List.Sorted.{list_any-IsPermutation}
 use Rattle.std.proofs.lemmas.Map.Keys.{IsDistinct-IsPermutation, IsDistinct-head, IsDistinct-tail, apart_from_distinct, sorted_from_all_adjacent}
 use Rattle.std.proofs.lemmas.Map.Made.{is_some-lookup}
 use Rattle.rising.specs.Rising.{has, Above, IsRising}
+use Rattle.rising.proofs.Rising.{same_rising}
+use Rattle.rising.proofs.Sorting.{IsRising-from_sorted}
 use Rattle.entity_model.specs.declared.id.EntityId.{EntityId}
 use Rattle.entity_model.specs.declared.event.Event.{Event}
 use Rattle.entity_model.specs.EntityId.{entity_cmp, entity_cmp_total, entity_cmp_same}
@@ -33,6 +35,19 @@ same_id_flips = (eq_by_cmp_equiv entity_cmp_total).symm
 none_alike : (q : EntityId) (ks : List EntityId) → AllByRecursion (λ k. same_id q k ≡ false) ks → has entity_cmp q ks ≡ false
 none_alike q [] apart = refl
 none_alike q (k ∷ ks) apart = rw apart.0 (none_alike q ks apart.1)
+
+and_first : (a b : Bool) → T (a && b) → T a
+and_first true b h = tt
+and_first false b h = h
+
+and_second : (a b : Bool) → T (a && b) → T b
+and_second true b h = h
+and_second false b h = absurd h
+
+less : (o : Ordering) → T (is_lt o) → o ≡ Less
+less Less h = refl
+less Equal h = absurd h
+less Greater h = absurd h
 
 module _ {H : Type 0} where
   find_lookup : (q : EntityId) (es : List (EntityId × Record H)) → map.find entity_cmp q es ≡ lookup (same_id q) es
@@ -76,7 +91,11 @@ module _ {H : Type 0} where
   -- the ids of a map rise
   above_keys : (k : EntityId) (es : List (EntityId × Record H)) → T (below_all entity_cmp k es) → Above entity_cmp k (mapped (λ e. e.0) es)
   above_keys k [] h = tt
-  above_keys k (e ∷ es) h = ?
+  above_keys k (e ∷ es) h = (less _ (and_first _ _ h), above_keys k es (and_second _ _ h))
+
+  rising_keys : (es : List (EntityId × Record H)) → T (is_sorted entity_cmp es) → IsRising entity_cmp (mapped (λ e. e.0) es)
+  rising_keys [] h = tt
+  rising_keys (e ∷ es) h = (above_keys e.0 es (and_first _ _ h), rising_keys es (and_second _ _ h))
 
 -- what is said of an Ok
 pub at_ok : {A E P : Type 0} (r : Result A E) → IsOk r → OnOk r P → P
@@ -94,4 +113,14 @@ before x y not_after apart = by (entity_cmp x y) refl
 
 -- different ids in order rise
 rising_ids : (ids : List EntityId) → IsDistinct same_id ids → IsSorted entity_cmp ids → IsRising entity_cmp ids
-rising_ids ids distinct in_order = ?
+rising_ids [] distinct in_order = tt
+rising_ids (x ∷ xs) distinct in_order =
+    IsRising-from_sorted entity_cmp (x ∷ xs) (sorted_from_all_adjacent entity_cmp_total (x ∷ xs) x (λ k below.
+    before (get_or (x ∷ xs) k x) (get_or (x ∷ xs) (k + 1) x) (in_order k x (omega arith) below) (apart_from_distinct same_id (x ∷ xs) k (k + 1) x distinct (omega arith) below)))
+
+-- the sorted ids of a list without equal ids are those of its map
+pub sorted_ids : {H : Type 0} (es : List (EntityId × Record H)) (ids sorted : List EntityId) → IsDistinct same_id (keys_of es) → ids ≡ keys_of es → IsPermutation ids sorted → IsSorted entity_cmp sorted → sorted ≡ map.keys (records_of es)
+sorted_ids es ids sorted distinct is moved in_order =
+    let apart = IsDistinct-IsPermutation same_id same_id_flips ids sorted moved (rw is distinct) in
+    same_rising entity_cmp_total entity_cmp_same sorted (map.keys (records_of es)) (rising_ids sorted apart in_order) (rising_keys (map.entries (records_of es)) (map.entries_sorted (records_of es))) (λ q.
+    sym (list_any-IsPermutation (same_id q) ids sorted moved) ∙ ap (has entity_cmp q) is ∙ sym (there q es) ∙ map.contains_key-keys (records_of es) q)

@@ -11,17 +11,15 @@ ghost use Rattle.entity_model.specs.EntityId.{entity_cmp};
 ghost use Rattle.entity_state.specs.Tabled.{records_of};
 ghost use Rattle.entity_state.specs.Table.{no_records, is_there, has_room, with_room, after_putting, after_setting};
 
+use crate::record::Record;
+use crate::state::State;
+use entity_model::{EntityId, Event};
+use indexmap::IndexMap;
+use rdf_term::{List, OutOfMemory};
 use std::alloc::Global;
 use std::collections::BTreeSet;
 use std::marker::Model;
 use std::mem;
-
-use entity_model::{EntityId, Event};
-use indexmap::IndexMap;
-use rdf_term::{List, OutOfMemory};
-
-use crate::record::Record;
-use crate::state::State;
 
 /// The records of entities, by their ids. Contracts see the map from ids to records, the ids in the
 /// order of their places, and the ids that only have room.
@@ -146,11 +144,7 @@ fn keys_of<H>(
 }
 
 /// Puts a record of an entity that has none, where there is room.
-fn insert_new<H: Drop>(
-    records: &mut IndexMap<EntityId, Record<H>>,
-    id: EntityId,
-    value: Record<H>,
-)
+fn insert_new<H: Drop>(records: &mut IndexMap<EntityId, Record<H>>, id: EntityId, value: Record<H>)
     requires absent { get (eq_by_cmp entity_cmp) records.old id ≡ None }
     requires room { 0 < spare records.old }
     ensures records { records_of records.new.entries ≡ map.insert (records_of records.old.entries) id value }
