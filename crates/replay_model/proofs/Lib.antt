@@ -2,6 +2,8 @@ pub mod Arrivals
 pub mod Confluence
 pub mod Deliveries
 pub mod DueParts
+pub mod FetchCounts
+pub mod Following
 pub mod Known
 pub mod LateEntries
 pub mod OpenLate
