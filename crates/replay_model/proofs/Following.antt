@@ -36,11 +36,11 @@ same_parts closed t w m p = λ i. state_of (t i) (w i) (m i) closed (p i)
 -- ---- an event
 
 -- an event that isn't due by the mark
-abbrev waits : Option ℤ → Event → Bool
+abbrev pub waits : Option ℤ → Event → Bool
 waits m e = not (is_due false m e)
 
 -- after an event whose answer is known
-abbrev after_answered : Taken → ReplayState → Event → ReplayState
+abbrev pub after_answered : Taken → ReplayState → Event → ReplayState
 after_answered answer w e = record {
   buffer = after_answer answer w.buffer e;
   played = record { records = w.played.records; side = w.played.side ++ taken_entries answer e };
@@ -145,7 +145,7 @@ after_due-none replies w none =
     let test = is_due w.buffer.closed w.buffer.mark in
     same_parts w.buffer.closed refl (filter-all_others test w.buffer.waiting none) refl (ap (apply_all replies w.played) (filter-none test w.buffer.waiting none))
 
-after_due-some : (replies : Replies) (w : ReplayState) (e : Event) → first_due w.buffer ≡ Some e → after_due replies (after_applying replies w (Some e)) ≡ after_due replies w
+pub after_due-some : (replies : Replies) (w : ReplayState) (e : Event) → first_due w.buffer ≡ Some e → after_due replies (after_applying replies w (Some e)) ≡ after_due replies w
 after_due-some replies w e some =
     let test = is_due w.buffer.closed w.buffer.mark in
     same_parts w.buffer.closed refl (filter-others test w.buffer.waiting) refl (ap (apply_all replies w.played) (sym (filter-first test w.buffer.waiting e some)))

@@ -1,3 +1,4 @@
+pub mod Applied
 pub mod Arrivals
 pub mod Confluence
 pub mod Deliveries
