@@ -120,11 +120,11 @@ split false false ev la ac t e r = ap (λ v. v || (t || false)) e ∙ turn la ac
     turn false true t = refl
     turn false false t = refl
 
-has-one : (q e : Event) (b : Bool) → has event_cmp q (cond b (e ∷ []) []) ≡ cond b (eq_by_cmp event_cmp q e || false) false
+pub has-one : (q e : Event) (b : Bool) → has event_cmp q (cond b (e ∷ []) []) ≡ cond b (eq_by_cmp event_cmp q e || false) false
 has-one q e true = refl
 has-one q e false = refl
 
-has-events : (q : Event) (ds : List Delivery) → has event_cmp q (events ds) ≡ (has event_cmp q (late ds) || has event_cmp q (accepted ds))
+pub has-events : (q : Event) (ds : List Delivery) → has event_cmp q (events ds) ≡ (has event_cmp q (late ds) || has event_cmp q (accepted ds))
 has-events q = by_pushes (λ ds. has event_cmp q (events ds) ≡ (has event_cmp q (late ds) || has event_cmp q (accepted ds))) refl step
   where
     step : (ds : List Delivery) (d : Delivery) → has event_cmp q (events ds) ≡ (has event_cmp q (late ds) || has event_cmp q (accepted ds)) → has event_cmp q (events (ds ++ d ∷ [])) ≡ (has event_cmp q (late (ds ++ d ∷ [])) || has event_cmp q (accepted (ds ++ d ∷ [])))
