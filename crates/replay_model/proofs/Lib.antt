@@ -3,7 +3,9 @@ pub mod Arrivals
 pub mod Confluence
 pub mod Deliveries
 pub mod DueParts
+pub mod Explaining
 pub mod FetchCounts
+pub mod Fetching
 pub mod Following
 pub mod Known
 pub mod LateEntries

@@ -1,0 +1,87 @@
+-- What the application of an event takes from the replies: one reply at most, and the events that it names as failed.
+use Rattle.std.proofs.Common.{◌≡◌, ℕ, Bool, true, false, not, cond, ◌&&◌, ◌||◌, ◌⊎◌, inl, inr, List, [], ◌∷◌, ◌++◌, Option, None, Some, Result, Ok, Err, Ordering, is_eq, filter_map, refl, sym, ◌∙◌, ap, subst, true≢false, append-nil}
+use Rattle.std.specs.FinMap as map
+use Rattle.std.specs.Ordering.{eq_by_cmp}
+use Rattle.std.proofs.lemmas.List.Elements.{filter_map-append}
+use Rattle.entity_model.specs.declared.event.Event.{Event}
+use Rattle.entity_model.specs.declared.unfit.Unfit.{Unfit}
+use Rattle.entity_model.specs.Event.{event_cmp}
+use Rattle.entity_state.specs.declared.record.Record.{Record}
+use Rattle.entity_state.specs.State.{state_after, is_deleted}
+use Rattle.entity_state.specs.Record.{held_revision}
+use Rattle.side_output.specs.declared.entry.Cause.{Cause}
+use Rattle.side_output.specs.declared.entry.Cause.TheVariants.{Missing, Failed, Unfit as NoDocument}
+use Rattle.side_output.specs.declared.entry.Entry.{Entry}
+use Rattle.rising.specs.Rising.{has}
+use Rattle.rising.proofs.Bools.{or_none, or_true}
+use Rattle.rising.proofs.Rising.{has-append}
+use Rattle.replay_model.specs.Records.{Bytes, record_of, wants}
+use Rattle.replay_model.specs.Play.{Replies, Played, held_after_fetch, reconciled_after, entry_of, entries_after, apply}
+use Rattle.replay_model.specs.Replies.{Judgement, judged, reply_there, source_replies, failed_event, failed_events}
+use Rattle.replay_model.specs.ReplayState.{ReplayState, after_applying}
+use Rattle.replay_model.specs.Explained.{revision_wanted, is_fetching}
+
+-- what is played after an event, if it fetches, with this reply
+abbrev applied_with : ReplayState → Event → Bool → Result Bytes Cause → Played
+applied_with w e fetching reply =
+    let r = record_of w.played.records e.entity in
+    let s = state_after r.state e in
+    record {
+      records = map.insert w.played.records e.entity (record {
+        state = s;
+        held = cond fetching (held_after_fetch s.rev reply r.held) (cond (is_deleted s.mode) None r.held);
+        reconciled = reconciled_after r.reconciled e;
+      });
+      side = w.played.side ++ cond fetching (entry_of e s.rev reply) [];
+    }
+
+-- replies that agree where a fetch is made apply the event alike
+pub apply-same : (some others : Replies) (w : ReplayState) (e : Event) → (is_fetching w e ≡ true → others e (revision_wanted w e) ≡ some e (revision_wanted w e)) → after_applying some w (Some e) ≡ after_applying others w (Some e)
+apply-same some others w e same = ap (λ p. record { buffer = (after_applying some w (Some e)).buffer; played = p }) (by (is_fetching w e) same)
+  where
+    by : (fetching : Bool) → (fetching ≡ true → others e (revision_wanted w e) ≡ some e (revision_wanted w e)) → applied_with w e fetching (some e (revision_wanted w e)) ≡ applied_with w e fetching (others e (revision_wanted w e))
+    by true same = ap (applied_with w e true) (sym (same refl))
+    by false same = refl
+
+-- ---- the failed events
+
+-- the event, if its fetch failed
+abbrev pub failed_of : Event → Result Bytes Cause → List Event
+failed_of e (Ok bytes) = []
+failed_of e (Err Missing) = []
+failed_of e (Err Failed) = e ∷ []
+failed_of e (Err (NoDocument unfit)) = []
+
+failed-entry_of : (e : Event) (r : ℕ) (reply : Result Bytes Cause) → failed_events (entry_of e r reply) ≡ failed_of e reply
+failed-entry_of e r (Ok bytes) = refl
+failed-entry_of e r (Err Missing) = refl
+failed-entry_of e r (Err Failed) = refl
+failed-entry_of e r (Err (NoDocument unfit)) = refl
+
+-- the event, if it was fetched for and the fetch failed
+abbrev pub failed_by : Bool → Event → Result Bytes Cause → List Event
+failed_by fetching e reply = cond fetching (failed_of e reply) []
+
+pub failed-applying : (replies : Replies) (w : ReplayState) (e : Event) → failed_events (after_applying replies w (Some e)).played.side ≡ failed_events w.played.side ++ failed_by (is_fetching w e) e (replies e (revision_wanted w e))
+failed-applying replies w e = filter_map-append failed_event w.played.side (entries_after replies e (record_of w.played.records e.entity)) ∙ ap (λ l. failed_events w.played.side ++ l) (by (is_fetching w e))
+  where
+    by : (fetching : Bool) → failed_events (cond fetching (entry_of e (revision_wanted w e) (replies e (revision_wanted w e))) []) ≡ failed_by fetching e (replies e (revision_wanted w e))
+    by true = failed-entry_of e (revision_wanted w e) (replies e (revision_wanted w e))
+    by false = refl
+
+-- only the event itself
+pub has-failed_by : (q e : Event) (fetching : Bool) (reply : Result Bytes Cause) → eq_by_cmp event_cmp q e ≡ false → has event_cmp q (failed_by fetching e reply) ≡ false
+has-failed_by q e false reply other = refl
+has-failed_by q e true (Ok bytes) other = refl
+has-failed_by q e true (Err Missing) other = refl
+has-failed_by q e true (Err Failed) other = or_none (eq_by_cmp event_cmp q e) ∙ other
+has-failed_by q e true (Err (NoDocument unfit)) other = refl
+
+-- what is there is no failure
+pub failed_of-there : (unfit : Judgement) (e : Event) (there : Option Bytes) → failed_of e (reply_there unfit e.entity there) ≡ []
+failed_of-there unfit e None = refl
+failed_of-there unfit e (Some bytes) = by (unfit e.entity bytes)
+  where
+    by : (u : Option Unfit) → failed_of e (judged u bytes) ≡ []
+    by None = refl
+    by (Some u) = refl
