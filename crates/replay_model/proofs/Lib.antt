@@ -15,3 +15,4 @@ pub mod PlayedRecords
 pub mod RecordOf
 pub mod Settled
 pub mod Times
+pub mod ToldContents

@@ -1,10 +1,11 @@
 -- What a source of revisions with known contents replies.
-use Rattle.std.specs.Prelude.{ℕ, cond, List, [], ◌∷◌, Option, None, Some, Result, Ok, Err, filter_map}
+use Rattle.std.specs.Prelude.{◌≡◌, ℕ, true, cond, List, [], ◌∷◌, Option, None, Some, Result, Ok, Err, filter_map}
 use Rattle.rising.specs.Rising.{has}
 use Rattle.entity_model.specs.declared.id.EntityId.{EntityId}
 use Rattle.entity_model.specs.declared.event.Event.{Event}
 use Rattle.entity_model.specs.declared.unfit.Unfit.{Unfit}
 use Rattle.entity_model.specs.Event.{event_cmp}
+use Rattle.entity_state.specs.declared.record.Held.{Held}
 use Rattle.side_output.specs.declared.entry.Cause.{Cause}
 use Rattle.side_output.specs.declared.entry.Cause.TheVariants.{Missing, Failed, Unfit as NoDocument}
 use Rattle.side_output.specs.declared.entry.Entry.{Entry}
@@ -38,3 +39,20 @@ failed_event _ = None
 -- the events whose fetches failed, as the side output names them
 abbrev pub failed_events : List Entry → List Event
 failed_events side = filter_map failed_event side
+
+-- what is held is a document of the entity, and what the source has at its revision
+abbrev pub HoldsWhatIsThere : Judgement → (ℕ → Option Bytes) → EntityId → Option (Held Bytes) → Type 0
+HoldsWhatIsThere unfit contents x None = Unit {0}
+HoldsWhatIsThere unfit contents x (Some h) = (contents h.revision ≡ Some h.content) × (unfit x h.content ≡ None)
+
+-- bytes are there that are no document of the entity, for this reason
+abbrev pub HasUnfit : Judgement → EntityId → Unfit → Option Bytes → Type 0
+HasUnfit unfit x why None = ⊥
+HasUnfit unfit x why (Some bytes) = unfit x bytes ≡ Some why
+
+-- an entry says of a revision what is so: nothing is there, no document is there, or the fetch failed
+abbrev pub TellsWhatIsThere : Judgement → (ℕ → Option Bytes) → List Event → Entry → Type 0
+TellsWhatIsThere unfit contents failed (Late e) = Unit {0}
+TellsWhatIsThere unfit contents failed (Revision e r Missing) = contents r ≡ None
+TellsWhatIsThere unfit contents failed (Revision e r Failed) = has event_cmp e failed ≡ true
+TellsWhatIsThere unfit contents failed (Revision e r (NoDocument why)) = HasUnfit unfit e.entity why (contents r)
