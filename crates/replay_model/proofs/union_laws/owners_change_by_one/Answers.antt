@@ -1,6 +1,6 @@
 -- Only the entity's own share of the owners changes.
 use Rattle.replay_model.proofs.Owners.{owners-change}
-use Rattle.replay_model.proofs.laws.owners_change_by_one.Goals as goal
+use Rattle.replay_model.proofs.union_laws.owners_change_by_one.Goals as goal
 
 pub returns-clause-gained : goal.returns-clause-gained
 returns-clause-gained g c order meaning o records x r t = (owners-change o meaning records x r t).0
