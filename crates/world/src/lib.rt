@@ -1,13 +1,15 @@
-// A library with one function.
+// The world: events are taken and wait, due events are applied one by one, and what is held means triples.
+//
+// `world` is the state of a replay, seen by contracts as the definitions of replay_model see it. `fetching` gets what
+// an application needs, and `applying` sets records and side output; `meaning` makes the triples of a page.
 #![tactic(auto)]
 
-ghost use Rattle.std.specs.Prelude.{◌≡◌};
-ghost use Rattle.world.specs.Echo.{echo_of};
+mod applied;
+mod fetching;
+mod meaning;
+mod pages;
+mod standing;
+mod world;
 
-// The `ensures` clause is the contract: what `echo` returns is `echo_of` of its argument, a definition
-// in `specs/Echo.antt`, which a caller's clause can cite too.
-pub fn echo(x: usize) -> usize
-    ensures { result ≡ echo_of x }
-{
-    x
-}
+pub use applied::{Applied, Outcome, WorldFault};
+pub use world::World;

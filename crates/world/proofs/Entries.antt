@@ -1,0 +1,60 @@
+-- What is gathered over the ids of the records is what is gathered over their entries.
+use Rattle.std.proofs.Common.{refl, ◌∙◌, ap, ◌≡◌, Bool, true, false, T, ◌&&◌, List, [], ◌∷◌, ◌++◌, Option, Some, map, Ordering, Less, Equal, Greater}
+use Rattle.std.specs.Option.{unwrap_or}
+use Rattle.std.specs.List.{flat_map}
+use Rattle.std.specs.Ordering.{eq_by_cmp, is_eq, is_lt, ordering_reverse}
+use Rattle.std.specs.Cmp.{IsTotalOrder, eq_by_cmp_equiv}
+use Rattle.std.specs.FinMap as fin
+use Rattle.std.specs.FinMap.Entries.{find, is_sorted, below_all}
+use Rattle.entity_model.specs.declared.id.EntityId.{EntityId}
+use Rattle.entity_model.specs.EntityId.{entity_cmp, entity_cmp_total}
+use Rattle.entity_state.specs.declared.record.Record.{Record}
+use Rattle.entity_state.specs.Record.{blank}
+use Rattle.replay_model.specs.Records.{Bytes, Records, record_of}
+use Rattle.replay_model.specs.Union.{Meaning, triples_held, triples_at}
+
+first : (a b : Bool) → T (a && b) → T a
+first true b h = tt
+first false b h = h
+
+second : (a b : Bool) → T (a && b) → T b
+second true b h = h
+second false b h = absurd h
+
+module _ {K X B : Type 0} {R : K → K → Ordering} (o : IsTotalOrder R) (g : K → Option X → List B) where
+  -- a key above another isn't equal to it
+  apart : (k q : K) → T (is_lt (R k q)) → eq_by_cmp R q k ≡ false
+  apart k q h = elim (R k q) as (λ r. R k q ≡ r → T (is_lt r) → eq_by_cmp R q k ≡ false) [
+    | Less ↦ λ e _. ap is_eq (o.antisymm q k ∙ ap ordering_reverse e)
+    | Equal ↦ λ e less. absurd less
+    | Greater ↦ λ e less. absurd less
+  ] refl h
+
+  past : (k : K) (v : X) (es others : List (K × X)) → T (below_all R k others) →
+      flat_map (λ e. g e.0 (find R e.0 ((k, v) ∷ es))) others ≡ flat_map (λ e. g e.0 (find R e.0 es)) others
+  past k v es [] below = refl
+  past k v es (e ∷ others) below =
+      let other : eq_by_cmp R e.0 k ≡ false = apart k e.0 (first (is_lt (R k e.0)) (below_all R k others) below) in
+      rw (other, past k v es others (second (is_lt (R k e.0)) (below_all R k others) below)) refl
+
+  found : (es : List (K × X)) → T (is_sorted R es) → flat_map (λ e. g e.0 (find R e.0 es)) es ≡ flat_map (λ e. g e.0 (Some e.1)) es
+  found [] sorted = refl
+  found (e ∷ es) sorted =
+      let here : eq_by_cmp R e.0 e.0 ≡ true = (eq_by_cmp_equiv o).refl e.0 in
+      let below = first (below_all R e.0 es) (is_sorted R es) sorted in
+      let rest = second (below_all R e.0 es) (is_sorted R es) sorted in
+      rw (here, past e.0 e.1 es es below, found es rest) refl
+
+  over_keys : (h : K → List B) (es : List (K × X)) → flat_map h (map (λ (e : K × X). e.0) es) ≡ flat_map (λ e. h e.0) es
+  over_keys h [] = refl
+  over_keys h (e ∷ es) = ap (λ xs. h e.0 ++ xs) (over_keys h es)
+
+-- the triples of all that is held, by the ids of the records
+pub held_over_ids : {Triple : Type 0} (meaning : Meaning Triple) (records : Records) →
+    flat_map (λ x. triples_held meaning x (record_of records x).held) (fin.keys records) ≡ flat_map (triples_at meaning) (fin.entries records)
+held_over_ids {Triple} meaning records =
+    let g : EntityId → Option (Record Bytes) → List Triple = λ x r. triples_held meaning x (unwrap_or r blank).held in
+    let h : EntityId → List Triple = λ x. g x (find entity_cmp x (fin.entries records)) in
+    let asked : flat_map (λ x. g x (fin.get records x)) (fin.keys records) ≡ flat_map h (fin.keys records) =
+    λ i. flat_map (λ x. g x (fin.get-entries records x i)) (fin.keys records) in
+    asked ∙ over_keys entity_cmp_total g h (fin.entries records) ∙ found entity_cmp_total g (fin.entries records) (fin.entries_sorted records)

@@ -1,0 +1,30 @@
+-- How the values of a replay are stored, so that contracts can tell them apart.
+use Rattle.std.specs.Prelude.{ℤ, Bool, List, Option, refl}
+use Rattle.std.specs.Coded.{Coded, code_by, coded×, coded_ℕ, coded_ℤ, coded_bool, coded_list, coded_option}
+use Rattle.std.specs.FinMap as map
+use Rattle.entity_model.specs.contracts.id.EntityId as entity_id
+use Rattle.entity_state.specs.Tabled.{record_code}
+use Rattle.side_output.specs.declared.entry.Entry.{Entry}
+use Rattle.side_output.specs.contracts.entry.Entry as entry
+use Rattle.replay_model.specs.Records.{Records}
+use Rattle.replay_model.specs.Play.{Played}
+use Rattle.replay_model.specs.ReplayState.{ReplayState}
+use Rattle.reorder_buffer.specs.Buffered.{Buffered}
+use Rattle.entity_model.specs.declared.event.Event.{Event}
+use Rattle.entity_model.specs.contracts.event.Event as event
+
+-- records and side output
+abbrev pub played_code : Coded Played
+played_code =
+    code_by (Records × List Entry) (coded× (map.code (entity_id.the_row).coded (record_code (coded_list coded_ℕ))) (coded_list (entry.the_row).coded))
+    (λ p. (p.records, p.side)) (λ c. record { records = c.0; side = c.1 }) (λ _. refl)
+
+-- a buffer
+abbrev pub buffered_code : Coded Buffered
+buffered_code =
+    code_by (List Event × (List Event × (Option ℤ × Bool))) (coded× (coded_list (event.the_row).coded) (coded× (coded_list (event.the_row).coded) (coded× (coded_option coded_ℤ) coded_bool)))
+    (λ b. (b.taken, (b.waiting, (b.mark, b.closed)))) (λ c. record { taken = c.0; waiting = c.1.0; mark = c.1.1.0; closed = c.1.1.1 }) (λ _. refl)
+
+-- the state of a replay
+abbrev pub state_code : Coded ReplayState
+state_code = code_by (Buffered × Played) (coded× buffered_code played_code) (λ s. (s.buffer, s.played)) (λ c. record { buffer = c.0; played = c.1 }) (λ _. refl)

@@ -1,0 +1,48 @@
+// What the application of an event led to.
+
+ghost use Rattle.std.specs.Prelude.{◌≡◌};
+ghost use Rattle.world.specs.declared.applied.WorldFault.TheVariants.{OutOfMemory as Refused};
+
+use entity_model::Event;
+use rdf_term::OutOfMemory;
+use side_output::Cause;
+use thiserror::Error;
+
+/// What the application of an event did to what its entity holds.
+#[derive(Clone, Copy, Debug, PartialEq, Eq)]
+pub enum Outcome {
+    /// Nothing.
+    Same,
+    /// A revision was fetched and is held.
+    Stored,
+    /// The page was deleted, and nothing is held.
+    Dropped,
+    /// A revision was asked for in vain, and the side output says why.
+    Sided(Cause),
+}
+
+/// An event that was applied.
+#[derive(Clone, Copy, Debug, PartialEq, Eq)]
+pub struct Applied {
+    pub event: Event,
+    pub outcome: Outcome,
+}
+
+/// Why no event was applied.
+#[derive(Clone, Copy, Debug, PartialEq, Eq, Error)]
+pub enum WorldFault {
+    /// No event is due.
+    #[error("no event is due")]
+    Nothing,
+    /// A request for memory was refused; the event stays due.
+    #[error("out of memory")]
+    OutOfMemory,
+}
+
+impl From<OutOfMemory> for WorldFault {
+    ghost from_gives = { λ _ e. e ≡ Refused };
+
+    fn from(_refused: OutOfMemory) -> WorldFault {
+        WorldFault::OutOfMemory
+    }
+}

@@ -1,0 +1,63 @@
+// What is read of a record where an event is applied.
+
+ghost use Rattle.std.specs.Prelude.{◌≡◌};
+ghost use Rattle.replay_model.specs.Play.{is_reconciliation, reconciled_after};
+ghost use Rattle.world.specs.Standing.{standing_after, standing_wants};
+
+use entity_model::{Event, Kind};
+use entity_state::{Mode, State, step};
+
+/// The state of an entity, the number of the revision that it holds, and its last reconciliation.
+#[derive(Clone, Copy, Debug)]
+pub struct Standing {
+    pub state: State,
+    pub held: Option<u64>,
+    pub reconciled: Option<Event>,
+}
+
+impl Standing {
+    /// The same after an event, before anything is fetched.
+    pub fn after(self, event: &Event) -> Standing
+        ensures { result ≡ standing_after self event.now }
+    {
+        Standing {
+            state: step(self.state, event),
+            held: self.held,
+            reconciled: later_reconciliation(self.reconciled, event),
+        }
+    }
+
+    /// Whether the state is of a page that is there at a revision that isn't held.
+    pub fn wants(&self) -> bool
+        ensures { result ≡ standing_wants self.now }
+    {
+        match self.state.mode {
+            Mode::Kept => self.held != Some(self.state.rev),
+            Mode::Unknown | Mode::Deleted => false,
+        }
+    }
+}
+
+// The last reconciliation in the order of events.
+fn later_reconciliation(last: Option<Event>, event: &Event) -> Option<Event>
+    ensures { result ≡ reconciled_after last event.now }
+{
+    if !reconciles(event.kind) {
+        return last;
+    }
+    match last {
+        None => Some(*event),
+        Some(other) => Some(if other.key_before(event) {
+            *event
+        } else {
+            other
+        }),
+    }
+}
+
+// Whether an event of the kind says what the wiki has.
+fn reconciles(kind: Kind) -> bool
+    ensures { result ≡ is_reconciliation kind }
+{
+    matches!(kind, Kind::ReconcileDeleted | Kind::ReconcileKept)
+}

@@ -1,0 +1,264 @@
+// The state of a replay.
+
+ghost use Rattle.std.specs.Prelude.{◌≡◌, ◌↔◌, ◌⊎◌, ◌≤◌, ◌++◌, ℕ, false, None, Some, length, slice_get, is_some, IfSome, MatchOption, if◌then◌else◌, IfOk, IfErr, OnErr, OnOk, IsErrOf};
+ghost use Rattle.std.specs.Option.{option_copied};
+ghost use Rattle.std.specs.FinMap as map;
+ghost use Rattle.std.specs.List.{flat_map};
+ghost use Rattle.rdf_term.specs.Order.{triple_cmp};
+ghost use Rattle.revisions.specs.Revisions.{counted};
+ghost use Rattle.reorder_buffer.specs.Buffered.{after_taking, answer_to, first_due};
+ghost use Rattle.replay_model.specs.Records.{record_of};
+ghost use Rattle.replay_model.specs.ReplayState.{after_end, after_event, after_mark, nothing_delivered, taken_entries};
+ghost use Rattle.replay_model.specs.Union.{triples_at, triples_held, union};
+ghost use Rattle.world.specs.Applying.{Applies, IsReply, IsShown, calls_after, outcome_of_reply};
+ghost use Rattle.world.specs.Standing.{reply_or_any, standing_after, standing_of, standing_wants};
+ghost use Rattle.entity_state.specs.State.{state_after};
+ghost use Rattle.world.specs.Meaning.{meaning};
+ghost use Rattle.world.specs.declared.applied.WorldFault.TheVariants.{Nothing as NothingDue, OutOfMemory as Refused};
+
+use crate::applied::{Applied, WorldFault};
+use crate::fetching::{Reply, fetch};
+use crate::meaning::append_meaning;
+use crate::pages::Pages;
+use entity_model::{EntityId, Event};
+use entity_state::{State, Table};
+use rdf_term::{List, OutOfMemory, Triple, TripleSet};
+use reorder_buffer::{Buffer, Taken};
+use revisions::Revisions;
+use side_output::{Entry, Side};
+use std::alloc::Global;
+use std::marker::Model;
+
+/// The events that wait, what is kept of each entity, and the side output. Contracts see the state of a replay.
+#[derive(Drop)]
+pub struct World {
+    alloc: Global,
+    buffer: Buffer,
+    pages: Pages,
+}
+
+impl Model for World {
+    ghost use Rattle.replay_model.specs.ReplayState.{ReplayState};
+    ghost use Rattle.world.specs.Codes.{state_code};
+
+    ghost Value = { ReplayState };
+
+    ghost coded = { state_code };
+
+    ghost view = { λ a. record { buffer = a.buffer; played = a.pages } };
+}
+
+impl World {
+    /// The world before the first delivery.
+    pub fn new(alloc: Global) -> Result<World, OutOfMemory>
+        ensures { IfOk result (λ world. world ≡ nothing_delivered) }
+    {
+        let buffer = Buffer::new(alloc)?;
+        let pages = Pages::new(alloc)?;
+        Ok(World {
+            alloc,
+            buffer,
+            pages,
+        })
+    }
+
+    /// Takes an event: one that was taken before changes nothing, one whose time the watermark has reached is named in
+    /// the side output, and any other waits. After `OutOfMemory` nothing has changed.
+    pub fn take(&mut self, event: Event) -> Result<Taken, OutOfMemory>
+        requires { self.old.buffer.closed ≡ false }
+        ensures answer { IfOk result (λ taken. taken ≡ answer_to self.old.buffer event) }
+        ensures ok { OnOk result (self.new ≡ after_event self.old event) }
+        ensures err { OnErr result (self.new ≡ self.old) }
+    {
+        take_event(&mut self.buffer, &mut self.pages.side, event)
+    }
+
+    /// Takes a watermark, in microseconds since 1970-01-01T00:00:00Z: events up to its time are due from now on.
+    pub fn raise(&mut self, mark: i64)
+        ensures { self.new ≡ after_mark self.old mark }
+    {
+        self.buffer.raise(mark);
+    }
+
+    /// Takes the end of the input, which makes every waiting event due.
+    pub fn close(&mut self)
+        ensures { self.new ≡ after_end self.old }
+    {
+        self.buffer.close();
+    }
+
+    /// The number of waiting events.
+    pub fn pending(&self) -> usize
+        ensures { result ≡ length self.now.buffer.waiting }
+    {
+        self.buffer.pending()
+    }
+
+    /// Applies the least due event: its entity's state is set, and where the new state is of a page that is there at a
+    /// revision that isn't held, this revision is fetched once. After a fault nothing has changed, but that a fetch may
+    /// have been made.
+    pub fn apply_next<R: Revisions>(
+        &mut self,
+        revisions: &mut R,
+        place: &str,
+    ) -> Result<Applied, WorldFault>
+        ensures applied { IfOk result (λ applied. Applies (R.contents revisions.old) place.now self.old self.new applied) }
+        ensures err { OnErr result (self.new ≡ self.old) }
+        ensures nothing { IsErrOf result NothingDue ↔ (first_due self.old.buffer ≡ None) }
+
+        ensures told { R.contents revisions.new ≡ R.contents revisions.old }
+        ensures shown { IfOk result (λ applied. IsShown applied.outcome
+            (R.misses revisions.old) (R.misses revisions.new) (R.faults revisions.old) (R.faults revisions.new)) }
+        ensures calls { IfOk result (λ applied. R.calls revisions.new ≡ calls_after applied.outcome (R.calls revisions.old)) }
+        ensures calls_at_fault { IfErr result (λ fault. (R.calls revisions.new ≡ R.calls revisions.old)
+            ⊎ ((fault ≡ Refused) × (R.calls revisions.new ≡ counted (R.calls revisions.old)))) }
+        ensures more_faults { R.faults revisions.old ≤ R.faults revisions.new }
+        ensures more_misses { R.misses revisions.old ≤ R.misses revisions.new }
+    {
+        let Some(event) = self.buffer.least_due() else {
+            return Err(WorldFault::Nothing);
+        };
+        let reply = self.reply(revisions, place, &event)?;
+        let outcome = self.pages.apply(event, reply)?;
+        self.buffer.drop_least();
+        Ok(Applied { event, outcome })
+    }
+
+    /// The triples of all that is held.
+    pub fn export(&self) -> Result<TripleSet, OutOfMemory>
+        ensures { IfOk result (λ set. set ≡ union triple_cmp meaning self.now.played.records) }
+    {
+        union_of(self.alloc, &self.pages.table)
+    }
+
+    /// The ids of the entities with a record, in rising order.
+    pub fn entities(&self) -> Result<List<EntityId>, OutOfMemory>
+        ensures { IfOk result (λ ids. ids ≡ map.keys self.now.played.records) }
+    {
+        self.pages.table.ids(self.alloc)
+    }
+
+    /// The state of an entity; Unknown with revision 0 where it has no record.
+    pub fn state(&self, id: EntityId) -> State
+        ensures { result ≡ (record_of self.now.played.records id).state }
+    {
+        self.pages.standing(id).state
+    }
+
+    /// The revision that an entity holds, and its bytes.
+    pub fn held(&self, id: EntityId) -> Option<(u64, &[u8])>
+        ensures { MatchOption result ((record_of self.now.played.records id).held ≡ None)
+            (λ h. (record_of self.now.played.records id).held ≡ Some (record { revision = h.0; content = h.1.now })) }
+    {
+        let held = self.pages.table.get(id)?.held.as_ref()?;
+        Some((held.revision, held.content.as_slice()))
+    }
+
+    /// The number of entries of the side output.
+    pub fn side_len(&self) -> usize
+        ensures { result ≡ length self.now.played.side }
+    {
+        self.pages.side.len()
+    }
+
+    /// The entry of the side output at a place from 0.
+    pub fn side(&self, place: usize) -> Option<&Entry>
+        ensures { option_copied result ≡ slice_get self.now.played.side place }
+    {
+        self.pages.side.get(place)
+    }
+
+    // The reply to the fetch that an event wants, if it wants one.
+    fn reply<R: Revisions>(
+        &self,
+        revisions: &mut R,
+        place: &str,
+        event: &Event,
+    ) -> Result<Option<Reply>, OutOfMemory>
+        ensures wanted { IfOk result (λ reply. is_some reply
+            ≡ standing_wants (standing_after (standing_of (record_of self.now.played.records event.now.entity)) event.now)) }
+        ensures reply { IfOk result (λ reply. IsReply (R.contents revisions.old) place.now event.now.entity
+            (state_after (record_of self.now.played.records event.now.entity).state event.now).rev (reply_or_any reply)) }
+        ensures told { R.contents revisions.new ≡ R.contents revisions.old }
+        ensures shown { IfOk result (λ reply. IfSome reply (λ r. IsShown (outcome_of_reply r)
+            (R.misses revisions.old) (R.misses revisions.new) (R.faults revisions.old) (R.faults revisions.new))) }
+        ensures calls { IfOk result (λ reply. R.calls revisions.new
+            ≡ (if is_some reply then counted (R.calls revisions.old) else R.calls revisions.old)) }
+        ensures called { OnErr result (R.calls revisions.new ≡ counted (R.calls revisions.old)) }
+        ensures more_faults { R.faults revisions.old ≤ R.faults revisions.new }
+        ensures more_misses { R.misses revisions.old ≤ R.misses revisions.new }
+    {
+        let after = self.pages.standing(event.entity).after(event);
+        if !after.wants() {
+            return Ok(None);
+        }
+        let reply = fetch(self.alloc, revisions, place, event.entity, after.state.rev)?;
+        Ok(Some(reply))
+    }
+}
+
+// Takes an event, and names it in the side output where it is late.
+fn take_event(buffer: &mut Buffer, side: &mut Side, event: Event) -> Result<Taken, OutOfMemory>
+    requires { buffer.old.closed ≡ false }
+    ensures answer { IfOk result (λ taken. taken ≡ answer_to buffer.old event) }
+    ensures buffer { OnOk result (buffer.new ≡ after_taking buffer.old event) }
+    ensures entries { OnOk result (side.new.entries ≡ side.old.entries ++ taken_entries (answer_to buffer.old event) event) }
+    ensures err { OnErr result ((buffer.new ≡ buffer.old) × (side.new.entries ≡ side.old.entries)) }
+{
+    side.make_room()?;
+    let taken = buffer.take(event)?;
+    if taken == Taken::Late {
+        let _ = side.push(Entry::Late(event));
+    }
+    Ok(taken)
+}
+
+// The triples of all that the records hold.
+fn union_of(alloc: Global, table: &Table<List<u8>>) -> Result<TripleSet, OutOfMemory>
+    ensures { IfOk result (λ set. set ≡ union triple_cmp meaning table.now.records) }
+{
+    let triples = gather_all(alloc, table)?;
+    TripleSet::from_list(triples)
+}
+
+// The triples that the entities hold, one entity after the other.
+fn gather_all(alloc: Global, table: &Table<List<u8>>) -> Result<List<Triple>, OutOfMemory>
+    ensures { IfOk result (λ triples. triples ≡ flat_map (triples_at meaning) (map.entries table.now.records)) }
+{
+    let ids = table.ids(alloc)?;
+    gather(alloc, table, ids.as_slice())
+}
+
+// The triples that these entities hold, one after the other.
+fn gather(
+    alloc: Global,
+    table: &Table<List<u8>>,
+    ids: &[EntityId],
+) -> Result<List<Triple>, OutOfMemory>
+    ensures { IfOk result (λ triples. triples
+        ≡ flat_map (λ x. triples_held meaning x (record_of table.now.records x).held) ids.now) }
+{
+    let mut triples = List::new(alloc);
+    for id in ids {
+        append_held(alloc, table, *id, &mut triples)?;
+    }
+    Ok(triples)
+}
+
+// Puts the triples that an entity holds at the end of `out`.
+fn append_held(
+    alloc: Global,
+    table: &Table<List<u8>>,
+    id: EntityId,
+    out: &mut List<Triple>,
+) -> Result<(), OutOfMemory>
+    ensures { OnOk result (out.new ≡ out.old ++ triples_held meaning id (record_of table.now.records id).held) }
+{
+    let Some(record) = table.get(id) else {
+        return Ok(());
+    };
+    match &record.held {
+        Some(held) => append_meaning(alloc, id, held.revision, held.content.as_slice(), out),
+        None => Ok(()),
+    }
+}
