@@ -12,6 +12,7 @@ pub mod LateEntries
 pub mod OpenLate
 pub mod Owners
 pub mod PlayedRecords
+pub mod Printing
 pub mod RecordOf
 pub mod Settled
 pub mod Times
