@@ -3,6 +3,7 @@ pub mod Arrivals
 pub mod Confluence
 pub mod Deliveries
 pub mod DueParts
+pub mod Examples
 pub mod Explaining
 pub mod FetchCounts
 pub mod Fetching
