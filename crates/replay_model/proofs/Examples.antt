@@ -1,7 +1,7 @@
 -- Small lists of deliveries with what they lead to, worked out by hand: a wrong definition fails here.
-use Rattle.std.proofs.Common.{◌≡◌, ℕ, ℤ, pos, Bool, true, false, cond, nat_eq, slice_index, List, [], ◌∷◌, Option, None, Some, Result, Ok, Err, refl}
+use Rattle.std.proofs.Common.{◌≡◌, ℕ, pos, true, false, cond, nat_eq, slice_index, List, [], ◌∷◌, Option, None, Some, refl}
 use Rattle.entity_model.specs.declared.id.EntityId.{EntityId}
-use Rattle.entity_model.specs.declared.id.IdKind.TheVariants.{P, Q}
+use Rattle.entity_model.specs.declared.id.IdKind.TheVariants.{Q}
 use Rattle.entity_model.specs.declared.event.Event.{Event}
 use Rattle.entity_model.specs.declared.event.Kind.{Kind}
 use Rattle.entity_model.specs.declared.event.Kind.TheVariants.{Edit, Delete, Undelete, ReconcileDeleted, ReconcileKept}
@@ -9,17 +9,16 @@ use Rattle.entity_model.specs.declared.unfit.Unfit.{Unfit}
 use Rattle.entity_model.specs.declared.unfit.Unfit.TheVariants.{Shape}
 use Rattle.entity_state.specs.declared.record.Held.{Held}
 use Rattle.entity_state.specs.declared.record.Record.{Record}
-use Rattle.entity_state.specs.State.{kept, deleted, unknown}
+use Rattle.entity_state.specs.State.{kept, deleted}
 use Rattle.entity_state.specs.Record.{blank}
 use Rattle.side_output.specs.declared.entry.Cause.TheVariants.{Missing, Failed, Unfit as NoDocument}
-use Rattle.side_output.specs.declared.entry.Entry.{Entry}
 use Rattle.side_output.specs.declared.entry.Entry.TheVariants.{Late, Revision}
 use Rattle.event_line.specs.declared.delivery.Delivery.{Delivery}
 use Rattle.event_line.specs.declared.delivery.Delivery.TheVariants.{Event as Told, Watermark}
 use Rattle.replay_model.specs.Acceptance.{mark, accepted, late, due, known}
 use Rattle.replay_model.specs.Fate.{fate, events_of, in_order}
 use Rattle.replay_model.specs.Records.{Bytes, is_settled}
-use Rattle.replay_model.specs.Play.{Replies, Fetch, newly_due, record_after, entries_after, fetches_of}
+use Rattle.replay_model.specs.Play.{Replies, newly_due, record_after, entries_after, fetches_of}
 use Rattle.replay_model.specs.Entries.{is_open_late, is_open_by}
 use Rattle.replay_model.specs.Replies.{source_replies, failed_events}
 use Rattle.replay_model.proofs.RecordOf.{applied_to}
