@@ -1,16 +1,13 @@
 -- Which events are applied, and that the state after a list of deliveries keeps late, waiting and applied events apart.
-use Rattle.std.proofs.Common.{◌≡◌, Bool, true, false, not, cond, ◌&&◌, ◌||◌, ℤ, List, [], ◌∷◌, ◌++◌, Option, None, Some, Ordering, Equal, is_eq, find, filter, unwrap_or, refl, sym, ◌∙◌, ap, subst, true≢false, append-nil}
+use Rattle.std.proofs.Common.{◌≡◌, Bool, true, false, not, cond, ◌&&◌, ◌||◌, List, [], ◌∷◌, ◌++◌, Option, None, Some, find, filter, unwrap_or, refl, sym, ◌∙◌, ap, true≢false, append-nil}
 use Rattle.std.specs.Set.{remove_key}
 use Rattle.std.specs.Ordering.{eq_by_cmp}
-use Rattle.std.proofs.lemmas.Cmp.{tied_itself}
 use Rattle.std.proofs.lemmas.List.Elements.{filter_map-append}
 use Rattle.entity_model.specs.declared.event.Event.{Event}
 use Rattle.entity_model.specs.Event.{event_cmp, event_cmp_total, event_cmp_same}
-use Rattle.side_output.specs.declared.entry.Entry.{Entry}
 use Rattle.side_output.specs.declared.entry.Entry.TheVariants.{Late as LateEntry}
 use Rattle.event_line.specs.declared.delivery.Delivery.{Delivery}
 use Rattle.event_line.specs.declared.delivery.Delivery.TheVariants.{Event as Told, Watermark}
-use Rattle.reorder_buffer.specs.declared.taken.Taken.{Taken}
 use Rattle.reorder_buffer.specs.declared.taken.Taken.TheVariants.{New, Repeat, Late}
 use Rattle.reorder_buffer.specs.Watermarks.{reached, is_due}
 use Rattle.reorder_buffer.specs.Buffered.{first_due}
@@ -24,9 +21,9 @@ use Rattle.replay_model.specs.Acceptance.{mark, events, is_repeat, is_late, is_a
 use Rattle.replay_model.specs.Entries.{late_event, late_events}
 use Rattle.replay_model.specs.Explained.{is_applied}
 use Rattle.replay_model.specs.Fate.{in_order}
-use Rattle.replay_model.specs.Play.{Replies, play, entries_after}
+use Rattle.replay_model.specs.Play.{Replies, entries_after}
 use Rattle.replay_model.specs.Records.{record_of}
-use Rattle.replay_model.specs.ReplayState.{ReplayState, taken_entries, after_event, after_applying, following}
+use Rattle.replay_model.specs.ReplayState.{ReplayState, after_event, after_applying, following}
 use Rattle.replay_model.proofs.Deliveries.{events_passing-kept, events_passing-told}
 use Rattle.replay_model.proofs.Following.{after_answered, waits}
 use Rattle.replay_model.proofs.Known.{has-events, has-one}
@@ -38,7 +35,7 @@ contradicts b p q = absurd (true≢false (sym p ∙ q))
 -- ---- accepted events aren't late
 
 apart : (repeat reach : Bool) (ev la ac t : Bool) → ev ≡ (la || ac) → (repeat ≡ false → t ≡ true → ev ≡ false) → (ac ≡ true → la ≡ false)
-  → (ac || cond (not repeat && not reach) (t || false) false) ≡ true → (la || cond (not repeat && reach) (t || false) false) ≡ false
+    → (ac || cond (not repeat && not reach) (t || false) false) ≡ true → (la || cond (not repeat && reach) (t || false) false) ≡ false
 apart true reach ev la ac t e fresh before h = or_none la ∙ before (sym (or_none ac) ∙ h)
 apart false true ev la true true e fresh before h = contradicts ev (e ∙ or_true la true refl) (fresh refl refl)
 apart false true ev la true false e fresh before h = or_none la ∙ before refl
@@ -53,13 +50,14 @@ accepted_not_late q = by_pushes (λ ds. has event_cmp q (accepted ds) ≡ true �
   where
     told : (test : List Delivery → Event → Bool) (ds : List Delivery) (e : Event) (xs ys : List Event) → ys ≡ xs ++ cond (test ds e) (e ∷ []) [] → has event_cmp q ys ≡ (has event_cmp q xs || cond (test ds e) (eq_by_cmp event_cmp q e || false) false)
     told test ds e xs ys is = ap (has event_cmp q) is ∙ has-append event_cmp q xs (cond (test ds e) (e ∷ []) []) ∙ ap (λ b. has event_cmp q xs || b) (has-one q e (test ds e))
+
     step : (ds : List Delivery) (d : Delivery) → (has event_cmp q (accepted ds) ≡ true → has event_cmp q (late ds) ≡ false) → has event_cmp q (accepted (ds ++ d ∷ [])) ≡ true → has event_cmp q (late (ds ++ d ∷ [])) ≡ false
     step ds (Told e) before h =
         told is_late ds e (late ds) (late (ds ++ Told e ∷ [])) (events_passing-told is_late ds e)
         ∙ apart (is_repeat ds e) (reached (mark ds) e.time) (has event_cmp q (events ds)) (has event_cmp q (late ds)) (has event_cmp q (accepted ds)) (eq_by_cmp event_cmp q e) (has-events q ds)
-            (λ fresh tie. ap (λ y. has event_cmp y (events ds)) (event_cmp_same q e (equal _ tie)) ∙ fresh)
-            before
-            (sym (told is_accepted ds e (accepted ds) (accepted (ds ++ Told e ∷ [])) (events_passing-told is_accepted ds e)) ∙ h)
+        (λ fresh tie. ap (λ y. has event_cmp y (events ds)) (event_cmp_same q e (equal _ tie)) ∙ fresh)
+        before
+        (sym (told is_accepted ds e (accepted ds) (accepted (ds ++ Told e ∷ [])) (events_passing-told is_accepted ds e)) ∙ h)
     step ds (Watermark w) before h =
         ap (has event_cmp q) (events_passing-kept is_late ds (Watermark w) refl)
         ∙ before (sym (ap (has event_cmp q) (events_passing-kept is_accepted ds (Watermark w) refl)) ∙ h)
@@ -151,12 +149,16 @@ applied-next replies w e q a some =
   where
     test : Event → Bool
     test = is_due w.buffer.closed w.buffer.mark
+
     left : List Event
     left = remove_key (is_due w.buffer.closed w.buffer.mark) w.buffer.waiting
+
     there : has event_cmp e w.buffer.waiting ≡ true
     there = has-found (is_due w.buffer.closed w.buffer.mark) event_cmp_total e w.buffer.waiting some
+
     gone : has event_cmp e (remove_key (is_due w.buffer.closed w.buffer.mark) w.buffer.waiting) ≡ false
     gone = has-taken_out (is_due w.buffer.closed w.buffer.mark) event_cmp_total e w.buffer.waiting a.rises some
+
     by : (t : Bool) → eq_by_cmp event_cmp q e ≡ t → (has event_cmp q w.buffer.taken && (not (has event_cmp q (remove_key (is_due w.buffer.closed w.buffer.mark) w.buffer.waiting)) && not (has event_cmp q (late_events w.played.side)))) ≡ (t || is_applied w q)
     by true tie =
         ap (λ y. has event_cmp y w.buffer.taken && (not (has event_cmp y (remove_key (is_due w.buffer.closed w.buffer.mark) w.buffer.waiting)) && not (has event_cmp y (late_events w.played.side)))) (event_cmp_same q e (equal _ tie))

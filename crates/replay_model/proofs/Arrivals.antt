@@ -1,22 +1,21 @@
 -- What one more delivery at the end adds to the deliveries' arrivals, events, mark and play.
-use Rattle.std.proofs.Common.{◌≡◌, Bool, ℤ, List, [], ◌∷◌, ◌++◌, Option, None, Some, refl, sym, ◌∙◌, ap, append_assoc, append-nil, fold, filter_map, flat_map}
+use Rattle.std.proofs.Common.{◌≡◌, Bool, List, [], ◌∷◌, ◌++◌, None, sym, ◌∙◌, ap, append_assoc, append-nil, fold, filter_map, flat_map}
 use Rattle.std.specs.List.{cons_option}
 use Rattle.std.proofs.lemmas.List.Elements.{filter_map-append}
 use Rattle.std.proofs.lemmas.List.Concat.{flat_map-append}
 use Rattle.std.proofs.lemmas.List.Sums.{fold-append, fold_push}
 use Rattle.entity_model.specs.declared.event.Event.{Event}
 use Rattle.event_line.specs.declared.delivery.Delivery.{Delivery}
-use Rattle.event_line.specs.declared.delivery.Delivery.TheVariants.{Event as Told, Watermark}
 use Rattle.reorder_buffer.specs.Watermarks.{greater}
 use Rattle.replay_model.specs.Acceptance.{Arrival, arrivals_after, arrivals, event_of, watermark_of, events, mark, event_passing, events_passing}
-use Rattle.replay_model.specs.Play.{Replies, Played, Fetch, nothing_played, happens, play, fetches_at, fetches}
+use Rattle.replay_model.specs.Play.{Replies, Played, nothing_played, happens, play, fetches_at, fetches}
 
 arrivals_after-push : (before ds : List Delivery) (d : Delivery) → arrivals_after before (ds ++ d ∷ []) ≡ arrivals_after before ds ++ record { before = before ++ ds; delivery = d } ∷ []
 arrivals_after-push before [] d = ap (λ l. record { before = l; delivery = d } ∷ []) (sym (append-nil before))
 arrivals_after-push before (e ∷ ds) d =
     ap (λ l. record { before = before; delivery = e } ∷ l)
-      (arrivals_after-push (before ++ e ∷ []) ds d
-      ∙ ap (λ l. arrivals_after (before ++ e ∷ []) ds ++ record { before = l; delivery = d } ∷ []) (append_assoc before (e ∷ []) ds))
+    (arrivals_after-push (before ++ e ∷ []) ds d
+    ∙ ap (λ l. arrivals_after (before ++ e ∷ []) ds ++ record { before = l; delivery = d } ∷ []) (append_assoc before (e ∷ []) ds))
 
 pub arrivals-push : (ds : List Delivery) (d : Delivery) → arrivals (ds ++ d ∷ []) ≡ arrivals ds ++ record { before = ds; delivery = d } ∷ []
 arrivals-push ds d = arrivals_after-push [] ds d

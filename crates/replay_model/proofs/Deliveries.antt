@@ -1,12 +1,12 @@
 -- What one more event or watermark adds to the accepted, late, due and known events.
-use Rattle.std.proofs.Common.{◌≡◌, Bool, true, false, not, cond, ◌&&◌, ℤ, List, [], ◌∷◌, ◌++◌, Option, None, Some, refl, sym, ◌∙◌, ap, append-nil, fold, filter, option_and_then}
+use Rattle.std.proofs.Common.{◌≡◌, Bool, true, false, not, cond, ◌&&◌, ℤ, List, [], ◌∷◌, ◌++◌, None, Some, refl, ◌∙◌, ap, append-nil, fold, filter, option_and_then}
 use Rattle.std.specs.List.{cons_option}
 use Rattle.std.proofs.lemmas.List.Elements.{filter-append}
 use Rattle.entity_model.specs.declared.event.Event.{Event}
 use Rattle.event_line.specs.declared.delivery.Delivery.{Delivery}
 use Rattle.event_line.specs.declared.delivery.Delivery.TheVariants.{Event as Told, Watermark}
 use Rattle.reorder_buffer.specs.Watermarks.{greater, reached, is_due}
-use Rattle.replay_model.specs.Acceptance.{event_of, watermark_of, events, mark, event_passing, events_passing, is_repeat, is_accepted, is_late, accepted, late, due, known}
+use Rattle.replay_model.specs.Acceptance.{event_of, watermark_of, events, mark, events_passing, is_repeat, is_accepted, accepted, due}
 use Rattle.replay_model.proofs.Arrivals.{events-push, mark-push, events_passing-push}
 
 -- a delivery that is no watermark leaves the mark

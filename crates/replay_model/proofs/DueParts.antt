@@ -1,10 +1,10 @@
 -- What a watermark or the end makes due, in order, stands after what was due before, in order.
-use Rattle.std.proofs.Common.{◌≡◌, Bool, true, false, not, ℤ, List, [], ◌∷◌, ◌++◌, Option, refl, sym, ◌∙◌, ap, filter}
+use Rattle.std.proofs.Common.{◌≡◌, Bool, true, false, not, ℤ, List, [], ◌∷◌, ◌++◌, Option, refl, ◌∙◌, ap, filter}
 use Rattle.entity_model.specs.declared.event.Event.{Event}
-use Rattle.entity_model.specs.Event.{event_cmp, event_cmp_total, event_cmp_same}
+use Rattle.entity_model.specs.Event.{event_cmp_total, event_cmp_same}
 use Rattle.event_line.specs.declared.delivery.Delivery.{Delivery}
-use Rattle.event_line.specs.declared.delivery.Delivery.TheVariants.{Event as Told, Watermark}
-use Rattle.reorder_buffer.specs.Watermarks.{greater, is_due}
+use Rattle.event_line.specs.declared.delivery.Delivery.TheVariants.{Watermark}
+use Rattle.reorder_buffer.specs.Watermarks.{is_due}
 use Rattle.rising.proofs.Filtering.{sorted_parts, filter_stronger}
 use Rattle.replay_model.specs.Acceptance.{mark, accepted, is_accepted, due}
 use Rattle.replay_model.specs.Fate.{in_order}
@@ -14,7 +14,7 @@ use Rattle.replay_model.proofs.Deliveries.{mark-watermark, events_passing-kept}
 
 -- what a later mark makes due, in two parts by an earlier mark
 due_by_marks : (c : Bool) (m m' : Option ℤ) → ((e : Event) → is_due false m e ≡ true → is_due c m' e ≡ true) → (es : List Event)
-  → in_order (filter (is_due c m') es) ≡ in_order (filter (is_due false m) es) ++ in_order (filter (λ e. not (is_due false m e)) (filter (is_due c m') es))
+    → in_order (filter (is_due c m') es) ≡ in_order (filter (is_due false m) es) ++ in_order (filter (λ e. not (is_due false m e)) (filter (is_due c m') es))
 due_by_marks c m m' later es =
     sorted_parts event_cmp_total event_cmp_same (is_due false m) (before_from_mark m) (filter (is_due c m') es)
     ∙ ap (λ l. in_order l ++ in_order (filter (λ e. not (is_due false m e)) (filter (is_due c m') es))) (filter_stronger (is_due false m) (is_due c m') later es)

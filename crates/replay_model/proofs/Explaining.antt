@@ -1,5 +1,5 @@
 -- How each step keeps a replay's state explained by a play: the start, an event, a watermark, the end, one due event applied, and none left.
-use Rattle.std.proofs.Common.{◌≡◌, ℕ, ℤ, Bool, true, false, not, cond, ◌&&◌, ◌||◌, ◌⊎◌, ⊎_elim, List, [], ◌∷◌, ◌++◌, Option, None, Some, Result, Ok, Err, Ordering, is_eq, unwrap_or, refl, sym, ◌∙◌, ap, subst, true≢false, append-nil}
+use Rattle.std.proofs.Common.{◌≡◌, ℕ, ℤ, Bool, true, false, cond, ◌||◌, ⊎_elim, List, [], ◌∷◌, ◌++◌, Option, None, Some, Result, Err, is_eq, refl, sym, ◌∙◌, ap, subst, true≢false, append-nil}
 use Rattle.std.specs.Ordering.{eq_by_cmp}
 use Rattle.std.proofs.lemmas.Cmp.{tied_itself}
 use Rattle.std.proofs.lemmas.List.Elements.{filter_map-append}
@@ -70,8 +70,8 @@ module _ (unfit : Judgement) (told : Option (ℕ → Option Bytes)) where
         within = parts.within;
         not_late = parts.not_late;
         leads = λ others agree.
-          let same : after_event w e ≡ following others (ds ++ Told e ∷ []) = ap (λ v. after_event v e) (Explained-rests (λ replies. following replies ds) w x none others (λ q r h. agree q r (applied-event w e q ∙ h))) ∙ sym (following-delivered others ds (Told e)) in
-          ap (after_due others) same ∙ after_due-none others (following others (ds ++ Told e ∷ [])) (following-rests others (ds ++ Told e ∷ []));
+            let same : after_event w e ≡ following others (ds ++ Told e ∷ []) = ap (λ v. after_event v e) (Explained-rests (λ replies. following replies ds) w x none others (λ q r h. agree q r (applied-event w e q ∙ h))) ∙ sym (following-delivered others ds (Told e)) in
+            ap (after_due others) same ∙ after_due-none others (following others (ds ++ Told e ∷ [])) (following-rests others (ds ++ Told e ∷ []));
         honest = λ contents known q r h. x.honest contents known q r (sym (applied-event w e q) ∙ h) ∙ ap (λ fs. source_replies unfit contents fs q r) (sym failed);
         failed_applied = λ q h. applied-event w e q ∙ x.failed_applied q (ap (has event_cmp q) (sym failed) ∙ h);
       }
@@ -128,14 +128,14 @@ now_replied unfit (Some contents) failed e reply r = source_replies unfit conten
 honest_is : (unfit : Judgement) (contents : ℕ → Option Bytes) (failed : List Event) (e : Event) (r : ℕ) (reply : Result Bytes Cause) → has event_cmp e failed ≡ false → IsHonest unfit contents e r reply → source_replies unfit contents (failed ++ failed_of e reply) e r ≡ reply
 honest_is unfit contents failed e r reply fresh honest =
     ⊎_elim
-      (λ is. ap (λ b. cond b (Err Failed) (reply_there unfit e.entity (contents r))) (ap (λ p. has event_cmp e (failed ++ failed_of e p)) is ∙ has-append event_cmp e failed (e ∷ []) ∙ or_true (has event_cmp e failed) _ (ap (λ b. b || false) (itself e))) ∙ sym is)
-      (λ is. ap (λ b. cond b (Err Failed) (reply_there unfit e.entity (contents r))) (ap (λ p. has event_cmp e (failed ++ failed_of e p)) is ∙ ap (λ l. has event_cmp e (failed ++ l)) (failed_of-there unfit e (contents r)) ∙ ap (has event_cmp e) (append-nil failed) ∙ fresh) ∙ sym is)
-      honest
+    (λ is. ap (λ b. cond b (Err Failed) (reply_there unfit e.entity (contents r))) (ap (λ p. has event_cmp e (failed ++ failed_of e p)) is ∙ has-append event_cmp e failed (e ∷ []) ∙ or_true (has event_cmp e failed) _ (ap (λ b. b || false) (itself e))) ∙ sym is)
+    (λ is. ap (λ b. cond b (Err Failed) (reply_there unfit e.entity (contents r))) (ap (λ p. has event_cmp e (failed ++ failed_of e p)) is ∙ ap (λ l. has event_cmp e (failed ++ l)) (failed_of-there unfit e (contents r)) ∙ ap (has event_cmp e) (append-nil failed) ∙ fresh) ∙ sym is)
+    honest
 
 module _ (unfit : Judgement) (told : Option (ℕ → Option Bytes)) (play_of : Replies → ReplayState) (w : ReplayState) (e : Event) (reply : Result Bytes Cause) where
   fetched : (known : Option (ℕ → Option Bytes)) → has event_cmp e (failed_events w.played.side) ≡ false → (fetching : Bool) → fetching ≡ true
-    → ((contents : ℕ → Option Bytes) → known ≡ Some contents → IsHonest unfit contents e (revision_wanted w e) reply)
-    → now_replied unfit known (failed_events w.played.side ++ failed_by fetching e reply) e reply (revision_wanted w e) ≡ reply
+      → ((contents : ℕ → Option Bytes) → known ≡ Some contents → IsHonest unfit contents e (revision_wanted w e) reply)
+      → now_replied unfit known (failed_events w.played.side ++ failed_by fetching e reply) e reply (revision_wanted w e) ≡ reply
   fetched None fresh fetching is honest = refl
   fetched (Some contents) fresh false is honest = contradicts false is refl
   fetched (Some contents) fresh true is honest = honest_is unfit contents (failed_events w.played.side) e (revision_wanted w e) reply fresh (honest contents refl)
@@ -149,8 +149,8 @@ module _ (unfit : Judgement) (told : Option (ℕ → Option Bytes)) (play_of : R
 
   -- one due event is applied, with any reply where contents aren't told, and an honest one where they are
   pub Explained-next : Explained unfit told play_of w → first_due w.buffer ≡ Some e
-    → ((contents : ℕ → Option Bytes) → told ≡ Some contents → is_fetching w e ≡ true → IsHonest unfit contents e (revision_wanted w e) reply)
-    → Explained unfit told play_of (next_by w e reply)
+      → ((contents : ℕ → Option Bytes) → told ≡ Some contents → is_fetching w e ≡ true → IsHonest unfit contents e (revision_wanted w e) reply)
+      → Explained unfit told play_of (next_by w e reply)
   Explained-next x some honest =
       let parts : Apart w = record { rises = x.rises; within = x.within; not_late = x.not_late } in
       let parts_next : Apart (next_by w e reply) = Apart-applying (λ q r. reply) w e parts some in
@@ -166,15 +166,15 @@ module _ (unfit : Judgement) (told : Option (ℕ → Option Bytes)) (play_of : R
         within = parts_next.within;
         not_late = parts_next.not_late;
         leads = λ others agree.
-          let before : AgreeOnApplied w x.replies others = λ q r h. agree q r (applied q ∙ or_true (eq_by_cmp event_cmp q e) _ h) ∙ ap (λ b. cond b (now_replied unfit told (failed_events (next_by w e reply).played.side) e reply r) (x.replies q r)) (other q h) in
-          let now : is_fetching w e ≡ true → others e (revision_wanted w e) ≡ reply = λ fetching.
-                agree e (revision_wanted w e) (applied e ∙ ap (λ b. b || is_applied w e) (itself e))
-                ∙ ap (λ b. cond b (now_replied unfit told (failed_events (next_by w e reply).played.side) e reply (revision_wanted w e)) (x.replies e (revision_wanted w e))) (itself e)
-                ∙ ap (λ fs. now_replied unfit told fs e reply (revision_wanted w e)) failed
-                ∙ fetched told fresh (is_fetching w e) fetching (λ contents is. honest contents is fetching) in
-          ap (after_due others) (apply-same (λ q r. reply) others w e now)
-          ∙ after_due-some others w e some
-          ∙ x.leads others before;
+            let before : AgreeOnApplied w x.replies others = λ q r h. agree q r (applied q ∙ or_true (eq_by_cmp event_cmp q e) _ h) ∙ ap (λ b. cond b (now_replied unfit told (failed_events (next_by w e reply).played.side) e reply r) (x.replies q r)) (other q h) in
+            let now : is_fetching w e ≡ true → others e (revision_wanted w e) ≡ reply = λ fetching.
+            agree e (revision_wanted w e) (applied e ∙ ap (λ b. b || is_applied w e) (itself e))
+            ∙ ap (λ b. cond b (now_replied unfit told (failed_events (next_by w e reply).played.side) e reply (revision_wanted w e)) (x.replies e (revision_wanted w e))) (itself e)
+            ∙ ap (λ fs. now_replied unfit told fs e reply (revision_wanted w e)) failed
+            ∙ fetched told fresh (is_fetching w e) fetching (λ contents is. honest contents is fetching) in
+            ap (after_due others) (apply-same (λ q r. reply) others w e now)
+            ∙ after_due-some others w e some
+            ∙ x.leads others before;
         honest = λ contents is q r h. from_source contents is q r x (applied q) failed (eq_by_cmp event_cmp q e) refl h;
         failed_applied = λ q h. applied q ∙ from_failed q x failed (eq_by_cmp event_cmp q e) refl h;
       }
@@ -182,11 +182,13 @@ module _ (unfit : Judgement) (told : Option (ℕ → Option Bytes)) (play_of : R
       false_unless : (b : Bool) → (b ≡ true → ⊥) → b ≡ false
       false_unless true h = absurd (h refl)
       false_unless false h = refl
+
       from_failed : (q : Event) (x : Explained unfit told play_of w) → failed_events (next_by w e reply).played.side ≡ failed_events w.played.side ++ failed_by (is_fetching w e) e reply → (t : Bool) → eq_by_cmp event_cmp q e ≡ t → has event_cmp q (failed_events (next_by w e reply).played.side) ≡ true → (t || is_applied w q) ≡ true
       from_failed q x failed true tie h = refl
       from_failed q x failed false tie h = x.failed_applied q (sym (ap (has event_cmp q) failed ∙ has-append event_cmp q (failed_events w.played.side) (failed_by (is_fetching w e) e reply) ∙ ap (λ b. has event_cmp q (failed_events w.played.side) || b) (has-failed_by q e (is_fetching w e) reply tie) ∙ or_none _) ∙ h)
+
       from_source : (contents : ℕ → Option Bytes) → told ≡ Some contents → (q : Event) (r : ℕ) (x : Explained unfit told play_of w) → is_applied (next_by w e reply) q ≡ (eq_by_cmp event_cmp q e || is_applied w q) → failed_events (next_by w e reply).played.side ≡ failed_events w.played.side ++ failed_by (is_fetching w e) e reply → (t : Bool) → eq_by_cmp event_cmp q e ≡ t → is_applied (next_by w e reply) q ≡ true
-        → replies_next x.replies q r ≡ source_replies unfit contents (failed_events (next_by w e reply).played.side) q r
+          → replies_next x.replies q r ≡ source_replies unfit contents (failed_events (next_by w e reply).played.side) q r
       from_source contents is q r x applied failed true tie h =
           ap (λ b. cond b (now_replied unfit told (failed_events (next_by w e reply).played.side) e reply r) (x.replies q r)) tie
           ∙ told_now told contents (failed_events (next_by w e reply).played.side) r is

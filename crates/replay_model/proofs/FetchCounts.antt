@@ -1,16 +1,13 @@
 -- The fetches of a replay, delivery by delivery and event by event, and how a count rises by them.
-use Rattle.std.proofs.Common.{◌≡◌, ℕ, ◌+◌, ◌-◌, ◌^◌, min, Bool, ℤ, List, [], ◌∷◌, ◌++◌, Option, None, Some, length, filter, refl, sym, ◌∙◌, ap, append-nil, arith}
-use Rattle.entity_model.specs.declared.event.Event.{Event}
+use Rattle.std.proofs.Common.{◌≡◌, ℕ, ◌+◌, List, [], ◌∷◌, ◌++◌, None, Some, refl, ◌∙◌, ap, arith}
 use Rattle.event_line.specs.declared.delivery.Delivery.{Delivery}
 use Rattle.event_line.specs.declared.delivery.Delivery.TheVariants.{Event as Told, Watermark}
-use Rattle.reorder_buffer.specs.Watermarks.{greater, is_due}
+use Rattle.reorder_buffer.specs.Watermarks.{is_due}
 use Rattle.reorder_buffer.specs.Buffered.{first_due}
 use Rattle.rising.proofs.FirstPassing.{filter-first, filter-none}
-use Rattle.replay_model.specs.Acceptance.{mark, accepted, is_accepted}
-use Rattle.replay_model.specs.Play.{Replies, Played, Fetch, fetches_of_all, play, fetches, fetches_to_end, risen_by}
-use Rattle.replay_model.specs.ReplayState.{ReplayState, after_mark, after_end, after_applying, after_next, due_now, following, fetches_for, fetches_next, fetches_due, fetches_delivered}
+use Rattle.replay_model.specs.Play.{Replies, fetches_of_all, play, fetches, fetches_to_end, risen_by}
+use Rattle.replay_model.specs.ReplayState.{ReplayState, after_end, after_applying, after_next, following, fetches_for, fetches_next, fetches_due, fetches_delivered}
 use Rattle.replay_model.proofs.Arrivals.{fetches-push}
-use Rattle.replay_model.proofs.Deliveries.{mark-watermark, events_passing-kept}
 use Rattle.replay_model.proofs.Following.{newly_due-watermark, newly_due-end}
 
 -- the fetches of the least due event come first

@@ -1,23 +1,19 @@
 -- What the application of an event takes from the replies: one reply at most, and the events that it names as failed.
-use Rattle.std.proofs.Common.{◌≡◌, ℕ, Bool, true, false, not, cond, ◌&&◌, ◌||◌, ◌⊎◌, inl, inr, List, [], ◌∷◌, ◌++◌, Option, None, Some, Result, Ok, Err, Ordering, is_eq, filter_map, refl, sym, ◌∙◌, ap, subst, true≢false, append-nil}
+use Rattle.std.proofs.Common.{◌≡◌, ℕ, Bool, true, false, cond, List, [], ◌∷◌, ◌++◌, Option, None, Some, Result, Ok, Err, refl, sym, ◌∙◌, ap}
 use Rattle.std.specs.FinMap as map
 use Rattle.std.specs.Ordering.{eq_by_cmp}
 use Rattle.std.proofs.lemmas.List.Elements.{filter_map-append}
 use Rattle.entity_model.specs.declared.event.Event.{Event}
 use Rattle.entity_model.specs.declared.unfit.Unfit.{Unfit}
 use Rattle.entity_model.specs.Event.{event_cmp}
-use Rattle.entity_state.specs.declared.record.Record.{Record}
 use Rattle.entity_state.specs.State.{state_after, is_deleted}
-use Rattle.entity_state.specs.Record.{held_revision}
 use Rattle.side_output.specs.declared.entry.Cause.{Cause}
 use Rattle.side_output.specs.declared.entry.Cause.TheVariants.{Missing, Failed, Unfit as NoDocument}
-use Rattle.side_output.specs.declared.entry.Entry.{Entry}
 use Rattle.rising.specs.Rising.{has}
-use Rattle.rising.proofs.Bools.{or_none, or_true}
-use Rattle.rising.proofs.Rising.{has-append}
-use Rattle.replay_model.specs.Records.{Bytes, record_of, wants}
-use Rattle.replay_model.specs.Play.{Replies, Played, held_after_fetch, reconciled_after, entry_of, entries_after, apply}
-use Rattle.replay_model.specs.Replies.{Judgement, judged, reply_there, source_replies, failed_event, failed_events}
+use Rattle.rising.proofs.Bools.{or_none}
+use Rattle.replay_model.specs.Records.{Bytes, record_of}
+use Rattle.replay_model.specs.Play.{Replies, Played, held_after_fetch, reconciled_after, entry_of, entries_after}
+use Rattle.replay_model.specs.Replies.{Judgement, judged, reply_there, failed_event, failed_events}
 use Rattle.replay_model.specs.ReplayState.{ReplayState, after_applying}
 use Rattle.replay_model.specs.Explained.{revision_wanted, is_fetching}
 

@@ -1,26 +1,22 @@
 -- After each delivery, and after the end, a replay that takes each delivery as it comes has the state that the whole list gives.
-use Rattle.std.proofs.Common.{◌≡◌, Bool, true, false, not, cond, ◌&&◌, ◌||◌, ℤ, List, [], ◌∷◌, ◌++◌, Option, None, Some, find, fold, filter, refl, sym, ◌∙◌, ap, append-nil}
-use Rattle.std.specs.BTreeSet.{insert_key}
-use Rattle.std.specs.Set.{remove_key}
+use Rattle.std.proofs.Common.{◌≡◌, Bool, true, false, not, cond, ◌&&◌, ℤ, List, [], ◌∷◌, ◌++◌, Option, None, Some, find, filter, refl, sym, ◌∙◌, ap, append-nil}
 use Rattle.std.proofs.lemmas.List.Elements.{filter-append}
 use Rattle.entity_model.specs.declared.event.Event.{Event}
-use Rattle.entity_model.specs.Event.{event_cmp, event_cmp_total, event_cmp_same}
-use Rattle.side_output.specs.declared.entry.Entry.{Entry}
+use Rattle.entity_model.specs.Event.{event_cmp_total, event_cmp_same}
 use Rattle.side_output.specs.declared.entry.Entry.TheVariants.{Late as LateEntry}
 use Rattle.event_line.specs.declared.delivery.Delivery.{Delivery}
 use Rattle.event_line.specs.declared.delivery.Delivery.TheVariants.{Event as Told, Watermark}
 use Rattle.reorder_buffer.specs.declared.taken.Taken.{Taken}
 use Rattle.reorder_buffer.specs.declared.taken.Taken.TheVariants.{New, Repeat, Late}
 use Rattle.reorder_buffer.specs.Watermarks.{greater, reached, is_due}
-use Rattle.reorder_buffer.specs.Buffered.{Buffered, answer_to, after_answer, first_due, after_dropping}
-use Rattle.rising.specs.Rising.{has}
+use Rattle.reorder_buffer.specs.Buffered.{after_answer, first_due}
 use Rattle.rising.proofs.Rising.{has-sorted, sorted-push, sorted-push_again}
-use Rattle.rising.proofs.Filtering.{sorted-filter, filter_swap, filter_stronger, filter_all}
+use Rattle.rising.proofs.Filtering.{sorted-filter, filter_swap, filter_stronger}
 use Rattle.rising.proofs.FirstPassing.{filter-none, filter-all_others, filter-first, filter-others}
-use Rattle.replay_model.specs.Acceptance.{mark, events, is_repeat, is_late, is_accepted, accepted, due}
+use Rattle.replay_model.specs.Acceptance.{mark, events, is_repeat, is_accepted, accepted}
 use Rattle.replay_model.specs.Fate.{in_order}
-use Rattle.replay_model.specs.Play.{Replies, Played, apply_all, newly_due, play, play_to_end}
-use Rattle.replay_model.specs.ReplayState.{ReplayState, taken_entries, after_event, after_mark, after_end, after_applying, after_next, due_now, not_due, after_due, delivered, ended, following, following_to_end}
+use Rattle.replay_model.specs.Play.{Replies, Played, apply_all, newly_due, play}
+use Rattle.replay_model.specs.ReplayState.{ReplayState, taken_entries, after_event, after_mark, after_applying, after_next, after_due, delivered, ended, following, following_to_end}
 use Rattle.replay_model.proofs.Arrivals.{play-push}
 use Rattle.replay_model.proofs.Times.{reached-greater}
 use Rattle.replay_model.proofs.Deliveries.{mark-kept, mark-watermark, events-kept, events-told, events_passing-kept, events_passing-told}
@@ -53,26 +49,26 @@ waiting-told ds e =
     ∙ filter-append (waits (mark ds)) (accepted ds) (cond (is_accepted ds e) (e ∷ []) [])
 
 following-answered : (replies : Replies) (ds : List Delivery) (e : Event) (repeat reach : Bool) → is_repeat ds e ≡ repeat → reached (mark ds) e.time ≡ reach
-  → following replies (ds ++ Told e ∷ []) ≡ after_answered (cond repeat Repeat (cond reach Late New)) (following replies ds) e
+    → following replies (ds ++ Told e ∷ []) ≡ after_answered (cond repeat Repeat (cond reach Late New)) (following replies ds) e
 following-answered replies ds e true reach is_r is_m =
     same_parts false
-      (ap in_order (events-told ds e) ∙ sorted-push_again event_cmp_total event_cmp_same (events ds) e is_r)
-      (ap in_order (waiting-told ds e ∙ ap (λ b. filter (waits (mark ds)) (accepted ds) ++ filter (waits (mark ds)) (cond (not b && not (reached (mark ds) e.time)) (e ∷ []) [])) is_r ∙ append-nil _))
-      (mark-kept ds (Told e) refl)
-      (play-push replies ds (Told e) ∙ ap (λ b. record { records = (play replies ds).records; side = (play replies ds).side ++ cond (not b && reached (mark ds) e.time) (LateEntry e ∷ []) [] }) is_r)
+    (ap in_order (events-told ds e) ∙ sorted-push_again event_cmp_total event_cmp_same (events ds) e is_r)
+    (ap in_order (waiting-told ds e ∙ ap (λ b. filter (waits (mark ds)) (accepted ds) ++ filter (waits (mark ds)) (cond (not b && not (reached (mark ds) e.time)) (e ∷ []) [])) is_r ∙ append-nil _))
+    (mark-kept ds (Told e) refl)
+    (play-push replies ds (Told e) ∙ ap (λ b. record { records = (play replies ds).records; side = (play replies ds).side ++ cond (not b && reached (mark ds) e.time) (LateEntry e ∷ []) [] }) is_r)
 following-answered replies ds e false true is_r is_m =
     same_parts false
-      (ap in_order (events-told ds e) ∙ sorted-push event_cmp_total event_cmp_same (events ds) e)
-      (ap in_order (waiting-told ds e ∙ ap (λ b. filter (waits (mark ds)) (accepted ds) ++ filter (waits (mark ds)) (cond (not (is_repeat ds e) && not b) (e ∷ []) [])) is_m ∙ ap (λ b. filter (waits (mark ds)) (accepted ds) ++ filter (waits (mark ds)) (cond (not b && false) (e ∷ []) [])) is_r ∙ append-nil _))
-      (mark-kept ds (Told e) refl)
-      (play-push replies ds (Told e) ∙ (λ i. record { records = (play replies ds).records; side = (play replies ds).side ++ cond (not (is_r i) && is_m i) (LateEntry e ∷ []) [] }))
+    (ap in_order (events-told ds e) ∙ sorted-push event_cmp_total event_cmp_same (events ds) e)
+    (ap in_order (waiting-told ds e ∙ ap (λ b. filter (waits (mark ds)) (accepted ds) ++ filter (waits (mark ds)) (cond (not (is_repeat ds e) && not b) (e ∷ []) [])) is_m ∙ ap (λ b. filter (waits (mark ds)) (accepted ds) ++ filter (waits (mark ds)) (cond (not b && false) (e ∷ []) [])) is_r ∙ append-nil _))
+    (mark-kept ds (Told e) refl)
+    (play-push replies ds (Told e) ∙ (λ i. record { records = (play replies ds).records; side = (play replies ds).side ++ cond (not (is_r i) && is_m i) (LateEntry e ∷ []) [] }))
 following-answered replies ds e false false is_r is_m =
     same_parts false
-      (ap in_order (events-told ds e) ∙ sorted-push event_cmp_total event_cmp_same (events ds) e)
-      (ap in_order (waiting-told ds e ∙ (λ i. filter (waits (mark ds)) (accepted ds) ++ filter (waits (mark ds)) (cond (not (is_r i) && not (is_m i)) (e ∷ []) [])) ∙ ap (λ b. filter (waits (mark ds)) (accepted ds) ++ cond (not b) (e ∷ []) []) is_m)
-       ∙ sorted-push event_cmp_total event_cmp_same (filter (waits (mark ds)) (accepted ds)) e)
-      (mark-kept ds (Told e) refl)
-      (play-push replies ds (Told e) ∙ (λ i. record { records = (play replies ds).records; side = (play replies ds).side ++ cond (not (is_r i) && is_m i) (LateEntry e ∷ []) [] }))
+    (ap in_order (events-told ds e) ∙ sorted-push event_cmp_total event_cmp_same (events ds) e)
+    (ap in_order (waiting-told ds e ∙ (λ i. filter (waits (mark ds)) (accepted ds) ++ filter (waits (mark ds)) (cond (not (is_r i) && not (is_m i)) (e ∷ []) [])) ∙ ap (λ b. filter (waits (mark ds)) (accepted ds) ++ cond (not b) (e ∷ []) []) is_m)
+    ∙ sorted-push event_cmp_total event_cmp_same (filter (waits (mark ds)) (accepted ds)) e)
+    (mark-kept ds (Told e) refl)
+    (play-push replies ds (Told e) ∙ (λ i. record { records = (play replies ds).records; side = (play replies ds).side ++ cond (not (is_r i) && is_m i) (LateEntry e ∷ []) [] }))
 
 following-told : (replies : Replies) (ds : List Delivery) (e : Event) → following replies (ds ++ Told e ∷ []) ≡ after_event (following replies ds) e
 following-told replies ds e =
@@ -114,11 +110,11 @@ following-watermark replies ds w =
     let later = ds ++ Watermark w ∷ [] in
     let same_accepted = events_passing-kept is_accepted ds (Watermark w) refl in
     same_parts false
-      (ap in_order (events-kept ds (Watermark w) refl))
-      ((λ i. in_order (filter (waits (mark-watermark ds w i)) (same_accepted i))) ∙ sym (still_waiting (mark ds) (greater (mark ds) w) (waits_before (mark ds) w) (accepted ds)))
-      (mark-watermark ds w)
-      (play-push replies ds (Watermark w)
-       ∙ ap (apply_all replies (play replies ds)) (newly_due-watermark ds w))
+    (ap in_order (events-kept ds (Watermark w) refl))
+    ((λ i. in_order (filter (waits (mark-watermark ds w i)) (same_accepted i))) ∙ sym (still_waiting (mark ds) (greater (mark ds) w) (waits_before (mark ds) w) (accepted ds)))
+    (mark-watermark ds w)
+    (play-push replies ds (Watermark w)
+    ∙ ap (apply_all replies (play replies ds)) (newly_due-watermark ds w))
 
 none_left : (p : Event → Bool) → ((e : Event) → p e ≡ false) → (es : List Event) → filter p es ≡ []
 none_left p h [] = refl
@@ -127,10 +123,10 @@ none_left p h (e ∷ es) = ap (λ b. cond b (e ∷ filter p es) (filter p es)) (
 pub following-end : (replies : Replies) (ds : List Delivery) → following_to_end replies ds ≡ ended replies (following replies ds)
 following-end replies ds =
     same_parts true
-      refl
-      (sym (none_left (λ e. not (is_due true (mark ds) e)) (λ e. refl) (in_order (filter (waits (mark ds)) (accepted ds)))))
-      refl
-      (ap (apply_all replies (play replies ds)) (newly_due-end ds))
+    refl
+    (sym (none_left (λ e. not (is_due true (mark ds) e)) (λ e. refl) (in_order (filter (waits (mark ds)) (accepted ds)))))
+    refl
+    (ap (apply_all replies (play replies ds)) (newly_due-end ds))
 
 -- after each delivery
 pub following-delivered : (replies : Replies) (ds : List Delivery) (d : Delivery) → following replies (ds ++ d ∷ []) ≡ delivered replies (following replies ds) d

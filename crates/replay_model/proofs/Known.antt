@@ -1,5 +1,5 @@
 -- The fate over the due events is that over all known events, where no late event of the entity is open.
-use Rattle.std.proofs.Common.{◌≡◌, Bool, true, false, not, cond, ◌&&◌, ◌||◌, ℤ, List, [], ◌∷◌, ◌++◌, Option, Ordering, Less, Equal, Greater, is_lt, is_eq, fold, filter, refl, sym, ◌∙◌, ap, subst, true≢false, append-nil}
+use Rattle.std.proofs.Common.{◌≡◌, Bool, true, false, not, cond, ◌&&◌, ◌||◌, ℤ, List, [], ◌∷◌, ◌++◌, Option, Less, Equal, Greater, is_lt, fold, refl, sym, ◌∙◌, ap, true≢false}
 use Rattle.std.specs.BTreeSet.{insert_key}
 use Rattle.std.specs.Ordering.{eq_by_cmp, match_ordering}
 use Rattle.std.specs.List.{list_any}
@@ -14,9 +14,9 @@ use Rattle.entity_state.specs.declared.state.State.{State}
 use Rattle.entity_state.specs.State.{state_after, after_kind, unknown}
 use Rattle.event_line.specs.declared.delivery.Delivery.{Delivery}
 use Rattle.event_line.specs.declared.delivery.Delivery.TheVariants.{Event as Told, Watermark}
-use Rattle.reorder_buffer.specs.Watermarks.{greater, reached, is_due}
+use Rattle.reorder_buffer.specs.Watermarks.{reached, is_due}
 use Rattle.rising.specs.Rising.{has}
-use Rattle.rising.proofs.Bools.{equal, or_none, or_true, or_false_left, or_false_right, and_left, and_right}
+use Rattle.rising.proofs.Bools.{equal, or_none, or_true, or_false_left, or_false_right}
 use Rattle.rising.proofs.Pushes.{by_pushes}
 use Rattle.rising.proofs.Rising.{has-append, sorted_same}
 use Rattle.rising.proofs.Filtering.{has-filter}
@@ -24,7 +24,7 @@ use Rattle.rising.proofs.Finding.{list_any-sorted, list_any-filter}
 use Rattle.replay_model.specs.Acceptance.{mark, events, is_repeat, is_late, is_accepted, accepted, late, due, known}
 use Rattle.replay_model.specs.Fate.{is_of, events_of, in_order, fate}
 use Rattle.replay_model.specs.Play.{is_reconciliation}
-use Rattle.replay_model.specs.Entries.{is_later, settles, is_open_late}
+use Rattle.replay_model.specs.Entries.{is_later, is_open_late}
 use Rattle.replay_model.proofs.Times.{not_false, reached-greater}
 use Rattle.replay_model.proofs.Deliveries.{mark-kept, mark-watermark, events-kept, events-told, events_passing-kept, events_passing-told}
 use Rattle.replay_model.proofs.RecordOf.{entity_of, events_of-in_order}
@@ -86,10 +86,10 @@ dropped x dues (l ∷ lates) none =
     elim (is_of x l) as (λ b. is_of x l ≡ b → list_any (is_open_late dues) (cond b (l ∷ events_of x lates) (events_of x lates)) ≡ false → fate (in_order (cond b (l ∷ events_of x lates) (events_of x lates) ++ events_of x dues)) ≡ fate (in_order (events_of x dues))) [
       | true ↦ λ of none.
           place_below l (in_order (events_of x lates ++ events_of x dues))
-            (list_any-sorted event_cmp event_cmp_same (is_later l) (events_of x lates ++ events_of x dues)
-            ∙ list_any-append (is_later l) (events_of x lates) (events_of x dues)
-            ∙ or_true (list_any (is_later l) (events_of x lates)) _ (closed_late x l dues of (or_false_left (is_open_late dues l) _ none)))
-            unknown
+          (list_any-sorted event_cmp event_cmp_same (is_later l) (events_of x lates ++ events_of x dues)
+          ∙ list_any-append (is_later l) (events_of x lates) (events_of x dues)
+          ∙ or_true (list_any (is_later l) (events_of x lates)) _ (closed_late x l dues of (or_false_left (is_open_late dues l) _ none)))
+          unknown
           ∙ dropped x dues lates (or_false_right (is_open_late dues l) _ none)
       | false ↦ λ _ none. dropped x dues lates none
     ] refl none
@@ -97,7 +97,7 @@ dropped x dues (l ∷ lates) none =
 -- ---- the delivered events are the late and the accepted ones
 
 split : (a b : Bool) (ev la ac t : Bool) → ev ≡ (la || ac) → (a ≡ true → t ≡ true → ev ≡ true)
-  → (ev || (t || false)) ≡ ((la || cond (not a && b) (t || false) false) || (ac || cond (not a && not b) (t || false) false))
+    → (ev || (t || false)) ≡ ((la || cond (not a && b) (t || false) false) || (ac || cond (not a && not b) (t || false) false))
 split true b true true ac t e r = refl
 split true b true false true t e r = refl
 split true b true false false t e r = e
@@ -132,14 +132,14 @@ has-events q = by_pushes (λ ds. has event_cmp q (events ds) ≡ (has event_cmp 
         ap (has event_cmp q) (events-told ds e)
         ∙ has-append event_cmp q (events ds) (e ∷ [])
         ∙ split (is_repeat ds e) (reached (mark ds) e.time) (has event_cmp q (events ds)) (has event_cmp q (late ds)) (has event_cmp q (accepted ds)) (eq_by_cmp event_cmp q e) before
-            (λ repeat tie. ap (λ y. has event_cmp y (events ds)) (event_cmp_same q e (equal _ tie)) ∙ repeat)
+        (λ repeat tie. ap (λ y. has event_cmp y (events ds)) (event_cmp_same q e (equal _ tie)) ∙ repeat)
         ∙ sym (ap (λ b. b || has event_cmp q (accepted (ds ++ Told e ∷ []))) (ap (has event_cmp q) (events_passing-told is_late ds e) ∙ has-append event_cmp q (late ds) (cond (is_late ds e) (e ∷ []) []) ∙ ap (λ b. has event_cmp q (late ds) || b) (has-one q e (is_late ds e)))
-          ∙ ap (λ b. (has event_cmp q (late ds) || cond (is_late ds e) (eq_by_cmp event_cmp q e || false) false) || b) (ap (has event_cmp q) (events_passing-told is_accepted ds e) ∙ has-append event_cmp q (accepted ds) (cond (is_accepted ds e) (e ∷ []) []) ∙ ap (λ b. has event_cmp q (accepted ds) || b) (has-one q e (is_accepted ds e))))
+        ∙ ap (λ b. (has event_cmp q (late ds) || cond (is_late ds e) (eq_by_cmp event_cmp q e || false) false) || b) (ap (has event_cmp q) (events_passing-told is_accepted ds e) ∙ has-append event_cmp q (accepted ds) (cond (is_accepted ds e) (e ∷ []) []) ∙ ap (λ b. has event_cmp q (accepted ds) || b) (has-one q e (is_accepted ds e))))
     step ds (Watermark w) before =
         ap (has event_cmp q) (events-kept ds (Watermark w) refl)
         ∙ before
         ∙ sym (ap (λ b. b || has event_cmp q (accepted (ds ++ Watermark w ∷ []))) (ap (has event_cmp q) (events_passing-kept is_late ds (Watermark w) refl))
-          ∙ ap (λ b. has event_cmp q (late ds) || b) (ap (has event_cmp q) (events_passing-kept is_accepted ds (Watermark w) refl)))
+        ∙ ap (λ b. has event_cmp q (late ds) || b) (ap (has event_cmp q) (events_passing-kept is_accepted ds (Watermark w) refl)))
 
 -- the mark has reached each late event
 late_reached : (q : Event) (ds : List Delivery) → has event_cmp q (late ds) ≡ true → reached (mark ds) q.time ≡ true
@@ -148,16 +148,18 @@ late_reached q = by_pushes (λ ds. has event_cmp q (late ds) ≡ true → reache
     either : (a b : Bool) {G : Type 0} → (a || b) ≡ true → (a ≡ true → G) → (b ≡ true → G) → G
     either true b h p q = p refl
     either false b h p q = q h
+
     here : (ds : List Delivery) (e : Event) (a b : Bool) → reached (mark ds) e.time ≡ b → cond (not a && b) (eq_by_cmp event_cmp q e || false) false ≡ true → reached (mark ds) q.time ≡ true
     here ds e true b m h = contradicts false h refl
     here ds e false false m h = contradicts false h refl
     here ds e false true m h = ap (λ (y : Event). reached (mark ds) y.time) (event_cmp_same q e (equal _ (sym (or_none _) ∙ h))) ∙ m
+
     step : (ds : List Delivery) (d : Delivery) → (has event_cmp q (late ds) ≡ true → reached (mark ds) q.time ≡ true) → has event_cmp q (late (ds ++ d ∷ [])) ≡ true → reached (mark (ds ++ d ∷ [])) q.time ≡ true
     step ds (Told e) before h =
         ap (λ m. reached m q.time) (mark-kept ds (Told e) refl)
         ∙ either (has event_cmp q (late ds)) (cond (is_late ds e) (eq_by_cmp event_cmp q e || false) false)
-            (ap (λ b. has event_cmp q (late ds) || b) (sym (has-one q e (is_late ds e))) ∙ sym (has-append event_cmp q (late ds) (cond (is_late ds e) (e ∷ []) [])) ∙ sym (ap (has event_cmp q) (events_passing-told is_late ds e)) ∙ h)
-            before (here ds e (is_repeat ds e) (reached (mark ds) e.time) refl)
+        (ap (λ b. has event_cmp q (late ds) || b) (sym (has-one q e (is_late ds e))) ∙ sym (has-append event_cmp q (late ds) (cond (is_late ds e) (e ∷ []) [])) ∙ sym (ap (has event_cmp q) (events_passing-told is_late ds e)) ∙ h)
+        before (here ds e (is_repeat ds e) (reached (mark ds) e.time) refl)
     step ds (Watermark w) before h =
         ap (λ m. reached m q.time) (mark-watermark ds w)
         ∙ reached-greater (mark ds) w q.time (before (sym (ap (has event_cmp q) (events_passing-kept is_late ds (Watermark w) refl)) ∙ h))

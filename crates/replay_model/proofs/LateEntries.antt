@@ -1,5 +1,5 @@
 -- The late entries of a replay are the late events, in the order of their first deliveries.
-use Rattle.std.proofs.Common.{◌≡◌, Bool, true, false, cond, List, [], ◌∷◌, ◌++◌, Option, None, Some, Result, Ok, Err, filter_map, refl, sym, ◌∙◌, ap, append-nil}
+use Rattle.std.proofs.Common.{◌≡◌, Bool, true, false, cond, List, [], ◌∷◌, ◌++◌, Result, Ok, Err, filter_map, refl, sym, ◌∙◌, ap, append-nil}
 use Rattle.std.proofs.lemmas.List.Elements.{filter_map-append}
 use Rattle.entity_model.specs.declared.event.Event.{Event}
 use Rattle.entity_state.specs.declared.record.Record.{Record}
@@ -7,13 +7,13 @@ use Rattle.entity_state.specs.State.{state_after}
 use Rattle.entity_state.specs.Record.{held_revision}
 use Rattle.side_output.specs.declared.entry.Cause.{Cause}
 use Rattle.side_output.specs.declared.entry.Entry.{Entry}
-use Rattle.side_output.specs.declared.entry.Entry.TheVariants.{Late, Revision}
+use Rattle.side_output.specs.declared.entry.Entry.TheVariants.{Late}
 use Rattle.event_line.specs.declared.delivery.Delivery.{Delivery}
 use Rattle.event_line.specs.declared.delivery.Delivery.TheVariants.{Event as Told, Watermark}
 use Rattle.rising.proofs.Pushes.{by_pushes}
 use Rattle.replay_model.specs.Acceptance.{is_late, late}
 use Rattle.replay_model.specs.Records.{Bytes, record_of, wants}
-use Rattle.replay_model.specs.Play.{Replies, Played, entry_of, entries_after, apply, apply_all, newly_due, happens, play, play_to_end, played}
+use Rattle.replay_model.specs.Play.{Replies, Played, entry_of, entries_after, apply, apply_all, newly_due, happens, play, played}
 use Rattle.replay_model.specs.Entries.{late_event, late_events}
 use Rattle.replay_model.proofs.Arrivals.{play-push}
 use Rattle.replay_model.proofs.Deliveries.{events_passing-told, events_passing-kept}

@@ -3,6 +3,7 @@ pub mod Arrivals
 pub mod Confluence
 pub mod Deliveries
 pub mod DueParts
+pub mod Examples
 pub mod Explaining
 pub mod FetchCounts
 pub mod Fetching
@@ -12,6 +13,7 @@ pub mod LateEntries
 pub mod OpenLate
 pub mod Owners
 pub mod PlayedRecords
+pub mod Printing
 pub mod RecordOf
 pub mod Settled
 pub mod Times

@@ -14,7 +14,7 @@ use Rattle.replay_model.specs.Acceptance.{due}
 use Rattle.replay_model.specs.Fate.{is_of, events_of, in_order}
 use Rattle.replay_model.specs.Records.{Bytes, record_of}
 use Rattle.replay_model.specs.Play.{Replies, is_reconciliation, reconciled_after, played}
-use Rattle.replay_model.specs.Entries.{is_later, settles, is_open_late}
+use Rattle.replay_model.specs.Entries.{is_later, is_open_late}
 use Rattle.replay_model.proofs.RecordOf.{record-played, reconciled-applied_to}
 
 less : (r : Ordering) → is_lt r ≡ true → r ≡ Less
@@ -37,10 +37,10 @@ before-after e None r =
 before-after e (Some q) r =
     elim (is_reconciliation r.kind) as (λ k. is_before e (cond (k && is_lt (event_cmp q r)) (Some r) (Some q)) ≡ (is_lt (event_cmp e q) || (k && is_lt (event_cmp e r)))) [
       | true ↦ elim (event_cmp q r) as (λ o. event_cmp q r ≡ o → is_before e (cond (is_lt o) (Some r) (Some q)) ≡ (is_lt (event_cmp e q) || is_lt (event_cmp e r))) [
-          | Less ↦ λ o. right_of _ _ (λ a. ap is_lt (event_cmp_total.trans e q r (less _ a) o))
-          | Equal ↦ λ o. left_of _ _ (λ a. ap (λ y. is_lt (event_cmp e y)) (event_cmp_same q r o) ∙ a)
-          | Greater ↦ λ o. left_of _ _ (λ a. ap is_lt (event_cmp_total.trans e r q (less _ a) (turned event_cmp_total q r Greater o)))
-        ] refl
+        | Less ↦ λ o. right_of _ _ (λ a. ap is_lt (event_cmp_total.trans e q r (less _ a) o))
+        | Equal ↦ λ o. left_of _ _ (λ a. ap (λ y. is_lt (event_cmp e y)) (event_cmp_same q r o) ∙ a)
+        | Greater ↦ λ o. left_of _ _ (λ a. ap is_lt (event_cmp_total.trans e r q (less _ a) (turned event_cmp_total q r Greater o)))
+      ] refl
       | false ↦ sym (or_none _)
     ]
 
@@ -59,8 +59,8 @@ pub open_late-played : (closed : Bool) (replies : Replies) (ds : List Delivery) 
 open_late-played closed replies ds e =
     let own = events_of e.entity (due closed ds) in
     ap not (sym (
-      ap (λ (r : Record Bytes). is_before e r.reconciled) (record-played closed replies ds e.entity)
-      ∙ ap (is_before e) (reconciled-applied_to replies blank (in_order own))
-      ∙ before-fold e None (in_order own)
-      ∙ list_any-sorted event_cmp event_cmp_same (is_later e) own
-      ∙ list_any-filter (is_later e) (is_of e.entity) (due closed ds)))
+    ap (λ (r : Record Bytes). is_before e r.reconciled) (record-played closed replies ds e.entity)
+    ∙ ap (is_before e) (reconciled-applied_to replies blank (in_order own))
+    ∙ before-fold e None (in_order own)
+    ∙ list_any-sorted event_cmp event_cmp_same (is_later e) own
+    ∙ list_any-filter (is_later e) (is_of e.entity) (due closed ds)))

@@ -1,10 +1,9 @@
 -- The owners of a triple change by the entity whose record is put in, and the union has what has an owner.
-use Rattle.std.proofs.Common.{◌≡◌, ℕ, ◌+◌, Bool, true, false, not, cond, ◌&&◌, ◌||◌, T, List, [], ◌∷◌, ◌++◌, Option, None, Some, Ordering, Less, Equal, Greater, is_eq, is_lt, nat_lt, sum_by, count_by, flat_map, unwrap_or, refl, sym, ◌∙◌, ap, subst, true≢false, lt-ltb, arith}
+use Rattle.std.proofs.Common.{◌≡◌, ℕ, ◌+◌, Bool, true, false, not, cond, ◌&&◌, ◌||◌, T, List, [], ◌∷◌, Option, None, Some, Ordering, Less, Equal, Greater, is_eq, is_lt, nat_lt, sum_by, count_by, flat_map, unwrap_or, refl, sym, ◌∙◌, ap, true≢false, lt-ltb, arith}
 use Rattle.std.specs.FinMap as map
 use Rattle.std.specs.FinMap.{IsAntisymmetric, find, put, is_sorted}
 use Rattle.std.specs.FinMap.Entries.{below_all, by_order}
 use Rattle.std.specs.Cmp.{IsTotalOrder}
-use Rattle.std.specs.Ordering.{eq_by_cmp}
 use Rattle.std.proofs.lemmas.List.Sums.{sum_by-cons}
 use Rattle.entity_model.specs.declared.id.EntityId.{EntityId}
 use Rattle.entity_model.specs.EntityId.{entity_cmp, entity_cmp_total, entity_cmp_same}
@@ -86,9 +85,9 @@ module _ {Triple : Type 0} (order : Triple → Triple → Ordering) (meaning : M
 module _ {Triple : Type 0} {order : Triple → Triple → Ordering} (o : IsTotalOrder order) (meaning : Meaning Triple) where
   -- a triple that the entity gains has one owner more, one that it loses has one less, and the others have as many
   pub owners-change : (m : Records) (x : EntityId) (r : Record Bytes) (t : Triple)
-    → (has order t (difference order (after order meaning x r) (before order meaning m x)) ≡ true → owners order meaning (map.insert m x r) t ≡ owners order meaning m t + 1)
-    × (has order t (difference order (before order meaning m x) (after order meaning x r)) ≡ true → owners order meaning (map.insert m x r) t + 1 ≡ owners order meaning m t)
-    × (has order t (difference order (after order meaning x r) (before order meaning m x)) ≡ false → has order t (difference order (before order meaning m x) (after order meaning x r)) ≡ false → owners order meaning (map.insert m x r) t ≡ owners order meaning m t)
+      → (has order t (difference order (after order meaning x r) (before order meaning m x)) ≡ true → owners order meaning (map.insert m x r) t ≡ owners order meaning m t + 1)
+      × (has order t (difference order (before order meaning m x) (after order meaning x r)) ≡ true → owners order meaning (map.insert m x r) t + 1 ≡ owners order meaning m t)
+      × (has order t (difference order (after order meaning x r) (before order meaning m x)) ≡ false → has order t (difference order (before order meaning m x) (after order meaning x r)) ≡ false → owners order meaning (map.insert m x r) t ≡ owners order meaning m t)
   owners-change m x r t =
       let old = before order meaning m x in
       let new = after order meaning x r in

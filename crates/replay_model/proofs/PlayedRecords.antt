@@ -9,7 +9,7 @@ use Rattle.rising.proofs.Pushes.{by_pushes}
 use Rattle.replay_model.specs.Acceptance.{due}
 use Rattle.replay_model.specs.Fate.{in_order}
 use Rattle.replay_model.specs.Records.{Records}
-use Rattle.replay_model.specs.Play.{Replies, Played, records_after, apply, apply_all, newly_due, happens, play, play_to_end, played}
+use Rattle.replay_model.specs.Play.{Replies, Played, records_after, apply, apply_all, newly_due, happens, play, played}
 use Rattle.replay_model.proofs.Arrivals.{play-push}
 use Rattle.replay_model.proofs.Deliveries.{due-told}
 use Rattle.replay_model.proofs.DueParts.{due-watermark, due-end}

@@ -1,11 +1,10 @@
 -- The record of an entity is what its own due events leave, applied in order; its state is their fate.
-use Rattle.std.proofs.Common.{◌≡◌, Bool, true, false, cond, List, [], ◌∷◌, ◌++◌, Option, None, Some, Ordering, Equal, is_eq, fold, filter, refl, sym, ◌∙◌, ap, unwrap_or}
+use Rattle.std.proofs.Common.{◌≡◌, Bool, true, false, cond, List, [], ◌∷◌, Option, Some, fold, refl, sym, ◌∙◌, ap, unwrap_or}
 use Rattle.std.specs.FinMap as map
 use Rattle.entity_model.specs.declared.id.EntityId.{EntityId}
 use Rattle.entity_model.specs.declared.event.Event.{Event}
 use Rattle.entity_model.specs.EntityId.{entity_cmp, entity_cmp_total, entity_cmp_same}
 use Rattle.entity_model.specs.Event.{event_cmp_total, event_cmp_same}
-use Rattle.entity_state.specs.declared.state.State.{State}
 use Rattle.entity_state.specs.declared.record.Record.{Record}
 use Rattle.entity_state.specs.State.{state_after}
 use Rattle.entity_state.specs.Record.{blank}

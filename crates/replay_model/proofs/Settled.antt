@@ -1,6 +1,5 @@
 -- A page that isn't kept holds nothing, and an entity holds what its state wants exactly where no revision entry of it is open.
-use Rattle.std.proofs.Common.{◌≡◌, ℕ, Bool, true, false, not, cond, ◌&&◌, ◌||◌, ◌==◌, List, [], ◌∷◌, ◌++◌, Option, None, Some, Result, Ok, Err, is_none, nat_lt, nat_le, refl, sym, ◌∙◌, ap, subst, append-nil, true≢false, eqb-true, eq-eqb}
-use Rattle.std.specs.FinMap as map
+use Rattle.std.proofs.Common.{◌≡◌, ℕ, Bool, true, false, not, cond, ◌&&◌, ◌||◌, ◌==◌, List, [], ◌∷◌, ◌++◌, Option, None, Some, Result, Ok, Err, is_none, nat_lt, nat_le, refl, sym, ◌∙◌, ap, subst, true≢false, eqb-true, eq-eqb}
 use Rattle.std.specs.List.{list_any}
 use Rattle.std.proofs.lemmas.List.Folds.{list_any-append}
 use Rattle.entity_model.specs.declared.id.EntityId.{EntityId}
@@ -13,7 +12,7 @@ use Rattle.entity_state.specs.declared.state.State.{State}
 use Rattle.entity_state.specs.declared.record.Held.{Held}
 use Rattle.entity_state.specs.declared.record.Record.{Record}
 use Rattle.entity_state.specs.State.{state_after, after_kind, kept, deleted, is_kept, is_deleted}
-use Rattle.entity_state.specs.Record.{blank, held_revision, is_held, lacks}
+use Rattle.entity_state.specs.Record.{held_revision, is_held}
 use Rattle.side_output.specs.declared.entry.Cause.{Cause}
 use Rattle.side_output.specs.declared.entry.Entry.{Entry}
 use Rattle.side_output.specs.declared.entry.Entry.TheVariants.{Late, Revision}
@@ -24,8 +23,8 @@ use Rattle.rising.proofs.Finding.{list_any_weaker, list_any_never}
 use Rattle.rising.proofs.Pushes.{by_pushes}
 use Rattle.replay_model.specs.Acceptance.{is_late}
 use Rattle.replay_model.specs.Fate.{is_of}
-use Rattle.replay_model.specs.Records.{Bytes, Records, record_of, wants, settles_at, is_settled}
-use Rattle.replay_model.specs.Play.{Replies, Played, nothing_played, held_after_fetch, held_after, record_after, entry_of, entries_after, apply, apply_all, newly_due, happens, play, play_to_end, played}
+use Rattle.replay_model.specs.Records.{Bytes, record_of, wants, settles_at, is_settled}
+use Rattle.replay_model.specs.Play.{Replies, Played, nothing_played, held_after_fetch, record_after, entry_of, entries_after, apply, apply_all, newly_due, happens, play, played}
 use Rattle.replay_model.specs.Entries.{is_open_by, is_revision_of, has_open_revision}
 use Rattle.replay_model.proofs.Arrivals.{play-push}
 use Rattle.replay_model.proofs.RecordOf.{entity_of, record-after, record_of-empty}
@@ -66,8 +65,8 @@ none_unless_kept Deleted Unknown rev rest held fetched known before h = before r
 
 -- after an application, the revision that the new state wants is held or named
 named_after : (side : List Entry) (x : EntityId) (e : Event) (s : State) (held : Option (Held Bytes)) (reply : Result Bytes Cause) (w : Bool) → is_of x e ≡ true → wants s (held_revision held) ≡ w
-  → wants s (held_revision (cond w (held_after_fetch s.rev reply held) (cond (is_deleted s.mode) None held))) ≡ true
-  → list_any (names x s.rev) (side ++ cond w (entry_of e s.rev reply) []) ≡ true
+    → wants s (held_revision (cond w (held_after_fetch s.rev reply held) (cond (is_deleted s.mode) None held))) ≡ true
+    → list_any (names x s.rev) (side ++ cond w (entry_of e s.rev reply) []) ≡ true
 named_after side x e s held (Ok bytes) true of w after = contradicts (wants s (Some s.rev)) after (ap (λ b. is_kept s.mode && not b) (same_number s.rev) ∙ and_none (is_kept s.mode))
 named_after side x e s held (Err cause) true of w after =
     list_any-append (names x s.rev) side (Revision e s.rev cause ∷ [])
@@ -143,7 +142,7 @@ named_open x r w (Late e) n = n
 named_open x r w (Revision e q cause) n =
     let revision : q ≡ r.state.rev = eqb-true q r.state.rev (and_right (is_of x e) _ n) in
     subst (λ m. (is_of x e && ((is_kept r.state.mode && r.state.rev == m) && not (is_held m (held_revision r.held)))) ≡ true) (sym revision)
-      (all_of (is_of x e) (is_kept r.state.mode) (r.state.rev == r.state.rev) (not (is_held r.state.rev (held_revision r.held))) (and_left (is_of x e) _ n) (same_number r.state.rev) w)
+    (all_of (is_of x e) (is_kept r.state.mode) (r.state.rev == r.state.rev) (not (is_held r.state.rev (held_revision r.held))) (and_left (is_of x e) _ n) (same_number r.state.rev) w)
   where
     all_of : (a b c d : Bool) → a ≡ true → c ≡ true → (b && d) ≡ true → (a && ((b && c) && d)) ≡ true
     all_of a b c d p q w = ap (λ t. t && ((b && c) && d)) p ∙ ap (λ t. (b && t) && d) q ∙ ap (λ t. t && d) (and_all b) ∙ w
@@ -159,6 +158,7 @@ settled_by side x r t =
     unsettled Unknown w = contradicts false w refl
     unsettled Kept w = not_true _ w
     unsettled Deleted w = contradicts false w refl
+
     settled : (m : Mode) → (is_kept m && not (is_held r.state.rev (held_revision r.held))) ≡ false → (is_kept m ≡ false → r.held ≡ None) → settles_at m r.state.rev (held_revision r.held) ≡ true
     settled Unknown w none = ap (λ h. is_none (held_revision h)) (none refl)
     settled Kept w none = not_false _ w

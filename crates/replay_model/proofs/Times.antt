@@ -1,5 +1,5 @@
 -- Marks and times: a mark only rises, and an event that a mark reaches is before one that it doesn't reach.
-use Rattle.std.proofs.Common.{◌≡◌, ℤ, Bool, true, false, not, cond, ◌||◌, Option, None, Some, Ordering, Less, Equal, Greater, refl, sym, ◌∙◌, ap, true≢false, int_lt, arith}
+use Rattle.std.proofs.Common.{◌≡◌, ℤ, Bool, true, false, not, cond, Option, None, Some, Less, Equal, Greater, refl, sym, ap, true≢false, int_lt, arith}
 use Rattle.std.specs.Ordering.{int_cmp, nat_cmp, ordering_then}
 use Rattle.std.proofs.lemmas.Int.{ints}
 use Rattle.entity_model.specs.declared.event.Event.{Event}

@@ -1,5 +1,5 @@
 -- Over a source with told contents, what is held is what the source has, and each entry says of a revision what is so.
-use Rattle.std.proofs.Common.{◌≡◌, ℕ, Bool, true, false, cond, List, [], ◌∷◌, ◌++◌, Option, None, Some, Result, Ok, Err, fold, refl, sym, ◌∙◌, ap, subst}
+use Rattle.std.proofs.Common.{◌≡◌, ℕ, Bool, true, false, cond, List, [], ◌∷◌, ◌++◌, Option, None, Some, Err, refl, sym, ◌∙◌, ap, subst}
 use Rattle.entity_model.specs.declared.id.EntityId.{EntityId}
 use Rattle.entity_model.specs.declared.event.Event.{Event}
 use Rattle.entity_model.specs.declared.unfit.Unfit.{Unfit}
@@ -9,10 +9,9 @@ use Rattle.entity_state.specs.declared.record.Held.{Held}
 use Rattle.entity_state.specs.declared.record.Record.{Record}
 use Rattle.entity_state.specs.State.{state_after, is_deleted}
 use Rattle.entity_state.specs.Record.{blank, held_revision}
-use Rattle.side_output.specs.declared.entry.Cause.{Cause}
-use Rattle.side_output.specs.declared.entry.Cause.TheVariants.{Missing, Failed, Unfit as NoDocument}
+use Rattle.side_output.specs.declared.entry.Cause.TheVariants.{Failed}
 use Rattle.side_output.specs.declared.entry.Entry.{Entry}
-use Rattle.side_output.specs.declared.entry.Entry.TheVariants.{Late, Revision}
+use Rattle.side_output.specs.declared.entry.Entry.TheVariants.{Late}
 use Rattle.event_line.specs.declared.delivery.Delivery.{Delivery}
 use Rattle.event_line.specs.declared.delivery.Delivery.TheVariants.{Event as Told, Watermark}
 use Rattle.rising.specs.Rising.{has, Each}
@@ -20,7 +19,7 @@ use Rattle.rising.proofs.Pushes.{by_pushes}
 use Rattle.replay_model.specs.Acceptance.{is_late, due}
 use Rattle.replay_model.specs.Fate.{is_of, events_of, in_order}
 use Rattle.replay_model.specs.Records.{Bytes, record_of, wants}
-use Rattle.replay_model.specs.Play.{Replies, Played, held_after_fetch, record_after, entry_of, entries_after, apply, apply_all, newly_due, happens, play, played}
+use Rattle.replay_model.specs.Play.{Played, held_after_fetch, record_after, entry_of, entries_after, apply, apply_all, newly_due, happens, play, played}
 use Rattle.replay_model.specs.Replies.{Judgement, judged, reply_there, source_replies, HoldsWhatIsThere, HasUnfit, TellsWhatIsThere}
 use Rattle.replay_model.proofs.Arrivals.{play-push}
 use Rattle.replay_model.proofs.PlayedRecords.{records-played}
@@ -67,8 +66,8 @@ module _ (unfit : Judgement) (contents : ℕ → Option Bytes) (failed : List Ev
   pub held-told : (closed : Bool) (ds : List Delivery) (x : EntityId) → HoldsWhatIsThere unfit contents x (record_of (played closed (source_replies unfit contents failed) ds).records x).held
   held-told closed ds x =
       subst (λ (r : Record Bytes). HoldsWhatIsThere unfit contents x r.held)
-        (sym (ap (λ m. record_of m x) (records-played closed (source_replies unfit contents failed) ds) ∙ record-records_of (source_replies unfit contents failed) (in_order (due closed ds)) x))
-        (held-applied_to x blank (in_order (due closed ds)) tt)
+      (sym (ap (λ m. record_of m x) (records-played closed (source_replies unfit contents failed) ds) ∙ record-records_of (source_replies unfit contents failed) (in_order (due closed ds)) x))
+      (held-applied_to x blank (in_order (due closed ds)) tt)
 
   -- ---- the entries
 
@@ -87,9 +86,9 @@ module _ (unfit : Judgement) (contents : ℕ → Option Bytes) (failed : List Ev
   told-entries e r =
       elim (wants (state_after r.state e) (held_revision r.held)) as (λ w. AllTold (cond w (entry_of e (state_after r.state e).rev (source_replies unfit contents failed e (state_after r.state e).rev)) [])) [
         | true ↦ elim (has event_cmp e failed) as (λ b. has event_cmp e failed ≡ b → AllTold (entry_of e (state_after r.state e).rev (cond b (Err Failed) (reply_there unfit e.entity (contents (state_after r.state e).rev))))) [
-            | true ↦ λ named. (named, tt)
-            | false ↦ λ _. told-there e (state_after r.state e).rev (contents (state_after r.state e).rev) refl
-          ] refl
+          | true ↦ λ named. (named, tt)
+          | false ↦ λ _. told-there e (state_after r.state e).rev (contents (state_after r.state e).rev) refl
+        ] refl
         | false ↦ tt
       ]
 

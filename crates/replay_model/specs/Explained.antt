@@ -1,5 +1,5 @@
 -- When the state of a replay that fetches from a source is that of a play, and what a play over told contents replies.
-use Rattle.std.specs.Prelude.{◌≡◌, ℕ, Bool, true, false, not, ◌&&◌, ◌⊎◌, List, Option, None, Some, Result, Err}
+use Rattle.std.specs.Prelude.{◌≡◌, ℕ, Bool, true, false, not, ◌&&◌, ◌⊎◌, Option, Some, Result, Err}
 use Rattle.rising.specs.Rising.{has, IsRising}
 use Rattle.entity_model.specs.declared.event.Event.{Event}
 use Rattle.entity_model.specs.Event.{event_cmp}

@@ -1,5 +1,5 @@
 -- The replay of a list of deliveries, where each fetch gives what a function of the applied event and the revision says.
-use Rattle.std.specs.Prelude.{ℕ, Bool, false, true, not, ◌&&◌, cond, List, [], ◌∷◌, ◌++◌, Option, None, Some, Result, Ok, Err, MatchResult, fold, filter, flat_map, length, min, ◌+◌, ◌-◌, ◌^◌}
+use Rattle.std.specs.Prelude.{ℕ, Bool, false, true, not, ◌&&◌, cond, List, [], ◌∷◌, ◌++◌, Option, None, Some, Result, Ok, Err, fold, filter, flat_map, min, ◌+◌, ◌-◌, ◌^◌}
 use Rattle.std.specs.FinMap as map
 use Rattle.std.specs.Ordering.{is_lt}
 use Rattle.entity_model.specs.declared.event.Event.{Event}

@@ -1,5 +1,5 @@
 -- A world as a value: the buffer and what was played, and what each delivery makes of them.
-use Rattle.std.specs.Prelude.{ℤ, Bool, true, false, not, cond, List, [], ◌∷◌, ◌++◌, Option, None, Some, filter}
+use Rattle.std.specs.Prelude.{ℤ, true, false, not, List, [], ◌∷◌, ◌++◌, Option, None, Some, filter}
 use Rattle.entity_model.specs.declared.event.Event.{Event}
 use Rattle.side_output.specs.declared.entry.Entry.{Entry}
 use Rattle.side_output.specs.declared.entry.Entry.TheVariants.{Late as LateEntry}

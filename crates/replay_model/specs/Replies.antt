@@ -1,5 +1,5 @@
 -- What a source of revisions with known contents replies.
-use Rattle.std.specs.Prelude.{◌≡◌, ℕ, true, cond, List, [], ◌∷◌, Option, None, Some, Result, Ok, Err, filter_map}
+use Rattle.std.specs.Prelude.{◌≡◌, ℕ, true, cond, List, Option, None, Some, Result, Ok, Err, filter_map}
 use Rattle.rising.specs.Rising.{has}
 use Rattle.entity_model.specs.declared.id.EntityId.{EntityId}
 use Rattle.entity_model.specs.declared.event.Event.{Event}

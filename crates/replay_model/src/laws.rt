@@ -19,36 +19,32 @@ ghost use Rattle.replay_model.specs.Records.{record_of, is_settled};
 pub fn state_is_fate()
     ensures { (closed : Bool) (replies : Replies) (ds : List Delivery) (x : EntityId) →
         (record_of (played closed replies ds).records x).state ≡ fate (in_order (events_of x (due closed ds))) }
-{
-}
+{}
 
 /// After each delivery and after the end, the late entries are the late events, each once, in the order of their
 /// first deliveries.
 pub fn late_entries_are_late_events()
     ensures { (closed : Bool) (replies : Replies) (ds : List Delivery) →
         late_events (played closed replies ds).side ≡ late ds }
-{
-}
+{}
 
 /// After each delivery and after the end, an entity holds what its state wants exactly where no revision entry of it
 /// is open, and a page that isn't kept holds nothing.
 pub fn settled_unless_open()
     ensures settled { (closed : Bool) (replies : Replies) (ds : List Delivery) (x : EntityId) →
         is_settled (record_of (played closed replies ds).records x)
-            ≡ not (has_open_revision (played closed replies ds).records (played closed replies ds).side x) }
+        ≡ not (has_open_revision (played closed replies ds).records (played closed replies ds).side x) }
     ensures empty { (closed : Bool) (replies : Replies) (ds : List Delivery) (x : EntityId) →
         is_kept (record_of (played closed replies ds).records x).state.mode ≡ false →
         (record_of (played closed replies ds).records x).held ≡ None }
-{
-}
+{}
 
 /// Two closed lists of deliveries with the same accepted events give the same records, wherever their watermarks stand.
 pub fn same_events_give_same_records()
     ensures { (replies : Replies) (ds es : List Delivery) →
         ((e : Event) → has event_cmp e (accepted ds) ≡ has event_cmp e (accepted es)) →
         (play_to_end replies ds).records ≡ (play_to_end replies es).records }
-{
-}
+{}
 
 /// A reconciliation forgets what precedes it: the events before it may be left out, and any may be added.
 pub fn reconciliation_forgets()
@@ -56,22 +52,19 @@ pub fn reconciliation_forgets()
         fate (before ++ r ∷ after) ≡ fate (r ∷ after) }
     ensures added { (e : Event) (es : List Event) → list_any (is_later e) es ≡ true →
         fate (in_order (e ∷ es)) ≡ fate (in_order es) }
-{
-}
+{}
 
 /// Where no late event of an entity is open, its state is also the fate of all its known events, late ones included.
 pub fn state_is_fate_of_known()
     ensures { (closed : Bool) (replies : Replies) (ds : List Delivery) (x : EntityId) →
         list_any (is_open_late (due closed ds)) (events_of x (late ds)) ≡ false →
         (record_of (played closed replies ds).records x).state ≡ fate (in_order (events_of x (known closed ds))) }
-{
-}
+{}
 
 /// A late event is open, as none of the due events settles it, exactly where the record of its entity has no
 /// reconciliation after it.
 pub fn open_late_by_record()
     ensures { (closed : Bool) (replies : Replies) (ds : List Delivery) (e : Event) →
         is_open_late (due closed ds) e
-            ≡ not (is_before e (record_of (played closed replies ds).records e.entity).reconciled) }
-{
-}
+        ≡ not (is_before e (record_of (played closed replies ds).records e.entity).reconciled) }
+{}

@@ -10,9 +10,12 @@ mod step_laws;
 mod union_laws;
 
 pub use laws::{
-    late_entries_are_late_events, open_late_by_record, reconciliation_forgets, same_events_give_same_records,
-    settled_unless_open, state_is_fate, state_is_fate_of_known,
+    late_entries_are_late_events, open_late_by_record, reconciliation_forgets,
+    same_events_give_same_records, settled_unless_open, state_is_fate, state_is_fate_of_known,
 };
 pub use source_laws::{replay_over_source_is_a_play, told_contents_are_held_and_named};
-pub use step_laws::{due_events_one_by_one, fetches_one_by_one, replay_follows_deliveries};
+pub use step_laws::{
+    due_events_one_by_one, fetches_one_by_one, output_grows_by_deliveries,
+    replay_follows_deliveries,
+};
 pub use union_laws::{owners_change_by_one, union_is_what_has_owners};

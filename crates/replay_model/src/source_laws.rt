@@ -20,8 +20,7 @@ pub fn told_contents_are_held_and_named()
         HoldsWhatIsThere unfit contents x (record_of (played closed (source_replies unfit contents failed) ds).records x).held }
     ensures entries { (unfit : Judgement) (contents : ℕ → Option Bytes) (failed : List Event) (closed : Bool) (ds : List Delivery) →
         Each (TellsWhatIsThere unfit contents failed) (played closed (source_replies unfit contents failed) ds).side }
-{
-}
+{}
 
 /// A replay over a source is a play with some replies; where the contents are told, with those of the contents and of
 /// the failed events that its side output names.
@@ -50,5 +49,4 @@ pub fn replay_over_source_is_a_play()
         Explained unfit told play_of w → first_due w.buffer ≡ Some e →
         ((contents : ℕ → Option Bytes) → told ≡ Some contents → is_fetching w e ≡ true → IsHonest unfit contents e (revision_wanted w e) reply) →
         Explained unfit told play_of (after_applying (λ q r. reply) w (Some e)) }
-{
-}
+{}

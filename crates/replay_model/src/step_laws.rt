@@ -1,10 +1,13 @@
 // The laws of a replay that takes each delivery as it comes.
 
 ghost use Rattle.std.specs.Prelude.{◌≡◌, ℕ, ◌+◌, [], ◌∷◌, ◌++◌, List, None};
+ghost use Rattle.rdf_term.specs.declared.triple.Triple.{Triple};
 ghost use Rattle.event_line.specs.declared.delivery.Delivery.{Delivery};
 ghost use Rattle.reorder_buffer.specs.Buffered.{first_due};
 ghost use Rattle.replay_model.specs.Play.{Replies, fetches, fetches_to_end, risen_by};
 ghost use Rattle.replay_model.specs.ReplayState.{ReplayState, nothing_delivered, after_end, after_next, after_due, delivered, ended, following, following_to_end, fetches_next, fetches_due, fetches_delivered};
+ghost use Rattle.replay_model.specs.Transcript.{said, said_at};
+ghost use Rattle.replay_model.specs.Union.{Meaning};
 
 /// A replay that takes each delivery as it comes has, after each and after the end, the state that the whole list
 /// gives, and no event is due in it.
@@ -15,15 +18,13 @@ pub fn replay_follows_deliveries()
     ensures the_end { (replies : Replies) (ds : List Delivery) →
         following_to_end replies ds ≡ ended replies (following replies ds) }
     ensures nothing_due { (replies : Replies) (ds : List Delivery) → first_due (following replies ds).buffer ≡ None }
-{
-}
+{}
 
 /// To apply all due events is to apply the least one until none is left.
 pub fn due_events_one_by_one()
     ensures next { (replies : Replies) (w : ReplayState) → after_due replies (after_next replies w) ≡ after_due replies w }
     ensures none_left { (replies : Replies) (w : ReplayState) → first_due w.buffer ≡ None → after_due replies w ≡ w }
-{
-}
+{}
 
 /// The fetches of a replay are those of its deliveries, and these are those of its due events, one after the other;
 /// a count in 64 bits rises by them as by their number.
@@ -36,5 +37,10 @@ pub fn fetches_one_by_one()
         fetches_due replies w ≡ fetches_next w ++ fetches_due replies (after_next replies w) }
     ensures none_left { (replies : Replies) (w : ReplayState) → first_due w.buffer ≡ None → fetches_due replies w ≡ [] }
     ensures risen { (m n count : ℕ) → risen_by m (risen_by n count) ≡ risen_by (n + m) count }
-{
-}
+{}
+
+/// What is printed at a list of deliveries is what was printed before the last and what is printed at it.
+pub fn output_grows_by_deliveries()
+    ensures { (meaning : Meaning Triple) (replies : Replies) (ds : List Delivery) (d : Delivery) →
+        said meaning replies (ds ++ d ∷ []) ≡ said meaning replies ds ++ said_at meaning replies (record { before = ds; delivery = d }) }
+{}

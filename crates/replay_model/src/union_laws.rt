@@ -26,8 +26,7 @@ pub fn owners_change_by_one<Triple>()
         has order t (difference order (triples_held meaning x r.held) (triples_held meaning x (record_of records x).held)) ≡ false →
         has order t (difference order (triples_held meaning x (record_of records x).held) (triples_held meaning x r.held)) ≡ false →
         owners order meaning (insert records x r) t ≡ owners order meaning records t }
-{
-}
+{}
 
 /// The union has exactly the triples that have an owner, each once, in rising order.
 pub fn union_is_what_has_owners<Triple>()
@@ -36,5 +35,4 @@ pub fn union_is_what_has_owners<Triple>()
         has order t (union order meaning records) ≡ nat_lt 0 (owners order meaning records t) }
     ensures rising { (order : Triple → Triple → Ordering) (meaning : Meaning Triple) → IsTotalOrder order →
         (records : Records) → IsRising order (union order meaning records) }
-{
-}
+{}

@@ -1,5 +1,5 @@
 -- Facts on `Bool` and on the answers of an order.
-use Rattle.std.proofs.Common.{◌≡◌, Bool, true, false, not, cond, ◌&&◌, ◌||◌, Ordering, Less, Equal, Greater, is_eq, refl, sym, ◌∙◌, ap, true≢false}
+use Rattle.std.proofs.Common.{◌≡◌, Bool, true, false, not, ◌&&◌, ◌||◌, Ordering, Less, Equal, Greater, is_eq, refl, sym, ◌∙◌, ap, true≢false}
 
 -- a test that is true and false proves anything
 pub clash : {G : Type 0} {b : Bool} → b ≡ true → b ≡ false → G

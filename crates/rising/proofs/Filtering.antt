@@ -1,11 +1,11 @@
 -- Filters of sets and of rising lists, and a rising list in two parts.
-use Rattle.std.proofs.Common.{◌≡◌, Bool, true, false, not, cond, ◌&&◌, ◌||◌, List, [], ◌∷◌, ◌++◌, Ordering, Less, Equal, Greater, is_eq, filter, refl, sym, ◌∙◌, ap}
+use Rattle.std.proofs.Common.{◌≡◌, Bool, true, false, not, cond, ◌&&◌, ◌||◌, List, [], ◌∷◌, ◌++◌, Ordering, Less, Equal, is_eq, filter, refl, sym, ◌∙◌, ap}
 use Rattle.std.specs.FinMap.{IsAntisymmetric}
 use Rattle.std.specs.Cmp.{IsTotalOrder}
 use Rattle.std.specs.Ordering.{eq_by_cmp}
 use Rattle.rising.specs.Rising.{sorted, has, Above, IsRising, difference}
 use Rattle.rising.proofs.Bools.{clash, equal, and_none, either_way}
-use Rattle.rising.proofs.Rising.{has-append, has-sorted, IsRising-sorted, same_rising, sorted_same}
+use Rattle.rising.proofs.Rising.{has-append, has-sorted, IsRising-sorted, same_rising}
 
 module _ {K : Type 0} where
   -- a filtered set has what the set has and the filter passes, where the filter treats equal elements alike
@@ -21,6 +21,7 @@ module _ {K : Type 0} where
       kept true b c h = refl
       kept false true c h = clash (h refl) refl
       kept false false c h = refl
+
       left_out : (a b c : Bool) → (b ≡ true → a ≡ false) → (a && c) ≡ (a && (b || c))
       left_out true true c h = clash refl (h refl)
       left_out true false c h = refl
@@ -97,8 +98,8 @@ module _ {K : Type 0} where
       let s = sorted R xs in
       let rising = IsRising-sorted o xs in
       same_rising o same s (filter p s ++ filter (λ x. not (p x)) s) rising
-        (IsRising-append R _ _ (IsRising-filter R p s rising) (IsRising-filter R (λ x. not (p x)) s rising) (parts_below R p below s s))
-        (λ q. sym (has-append R q (filter p s) (filter (λ x. not (p x)) s) ∙ ap (λ b. b || has R q (filter (λ x. not (p x)) s)) (has-filter R same p q s) ∙ ap (λ b. (p q && has R q s) || b) (has-filter R same (λ x. not (p x)) q s) ∙ either_way (p q) (has R q s)))
+      (IsRising-append R _ _ (IsRising-filter R p s rising) (IsRising-filter R (λ x. not (p x)) s rising) (parts_below R p below s s))
+      (λ q. sym (has-append R q (filter p s) (filter (λ x. not (p x)) s) ∙ ap (λ b. b || has R q (filter (λ x. not (p x)) s)) (has-filter R same p q s) ∙ ap (λ b. (p q && has R q s) || b) (has-filter R same (λ x. not (p x)) q s) ∙ either_way (p q) (has R q s)))
       ∙ ap (λ l. l ++ filter (λ x. not (p x)) s) (sym low) ∙ ap (λ l. sorted R (filter p xs) ++ l) (sym high)
 
 module _ {K : Type 0} where

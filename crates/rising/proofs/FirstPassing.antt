@@ -1,5 +1,5 @@
 -- The first element that passes a test: what a filter has of it, and what is left when it is taken out.
-use Rattle.std.proofs.Common.{◌≡◌, Bool, true, false, not, cond, ◌||◌, List, [], ◌∷◌, Option, None, Some, Ordering, Less, Equal, Greater, filter, find, unwrap_or, is_some, is_eq, refl, sym, ◌∙◌, ap, true≢false}
+use Rattle.std.proofs.Common.{◌≡◌, Bool, true, false, not, cond, ◌||◌, List, [], ◌∷◌, None, Some, Ordering, Less, Equal, Greater, filter, find, unwrap_or, is_some, is_eq, refl, sym, ◌∙◌, ap, true≢false}
 use Rattle.std.specs.Set.{remove_key}
 use Rattle.std.specs.Cmp.{IsTotalOrder}
 use Rattle.std.proofs.lemmas.Cmp.{tied_itself}

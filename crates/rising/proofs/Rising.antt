@@ -1,9 +1,9 @@
 -- Rising lists: what `insert_key` and `sorted` keep and have, and that a rising list is fixed by its elements.
-use Rattle.std.proofs.Common.{◌≡◌, Bool, true, false, cond, ◌||◌, List, [], ◌∷◌, ◌++◌, Ordering, Less, Equal, Greater, is_eq, refl, sym, ◌∙◌, ap, subst, true≢false}
+use Rattle.std.proofs.Common.{◌≡◌, Bool, true, false, ◌||◌, List, [], ◌∷◌, ◌++◌, Ordering, Less, Equal, Greater, is_eq, refl, sym, ◌∙◌, ap, true≢false}
 use Rattle.std.specs.FinMap.{IsAntisymmetric}
 use Rattle.std.specs.Cmp.{IsTotalOrder}
 use Rattle.std.specs.Ordering.{eq_by_cmp, ordering_reverse, match_ordering}
-use Rattle.std.proofs.lemmas.Cmp.{tied_itself, tied_back, alike_right}
+use Rattle.std.proofs.lemmas.Cmp.{tied_itself, alike_right}
 use Rattle.std.proofs.lemmas.List.Folds.{list_any-append}
 use Rattle.std.specs.BTreeSet.{insert_key}
 use Rattle.rising.specs.Rising.{sorted, has, Above, IsRising}
@@ -122,5 +122,6 @@ sorted-push_again {K} {R} o same xs x there = sorted_same o same (xs ++ x ∷ []
     kept true b h = refl
     kept false true h = sym (h refl)
     kept false false h = refl
+
     again : (q : K) → has R q (xs ++ x ∷ []) ≡ has R q xs
     again q = has-append R q xs (x ∷ []) ∙ kept (has R q xs) (eq_by_cmp R q x) (λ t. ap (λ y. has R y xs) (same q x (equal _ t)) ∙ there)
