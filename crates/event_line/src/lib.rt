@@ -1,6 +1,6 @@
 // The lines of an event file: what one line delivers, and why a line is refused.
 #![tactic(auto)]
 
-mod delivery;
+mod deliveries;
 
-pub use delivery::{Delivery, LineCause};
+pub use deliveries::{Delivery, LineCause};

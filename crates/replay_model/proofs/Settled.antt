@@ -16,8 +16,8 @@ use Rattle.entity_state.specs.Record.{held_revision, is_held}
 use Rattle.side_output.specs.declared.entry.Cause.{Cause}
 use Rattle.side_output.specs.declared.entry.Entry.{Entry}
 use Rattle.side_output.specs.declared.entry.Entry.TheVariants.{Late, Revision}
-use Rattle.event_line.specs.declared.delivery.Delivery.{Delivery}
-use Rattle.event_line.specs.declared.delivery.Delivery.TheVariants.{Event as Told, Watermark}
+use Rattle.event_line.specs.declared.deliveries.Delivery.{Delivery}
+use Rattle.event_line.specs.declared.deliveries.Delivery.TheVariants.{Event as Told, Watermark}
 use Rattle.rising.proofs.Bools.{or_true, and_right, and_left, and_none, and_all}
 use Rattle.rising.proofs.Finding.{list_any_weaker, list_any_never}
 use Rattle.rising.proofs.Pushes.{by_pushes}

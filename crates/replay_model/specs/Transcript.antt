@@ -3,7 +3,7 @@ use Rattle.std.specs.Prelude.{ℕ, Bool, cond, List, [], ◌++◌, flat_map, len
 use Rattle.rdf_term.specs.declared.triple.Triple.{Triple}
 use Rattle.rdf_term.specs.Order.{triple_cmp}
 use Rattle.rdf_term.specs.Text.{triple_text}
-use Rattle.event_line.specs.declared.delivery.Delivery.{Delivery}
+use Rattle.event_line.specs.declared.deliveries.Delivery.{Delivery}
 use Rattle.replay_model.specs.Acceptance.{Arrival, arrivals}
 use Rattle.replay_model.specs.Play.{Replies, Played, play_to_end}
 use Rattle.replay_model.specs.Union.{Meaning, union}

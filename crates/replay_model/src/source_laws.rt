@@ -5,7 +5,7 @@ ghost use Rattle.rising.specs.Rising.{Each};
 ghost use Rattle.entity_model.specs.declared.event.Event.{Event};
 ghost use Rattle.entity_model.specs.declared.id.EntityId.{EntityId};
 ghost use Rattle.side_output.specs.declared.entry.Cause.{Cause};
-ghost use Rattle.event_line.specs.declared.delivery.Delivery.{Delivery};
+ghost use Rattle.event_line.specs.declared.deliveries.Delivery.{Delivery};
 ghost use Rattle.reorder_buffer.specs.Buffered.{first_due};
 ghost use Rattle.replay_model.specs.Records.{Bytes, record_of};
 ghost use Rattle.replay_model.specs.Play.{Replies, played};
