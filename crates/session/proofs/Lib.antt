@@ -1,0 +1,4 @@
+mod Deliveries
+mod Due
+mod Ends
+mod Reading

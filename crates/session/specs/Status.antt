@@ -1,0 +1,35 @@
+-- The text and the number of each status.
+use Rattle.std.specs.Prelude.{ℕ, List, [], ◌++◌, decimal, codes}
+use Rattle.event_line.specs.declared.deliveries.LineCause.{LineCause}
+use Rattle.event_line.specs.declared.deliveries.LineCause.TheVariants.{LineLong, NoForm}
+use Rattle.session.specs.declared.status.Status.{Status}
+use Rattle.session.specs.declared.status.Status.TheVariants.{Ok as Ended, BadWords, BadLine, ReadFault, WriteFault, TooLong, OutOfMemory}
+
+-- the name of a cause
+unfoldable pub cause_name : LineCause → List ℕ
+cause_name LineLong = codes "LineLong"
+cause_name NoForm = codes "NoForm"
+
+-- the line on a line that is no delivery
+abbrev pub bad_line_text : ℕ → LineCause → List ℕ
+bad_line_text number cause = codes "wdq: line " ++ decimal number ++ codes ": " ++ cause_name cause
+
+-- the line that says how a run ended
+abbrev pub text_of : Status → List ℕ
+text_of Ended = []
+text_of BadWords = codes "wdq: words not understood"
+text_of (BadLine number cause) = bad_line_text number cause
+text_of ReadFault = codes "wdq: read fault"
+text_of WriteFault = codes "wdq: write fault"
+text_of TooLong = codes "wdq: input too long"
+text_of OutOfMemory = codes "wdq: out of memory"
+
+-- the exit status of the process
+abbrev pub number_of : Status → ℕ
+number_of Ended = 0
+number_of BadWords = 1
+number_of (BadLine number cause) = 2
+number_of ReadFault = 3
+number_of WriteFault = 4
+number_of TooLong = 5
+number_of OutOfMemory = 7

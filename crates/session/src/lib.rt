@@ -1,0 +1,15 @@
+// The top call: the words are judged, the lines are taken one by one, and what was asked for is printed.
+//
+// `run` is the whole program but for the process around it. `words` reads what the person asked for; `taking` takes the
+// lines and applies what is due; `printing` writes the sections; `status` is how it ended.
+#![tactic(auto)]
+
+mod printing;
+mod replaying;
+mod status;
+mod taking;
+mod words;
+
+pub use replaying::run;
+pub use status::{Status, status_number, status_text};
+

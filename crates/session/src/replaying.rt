@@ -1,0 +1,101 @@
+// The top call.
+
+ghost use Rattle.std.specs.Prelude.{◌≡◌, ◌↔◌, ◌≤◌, None, Some, map, string_bytes, IfErr, OnOk};
+ghost use Rattle.replay_model.specs.ReplayState.{nothing_delivered};
+ghost use Rattle.session.specs.Headline.{Ending, IsStop, Replayed, Stopped};
+ghost use Rattle.session.specs.Running.{place_text, told_at};
+ghost use Rattle.session.specs.Stops.{Stops};
+ghost use Rattle.session.specs.Words.{plan_of};
+ghost use Rattle.session.specs.declared.words.Plan.{Plan};
+
+use std::alloc::Global;
+
+use revisions::Revisions;
+use world::World;
+use wq_io::{Sink, Source};
+
+use crate::printing::print_closing;
+use crate::status::Status;
+use crate::taking::{take_end, take_lines};
+use crate::words::{Plan, read_plan};
+
+/// Where the revisions are.
+const PLACE: &str = ".";
+
+/// Reads the event lines, applies what is due, and prints what the words ask for.
+///
+/// `words` are those after the program's name; each line of `events` is one delivery; `revisions` has the pages.
+pub fn run<S: Source, R: Revisions, K: Sink>(
+    alloc: Global,
+    words: &[String],
+    events: &mut S,
+    revisions: &mut R,
+    out: &mut K,
+    world: &mut World,
+) -> Status
+    requires { world.old ≡ nothing_delivered }
+    ensures bad_words { (result ≡ Status.BadWords) ↔ (plan_of (map (λ w. string_bytes w) words.now) ≡ None) }
+    ensures untouched { result ≡ Status.BadWords →
+        (events.new ≡ events.old) × (revisions.new ≡ revisions.old) × (out.new ≡ out.old) × (world.new ≡ world.old) }
+
+    // The input was read to its end, everything was applied, and everything was written.
+    ensures ok { result ≡ Status.Ok → (plan : Plan) → plan_of (map (λ w. string_bytes w) words.now) ≡ Some plan →
+        Ending plan (S.left events.old) (told_at (R.contents revisions.old) place_text) world.new (K.held out.old) (K.held out.new) }
+
+    // Each other ending has its cause, and leaves the world of the lines before.
+    ensures stopped { IsStop result → Stopped result (S.left events.old) (told_at (R.contents revisions.old) place_text) world.new
+        (K.held out.old) (K.held out.new) (S.faults events.old) (S.faults events.new) (K.faults out.old) (K.faults out.new) }
+    ensures told { R.contents revisions.new ≡ R.contents revisions.old }
+    ensures more_faults { R.faults revisions.old ≤ R.faults revisions.new }
+    ensures more_misses { R.misses revisions.old ≤ R.misses revisions.new }
+{
+    let Some(plan) = read_plan(words) else {
+        return Status::BadWords;
+    };
+    match replay(alloc, plan, events, revisions, out, world) {
+        Ok(()) => Status::Ok,
+        Err(status) => status,
+    }
+}
+
+// Takes the lines and the end, and prints.
+fn replay<S: Source, R: Revisions, K: Sink>(
+    alloc: Global,
+    plan: Plan,
+    events: &mut S,
+    revisions: &mut R,
+    out: &mut K,
+    world: &mut World,
+) -> Result<(), Status>
+    requires { world.old ≡ nothing_delivered }
+    ensures ok { OnOk result (Ending plan (S.left events.old) (told_at (R.contents revisions.old) place_text) world.new
+        (K.held out.old) (K.held out.new)) }
+    ensures err { IfErr result (λ status. Stopped status (S.left events.old) (told_at (R.contents revisions.old) place_text) world.new
+        (K.held out.old) (K.held out.new) (S.faults events.old) (S.faults events.new) (K.faults out.old) (K.faults out.new)) }
+    ensures told { R.contents revisions.new ≡ R.contents revisions.old }
+    ensures more_faults { R.faults revisions.old ≤ R.faults revisions.new }
+    ensures more_misses { R.misses revisions.old ≤ R.misses revisions.new }
+{
+    take_all(alloc, events, revisions, world)?;
+    print_closing(alloc, plan, world, out)
+}
+
+// Takes the lines and the end.
+fn take_all<S: Source, R: Revisions>(
+    alloc: Global,
+    events: &mut S,
+    revisions: &mut R,
+    world: &mut World,
+) -> Result<(), Status>
+    requires { world.old ≡ nothing_delivered }
+    ensures ok { OnOk result (Replayed (S.left events.old) (told_at (R.contents revisions.old) place_text) world.new) }
+    ensures err { IfErr result (λ status. Stops status (S.left events.old) (told_at (R.contents revisions.old) place_text)
+        world.new (S.faults events.old) (S.faults events.new)) }
+    ensures told { R.contents revisions.new ≡ R.contents revisions.old }
+    ensures more_faults { R.faults revisions.old ≤ R.faults revisions.new }
+    ensures more_misses { R.misses revisions.old ≤ R.misses revisions.new }
+{
+    take_lines(alloc, PLACE, events, revisions, world)?;
+    take_end(PLACE, revisions, world)?;
+    Ok(())
+}

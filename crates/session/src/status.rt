@@ -1,0 +1,106 @@
+// How a run ended.
+
+ghost use Rattle.std.specs.Prelude.{◌≡◌, IfOk};
+ghost use Rattle.session.specs.Status.{bad_line_text, cause_name as name_of, number_of, text_of};
+ghost use Rattle.session.specs.declared.status.Status.TheVariants.{OutOfMemory as Refused};
+
+use std::alloc::Global;
+
+use event_line::LineCause;
+use rdf_term::{OutOfMemory, Text};
+use wq_io::LineFault;
+
+/// How a run ended.
+#[derive(Clone, Copy, Debug, PartialEq, Eq)]
+pub enum Status {
+    /// The input was read to its end, everything was applied, and everything was written.
+    Ok,
+    /// The words are not understood; nothing was read or written.
+    BadWords,
+    /// The line with this number, from 1, is no delivery.
+    BadLine(u64, LineCause),
+    /// The input could not be read.
+    ReadFault,
+    /// The output could not be written.
+    WriteFault,
+    /// The input has more bytes than it may have.
+    TooLong,
+    /// A request for memory was refused.
+    OutOfMemory,
+}
+
+impl From<OutOfMemory> for Status {
+    ghost from_gives = { λ _ e. e ≡ Refused };
+
+    fn from(_refused: OutOfMemory) -> Status {
+        Status::OutOfMemory
+    }
+}
+
+impl From<LineFault> for Status {
+    ghost use Rattle.std.specs.Prelude.{◌≡◌};
+    ghost use Rattle.session.specs.Faults.{fault_status};
+
+    ghost from_gives = { λ fault status. status ≡ fault_status fault };
+
+    fn from(fault: LineFault) -> Status {
+        match fault {
+            LineFault::ReadFault => Status::ReadFault,
+            LineFault::TooLong => Status::TooLong,
+            LineFault::LineLong(number) => Status::BadLine(number, LineCause::LineLong),
+            LineFault::OutOfMemory => Status::OutOfMemory,
+        }
+    }
+}
+
+/// The line that says how a run ended, without its line feed; empty where it ended well.
+#[tactic(auto, unfolding(crate::specs::Status::cause_name))]
+pub fn status_text(alloc: Global, status: &Status) -> Result<Text, OutOfMemory>
+    ensures { IfOk result (λ text. text ≡ text_of status.now) }
+{
+    match status {
+        Status::Ok => Text::new(alloc, ""),
+        Status::BadWords => Text::new(alloc, "wdq: words not understood"),
+        Status::BadLine(number, cause) => bad_line(alloc, *number, *cause),
+        Status::ReadFault => Text::new(alloc, "wdq: read fault"),
+        Status::WriteFault => Text::new(alloc, "wdq: write fault"),
+        Status::TooLong => Text::new(alloc, "wdq: input too long"),
+        Status::OutOfMemory => Text::new(alloc, "wdq: out of memory"),
+    }
+}
+
+// The line on a line that is no delivery.
+fn bad_line(alloc: Global, number: u64, cause: LineCause) -> Result<Text, OutOfMemory>
+    ensures { IfOk result (λ text. text ≡ bad_line_text number cause) }
+{
+    let cause = cause_name(cause);
+    Ok(Text::from_string(
+        format!(in alloc; "wdq: line {number}: {cause}")?,
+    ))
+}
+
+/// The exit status of the process.
+pub fn status_number(status: &Status) -> u8
+    ensures { result ≡ number_of status.now }
+{
+    match status {
+        Status::Ok => 0,
+        Status::BadWords => 1,
+        Status::BadLine(_, _) => 2,
+        Status::ReadFault => 3,
+        Status::WriteFault => 4,
+        Status::TooLong => 5,
+        Status::OutOfMemory => 7,
+    }
+}
+
+// The name of a cause.
+#[tactic(auto, unfolding(crate::specs::Status::cause_name))]
+fn cause_name(cause: LineCause) -> &'static str
+    ensures { result.now ≡ name_of cause }
+{
+    match cause {
+        LineCause::LineLong => "LineLong",
+        LineCause::NoForm => "NoForm",
+    }
+}

@@ -1,0 +1,141 @@
+// The lines of the input are taken one by one, and what is due is applied.
+
+ghost use Rattle.std.specs.Prelude.{◌≡◌, ℕ, ◌≤◌, ◌++◌, ◌∷◌, [], false, List, IfErr, OnOk};
+ghost use Rattle.replay_model.specs.ReplayState.{after_event, after_mark, nothing_delivered};
+ghost use Rattle.event_line.specs.declared.deliveries.Delivery.{Delivery};
+ghost use Rattle.session.specs.Running.{AtEnd, AtRest, told_at};
+ghost use Rattle.session.specs.Stops.{HasTaken, IsRefused, Settles, Stops, TakesLine};
+
+use std::alloc::Global;
+
+use entity_model::Event;
+use event_line::{Delivery, DeliveryFault, delivery};
+use rdf_term::OutOfMemory;
+use revisions::Revisions;
+use world::{World, WorldFault};
+use wq_io::{Lines, Source};
+
+use crate::status::Status;
+
+/// The most bytes that an input may have.
+const MOST_BYTES: u64 = 1_073_741_824;
+
+/// Takes all lines of the input; after each watermark all due events are applied before the next line is read.
+pub fn take_lines<S: Source, R: Revisions>(
+    alloc: Global,
+    place: &str,
+    events: &mut S,
+    revisions: &mut R,
+    world: &mut World,
+) -> Result<(), Status>
+    requires { world.old ≡ nothing_delivered }
+    ensures ok { OnOk result (HasTaken (S.left events.old) (told_at (R.contents revisions.old) place.now) world.new) }
+    ensures err { IfErr result (λ status. Stops status (S.left events.old) (told_at (R.contents revisions.old) place.now)
+        world.new (S.faults events.old) (S.faults events.new)) }
+    ensures told { R.contents revisions.new ≡ R.contents revisions.old }
+    ensures more_faults { R.faults revisions.old ≤ R.faults revisions.new }
+    ensures more_misses { R.misses revisions.old ≤ R.misses revisions.new }
+{
+    let mut lines = Lines::new(MOST_BYTES);
+    let mut line = Vec::new(alloc);
+    while let Some(number) = lines.next(events, &mut line)? {
+        take_line(alloc, place, line.as_slice(), number, revisions, world)?;
+    }
+    Ok(())
+}
+
+/// Takes the end of the input, and applies all that waits.
+pub fn take_end<R: Revisions>(place: &str, revisions: &mut R, world: &mut World) -> Result<(), OutOfMemory>
+    ensures ok { OnOk result ((ds : List Delivery) → AtRest (told_at (R.contents revisions.old) place.now) ds world.old
+        → AtEnd (told_at (R.contents revisions.old) place.now) ds world.new) }
+    ensures told { R.contents revisions.new ≡ R.contents revisions.old }
+    ensures more_faults { R.faults revisions.old ≤ R.faults revisions.new }
+    ensures more_misses { R.misses revisions.old ≤ R.misses revisions.new }
+{
+    world.close();
+    apply_due(place, revisions, world)
+}
+
+// Takes one line.
+fn take_line<R: Revisions>(
+    alloc: Global,
+    place: &str,
+    line: &[u8],
+    number: u64,
+    revisions: &mut R,
+    world: &mut World,
+) -> Result<(), Status>
+    requires { world.old.buffer.closed ≡ false }
+    ensures ok { OnOk result (TakesLine (told_at (R.contents revisions.old) place.now) line.now world.old world.new) }
+    ensures err { IfErr result (λ status. IsRefused status line.now number world.old world.new) }
+    ensures told { R.contents revisions.new ≡ R.contents revisions.old }
+    ensures more_faults { R.faults revisions.old ≤ R.faults revisions.new }
+    ensures more_misses { R.misses revisions.old ≤ R.misses revisions.new }
+{
+    match delivery(alloc, line) {
+        Ok(delivery) => Ok(deliver(place, &delivery, revisions, world)?),
+        Err(DeliveryFault::Bad(cause)) => Err(Status::BadLine(number, cause)),
+        Err(DeliveryFault::OutOfMemory) => Err(Status::OutOfMemory),
+    }
+}
+
+// Takes one delivery, and applies all that it makes due.
+fn deliver<R: Revisions>(
+    place: &str,
+    delivery: &Delivery,
+    revisions: &mut R,
+    world: &mut World,
+) -> Result<(), OutOfMemory>
+    requires { world.old.buffer.closed ≡ false }
+    ensures ok { OnOk result ((ds : List Delivery) → AtRest (told_at (R.contents revisions.old) place.now) ds world.old
+        → AtRest (told_at (R.contents revisions.old) place.now) (ds ++ delivery.now ∷ []) world.new) }
+    ensures told { R.contents revisions.new ≡ R.contents revisions.old }
+    ensures more_faults { R.faults revisions.old ≤ R.faults revisions.new }
+    ensures more_misses { R.misses revisions.old ≤ R.misses revisions.new }
+{
+    match delivery {
+        Delivery::Event(event) => take_event(*event, world),
+        Delivery::Watermark(mark) => take_mark(place, mark, revisions, world),
+    }
+}
+
+// Takes a watermark, and applies all that it makes due.
+fn take_mark<R: Revisions>(
+    place: &str,
+    mark: &i64,
+    revisions: &mut R,
+    world: &mut World,
+) -> Result<(), OutOfMemory>
+    ensures ok { OnOk result (Settles (told_at (R.contents revisions.old) place.now) (after_mark world.old mark.now) world.new) }
+    ensures told { R.contents revisions.new ≡ R.contents revisions.old }
+    ensures more_faults { R.faults revisions.old ≤ R.faults revisions.new }
+    ensures more_misses { R.misses revisions.old ≤ R.misses revisions.new }
+{
+    world.raise(*mark);
+    apply_due(place, revisions, world)
+}
+
+// Takes one event.
+fn take_event(event: Event, world: &mut World) -> Result<(), OutOfMemory>
+    requires { world.old.buffer.closed ≡ false }
+    ensures { OnOk result (world.new ≡ after_event world.old event) }
+{
+    world.take(event)?;
+    Ok(())
+}
+
+// Applies all due events, the least first.
+fn apply_due<R: Revisions>(place: &str, revisions: &mut R, world: &mut World) -> Result<(), OutOfMemory>
+    ensures ok { OnOk result (Settles (told_at (R.contents revisions.old) place.now) world.old world.new) }
+    ensures told { R.contents revisions.new ≡ R.contents revisions.old }
+    ensures more_faults { R.faults revisions.old ≤ R.faults revisions.new }
+    ensures more_misses { R.misses revisions.old ≤ R.misses revisions.new }
+{
+    loop {
+        match world.apply_next(revisions, place) {
+            Ok(_) => {}
+            Err(WorldFault::Nothing) => return Ok(()),
+            Err(WorldFault::OutOfMemory) => return Err(OutOfMemory),
+        }
+    }
+}
