@@ -1,0 +1,71 @@
+-- The texts of times, after ISO 8601: `YYYY-MM-DDThh:mm:ssZ`, perhaps with a point and 1 to 6 digits in front of the `Z`.
+use Rattle.std.specs.Prelude.{ℕ, ◌+◌, ◌-◌, ◌*◌, ◌^◌, Bool, ◌&&◌, ◌==◌, nat_lt, nat_le, if◌then◌else◌, List, [], ◌∷◌, length, take, drop, slice_index, Option, Some, None, option_map, option_and_then, ℤ, pos, ◌+ℤ◌, ◌*ℤ◌}
+use Rattle.std.specs.Char.{is_ascii_digit}
+use Rattle.std.specs.Str.{all_ascii_digits}
+use Rattle.std.specs.Str.Parse.{digits_value}
+use Rattle.jiff_core.specs.Calendar.{days_in_month, days_from_civil}
+
+-- the number that two decimal digits write
+abbrev pub two_digits : ℕ → ℕ → Option ℕ
+two_digits tens ones = if is_ascii_digit tens && is_ascii_digit ones then Some (10 * (tens - 48) + (ones - 48)) else None
+
+-- the same, where it is below the limit
+abbrev pub at_most_below : ℕ → ℕ → Option ℕ
+at_most_below limit n = if nat_lt n limit then Some n else None
+
+abbrev pub digits_below : ℕ → ℕ → ℕ → Option ℕ
+digits_below limit tens ones = option_and_then (at_most_below limit) (two_digits tens ones)
+
+-- years are from 1, and the Gregorian calendar has the day
+abbrev pub is_date : ℕ → ℕ → ℕ → Bool
+is_date year month day =
+    nat_le 1 year && nat_le 1 month && nat_le month 12 && nat_le 1 day && nat_le day (days_in_month (pos year) month)
+
+-- the day number of a date: 0 for 1970-01-01, and negative before it
+abbrev pub day_number : ℕ → ℕ → ℕ → Option ℤ
+day_number year month day = if is_date year month day then Some (days_from_civil (pos year) month day) else None
+
+-- the day number of `YYYY-MM-DD`
+abbrev pub day_of : List ℕ → Option ℤ
+day_of (y₁ ∷ y₂ ∷ y₃ ∷ y₄ ∷ dash ∷ m₁ ∷ m₂ ∷ hyphen ∷ d₁ ∷ d₂ ∷ []) =
+    if (dash == 45) && (hyphen == 45) then
+        option_and_then (λ century. option_and_then (λ year. option_and_then (λ month. option_and_then (λ day.
+            day_number (100 * century + year) month day)
+        (two_digits d₁ d₂)) (two_digits m₁ m₂)) (two_digits y₃ y₄)) (two_digits y₁ y₂)
+    else None
+day_of _ = None
+
+-- the second of the day that `Thh:mm:ss` says, with hours to 23, minutes and seconds to 59
+abbrev pub second_of : List ℕ → Option ℕ
+second_of (t ∷ h₁ ∷ h₂ ∷ colon ∷ m₁ ∷ m₂ ∷ mark ∷ s₁ ∷ s₂ ∷ []) =
+    if (t == 84) && (colon == 58) && (mark == 58) then
+        option_and_then (λ hour. option_and_then (λ minute. option_map (λ second.
+            3600 * hour + 60 * minute + second)
+        (digits_below 60 s₁ s₂)) (digits_below 60 m₁ m₂)) (digits_below 24 h₁ h₂)
+    else None
+second_of _ = None
+
+-- 1 to 6 decimal digits
+abbrev pub is_fraction : List ℕ → Bool
+is_fraction digits = nat_le 1 (length digits) && nat_le (length digits) 6 && all_ascii_digits digits
+
+-- the microseconds of a fraction of a second: a point and 1 to 6 digits, or nothing
+abbrev pub microsecond_of : List ℕ → Option ℕ
+microsecond_of [] = Some 0
+microsecond_of (point ∷ digits) =
+    if (point == 46) && is_fraction digits then Some (digits_value 10 digits * 10 ^ (6 - length digits)) else None
+
+-- the microseconds since 1970-01-01T00:00:00Z of a day, a second of it and a microsecond of that
+abbrev pub microseconds : ℤ → ℕ → ℕ → ℤ
+microseconds day second microsecond = pos 86_400_000_000 *ℤ day +ℤ pos (1_000_000 * second) +ℤ pos microsecond
+
+-- the time of a text without its `Z`: 10 bytes of a date, 9 bytes of a clock, and a fraction
+abbrev pub time_before_zone : List ℕ → Option ℤ
+time_before_zone text =
+    option_and_then (λ day. option_and_then (λ second. option_map (λ microsecond.
+        microseconds day second microsecond)
+    (microsecond_of (drop 19 text))) (second_of (take 9 (drop 10 text)))) (day_of (take 10 text))
+
+-- the time that a text says, in microseconds since 1970-01-01T00:00:00Z
+abbrev pub time_of : List ℕ → Option ℤ
+time_of text = if slice_index text (length text - 1) == 90 then time_before_zone (take (length text - 1) text) else None
