@@ -26,7 +26,7 @@ data_of line = if is_utf8 line then read line else None
 
 -- the text at a key of an object, where there is one
 abbrev pub text_at : List ℕ → Data → Option (List ℕ)
-text_at key data = option_and_then as_str (get key data)
+text_at key json = option_and_then as_str (get key json)
 
 -- the name of a kind
 abbrev pub kind_named : List ℕ → Option KindName
@@ -39,11 +39,11 @@ kind_named text =
 
 -- what `kind` says
 abbrev pub kind_of : Data → Option KindName
-kind_of data = option_and_then kind_named (text_at (codes "kind") data)
+kind_of json = option_and_then kind_named (text_at (codes "kind") json)
 
 -- what `entity` says: the text of an id
 abbrev pub entity_of : Data → Option EntityId
-entity_of data = option_and_then id_of (text_at (codes "entity") data)
+entity_of json = option_and_then id_of (text_at (codes "entity") json)
 
 -- revisions are numbered from 1
 abbrev pub from_one : ℕ → Option ℕ
@@ -51,11 +51,11 @@ from_one n = if nat_lt 0 n then Some n else None
 
 -- what `rev` says: a number in digits alone, from 1 and below 2^64
 abbrev pub rev_of : Data → Option ℕ
-rev_of data = option_and_then from_one (option_and_then as_u64 (option_and_then as_number (get (codes "rev") data)))
+rev_of json = option_and_then from_one (option_and_then as_u64 (option_and_then as_number (get (codes "rev") json)))
 
 -- the time at a key
 abbrev pub time_at : List ℕ → Data → Option ℤ
-time_at key data = option_and_then time_of (text_at key data)
+time_at key json = option_and_then time_of (text_at key json)
 
 -- the kind of a reconciliation with that mode
 abbrev pub mode_named : List ℕ → Option Kind
@@ -66,10 +66,10 @@ mode_named text =
 
 -- the kind with that name; a reconciliation's is told by `mode`, which no other kind reads
 abbrev pub whole_kind : Data → KindName → Option Kind
-whole_kind data EditName = Some Edit
-whole_kind data DeleteName = Some Delete
-whole_kind data UndeleteName = Some Undelete
-whole_kind data Reconcile = option_and_then mode_named (text_at (codes "mode") data)
+whole_kind json EditName = Some Edit
+whole_kind json DeleteName = Some Delete
+whole_kind json UndeleteName = Some Undelete
+whole_kind json Reconcile = option_and_then mode_named (text_at (codes "mode") json)
 
 -- goes on with a value that is there; one that is missing has a cause
 abbrev pub else_cause : {A B : Type 0} → LineCause → Option A → (A → Result B LineCause) → Result B LineCause
@@ -78,12 +78,12 @@ else_cause cause (Some a) next = next a
 
 -- the event that an object with `kind` is, or the first cause in the order of kind, entity, revision, time and mode
 abbrev pub event_of : Data → Result Event LineCause
-event_of data =
-    else_cause BadKind (kind_of data) (λ name.
-    else_cause Entity (entity_of data) (λ entity.
-    else_cause Rev (rev_of data) (λ rev.
-    else_cause Time (time_at (codes "time") data) (λ time.
-    else_cause Mode (whole_kind data name) (λ kind.
+event_of json =
+    else_cause BadKind (kind_of json) (λ name.
+    else_cause Entity (entity_of json) (λ entity.
+    else_cause Rev (rev_of json) (λ rev.
+    else_cause Time (time_at (codes "time") json) (λ time.
+    else_cause Mode (whole_kind json name) (λ kind.
     Ok (record { entity = entity; time = time; rev = rev; kind = kind }))))))
 
 -- the event of an object, delivered
@@ -93,18 +93,18 @@ told (Err cause) = Err cause
 
 -- the watermark that an object with `watermark` is, or the cause
 abbrev pub watermark_of : Data → Result Delivery LineCause
-watermark_of data = else_cause Time (time_at (codes "watermark") data) (λ time. Ok (Watermark time))
+watermark_of json = else_cause Time (time_at (codes "watermark") json) (λ time. Ok (Watermark time))
 
 -- what an object delivers by the values of its keys `kind`, `watermark` and `ask`, of which it has exactly one
 abbrev pub by_form : Data → Option Data → Option Data → Option Data → Result Delivery LineCause
-by_form data (Some kind) None None = told (event_of data)
-by_form data None (Some watermark) None = watermark_of data
-by_form data None None (Some ask) = Err Pattern
-by_form data _ _ _ = Err NoForm
+by_form json (Some kind) None None = told (event_of json)
+by_form json None (Some watermark) None = watermark_of json
+by_form json None None (Some ask) = Err Pattern
+by_form json _ _ _ = Err NoForm
 
 -- what a JSON value delivers; only an object has keys
 abbrev pub delivery_in : Data → Result Delivery LineCause
-delivery_in data = by_form data (get (codes "kind") data) (get (codes "watermark") data) (get (codes "ask") data)
+delivery_in json = by_form json (get (codes "kind") json) (get (codes "watermark") json) (get (codes "ask") json)
 
 -- what a line delivers, or the first cause for which it delivers nothing
 abbrev pub delivery_of : List ℕ → Result Delivery LineCause

@@ -1,20 +1,24 @@
 -- The texts of times, after ISO 8601: `YYYY-MM-DDThh:mm:ssZ`, perhaps with a point and 1 to 6 digits in front of the `Z`.
-use Rattle.std.specs.Prelude.{ℕ, ◌+◌, ◌-◌, ◌*◌, ◌^◌, Bool, ◌&&◌, ◌==◌, nat_lt, nat_le, if◌then◌else◌, List, [], ◌∷◌, length, take, drop, slice_index, Option, Some, None, option_map, option_and_then, ℤ, pos, ◌+ℤ◌, ◌*ℤ◌}
+use Rattle.std.specs.Prelude.{ℕ, ◌+◌, ◌-◌, ◌*◌, ◌^◌, Bool, ◌&&◌, ◌==◌, nat_lt, nat_le, if◌then◌else◌, List, [], ◌∷◌, length, take, drop, slice_index, fold, Option, Some, None, option_map, option_and_then, ℤ, pos, ◌+ℤ◌, ◌*ℤ◌}
 use Rattle.std.specs.Char.{is_ascii_digit}
-use Rattle.std.specs.Str.{all_ascii_digits}
-use Rattle.std.specs.Str.Parse.{digits_value}
+use Rattle.std.specs.List.{list_all}
 use Rattle.jiff_core.specs.Calendar.{days_in_month, days_from_civil}
 
 -- the number that two decimal digits write
 abbrev pub two_digits : ℕ → ℕ → Option ℕ
 two_digits tens ones = if is_ascii_digit tens && is_ascii_digit ones then Some (10 * (tens - 48) + (ones - 48)) else None
 
--- the same, where it is below the limit
-abbrev pub at_most_below : ℕ → ℕ → Option ℕ
-at_most_below limit n = if nat_lt n limit then Some n else None
+-- the number that four decimal digits write
+abbrev pub four_digits : ℕ → ℕ → ℕ → ℕ → Option ℕ
+four_digits a b c d = option_and_then (λ high. option_map (λ low. 100 * high + low) (two_digits c d)) (two_digits a b)
 
+-- a number that is below the limit
+abbrev pub if_below : ℕ → ℕ → Option ℕ
+if_below limit n = if nat_lt n limit then Some n else None
+
+-- the number that two decimal digits write, where it is below the limit
 abbrev pub digits_below : ℕ → ℕ → ℕ → Option ℕ
-digits_below limit tens ones = option_and_then (at_most_below limit) (two_digits tens ones)
+digits_below limit tens ones = option_and_then (if_below limit) (two_digits tens ones)
 
 -- years are from 1, and the Gregorian calendar has the day
 abbrev pub is_date : ℕ → ℕ → ℕ → Bool
@@ -29,9 +33,9 @@ day_number year month day = if is_date year month day then Some (days_from_civil
 abbrev pub day_of : List ℕ → Option ℤ
 day_of (y₁ ∷ y₂ ∷ y₃ ∷ y₄ ∷ dash ∷ m₁ ∷ m₂ ∷ hyphen ∷ d₁ ∷ d₂ ∷ []) =
     if (dash == 45) && (hyphen == 45) then
-        option_and_then (λ century. option_and_then (λ year. option_and_then (λ month. option_and_then (λ day.
-            day_number (100 * century + year) month day)
-        (two_digits d₁ d₂)) (two_digits m₁ m₂)) (two_digits y₃ y₄)) (two_digits y₁ y₂)
+        option_and_then (λ year. option_and_then (λ month. option_and_then (λ day.
+            day_number year month day)
+        (two_digits d₁ d₂)) (two_digits m₁ m₂)) (four_digits y₁ y₂ y₃ y₄)
     else None
 day_of _ = None
 
@@ -45,25 +49,29 @@ second_of (t ∷ h₁ ∷ h₂ ∷ colon ∷ m₁ ∷ m₂ ∷ mark ∷ s₁ ∷
     else None
 second_of _ = None
 
+-- the number that decimal digits write
+abbrev pub decimal_value : List ℕ → ℕ
+decimal_value digits = fold (λ n digit. 10 * n + (digit - 48)) 0 digits
+
 -- 1 to 6 decimal digits
 abbrev pub is_fraction : List ℕ → Bool
-is_fraction digits = nat_le 1 (length digits) && nat_le (length digits) 6 && all_ascii_digits digits
+is_fraction digits = nat_le 1 (length digits) && nat_le (length digits) 6 && list_all is_ascii_digit digits
 
 -- the microseconds of a fraction of a second: a point and 1 to 6 digits, or nothing
 abbrev pub microsecond_of : List ℕ → Option ℕ
 microsecond_of [] = Some 0
 microsecond_of (point ∷ digits) =
-    if (point == 46) && is_fraction digits then Some (digits_value 10 digits * 10 ^ (6 - length digits)) else None
+    if (point == 46) && is_fraction digits then Some (decimal_value digits * 10 ^ (6 - length digits)) else None
 
 -- the microseconds since 1970-01-01T00:00:00Z of a day, a second of it and a microsecond of that
-abbrev pub microseconds : ℤ → ℕ → ℕ → ℤ
-microseconds day second microsecond = pos 86_400_000_000 *ℤ day +ℤ pos (1_000_000 * second) +ℤ pos microsecond
+abbrev pub in_microseconds : ℤ → ℕ → ℕ → ℤ
+in_microseconds day second microsecond = pos 86_400_000_000 *ℤ day +ℤ pos (1_000_000 * second) +ℤ pos microsecond
 
 -- the time of a text without its `Z`: 10 bytes of a date, 9 bytes of a clock, and a fraction
 abbrev pub time_before_zone : List ℕ → Option ℤ
 time_before_zone text =
     option_and_then (λ day. option_and_then (λ second. option_map (λ microsecond.
-        microseconds day second microsecond)
+        in_microseconds day second microsecond)
     (microsecond_of (drop 19 text))) (second_of (take 9 (drop 10 text)))) (day_of (take 10 text))
 
 -- the time that a text says, in microseconds since 1970-01-01T00:00:00Z

@@ -36,13 +36,18 @@ pub fn delivery(alloc: Global, line: &[u8]) -> Result<Delivery, DeliveryFault>
 
 /// The JSON value of a line.
 fn read_value(alloc: Global, line: &[u8]) -> Result<Value, DeliveryFault>
-    ensures ok { MatchResult result (λ value. data_of line.now ≡ Some (view value))
+    ensures { MatchResult result (λ value. data_of line.now ≡ Some (view value))
         (λ fault. (fault ≡ NoMemory) ⊎ ((fault ≡ Refused NoJson) × (data_of line.now ≡ None))) }
 {
     match Value::from_slice(alloc, line) {
         Ok(value) => Ok(value),
-        Err(error) if error.is_memory() => Err(DeliveryFault::OutOfMemory),
-        Err(_) => Err(DeliveryFault::Bad(LineCause::NotJson)),
+        Err(error) => {
+            if error.is_memory() {
+                Err(DeliveryFault::OutOfMemory)
+            } else {
+                Err(DeliveryFault::Bad(LineCause::NotJson))
+            }
+        }
     }
 }
 
