@@ -38,8 +38,8 @@ kind_named text =
     else None)))
 
 -- what `kind` says
-abbrev pub kind_of : Data → Option KindName
-kind_of json = option_and_then kind_named (text_at (codes "kind") json)
+abbrev pub kind_name : Data → Option KindName
+kind_name json = option_and_then kind_named (text_at (codes "kind") json)
 
 -- what `entity` says: the text of an id
 abbrev pub entity_of : Data → Option EntityId
@@ -71,7 +71,7 @@ whole_kind json DeleteName = Some Delete
 whole_kind json UndeleteName = Some Undelete
 whole_kind json Reconcile = option_and_then mode_named (text_at (codes "mode") json)
 
--- goes on with a value that is there; one that is missing has a cause
+-- what comes next where a value is there, and else the cause
 abbrev pub else_cause : {A B : Type 0} → LineCause → Option A → (A → Result B LineCause) → Result B LineCause
 else_cause cause None next = Err cause
 else_cause cause (Some a) next = next a
@@ -79,7 +79,7 @@ else_cause cause (Some a) next = next a
 -- the event that an object with `kind` is, or the first cause in the order of kind, entity, revision, time and mode
 abbrev pub event_of : Data → Result Event LineCause
 event_of json =
-    else_cause BadKind (kind_of json) (λ name.
+    else_cause BadKind (kind_name json) (λ name.
     else_cause Entity (entity_of json) (λ entity.
     else_cause Rev (rev_of json) (λ rev.
     else_cause Time (time_at (codes "time") json) (λ time.

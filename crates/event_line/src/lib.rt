@@ -7,6 +7,8 @@
 
 mod deliveries;
 mod line;
+#[cfg(test)]
+mod tests;
 mod time;
 
 pub use deliveries::{Delivery, DeliveryFault, LineCause};

@@ -2,7 +2,7 @@
 
 ghost use Rattle.std.specs.Prelude.{◌≡◌, Ok, Err, Some, option_map, MatchResult, IfErr, ◌⊎◌, None};
 ghost use Rattle.serde_json.specs.View.{view};
-ghost use Rattle.event_line.specs.Line.{Answers, data_of, delivery_in, event_of, watermark_of, kind_named, kind_of, entity_of, rev_of, time_at, whole_kind};
+ghost use Rattle.event_line.specs.Line.{Answers, data_of, delivery_in, event_of, watermark_of, kind_named, kind_name, entity_of, rev_of, time_at, whole_kind};
 ghost use Rattle.event_line.specs.declared.deliveries.DeliveryFault.TheVariants.{Bad as Refused, OutOfMemory as NoMemory};
 ghost use Rattle.event_line.specs.declared.deliveries.LineCause.TheVariants.{NotJson as NoJson};
 
@@ -57,7 +57,7 @@ fn delivery_in(value: &Value) -> Result<Delivery, LineCause>
 {
     match (value.get("kind"), value.get("watermark"), value.get("ask")) {
         (Some(_), None, None) => Ok(Delivery::Event(event(value)?)),
-        (None, Some(_), None) => Ok(Delivery::Watermark(time_at(value, "watermark").ok_or(LineCause::Time)?)),
+        (None, Some(_), None) => watermark(value),
         (None, None, Some(_)) => Err(LineCause::Pattern),
         _ => Err(LineCause::NoForm),
     }
@@ -80,8 +80,16 @@ fn event(object: &Value) -> Result<Event, LineCause>
     })
 }
 
+/// The watermark that an object with `watermark` is.
+fn watermark(object: &Value) -> Result<Delivery, LineCause>
+    ensures { result ≡ watermark_of (view object.now) }
+{
+    let time = time_at(object, "watermark").ok_or(LineCause::Time)?;
+    Ok(Delivery::Watermark(time))
+}
+
 fn kind_name(object: &Value) -> Option<KindName>
-    ensures { result ≡ kind_of (view object.now) }
+    ensures { result ≡ kind_name (view object.now) }
 {
     kind_named(object.get("kind")?.as_str()?)
 }

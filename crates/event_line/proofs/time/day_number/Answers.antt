@@ -8,7 +8,7 @@ use Rattle.event_line.proofs.time.day_number.Goals as goal
 pub returns-in-Ok-clause-value : goal.returns-in-Ok-clause-value
 returns-in-Ok-clause-value c =
     let found : to_z w64 (of_z w64 c.from.result) ≡ days_from_civil c.in-Ok.date.year c.in-Ok.date.month c.in-Ok.date.day =
-        to_z-of_z w64 c.from.result (omega (arith, ints)) ∙ (c.from.ensures ∙ (to_z-of_z w32 c.to_unix_epoch_day.result (omega (arith, ints)) ∙ c.to_unix_epoch_day.ensures.value)) in
+    to_z-of_z w64 c.from.result (omega (arith, ints)) ∙ (c.from.ensures ∙ (to_z-of_z w32 c.to_unix_epoch_day.result (omega (arith, ints)) ∙ c.to_unix_epoch_day.ensures.value)) in
     let year : c.in-Ok.date.year ≡ pos c.args.year = c.in-Ok.ensures.value.0 ∙ to_z_pos w16 c.args.year (omega arith) in
     let month_pos : pos c.in-Ok.date.month ≡ pos c.args.month = c.in-Ok.ensures.value.1 ∙ to_z_pos w8 c.args.month (omega arith) in
     let day_pos : pos c.in-Ok.date.day ≡ pos c.args.day = c.in-Ok.ensures.value.2 ∙ to_z_pos w8 c.args.day (omega arith) in
