@@ -1,0 +1,145 @@
+// One line of an event file.
+
+ghost use Rattle.std.specs.Prelude.{◌≡◌, Ok, Err, Some, option_map, MatchResult, IfErr, ◌⊎◌, None};
+ghost use Rattle.serde_json.specs.View.{view};
+ghost use Rattle.event_line.specs.Line.{Answers, data_of, delivery_in, event_of, watermark_of, kind_named, kind_name, entity_of, rev_of, time_at, whole_kind};
+ghost use Rattle.event_line.specs.declared.deliveries.DeliveryFault.TheVariants.{Bad as Refused, OutOfMemory as NoMemory};
+ghost use Rattle.event_line.specs.declared.deliveries.LineCause.TheVariants.{NotJson as NoJson};
+
+use crate::deliveries::{Delivery, DeliveryFault, LineCause};
+use crate::time;
+use entity_model::{EntityId, Event, Kind};
+use serde_json::Value;
+use std::alloc::Global;
+
+/// What `kind` says of an event. Of a reconciliation, `mode` says the rest.
+#[derive(Clone, Copy, PartialEq, Eq, Debug)]
+enum KindName {
+    Edit,
+    Delete,
+    Undelete,
+    Reconcile,
+}
+
+/// Reads one line, without its line feed: a JSON object with exactly one of the keys `kind`, `watermark`
+/// and `ask`.
+///
+/// With `kind` it is an event of the page of `entity`, at `time`, with the revision `rev`; a reconciliation
+/// also has `mode`. With `watermark`, whose value is a time, it is a watermark. A line with `ask` delivers
+/// nothing yet. Other keys are passed over, and of a key that is repeated the last value counts.
+pub fn delivery(alloc: Global, line: &[u8]) -> Result<Delivery, DeliveryFault>
+    ensures { Answers line.now result }
+{
+    let value = read_value(alloc, line)?;
+    Ok(delivery_in(&value)?)
+}
+
+/// The JSON value of a line.
+fn read_value(alloc: Global, line: &[u8]) -> Result<Value, DeliveryFault>
+    ensures { MatchResult result (λ value. data_of line.now ≡ Some (view value))
+        (λ fault. (fault ≡ NoMemory) ⊎ ((fault ≡ Refused NoJson) × (data_of line.now ≡ None))) }
+{
+    match Value::from_slice(alloc, line) {
+        Ok(value) => Ok(value),
+        Err(error) => {
+            if error.is_memory() {
+                Err(DeliveryFault::OutOfMemory)
+            } else {
+                Err(DeliveryFault::Bad(LineCause::NotJson))
+            }
+        }
+    }
+}
+
+/// What the value of a line delivers.
+fn delivery_in(value: &Value) -> Result<Delivery, LineCause>
+    ensures { result ≡ delivery_in (view value.now) }
+{
+    match (value.get("kind"), value.get("watermark"), value.get("ask")) {
+        (Some(_), None, None) => Ok(Delivery::Event(event(value)?)),
+        (None, Some(_), None) => watermark(value),
+        (None, None, Some(_)) => Err(LineCause::Pattern),
+        _ => Err(LineCause::NoForm),
+    }
+}
+
+/// The event that an object with `kind` is.
+fn event(object: &Value) -> Result<Event, LineCause>
+    ensures { result ≡ event_of (view object.now) }
+{
+    let name = kind_name(object).ok_or(LineCause::Kind)?;
+    let entity = entity(object).ok_or(LineCause::Entity)?;
+    let rev = rev(object).ok_or(LineCause::Rev)?;
+    let time = time_at(object, "time").ok_or(LineCause::Time)?;
+    let kind = whole_kind(name, object).ok_or(LineCause::Mode)?;
+    Ok(Event {
+        entity,
+        time,
+        rev,
+        kind,
+    })
+}
+
+/// The watermark that an object with `watermark` is.
+fn watermark(object: &Value) -> Result<Delivery, LineCause>
+    ensures { result ≡ watermark_of (view object.now) }
+{
+    let time = time_at(object, "watermark").ok_or(LineCause::Time)?;
+    Ok(Delivery::Watermark(time))
+}
+
+fn kind_name(object: &Value) -> Option<KindName>
+    ensures { result ≡ kind_name (view object.now) }
+{
+    kind_named(object.get("kind")?.as_str()?)
+}
+
+fn kind_named(text: &str) -> Option<KindName>
+    ensures { result ≡ kind_named text.now }
+{
+    match text {
+        "edit" => Some(KindName::Edit),
+        "delete" => Some(KindName::Delete),
+        "undelete" => Some(KindName::Undelete),
+        "reconcile" => Some(KindName::Reconcile),
+        _ => None,
+    }
+}
+
+fn entity(object: &Value) -> Option<EntityId>
+    ensures { result ≡ entity_of (view object.now) }
+{
+    EntityId::read(object.get("entity")?.as_str()?)
+}
+
+fn rev(object: &Value) -> Option<u64>
+    ensures { result ≡ rev_of (view object.now) }
+{
+    match object.get("rev")?.as_u64()? {
+        0 => None,
+        rev => Some(rev),
+    }
+}
+
+/// The time that is the value of a key.
+fn time_at(object: &Value, key: &str) -> Option<i64>
+    ensures { result ≡ time_at key.now (view object.now) }
+{
+    time::microseconds(object.get(key)?.as_str()?.as_bytes())
+}
+
+/// The kind of an event with that name; of a reconciliation, by its mode.
+fn whole_kind(name: KindName, object: &Value) -> Option<Kind>
+    ensures { result ≡ whole_kind (view object.now) name }
+{
+    match name {
+        KindName::Edit => Some(Kind::Edit),
+        KindName::Delete => Some(Kind::Delete),
+        KindName::Undelete => Some(Kind::Undelete),
+        KindName::Reconcile => match object.get("mode")?.as_str()? {
+            "kept" => Some(Kind::ReconcileKept),
+            "deleted" => Some(Kind::ReconcileDeleted),
+            _ => None,
+        },
+    }
+}
