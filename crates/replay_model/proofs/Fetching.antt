@@ -3,6 +3,7 @@ use Rattle.std.proofs.Common.{◌≡◌, ℕ, Bool, true, false, cond, List, [],
 use Rattle.std.specs.FinMap as map
 use Rattle.std.specs.Ordering.{eq_by_cmp}
 use Rattle.std.proofs.lemmas.List.Elements.{filter_map-append}
+use Rattle.entity_model.specs.declared.id.EntityId.{EntityId}
 use Rattle.entity_model.specs.declared.event.Event.{Event}
 use Rattle.entity_model.specs.declared.unfit.Unfit.{Unfit}
 use Rattle.entity_model.specs.Event.{event_cmp}
@@ -117,3 +118,14 @@ pub missing-taken : (side : List Entry) (answer : Taken) (e : Event) → missing
 missing-taken side New e = ap missing_events (append-nil side)
 missing-taken side Repeat e = ap missing_events (append-nil side)
 missing-taken side Late e = filter_map-append missing_event side (taken_entries Late e) ∙ append-nil (missing_events side)
+
+-- ---- what is there, as a reply
+
+pub there-document : (unfit : Judgement) (x : EntityId) (bytes : Bytes) (there : Option Bytes) → unfit x bytes ≡ None → there ≡ Some bytes → Ok bytes ≡ reply_there unfit x there
+there-document unfit x bytes there document is = sym (ap (reply_there unfit x) is ∙ ap (λ why. judged why bytes) document)
+
+pub there-unfit : (unfit : Judgement) (x : EntityId) (bytes : Bytes) (why : Unfit) (there : Option Bytes) → unfit x bytes ≡ Some why → there ≡ Some bytes → Err (NoDocument why) ≡ reply_there unfit x there
+there-unfit unfit x bytes why there is_unfit is = sym (ap (reply_there unfit x) is ∙ ap (λ why. judged why bytes) is_unfit)
+
+pub there-nothing : (unfit : Judgement) (x : EntityId) (there : Option Bytes) → there ≡ None → Err Missing ≡ reply_there unfit x there
+there-nothing unfit x there is = sym (ap (reply_there unfit x) is)
