@@ -2,15 +2,12 @@
 use Rattle.std.proofs.Common.{◌≡◌, ℕ, ◌+◌, ℤ, length, length-append, arith, Bool, true, false, cond, ◌||◌, ⊎_elim, List, [], ◌∷◌, ◌++◌, Option, None, Some, Result, Err, is_eq, refl, sym, ◌∙◌, ap, subst, true≢false, append-nil}
 use Rattle.std.specs.Ordering.{eq_by_cmp}
 use Rattle.std.proofs.lemmas.Cmp.{tied_itself}
-use Rattle.std.proofs.lemmas.List.Elements.{filter_map-append}
 use Rattle.entity_model.specs.declared.event.Event.{Event}
 use Rattle.entity_model.specs.Event.{event_cmp, event_cmp_total, event_cmp_same}
 use Rattle.side_output.specs.declared.entry.Cause.{Cause}
 use Rattle.side_output.specs.declared.entry.Cause.TheVariants.{Failed}
 use Rattle.event_line.specs.declared.deliveries.Delivery.{Delivery}
 use Rattle.event_line.specs.declared.deliveries.Delivery.TheVariants.{Event as Told, Watermark}
-use Rattle.reorder_buffer.specs.declared.taken.Taken.{Taken}
-use Rattle.reorder_buffer.specs.declared.taken.Taken.TheVariants.{New, Repeat, Late}
 use Rattle.reorder_buffer.specs.Watermarks.{is_due}
 use Rattle.reorder_buffer.specs.Buffered.{answer_to, first_due}
 use Rattle.rising.specs.Rising.{has}
@@ -19,8 +16,8 @@ use Rattle.rising.proofs.Rising.{has-append}
 use Rattle.rising.proofs.FirstPassing.{has-found}
 use Rattle.replay_model.specs.Records.{Bytes}
 use Rattle.replay_model.specs.Play.{Replies, Fetch, fetches, fetches_to_end}
-use Rattle.replay_model.specs.Replies.{Judgement, reply_there, source_replies, failed_event, failed_events}
-use Rattle.replay_model.specs.ReplayState.{ReplayState, nothing_delivered, taken_entries, after_event, after_mark, after_end, after_applying, after_due, following, following_to_end, fetches_for, fetches_due}
+use Rattle.replay_model.specs.Replies.{Judgement, reply_there, source_replies, failed_events}
+use Rattle.replay_model.specs.ReplayState.{ReplayState, nothing_delivered, after_event, after_mark, after_end, after_applying, after_due, following, fetches_for, fetches_due}
 use Rattle.replay_model.specs.Explained.{is_applied, AgreeOnApplied, revision_wanted, is_fetching, IsHonest, Explained, ExplainedAfter, ExplainedToEnd}
 use Rattle.replay_model.proofs.Applied.{Apart, Apart-following, Apart-applying, applied-event, applied-next, waiting_not_applied}
 use Rattle.replay_model.proofs.FetchCounts.{fetches_due-none, fetches_due-some, fetches-delivered, fetches-end}
@@ -93,9 +90,9 @@ module _ (unfit : Judgement) (told : Option (ℕ → Option Bytes)) where
           not_late = parts.not_late;
           leads = λ others agree. ap (after_due others) (same others agree) ∙ after_due-none others (following others (ds ++ Told e ∷ [])) (following-rests others (ds ++ Told e ∷ []));
           counts = λ others agree.
-            let left : length (fetches_due others (after_event w e)) ≡ 0 = ap (λ v. length (fetches_due others v)) (same others agree) ∙ ap length (fetches_due-none others (following others (ds ++ Told e ∷ [])) (following-rests others (ds ++ Told e ∷ []))) in
-            let all : length (fetches others (ds ++ Told e ∷ [])) ≡ length (fetches others ds) = ap length (fetches-delivered others ds (Told e) ∙ append-nil (fetches others ds)) in
-            omega (arith, made_before others (before others agree));
+              let left : length (fetches_due others (after_event w e)) ≡ 0 = ap (λ v. length (fetches_due others v)) (same others agree) ∙ ap length (fetches_due-none others (following others (ds ++ Told e ∷ [])) (following-rests others (ds ++ Told e ∷ []))) in
+              let all : length (fetches others (ds ++ Told e ∷ [])) ≡ length (fetches others ds) = ap length (fetches-delivered others ds (Told e) ∙ append-nil (fetches others ds)) in
+              omega (arith, made_before others (before others agree));
           honest = λ contents known q r h. x.honest contents known q r (sym (applied-event w e q) ∙ h) ∙ ap (λ fs. source_replies unfit contents fs q r) (sym failed);
           failed_applied = λ q h. applied-event w e q ∙ x.failed_applied q (ap (has event_cmp q) (sym failed) ∙ h);
         }
@@ -115,9 +112,9 @@ module _ (unfit : Judgement) (told : Option (ℕ → Option Bytes)) where
       not_late = x.not_late;
       leads = λ others agree. ap (λ v. after_due others (after_mark v m)) (following_others others agree) ∙ sym (following-delivered others ds (Watermark m));
       counts = λ others agree.
-        let now : length (fetches_due others (after_mark w m)) ≡ length (fetches_due others (after_mark (following others ds) m)) = ap (λ v. length (fetches_due others (after_mark v m))) (following_others others agree) in
-        let all : length (fetches others (ds ++ Watermark m ∷ [])) ≡ length (fetches others ds) + length (fetches_due others (after_mark (following others ds) m)) = ap length (fetches-delivered others ds (Watermark m)) ∙ length-append (fetches others ds) (fetches_due others (after_mark (following others ds) m)) in
-        omega (arith, made_before others agree);
+          let now : length (fetches_due others (after_mark w m)) ≡ length (fetches_due others (after_mark (following others ds) m)) = ap (λ v. length (fetches_due others (after_mark v m))) (following_others others agree) in
+          let all : length (fetches others (ds ++ Watermark m ∷ [])) ≡ length (fetches others ds) + length (fetches_due others (after_mark (following others ds) m)) = ap length (fetches-delivered others ds (Watermark m)) ∙ length-append (fetches others ds) (fetches_due others (after_mark (following others ds) m)) in
+          omega (arith, made_before others agree);
       honest = x.honest;
       failed_applied = x.failed_applied;
     }
@@ -131,9 +128,9 @@ module _ (unfit : Judgement) (told : Option (ℕ → Option Bytes)) where
       not_late = x.not_late;
       leads = λ others agree. ap (λ v. after_due others (after_end v)) (following_others others agree) ∙ sym (following-end others ds);
       counts = λ others agree.
-        let now : length (fetches_due others (after_end w)) ≡ length (fetches_due others (after_end (following others ds))) = ap (λ v. length (fetches_due others (after_end v))) (following_others others agree) in
-        let all : length (fetches_to_end others ds) ≡ length (fetches others ds) + length (fetches_due others (after_end (following others ds))) = ap length (fetches-end others ds) ∙ length-append (fetches others ds) (fetches_due others (after_end (following others ds))) in
-        omega (arith, made_before others agree);
+          let now : length (fetches_due others (after_end w)) ≡ length (fetches_due others (after_end (following others ds))) = ap (λ v. length (fetches_due others (after_end v))) (following_others others agree) in
+          let all : length (fetches_to_end others ds) ≡ length (fetches others ds) + length (fetches_due others (after_end (following others ds))) = ap length (fetches-end others ds) ∙ length-append (fetches others ds) (fetches_due others (after_end (following others ds))) in
+          omega (arith, made_before others agree);
       honest = x.honest;
       failed_applied = x.failed_applied;
     }
@@ -210,26 +207,26 @@ module _ (unfit : Judgement) (told : Option (ℕ → Option Bytes)) (play_of : R
       let applied : (q : Event) → is_applied (next_by w e reply) q ≡ (eq_by_cmp event_cmp q e || is_applied w q) = λ q. applied-next (λ q r. reply) w e q parts some in
       let other : (q : Event) → is_applied w q ≡ true → eq_by_cmp event_cmp q e ≡ false = λ q h. false_unless (eq_by_cmp event_cmp q e) (λ tie. contradicts _ (ap (is_applied w) (sym (event_cmp_same q e (equal _ tie))) ∙ h) not_yet) in
       let before : (others : Replies) → AgreeOnApplied (next_by w e reply) (replies_next x.replies) others → AgreeOnApplied w x.replies others = λ others agree q r h.
-            agree q r (applied q ∙ or_true (eq_by_cmp event_cmp q e) _ h)
-            ∙ ap (λ b. cond b (now_replied unfit told (failed_events (next_by w e reply).played.side) e reply r) (x.replies q r)) (other q h) in
+      agree q r (applied q ∙ or_true (eq_by_cmp event_cmp q e) _ h)
+      ∙ ap (λ b. cond b (now_replied unfit told (failed_events (next_by w e reply).played.side) e reply r) (x.replies q r)) (other q h) in
       let now : (others : Replies) → AgreeOnApplied (next_by w e reply) (replies_next x.replies) others → is_fetching w e ≡ true → others e (revision_wanted w e) ≡ reply = λ others agree fetching.
-            agree e (revision_wanted w e) (applied e ∙ ap (λ b. b || is_applied w e) (itself e))
-            ∙ ap (λ b. cond b (now_replied unfit told (failed_events (next_by w e reply).played.side) e reply (revision_wanted w e)) (x.replies e (revision_wanted w e))) (itself e)
-            ∙ ap (λ fs. now_replied unfit told fs e reply (revision_wanted w e)) failed
-            ∙ fetched told fresh (is_fetching w e) fetching (λ contents is. honest contents is fetching) in
+      agree e (revision_wanted w e) (applied e ∙ ap (λ b. b || is_applied w e) (itself e))
+      ∙ ap (λ b. cond b (now_replied unfit told (failed_events (next_by w e reply).played.side) e reply (revision_wanted w e)) (x.replies e (revision_wanted w e))) (itself e)
+      ∙ ap (λ fs. now_replied unfit told fs e reply (revision_wanted w e)) failed
+      ∙ fetched told fresh (is_fetching w e) fetching (λ contents is. honest contents is fetching) in
       record {
         replies = replies_next x.replies;
         rises = parts_next.rises;
         within = parts_next.within;
         not_late = parts_next.not_late;
         leads = λ others agree.
-          ap (after_due others) (apply-same (λ q r. reply) others w e (now others agree))
-          ∙ after_due-some others w e some
-          ∙ x.leads others (before others agree);
+            ap (after_due others) (apply-same (λ q r. reply) others w e (now others agree))
+            ∙ after_due-some others w e some
+            ∙ x.leads others (before others agree);
         counts = λ others agree.
-          let same : length (fetches_due others (next_by w e reply)) ≡ length (fetches_due others (after_applying others w (Some e))) = ap (λ v. length (fetches_due others v)) (apply-same (λ q r. reply) others w e (now others agree)) in
-          let all : length (fetches_due others w) ≡ fetches_counted (is_fetching w e) + length (fetches_due others (after_applying others w (Some e))) = length-fetches_due others w e some in
-          omega (arith, x.counts others (before others agree));
+            let same : length (fetches_due others (next_by w e reply)) ≡ length (fetches_due others (after_applying others w (Some e))) = ap (λ v. length (fetches_due others v)) (apply-same (λ q r. reply) others w e (now others agree)) in
+            let all : length (fetches_due others w) ≡ fetches_counted (is_fetching w e) + length (fetches_due others (after_applying others w (Some e))) = length-fetches_due others w e some in
+            omega (arith, x.counts others (before others agree));
         honest = λ contents is q r h. from_source contents is q r x (applied q) failed (eq_by_cmp event_cmp q e) refl h;
         failed_applied = λ q h. applied q ∙ from_failed q x failed (eq_by_cmp event_cmp q e) refl h;
       }

@@ -52,5 +52,4 @@ pub fn replay_over_source_is_a_play()
         Explained unfit told play_of fetches_of made w → first_due w.buffer ≡ Some e →
         ((contents : ℕ → Option Bytes) → told ≡ Some contents → is_fetching w e ≡ true → IsHonest unfit contents e (revision_wanted w e) reply) →
         Explained unfit told play_of fetches_of (made + cond (is_fetching w e) 1 0) (after_applying (λ q r. reply) w (Some e)) }
-{
-}
+{}
