@@ -23,7 +23,7 @@ use Rattle.replay_model.specs.Replies.{Judgement, reply_there, source_replies, f
 use Rattle.replay_model.specs.ReplayState.{ReplayState, nothing_delivered, taken_entries, after_event, after_mark, after_end, after_applying, after_due, following, following_to_end}
 use Rattle.replay_model.specs.Explained.{is_applied, AgreeOnApplied, revision_wanted, is_fetching, IsHonest, Explained}
 use Rattle.replay_model.proofs.Applied.{Apart, Apart-following, Apart-applying, applied-event, applied-next, waiting_not_applied}
-use Rattle.replay_model.proofs.Fetching.{apply-same, failed_of, failed_by, failed-applying, has-failed_by, failed_of-there}
+use Rattle.replay_model.proofs.Fetching.{apply-same, failed_of, failed_by, failed-applying, failed-taken, has-failed_by, failed_of-there}
 use Rattle.replay_model.proofs.Following.{following-delivered, following-end, following-rests, after_due-none, after_due-some}
 
 contradicts : {G : Type 0} (b : Bool) → b ≡ true → b ≡ false → G
@@ -52,11 +52,6 @@ module _ (unfit : Judgement) (told : Option (ℕ → Option Bytes)) where
   -- and where the contents are told, it is the play with the source's replies
   pub Explained-source : (play_of : Replies → ReplayState) (w : ReplayState) → Explained unfit told play_of w → first_due w.buffer ≡ None → (contents : ℕ → Option Bytes) → told ≡ Some contents → w ≡ play_of (source_replies unfit contents (failed_events w.played.side))
   Explained-source play_of w x none contents is = Explained-rests play_of w x none (source_replies unfit contents (failed_events w.played.side)) (λ q r h. sym (x.honest contents is q r h))
-
-  failed-taken : (side : List _) (answer : Taken) (e : Event) → failed_events (side ++ taken_entries answer e) ≡ failed_events side
-  failed-taken side New e = ap failed_events (append-nil side)
-  failed-taken side Repeat e = ap failed_events (append-nil side)
-  failed-taken side Late e = filter_map-append failed_event side (taken_entries Late e) ∙ append-nil (failed_events side)
 
   -- an event is taken
   pub Explained-event : (ds : List Delivery) (w : ReplayState) (e : Event) → Explained unfit told (λ replies. following replies ds) w → first_due w.buffer ≡ None → Explained unfit told (λ replies. following replies (ds ++ Told e ∷ [])) (after_event w e)

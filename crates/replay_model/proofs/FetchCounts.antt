@@ -1,5 +1,6 @@
 -- The fetches of a replay, delivery by delivery and event by event, and how a count rises by them.
-use Rattle.std.proofs.Common.{◌≡◌, ℕ, ◌+◌, List, [], ◌∷◌, ◌++◌, None, Some, refl, ◌∙◌, ap, arith}
+use Rattle.std.proofs.Common.{◌≡◌, ℕ, ◌<◌, Bool, true, false, cond, min, ◌^◌, ◌-◌, ◌+◌, List, [], ◌∷◌, ◌++◌, None, Some, refl, ◌∙◌, ap, arith}
+use Rattle.entity_model.specs.declared.event.Event.{Event}
 use Rattle.event_line.specs.declared.deliveries.Delivery.{Delivery}
 use Rattle.event_line.specs.declared.deliveries.Delivery.TheVariants.{Event as Told, Watermark}
 use Rattle.reorder_buffer.specs.Watermarks.{is_due}
@@ -11,11 +12,14 @@ use Rattle.replay_model.proofs.Arrivals.{fetches-push}
 use Rattle.replay_model.proofs.Following.{newly_due-watermark, newly_due-end}
 
 -- the fetches of the least due event come first
+pub fetches_due-some : (replies : Replies) (w : ReplayState) (e : Event) → first_due w.buffer ≡ Some e → fetches_due replies w ≡ fetches_for w (Some e) ++ fetches_due replies (after_applying replies w (Some e))
+fetches_due-some replies w e some = ap (fetches_of_all replies w.played) (filter-first (is_due w.buffer.closed w.buffer.mark) w.buffer.waiting e some)
+
 pub fetches_due-next : (replies : Replies) (w : ReplayState) → fetches_due replies w ≡ fetches_next w ++ fetches_due replies (after_next replies w)
 fetches_due-next replies w =
     elim (first_due w.buffer) as (λ o. first_due w.buffer ≡ o → fetches_due replies w ≡ fetches_for w o ++ fetches_due replies (after_applying replies w o)) [
       | None ↦ λ _. refl
-      | Some e ↦ λ some. ap (fetches_of_all replies w.played) (filter-first (is_due w.buffer.closed w.buffer.mark) w.buffer.waiting e some)
+      | Some e ↦ λ some. fetches_due-some replies w e some
     ] refl
 
 pub fetches_due-none : (replies : Replies) (w : ReplayState) → first_due w.buffer ≡ None → fetches_due replies w ≡ []
@@ -33,3 +37,11 @@ fetches-end replies ds = ap (λ es. fetches replies ds ++ fetches_of_all replies
 -- a count that rises twice
 pub risen_by-risen_by : (m n count : ℕ) → risen_by m (risen_by n count) ≡ risen_by (n + m) count
 risen_by-risen_by m n count = omega arith
+
+-- a count that rises not at all, or once
+pub risen_by-none : (count : ℕ) → count < 2 ^ 64 → risen_by 0 count ≡ count
+risen_by-none count fits = omega arith
+
+pub risen_by-more : (made count : ℕ) (fetching : Bool) → risen_by (made + cond fetching 1 0) count ≡ cond fetching (min (risen_by made count + 1) (2 ^ 64 - 1)) (risen_by made count)
+risen_by-more made count true = omega arith
+risen_by-more made count false = ap (λ n. min n (2 ^ 64 - 1)) (omega arith)

@@ -40,6 +40,15 @@ failed_event _ = None
 abbrev pub failed_events : List Entry → List Event
 failed_events side = filter_map failed_event side
 
+-- the event of an entry that names a missing revision
+abbrev pub missing_event : Entry → Option Event
+missing_event (Revision e r Missing) = Some e
+missing_event _ = None
+
+-- the events for which nothing was there to fetch, as the side output names them
+abbrev pub missing_events : List Entry → List Event
+missing_events side = filter_map missing_event side
+
 -- what is held is a document of the entity, and what the source has at its revision
 abbrev pub HoldsWhatIsThere : Judgement → (ℕ → Option Bytes) → EntityId → Option (Held Bytes) → Type 0
 HoldsWhatIsThere unfit contents x None = Unit {0}

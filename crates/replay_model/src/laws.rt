@@ -7,10 +7,10 @@ ghost use Rattle.entity_model.specs.declared.event.Event.{Event};
 ghost use Rattle.entity_model.specs.declared.id.EntityId.{EntityId};
 ghost use Rattle.entity_model.specs.Event.{event_cmp};
 ghost use Rattle.entity_state.specs.State.{is_kept};
-ghost use Rattle.side_output.specs.Entry.{is_before};
+ghost use Rattle.side_output.specs.declared.entry.Entry.{Entry};
 ghost use Rattle.event_line.specs.declared.deliveries.Delivery.{Delivery};
 ghost use Rattle.replay_model.specs.Acceptance.{accepted, late, due, known};
-ghost use Rattle.replay_model.specs.Entries.{late_events, is_later, is_open_late, has_open_revision};
+ghost use Rattle.replay_model.specs.Entries.{late_events, is_later, is_open_by, is_open_late, has_open_revision};
 ghost use Rattle.replay_model.specs.Fate.{fate, events_of, in_order};
 ghost use Rattle.replay_model.specs.Play.{Replies, is_reconciliation, played, play_to_end};
 ghost use Rattle.replay_model.specs.Records.{record_of, is_settled};
@@ -61,10 +61,10 @@ pub fn state_is_fate_of_known()
         (record_of (played closed replies ds).records x).state ≡ fate (in_order (events_of x (known closed ds))) }
 {}
 
-/// A late event is open, as none of the due events settles it, exactly where the record of its entity has no
-/// reconciliation after it.
+/// A late event is open, as none of the due events settles it, exactly where its entry is open by the record of its
+/// entity.
 pub fn open_late_by_record()
     ensures { (closed : Bool) (replies : Replies) (ds : List Delivery) (e : Event) →
         is_open_late (due closed ds) e
-        ≡ not (is_before e (record_of (played closed replies ds).records e.entity).reconciled) }
+        ≡ is_open_by (record_of (played closed replies ds).records e.entity) (Entry.Late e) }
 {}
