@@ -1,8 +1,7 @@
 // Texts that are ids and texts that aren't, and the order of events.
 
-use std::test::Fail;
-
 use crate::{EntityId, Event, IdKind, Kind};
+use std::test::Fail;
 
 fn item(number: u32) -> EntityId {
     EntityId {
@@ -37,8 +36,22 @@ fn reads_what_it_writes(rt: HostRuntime) -> Result<(), Fail> {
 #[test]
 fn reads_no_other_text(rt: HostRuntime) {
     let texts = [
-        "", "Q", "42", "q42", "L42", "Q0", "Q042", "Q+42", "Q-42", " Q42", "Q42 ", "Q4.2", "QQ42",
-        "Q4294967296", "Q99999999999999999999", "é42",
+        "",
+        "Q",
+        "42",
+        "q42",
+        "L42",
+        "Q0",
+        "Q042",
+        "Q+42",
+        "Q-42",
+        " Q42",
+        "Q42 ",
+        "Q4.2",
+        "QQ42",
+        "Q4294967296",
+        "Q99999999999999999999",
+        "é42",
     ];
     for text in texts {
         assert_eq!(rt; EntityId::read(text), None, "{text}");

@@ -1,10 +1,9 @@
 // Which entries are open, and the list of entries.
 
+use crate::{Cause, Entry, Side, is_open};
 use entity_model::{EntityId, Event, IdKind, Kind, Unfit};
 use entity_state::{Mode, State};
 use std::test::Fail;
-
-use crate::{Cause, Entry, Side, is_open};
 
 fn event(time: i64, kind: Kind) -> Event {
     Event {
@@ -29,7 +28,11 @@ fn a_later_reconciliation_closes_a_late_event(rt: HostRuntime) {
         (Some(event(51, Kind::ReconcileKept)), false),
     ];
     for (reconciled, open) in reconciliations {
-        assert_eq!(rt; is_open(&late, state, None, reconciled), open, "{reconciled:?}");
+        assert_eq!(rt;
+            is_open(&late, state, None, reconciled),
+            open,
+            "{reconciled:?}"
+        );
     }
     let itself = event(50, Kind::ReconcileKept);
     assert!(rt; is_open(&Entry::Late(itself), state, None, Some(itself)));
@@ -55,7 +58,11 @@ fn a_revision_is_open_while_it_is_wanted_and_not_held(rt: HostRuntime) {
         (State::unknown(), None, false),
     ];
     for (state, held, open) in rows {
-        assert_eq!(rt; is_open(&entry, state, held, None), open, "{state:?}, {held:?}");
+        assert_eq!(rt;
+            is_open(&entry, state, held, None),
+            open,
+            "{state:?}, {held:?}"
+        );
     }
 }
 
