@@ -1,7 +1,7 @@
 -- An id that is there has room; else one more id does.
 use Rattle.std.proofs.Common.{◌∙◌, sym, ap, is_some}
 use Rattle.std.specs.Map.{keys_of}
-use Rattle.entity_state.specs.Tabled.{Tabled, records_of}
+use Rattle.entity_state.specs.Tabled.{records_of}
 use Rattle.entity_state.proofs.Records.{got}
 use Rattle.entity_state.proofs.Room.{with_room_there, with_room_new, has_given_room}
 use Rattle.entity_state.proofs.table.Table.make_room.Goals as goal
