@@ -1,3 +1,5 @@
+// Events of entities' pages, and the order in which they are applied.
+
 ghost use Rattle.std.specs.Prelude.{◌≡◌};
 ghost use Rattle.std.specs.Ordering.{nat_cmp, on, is_lt};
 ghost use Rattle.entity_model.specs.Kind.{kind_place};

@@ -1,3 +1,5 @@
+// The ids of entities: their text and their order.
+
 ghost use Rattle.std.specs.Prelude.{◌≡◌, ◌≢◌, ℕ, ◌<◌, ◌≤◌, ◌^◌, List, ◌∷◌, slice_index, IsTrue, ◌↔◌, IfSome, IfNone, Some, IfOk};
 ghost use Rattle.std.specs.Fmt.{decimal};
 ghost use Rattle.std.specs.Ordering.{nat_cmp, on};

@@ -12,3 +12,6 @@ pub use document::Document;
 pub use event::{Event, Kind};
 pub use id::{EntityId, IdKind};
 pub use unfit::Unfit;
+
+#[cfg(test)]
+mod tests;

@@ -1,3 +1,5 @@
+// Why bytes are no document.
+
 /// Why the bytes of a page are no document of the entity that they were fetched for.
 #[derive(Clone, Copy, PartialEq, Eq, Debug)]
 pub enum Unfit {

@@ -1,10 +1,10 @@
 -- The records in the order of their places, as a map by id.
-use Rattle.std.specs.Prelude.{◌≡◌, ℕ, ◌+◌, ◌<◌, Bool, true, false, not, cond, ◌||◌, ◌&&◌, T, Option, None, Some, is_some, Result, Ok, Err, OnOk, IsOk, is_ok, List, [], ◌∷◌, ◌++◌, length, map as mapped, refl, IsSorted}
-use Rattle.std.proofs.Common.{sym, ap, subst, ◌∙◌, arith, get_or, true≢false}
+use Rattle.std.specs.Prelude.{◌≡◌, ◌+◌, Bool, true, false, cond, ◌&&◌, T, Option, Some, is_some, Result, Ok, Err, OnOk, IsOk, is_ok, List, [], ◌∷◌, ◌++◌, length, map as mapped, refl, IsSorted}
+use Rattle.std.proofs.Common.{sym, ap, ◌∙◌, arith, get_or, true≢false}
 use Rattle.std.specs.declared.cmp.Ordering.{Ordering}
 use Rattle.std.specs.declared.cmp.Ordering.TheVariants.{Less, Equal, Greater}
 use Rattle.std.specs.Ordering.{eq_by_cmp, is_lt, is_eq, ordering_reverse}
-use Rattle.std.specs.List.{IsDistinct, AllByRecursion, list_any}
+use Rattle.std.specs.List.{IsDistinct, AllByRecursion}
 use Rattle.std.specs.List.Sorted.{IsPermutation}
 use Rattle.std.specs.Map.{lookup, keys_of}
 use Rattle.std.specs.FinMap as map

@@ -1,5 +1,5 @@
 -- Which ids are there, and which have room.
-use Rattle.std.specs.Prelude.{◌≡◌, ℕ, ◌<◌, Bool, true, false, cond, ◌||◌, List, [], ◌∷◌, ◌++◌, length, Option, None, Some, is_some, refl}
+use Rattle.std.specs.Prelude.{◌≡◌, ◌<◌, Bool, true, false, cond, ◌||◌, List, [], ◌∷◌, ◌++◌, length, Option, is_some, refl}
 use Rattle.std.proofs.Common.{ap, sym, ◌∙◌, arith, true≢false}
 use Rattle.std.specs.List.{list_any}
 use Rattle.std.specs.Map.{lookup}
@@ -7,10 +7,14 @@ use Rattle.std.specs.FinMap as map
 use Rattle.std.specs.BTreeSet.{insert_key}
 use Rattle.std.specs.Set.{remove_key}
 use Rattle.entity_model.specs.declared.id.EntityId.{EntityId}
-use Rattle.entity_model.specs.EntityId.{entity_cmp}
+use Rattle.std.specs.Ordering.{is_eq}
+use Rattle.std.proofs.lemmas.Cmp.{tied_itself}
+use Rattle.rising.specs.Rising.{has}
+use Rattle.rising.proofs.Rising.{has-insert_key}
+use Rattle.entity_model.specs.EntityId.{entity_cmp, entity_cmp_total}
 use Rattle.entity_state.specs.declared.record.Record.{Record}
 use Rattle.entity_state.specs.Tabled.{Tabled, records_of}
-use Rattle.entity_state.specs.Table.{is_there, with_room, after_putting}
+use Rattle.entity_state.specs.Table.{is_there, has_room, with_room, after_putting}
 use Rattle.entity_state.proofs.Records.{got, same_id}
 
 any_some : {A : Type 0} (p : A → Bool) (xs : List A) → list_any p xs ≡ true → 0 < length xs
@@ -33,6 +37,17 @@ module _ {H : Type 0} where
   -- and so there are some of these
   pub some_room : (es : List (EntityId × Record H)) (room : List EntityId) (id : EntityId) → (map.contains_key (records_of es) id || list_any (same_id id) room) ≡ true → map.contains_key (records_of es) id ≡ false → 0 < length room
   some_room es room id fits absent = any_some (same_id id) room (among_room es room id fits absent)
+
+  -- an id that is given room has room
+  given_room : (t : Tabled H) (id : EntityId) → has_room (with_room t id) id ≡ true
+  given_room t id = by (is_there t id)
+    where
+      by : (there : Bool) → (there || list_any (same_id id) (cond there t.room (insert_key entity_cmp t.room id))) ≡ true
+      by true = refl
+      by false = has-insert_key entity_cmp_total id id t.room ∙ ap (λ o. is_eq o || has entity_cmp id t.room) (tied_itself entity_cmp_total id)
+
+  pub has_given_room : (t u : Tabled H) (id : EntityId) → t ≡ with_room u id → has_room t id ≡ true
+  has_given_room t u id is = ap (λ x. has_room x id) is ∙ given_room u id
 
   -- what the calls make of a table, by whether the id is there
   pub with_room_there : (t : Tabled H) (id : EntityId) → is_there t id ≡ true → t ≡ with_room t id

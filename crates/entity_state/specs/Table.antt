@@ -1,5 +1,5 @@
 -- What each call makes of the records of all entities.
-use Rattle.std.specs.Prelude.{Bool, cond, ◌||◌, List, [], ◌∷◌, ◌++◌, Option, None, Some}
+use Rattle.std.specs.Prelude.{Bool, cond, ◌||◌, [], ◌∷◌, ◌++◌, Option, None, Some}
 use Rattle.std.specs.Ordering.{eq_by_cmp}
 use Rattle.std.specs.FinMap as map
 use Rattle.std.specs.List.{list_any}

@@ -9,3 +9,6 @@ mod table;
 pub use record::{Held, Record};
 pub use state::{Mode, State, step};
 pub use table::Table;
+
+#[cfg(test)]
+mod tests;

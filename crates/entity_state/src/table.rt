@@ -65,6 +65,7 @@ impl<H: Drop> Table<H> {
     /// takes no memory. After `OutOfMemory` nothing has changed.
     pub fn make_room(&mut self, id: EntityId) -> Result<(), OutOfMemory>
         ensures ok { OnOk result (self.new ≡ with_room self.old id) }
+        ensures room { OnOk result (IsTrue (has_room self.new id)) }
         ensures err { OnErr result (self.new ≡ self.old) }
     {
         if self.records.contains_key(&id) {

@@ -1,6 +1,6 @@
 -- Of events in rising order, the due ones come first.
-use Rattle.std.specs.Prelude.{◌≡◌, Bool, true, false, not, ◌||◌, cond, ℕ, ◌<◌, ℤ, int_lt, Option, None, Some, IsSome, IfSome, is_some, List, [], ◌∷◌, length, slice_get, find, All, refl}
-use Rattle.std.proofs.Common.{arith, rules, sym, ◌∙◌, ap}
+use Rattle.std.specs.Prelude.{◌≡◌, Bool, true, false, ◌<◌, ℤ, Option, None, Some, IsSome, IfSome, is_some, List, [], ◌∷◌, length, slice_get, find, All, refl}
+use Rattle.std.proofs.Common.{arith, sym}
 use Rattle.std.proofs.lemmas.Int.{ints}
 use Rattle.std.proofs.lemmas.List.Elements.{All-head, All-tail}
 use Rattle.std.specs.declared.cmp.Ordering.{Ordering}

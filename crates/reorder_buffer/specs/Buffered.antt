@@ -1,5 +1,5 @@
 -- The buffer as a value, and what each call makes of it.
-use Rattle.std.specs.Prelude.{Bool, true, false, cond, ℤ, Option, None, List, [], ◌∷◌, find}
+use Rattle.std.specs.Prelude.{Bool, true, false, cond, ℤ, Option, None, List, [], find}
 use Rattle.std.specs.BTreeSet.{insert_key}
 use Rattle.std.specs.Set.{remove_key}
 use Rattle.rising.specs.Rising.{has}

@@ -53,6 +53,7 @@ impl Buffer {
         ensures answer { IfOk result (λ taken. taken ≡ answer_to self.old event) }
         ensures ok { OnOk result (self.new ≡ after_taking self.old event) }
         ensures err { OnErr result (self.new ≡ self.old) }
+        ensures not_closed { self.new.closed ≡ false }
     {
         if !self.taken.insert(event)? {
             return Ok(Taken::Repeat);

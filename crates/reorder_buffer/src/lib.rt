@@ -8,3 +8,6 @@ mod watermarks;
 
 pub use buffer::Buffer;
 pub use taken::Taken;
+
+#[cfg(test)]
+mod tests;

@@ -7,3 +7,6 @@ mod side;
 
 pub use entry::{Cause, Entry, is_open};
 pub use side::Side;
+
+#[cfg(test)]
+mod tests;

@@ -1,5 +1,5 @@
 -- Where there is room the insert succeeds.
-use Rattle.std.proofs.Common.{◌∙◌, sym, ap}
+use Rattle.std.proofs.Common.{◌∙◌, ap}
 use Rattle.std.specs.Map.{keys_of}
 use Rattle.indexmap.proofs.CallerLemmas.{insert_entry-new}
 use Rattle.entity_state.proofs.Records.{at_ok, inserted, keys_pushed, same_id}

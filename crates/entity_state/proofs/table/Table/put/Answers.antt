@@ -1,7 +1,7 @@
 -- A record that is there is replaced; else the id has room.
 use Rattle.std.proofs.Common.{Some, is_some, ◌∙◌, sym, ap, arith}
 use Rattle.std.specs.FinMap as map
-use Rattle.entity_state.specs.Tabled.{Tabled, records_of}
+use Rattle.entity_state.specs.Tabled.{records_of}
 use Rattle.entity_state.proofs.Records.{got, inserted}
 use Rattle.entity_state.proofs.Room.{found, some_room, among_room, after_putting_there, after_putting_new}
 use Rattle.entity_state.proofs.table.Table.put.Goals as goal

@@ -1,5 +1,5 @@
 -- The record that the id has takes the state.
-use Rattle.std.proofs.Common.{◌≡◌, true, is_some, ◌∙◌, sym, ap, true≢false}
+use Rattle.std.proofs.Common.{is_some, ◌∙◌, sym, ap, true≢false}
 use Rattle.entity_state.proofs.Records.{state_set}
 use Rattle.entity_state.proofs.Room.{found}
 use Rattle.entity_state.proofs.table.Table.set_state.Goals as goal
