@@ -33,9 +33,13 @@ letter_char Quotes letter =
     else (if list_any (λ other. letter == other) (34 ∷ 39 ∷ 92 ∷ []) then Some letter
     else None)))))
 
+-- the value of hexadecimal digits, by that of those before the last
+abbrev pub next_value : ℕ → ℕ → ℕ
+next_value value digit = value * 16 + digit_value digit
+
 -- the number that hexadecimal digits of either case write
 abbrev pub hex_value : List ℕ → ℕ
-hex_value digits = fold (λ value digit. value * 16 + digit_value digit) 0 digits
+hex_value digits = fold next_value 0 digits
 
 -- the character of this number, where it is one (no surrogate, at most U+10FFFF) and may stand in the content
 abbrev pub escaped_char : Enclosure → ℕ → Option ℕ
@@ -51,7 +55,7 @@ pub record IsEscape (enclosure : Enclosure) (count : ℕ) (digits : List ℕ) (c
 -- a piece of a content, and the bytes that it stands for; a byte beyond ASCII is a part of a character that stands as it is
 pub data IsPiece (enclosure : Enclosure) : List ℕ → List ℕ → Type 0 where
   itself : (b : ℕ) → stands enclosure b ≡ true → IsPiece enclosure (b ∷ []) (b ∷ [])
-  letter : (l c : ℕ) → letter_char enclosure l ≡ Some c → IsPiece enclosure (92 ∷ l ∷ []) (c ∷ [])
+  letter : (l c : ℕ) → letter_char enclosure l ≡ Some c → IsPiece enclosure (92 ∷ l ∷ []) (encode_utf8 c)
   short : (digits : List ℕ) (c : ℕ) → IsEscape enclosure 4 digits c → IsPiece enclosure (92 ∷ 117 ∷ digits) (encode_utf8 c)
   long : (digits : List ℕ) (c : ℕ) → IsEscape enclosure 8 digits c → IsPiece enclosure (92 ∷ 85 ∷ digits) (encode_utf8 c)
 

@@ -7,10 +7,12 @@
 
 mod content;
 mod escape;
+mod label;
 mod list;
 mod memory;
 mod order;
 mod percent;
+mod read;
 mod tag;
 mod term;
 mod text;
@@ -22,6 +24,7 @@ pub use list::List;
 pub use memory::OutOfMemory;
 pub use order::{compare, compare_terms};
 pub use percent::iri;
+pub use read::read_term;
 pub use tag::tagged;
 pub use term::Term;
 pub use text::Text;
