@@ -1,5 +1,5 @@
-use Rattle.rdf_term.proofs.Reading.{reads}
+use Rattle.rdf_term.proofs.Reading.{reads_ok}
 use Rattle.rdf_term.proofs.read.read_term.Goals as goal
 
 pub returns : goal.returns
-returns c = ?
+returns c = reads_ok _ _ c.read.ensures
