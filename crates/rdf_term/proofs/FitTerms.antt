@@ -9,7 +9,7 @@ use Rattle.rdf_term.proofs.IriChars.{is_iri_char-high}
 is_iri_char-hex_digit : (n : ℕ) → n < 16 → is_iri_char (hex_digit n) ≡ true
 is_iri_char-hex_digit n h = agree_below_at (λ k. is_iri_char (hex_digit k)) (λ _. true) 16 n refl h
 
-is_iri-append : (xs ys : List ℕ) → is_iri xs ≡ true → is_iri ys ≡ true → is_iri (xs ++ ys) ≡ true
+pub is_iri-append : (xs ys : List ℕ) → is_iri xs ≡ true → is_iri ys ≡ true → is_iri (xs ++ ys) ≡ true
 is_iri-append [] ys h k = k
 is_iri-append (x ∷ xs) ys h k =
     let parts = and_parts (is_iri_char x) (is_iri xs) h in

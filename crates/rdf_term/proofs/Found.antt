@@ -97,12 +97,12 @@ module _ (e : Enclosure) (x : ℕ) (xs text rest : List ℕ) (owed : (s : State)
   from_between h = ⊎_elim
       (λ (t : (x == closing e) ≡ true). close_read (eqb-true x (closing e) t) (rw t at h))
       (λ (f : (x == closing e) ≡ false). ⊎_elim
-          (λ (t : (x == 92) ≡ true). rw (eqb-true x 92 t) (owed Backslash text (rw (f, t) at h)))
-          (λ (g : (x == 92) ≡ false). ⊎_elim
-              (λ (t : stands e x ≡ true). keep_read t (rw (f, g, t) at h))
-              (λ (k : stands e x ≡ false). let none = rw (f, g, k) at h in cc)
-              (cases_Bool (stands e x)))
-          (cases_Bool (x == 92)))
+      (λ (t : (x == 92) ≡ true). rw (eqb-true x 92 t) (owed Backslash text (rw (f, t) at h)))
+      (λ (g : (x == 92) ≡ false). ⊎_elim
+      (λ (t : stands e x ≡ true). keep_read t (rw (f, g, t) at h))
+      (λ (k : stands e x ≡ false). let none = rw (f, g, k) at h in cc)
+      (cases_Bool (stands e x)))
+      (cases_Bool (x == 92)))
       (cases_Bool (x == closing e))
 
   from_letter : (meant : Option ℕ) → letter_char e x ≡ meant → does (put_or_refuse meant) → IsRead e (92 ∷ x ∷ xs) text rest
@@ -113,9 +113,9 @@ module _ (e : Enclosure) (x : ℕ) (xs text rest : List ℕ) (owed : (s : State)
   from_backslash h = ⊎_elim
       (λ (t : (x == 117) ≡ true). rw (eqb-true x 117 t) (escape e 117 4 xs text rest short (owed (Digits 4 0) text (rw t at h) (omega arith))))
       (λ (f : (x == 117) ≡ false). ⊎_elim
-          (λ (t : (x == 85) ≡ true). rw (eqb-true x 85 t) (escape e 85 8 xs text rest long (owed (Digits 8 0) text (rw (f, t) at h) (omega arith))))
-          (λ (g : (x == 85) ≡ false). from_letter (letter_char e x) refl (rw (f, g) at h))
-          (cases_Bool (x == 85)))
+      (λ (t : (x == 85) ≡ true). rw (eqb-true x 85 t) (escape e 85 8 xs text rest long (owed (Digits 8 0) text (rw (f, t) at h) (omega arith))))
+      (λ (g : (x == 85) ≡ false). from_letter (letter_char e x) refl (rw (f, g) at h))
+      (cases_Bool (x == 85)))
       (cases_Bool (x == 117))
 
   -- the last digit of an escape
@@ -124,34 +124,47 @@ module _ (e : Enclosure) (x : ℕ) (xs text rest : List ℕ) (owed : (s : State)
   last_digit value (Some c) d is h =
       let f = fronted (encode c) (content_of e Between xs) text rest h in
       record {
-        digits = x ∷ []; c = c; after = xs; meaning = f.inner;
-        long_enough = refl; hexadecimal = and_from (is_digit x 16) true d refl; number = is;
-        text_is = f.text_is; tail = owed Between f.inner f.is; is = refl;
+        digits = x ∷ [];
+        c = c;
+        after = xs;
+        meaning = f.inner;
+        long_enough = refl;
+        hexadecimal = and_from (is_digit x 16) true d refl;
+        number = is;
+        text_is = f.text_is;
+        tail = owed Between f.inner f.is;
+        is = refl;
       }
 
   one_more : (left value : ℕ) → 1 < left → is_digit x 16 ≡ true → EndsEscape e (left - 1) (next_value value x) xs text rest → EndsEscape e left value (x ∷ xs) text rest
   one_more left value l d h = record {
-    digits = x ∷ h.digits; c = h.c; after = h.after; meaning = h.meaning;
+    digits = x ∷ h.digits;
+    c = h.c;
+    after = h.after;
+    meaning = h.meaning;
     long_enough = omega (arith, h.long_enough);
     hexadecimal = and_from (is_digit x 16) _ d h.hexadecimal;
-    number = h.number; text_is = h.text_is; tail = h.tail; is = ap (λ l. x ∷ l) h.is;
+    number = h.number;
+    text_is = h.text_is;
+    tail = h.tail;
+    is = ap (λ l. x ∷ l) h.is;
   }
 
   from_digits : (left value : ℕ) → 0 < left → does (step_digits e left value x) → EndsEscape e left value (x ∷ xs) text rest
   from_digits left value l h = ⊎_elim
       (λ (t : nat_lt 1114111 value ≡ true). let none = rw t at h in cc)
       (λ (f : nat_lt 1114111 value ≡ false). ⊎_elim
-          (λ (d : is_digit x 16 ≡ true). ⊎_elim
-              (λ (m : nat_lt 1 left ≡ true).
-                  let more_left = ltb-true 1 left m in
-                  one_more left value more_left d (owed (Digits (left - 1) (next_value value x)) text (rw (f, d, m) at h) (omega arith)))
-              (λ (n : nat_lt 1 left ≡ false).
-                  let at_most = ltb-false 1 left n in
-                  let one : 1 ≡ left = omega arith in
-                  subst (λ k. EndsEscape e k value (x ∷ xs) text rest) one (last_digit value (escaped_char e (next_value value x)) d refl (rw (f, d, n) at h)))
-              (cases_Bool (nat_lt 1 left)))
-          (λ (d : is_digit x 16 ≡ false). let none = rw (f, d) at h in cc)
-          (cases_Bool (is_digit x 16)))
+      (λ (d : is_digit x 16 ≡ true). ⊎_elim
+      (λ (m : nat_lt 1 left ≡ true).
+      let more_left = ltb-true 1 left m in
+      one_more left value more_left d (owed (Digits (left - 1) (next_value value x)) text (rw (f, d, m) at h) (omega arith)))
+      (λ (n : nat_lt 1 left ≡ false).
+      let at_most = ltb-false 1 left n in
+      let one : 1 ≡ left = omega arith in
+      subst (λ k. EndsEscape e k value (x ∷ xs) text rest) one (last_digit value (escaped_char e (next_value value x)) d refl (rw (f, d, n) at h)))
+      (cases_Bool (nat_lt 1 left)))
+      (λ (d : is_digit x 16 ≡ false). let none = rw (f, d) at h in cc)
+      (cases_Bool (is_digit x 16)))
       (cases_Bool (nat_lt 1114111 value))
 
 found : (e : Enclosure) (xs text rest : List ℕ) (s : State) → content_of e s xs ≡ Some (text, rest) → Owed e s xs text rest

@@ -6,6 +6,7 @@ pub mod Found
 pub mod HighBytes
 pub mod IriChars
 pub mod Pieces
+pub mod ReadBack
 pub mod Reading
 pub mod Tags
 pub mod Texts

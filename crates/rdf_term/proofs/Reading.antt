@@ -99,9 +99,9 @@ by_suffix : (pieces text : List ℕ) (first : ℕ) (rest : List ℕ) (term : Ter
 by_suffix pieces text first rest term content h = ⊎_elim
     (λ (t : (first == 64) ≡ true). rw (eqb-true first 64 t) (lang_written pieces text rest term content (rw t at h)))
     (λ (f : (first == 64) ≡ false). ⊎_elim
-        (λ (t : (first == 94) ≡ true). rw (eqb-true first 94 t) (typed_written pieces text rest term content (rw (f, t) at h)))
-        (λ (g : (first == 94) ≡ false). let none = rw (f, g) at h in cc)
-        (cases_Bool (first == 94)))
+    (λ (t : (first == 94) ≡ true). rw (eqb-true first 94 t) (typed_written pieces text rest term content (rw (f, t) at h)))
+    (λ (g : (first == 94) ≡ false). let none = rw (f, g) at h in cc)
+    (cases_Bool (first == 94)))
     (cases_Bool (first == 64))
 
 -- a literal, by what stands behind its closing quote
@@ -123,12 +123,12 @@ by_first : (first : ℕ) (rest : List ℕ) (term : Term) → (if first == 60 the
 by_first first rest term h = ⊎_elim
     (λ (t : (first == 60) ≡ true). rw (eqb-true first 60 t) (iri_written rest term (rw t at h)))
     (λ (f : (first == 60) ≡ false). ⊎_elim
-        (λ (t : (first == 95) ≡ true). rw (eqb-true first 95 t) (blank_written rest term (rw (f, t) at h)))
-        (λ (g : (first == 95) ≡ false). ⊎_elim
-            (λ (t : (first == 34) ≡ true). rw (eqb-true first 34 t) (literal_written rest term (rw (f, g, t) at h)))
-            (λ (k : (first == 34) ≡ false). let none = rw (f, g, k) at h in cc)
-            (cases_Bool (first == 34)))
-        (cases_Bool (first == 95)))
+    (λ (t : (first == 95) ≡ true). rw (eqb-true first 95 t) (blank_written rest term (rw (f, t) at h)))
+    (λ (g : (first == 95) ≡ false). ⊎_elim
+    (λ (t : (first == 34) ≡ true). rw (eqb-true first 34 t) (literal_written rest term (rw (f, g, t) at h)))
+    (λ (k : (first == 34) ≡ false). let none = rw (f, g, k) at h in cc)
+    (cases_Bool (first == 34)))
+    (cases_Bool (first == 95)))
     (cases_Bool (first == 60))
 
 read_written : (text : List ℕ) (term : Term) → read text ≡ Some term → IsWritten text term

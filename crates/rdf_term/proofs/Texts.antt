@@ -107,3 +107,8 @@ triple_cmp-IsAntisymmetric a b e =
     let predicate = term_cmp-IsAntisymmetric a.predicate b.predicate (then_first _ _ rest) in
     let object = term_cmp-IsAntisymmetric a.object b.object (then_second (term_cmp a.predicate b.predicate) _ rest) in
     λ i. record { subject = subject i; predicate = predicate i; object = object i }
+
+-- triples are equal whose subjects tie, and whose other terms tie
+pub tied_triples : (a b : Triple) (first rest : Ordering) → first ≡ term_cmp a.subject b.subject → first ≡ Equal → rest ≡ ordering_then (term_cmp a.predicate b.predicate) (term_cmp a.object b.object) → rest ≡ Equal → a ≡ b
+tied_triples a b first rest s e r k =
+    triple_cmp-IsAntisymmetric a b (ap (λ o. ordering_then o (ordering_then (term_cmp a.predicate b.predicate) (term_cmp a.object b.object))) (sym s ∙ e) ∙ sym r ∙ k)

@@ -14,7 +14,10 @@ use std::cmp::Ordering;
 /// The order of triples: by the bytes of the canonical texts of the subjects, then of the predicates, then
 /// of the objects. It takes no memory and stops at the first byte that differs.
 pub fn compare(a: &Triple, b: &Triple) -> Ordering
-    ensures { result ≡ triple_cmp a.now b.now }
+    ensures order { result ≡ triple_cmp a.now b.now }
+
+    // Only equal triples tie.
+    ensures equal { result ≡ Ordering.Equal → a.now ≡ b.now }
 {
     match compare_terms(&a.subject, &b.subject) {
         Ordering::Equal => compare_rest(a, b),

@@ -1,9 +1,11 @@
 // Terms read from their texts.
 
-ghost use Rattle.std.specs.Prelude.{◌≡◌, ◌↔◌, IfOk, Some};
+ghost use Rattle.std.specs.Prelude.{◌≡◌, ◌↔◌, IfOk, IfSome, Some, true};
 ghost use Rattle.std.specs.Option.{option_map};
 ghost use Rattle.rdf_term.specs.declared.term.Term.{Term};
+ghost use Rattle.rdf_term.specs.Fit.{is_fit};
 ghost use Rattle.rdf_term.specs.Reader.{behind, blank_in, iri_in, literal_in, literal_with, read, split_ascii, typed_in};
+ghost use Rattle.rdf_term.specs.Text.{term_text};
 ghost use Rattle.rdf_term.specs.Written.{IsWritten, literal_of_type};
 
 use crate::content::{Enclosure, content};
@@ -17,9 +19,15 @@ use std::alloc::Global;
 // The datatype of plain literals.
 const XSD_STRING: &str = "http://www.w3.org/2001/XMLSchema#string";
 
-/// The term that the whole text writes, by the grammar of N-Triples; `None` where it writes none.
+/// The term that the whole text writes, by the grammar of N-Triples; `None` where it writes none. A
+/// literal of the datatype `xsd:string` is read as plain text, and a tag keeps its case.
 pub fn read_term(alloc: Global, text: &str) -> Result<Option<Term>, OutOfMemory>
-    ensures { IfOk result (λ found. (term : Term) → (found ≡ Some term) ↔ IsWritten text.now term) }
+    ensures written { IfOk result (λ found. (term : Term) → (found ≡ Some term) ↔ IsWritten text.now term) }
+    ensures fit { IfOk result (λ found. IfSome found (λ term. is_fit term ≡ true)) }
+
+    // Reading the canonical text of a fit term gives the term.
+    ensures back { IfOk result
+        (λ found. (term : Term) → is_fit term ≡ true → text.now ≡ term_text term → found ≡ Some term) }
 {
     read(alloc, text)
 }

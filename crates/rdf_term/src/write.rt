@@ -1,6 +1,7 @@
 // The canonical text of N-Triples, written.
 
 ghost use Rattle.std.specs.Prelude.{◌≡◌, ◌++◌, ◌∷◌, [], OnOk, OnErr};
+ghost use Rattle.rdf_term.specs.declared.term.Term.{Term};
 ghost use Rattle.rdf_term.specs.Append.{Appends};
 ghost use Rattle.rdf_term.specs.Text.{escaped, escaped_byte, in_brackets, quoted, spaced, term_text, triple_text};
 
@@ -14,6 +15,9 @@ use crate::triple::Triple;
 pub fn write_term(term: &Term, out: &mut Vec<u8>) -> Result<(), OutOfMemory>
     ensures ok { OnOk result (out.new.items ≡ out.old.items ++ term_text term.now) }
     ensures err { OnErr result (out.new.items ≡ out.old.items) }
+
+    // No other term has this text.
+    ensures only { (other : Term) → term_text other ≡ term_text term.now → other ≡ term.now }
 {
     let start = out.len();
     match append_term(term, out) {
