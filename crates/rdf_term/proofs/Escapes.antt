@@ -1,5 +1,5 @@
 -- The order of written texts, by the order of what each byte is written as.
-use Rattle.std.proofs.Common.{◌≡◌, ◌≢◌, ℕ, ◌<◌, Some, List, [], ◌∷◌, ◌++◌, ◌⊎◌, Ordering, refl, sym, ap, ◌∙◌, inl, inr, ⊎_elim, arith, slice_index, if◌then◌else◌, ◌==◌}
+use Rattle.std.proofs.Common.{◌≡◌, ◌≢◌, ℕ, ◌<◌, Some, List, [], ◌∷◌, ◌++◌, ◌⊎◌, Ordering, refl, sym, ap, ◌∙◌, inl, inr, ⊎_elim, append_assoc, arith, length, min, slice_get, slice_index, if◌then◌else◌, ◌==◌}
 use Rattle.std.specs.declared.cmp.Ordering.TheVariants.{Less, Equal, Greater}
 use Rattle.std.specs.Ordering.{ordering_then, nat_cmp}
 use Rattle.std.proofs.lemmas.Bool.{cases_eq, eq-eqb, ne_eqb}
@@ -96,6 +96,38 @@ longer (y ∷ ys) t x = refl
 pub shorter : (s t : List ℕ) (x : ℕ) → bytes_cmp [] (s ++ x ∷ t) ≡ Less
 shorter [] t x = refl
 shorter (y ∷ ys) t x = refl
+
+-- fronts of one length decide first
+fronts_then : (s t u v : List ℕ) → length s ≡ length t → bytes_cmp (s ++ u) (t ++ v) ≡ ordering_then (bytes_cmp s t) (bytes_cmp u v)
+fronts_then [] [] u v h = refl
+fronts_then [] (y ∷ ys) u v h = absurd (omega arith)
+fronts_then (x ∷ xs) [] u v h = absurd (omega arith)
+fronts_then (x ∷ xs) (y ∷ ys) u v h =
+    ap (λ o. ordering_then (nat_cmp x y) o) (fronts_then xs ys u v (omega arith)) ∙ sym (then_assoc (nat_cmp x y) (bytes_cmp xs ys) (bytes_cmp u v))
+
+not_tied : (o p : Ordering) → (o ≡ Equal → ⊥) → ordering_then o p ≡ o
+not_tied Less p n = refl
+not_tied Equal p n = absurd (n refl)
+not_tied Greater p n = refl
+
+-- two IRIs in parts, of which the first ones are of one length
+module _ (a b s t u v : List ℕ) (first : a ≡ s ++ u) (second : b ≡ t ++ v) (h : length s ≡ length t) where
+  parts_then : bytes_cmp (a ++ 62 ∷ []) (b ++ 62 ∷ []) ≡ ordering_then (bytes_cmp s t) (bytes_cmp (u ++ 62 ∷ []) (v ++ 62 ∷ []))
+  parts_then = rw (first, second, append_assoc s u (62 ∷ []), append_assoc t v (62 ∷ [])) (fronts_then s t (u ++ 62 ∷ []) (v ++ 62 ∷ []) h)
+
+  pub parts_tied : (o r : Ordering) → o ≡ bytes_cmp s t → o ≡ Equal → r ≡ bytes_cmp (u ++ 62 ∷ []) (v ++ 62 ∷ []) → r ≡ bytes_cmp (a ++ 62 ∷ []) (b ++ 62 ∷ [])
+  parts_tied o r fronts tie ends = ends ∙ ap (λ p. ordering_then p (bytes_cmp (u ++ 62 ∷ []) (v ++ 62 ∷ []))) (sym tie ∙ fronts) ∙ sym parts_then
+
+  pub parts_decided : (o : Ordering) → o ≡ bytes_cmp s t → (o ≡ Equal → ⊥) → o ≡ bytes_cmp (a ++ 62 ∷ []) (b ++ 62 ∷ [])
+  parts_decided o fronts n = sym (not_tied o (bytes_cmp (u ++ 62 ∷ []) (v ++ 62 ∷ [])) n) ∙ ap (λ p. ordering_then p (bytes_cmp (u ++ 62 ∷ []) (v ++ 62 ∷ []))) fronts ∙ sym parts_then
+
+-- the second IRI ends first
+pub second_ends : (xs ys : List ℕ) (x : ℕ) → Some x ≡ slice_get xs 0 → min (length xs) (length ys) ≡ 0 → ordering_then (nat_cmp x 62) Greater ≡ bytes_cmp (xs ++ 62 ∷ []) (ys ++ 62 ∷ [])
+second_ends [] ys x first h = cc
+second_ends (z ∷ zs) [] x first h =
+    let same : x ≡ z = cc in
+    rw (same, longer zs [] 62) refl
+second_ends (z ∷ zs) (y ∷ ys) x first h = absurd (omega arith)
 
 -- numbers that differ decide what follows them, too
 decided : (x y : ℕ) → x ≢ y → (o p q : Ordering) → ordering_then (nat_cmp x y) o ≡ ordering_then (ordering_then (nat_cmp x y) p) q

@@ -15,6 +15,8 @@ mod percent;
 mod read;
 mod tag;
 mod term;
+#[cfg(test)]
+mod tests;
 mod text;
 mod triple;
 mod triple_set;
