@@ -1,7 +1,7 @@
 -- A content is read alike by bytes and by characters: bytes beyond ASCII stand for themselves or nowhere.
 use Rattle.std.proofs.Common.{◌≡◌, ℕ, ◌==◌, ◌<◌, ◌≤◌, Bool, true, false, List, [], ◌∷◌, ◌++◌, Option, Some, None, length, refl, sym, ap, ◌∙◌, arith, ⊎_elim, lit<, append_assoc, append-nil, nat_lt, if◌then◌else◌}
 use Rattle.std.specs.Char.{is_digit}
-use Rattle.std.proofs.lemmas.Bool.{cases_lt, lt-ltb, le-ltb, ne_eqb}
+use Rattle.std.proofs.lemmas.Bool.{cases_lt, le-ltb, ne_eqb}
 use Rattle.std.proofs.lemmas.Str.{encode_ascii, length-encode, len_utf8_bounds}
 use Rattle.rising.specs.Rising.{Each}
 use Rattle.rdf_term.specs.declared.content.Enclosure.{Enclosure}
@@ -11,7 +11,6 @@ use Rattle.rdf_term.specs.declared.content.State.TheVariants.{Between, Backslash
 use Rattle.rdf_term.specs.declared.content.Effect.{Effect}
 use Rattle.rdf_term.specs.declared.content.Effect.TheVariants.{Close, Refuse, Go, Keep, Put}
 use Rattle.rdf_term.specs.Reader.{step, content_of, with_front, follow}
-use Rattle.rdf_term.specs.Written.{closing, stands, letter_char}
 use Rattle.rdf_term.proofs.IriChars.{is_iri_char-high}
 use Rattle.rdf_term.proofs.HighBytes.{encode_high}
 use lib.Utf8.{encode}

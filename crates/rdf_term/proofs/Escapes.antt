@@ -2,7 +2,7 @@
 use Rattle.std.proofs.Common.{◌≡◌, ◌≢◌, ℕ, ◌<◌, Some, List, [], ◌∷◌, ◌++◌, ◌⊎◌, Ordering, refl, sym, ap, ◌∙◌, inl, inr, ⊎_elim, append_assoc, arith, length, min, slice_get, slice_index, if◌then◌else◌, ◌==◌}
 use Rattle.std.specs.declared.cmp.Ordering.TheVariants.{Less, Equal, Greater}
 use Rattle.std.specs.Ordering.{ordering_then, nat_cmp}
-use Rattle.std.proofs.lemmas.Bool.{cases_eq, eq-eqb, ne_eqb}
+use Rattle.std.proofs.lemmas.Bool.{cases_eq, ne_eqb}
 use Rattle.std.proofs.lemmas.Bool.Decides.{nat_tests}
 use Rattle.rdf_term.specs.Order.{bytes_cmp}
 use Rattle.rdf_term.specs.declared.content.Enclosure.TheVariants.{Quotes}

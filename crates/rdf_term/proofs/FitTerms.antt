@@ -1,6 +1,5 @@
 -- The terms that are made of texts are fit.
-use Rattle.std.proofs.Common.{◌≡◌, ℕ, ◌/◌, ◌%◌, ◌<◌, Bool, true, false, ◌&&◌, List, [], ◌∷◌, ◌++◌, refl, sym, ◌∙◌, arith, ⊎_elim}
-use Rattle.std.specs.List.{list_all}
+use Rattle.std.proofs.Common.{◌≡◌, ℕ, ◌/◌, ◌%◌, ◌<◌, true, false, List, [], ◌∷◌, ◌++◌, refl, sym, ◌∙◌, arith, ⊎_elim}
 use Rattle.std.proofs.lemmas.Bool.{cases_Bool, cases_lt, agree_below_at, and_parts, and_from, false≢true}
 use Rattle.rdf_term.specs.Fit.{is_fit}
 use Rattle.rdf_term.specs.Grammar.{is_iri, is_iri_char, hex_digit, iri_of, percent_encoded, percent_encoded_byte}

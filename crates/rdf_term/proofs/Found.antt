@@ -1,15 +1,15 @@
 -- What is read is a content, piece by piece.
-use Rattle.std.proofs.Common.{◌≡◌, ℕ, ◌==◌, ◌+◌, ◌-◌, ◌*◌, ◌<◌, ◌≤◌, Bool, true, false, List, [], ◌∷◌, ◌++◌, Option, Some, None, length, refl, sym, ap, ◌∙◌, arith, ⊎_elim, append_assoc, nat_lt, fold, subst, if◌then◌else◌}
-use Rattle.std.specs.Char.{is_digit, digit_value}
+use Rattle.std.proofs.Common.{◌≡◌, ℕ, ◌==◌, ◌-◌, ◌<◌, true, false, List, [], ◌∷◌, ◌++◌, Option, Some, None, length, refl, sym, ap, ◌∙◌, arith, ⊎_elim, append_assoc, nat_lt, fold, subst}
+use Rattle.std.specs.Char.{is_digit}
 use Rattle.std.specs.List.{list_all}
-use Rattle.std.proofs.lemmas.Bool.{cases_lt, cases_Bool, ltb-true, ltb-false, eqb-true, and_from}
+use Rattle.std.proofs.lemmas.Bool.{cases_Bool, ltb-true, ltb-false, eqb-true, and_from}
 use Rattle.rdf_term.specs.declared.content.Enclosure.{Enclosure}
 use Rattle.rdf_term.specs.declared.content.State.{State}
 use Rattle.rdf_term.specs.declared.content.State.TheVariants.{Between, Backslash, Digits}
 use Rattle.rdf_term.specs.declared.content.Effect.{Effect}
-use Rattle.rdf_term.specs.declared.content.Effect.TheVariants.{Close, Refuse, Go, Keep, Put}
-use Rattle.rdf_term.specs.Reader.{step, step_between, step_backslash, step_digits, after_digit, put_or_refuse, content_of, with_front, follow}
-use Rattle.rdf_term.specs.Written.{closing, stands, letter_char, escaped_char, hex_value, next_value, IsEscape, IsPiece, IsContent, itself, letter, short, long, nothing, more}
+use Rattle.rdf_term.specs.declared.content.Effect.TheVariants.{Close, Keep, Put}
+use Rattle.rdf_term.specs.Reader.{step, step_between, step_backslash, step_digits, put_or_refuse, content_of, with_front, follow}
+use Rattle.rdf_term.specs.Written.{closing, stands, letter_char, escaped_char, next_value, IsEscape, IsPiece, IsContent, itself, letter, short, long, nothing, more}
 use lib.Utf8.{encode}
 
 -- the bytes begin with a content and what closes it

@@ -1,5 +1,5 @@
 -- The bytes of a character beyond ASCII are all beyond ASCII.
-use Rattle.std.proofs.Common.{◌≡◌, ℕ, ◌+◌, ◌*◌, ◌/◌, ◌%◌, ◌<◌, ◌≤◌, List, [], ◌∷◌, ltb, arith, ⊎_elim}
+use Rattle.std.proofs.Common.{ℕ, ◌≤◌, arith, ⊎_elim}
 use Rattle.std.proofs.lemmas.Bool.{cases_lt, lt-ltb, le-ltb}
 use Rattle.rising.specs.Rising.{Each}
 use lib.Utf8.{encode}

@@ -1,16 +1,15 @@
 -- What is a content, piece by piece, is read.
-use Rattle.std.proofs.Common.{◌≡◌, ℕ, ◌==◌, ◌+◌, ◌-◌, ◌*◌, ◌<◌, ◌≤◌, Bool, true, false, List, [], ◌∷◌, ◌++◌, Option, Some, None, length, refl, sym, ap, ◌∙◌, arith, ⊎_elim, append_assoc, nat_lt, fold, subst}
-use Rattle.std.specs.Char.{is_digit, digit_value}
+use Rattle.std.proofs.Common.{◌≡◌, ℕ, ◌==◌, ◌-◌, ◌<◌, ◌≤◌, true, false, List, [], ◌∷◌, ◌++◌, Some, None, length, refl, sym, ap, ◌∙◌, arith, ⊎_elim, append_assoc, fold}
+use Rattle.std.specs.Char.{is_digit}
 use Rattle.std.specs.List.{list_all}
 use Rattle.std.proofs.lemmas.Bool.{cases_lt, lt-ltb, le-ltb, le-leb, ne_eqb, false≢true, and_parts}
 use Rattle.rdf_term.specs.declared.content.Enclosure.{Enclosure}
 use Rattle.rdf_term.specs.declared.content.Enclosure.TheVariants.{Brackets, Quotes}
 use Rattle.rdf_term.specs.declared.content.State.TheVariants.{Between, Backslash, Digits}
-use Rattle.rdf_term.specs.declared.content.Effect.{Effect}
-use Rattle.rdf_term.specs.declared.content.Effect.TheVariants.{Close, Refuse, Go, Keep, Put}
-use Rattle.rdf_term.specs.Reader.{step, step_between, step_backslash, step_digits, after_digit, put_or_refuse, content_of, with_front, follow}
-use Rattle.rdf_term.specs.Written.{closing, stands, letter_char, escaped_char, hex_value, next_value, IsEscape, IsPiece, IsContent, itself, letter, short, long, nothing, more}
-use lib.Utf8.{encode, scalar}
+use Rattle.rdf_term.specs.declared.content.Effect.TheVariants.{Go, Keep, Put}
+use Rattle.rdf_term.specs.Reader.{step, step_between, step_backslash, content_of, with_front}
+use Rattle.rdf_term.specs.Written.{closing, stands, letter_char, escaped_char, next_value, IsPiece, IsContent, itself, letter, short, long, nothing, more}
+use lib.Utf8.{encode}
 
 pub value_grows : (digits : List ℕ) (value : ℕ) → value ≤ fold next_value value digits
 value_grows [] value = omega arith

@@ -1,5 +1,5 @@
 -- Reading the canonical text of a fit term gives the term, and what is read is fit.
-use Rattle.std.proofs.Common.{◌≡◌, ℕ, ◌==◌, ◌<◌, ◌≤◌, Bool, true, false, not, ◌&&◌, List, [], ◌∷◌, ◌++◌, Option, Some, None, Result, Ok, Err, IfOk, IfSome, refl, sym, ap, ◌∙◌, subst, arith, ⊎_elim}
+use Rattle.std.proofs.Common.{◌≡◌, ℕ, ◌≤◌, true, false, not, ◌&&◌, List, [], ◌∷◌, Option, Some, None, Result, Ok, Err, IfOk, IfSome, refl, sym, ◌∙◌, subst, ⊎_elim}
 use Rattle.std.specs.Str.{bytes_eq}
 use Rattle.std.proofs.lemmas.Bool.{cases_Bool, cases_lt, ne_eqb, and_parts, and_from, not-true}
 use Rattle.std.proofs.lemmas.Str.{encode_ascii}
@@ -11,7 +11,7 @@ use Rattle.rdf_term.specs.declared.term.Term.TheVariants.{Iri, Blank, Plain, Lan
 use Rattle.rdf_term.specs.Fit.{is_fit, xsd_string}
 use Rattle.rdf_term.specs.Grammar.{is_iri, is_iri_char}
 use Rattle.rdf_term.specs.Text.{escaped, term_text}
-use Rattle.rdf_term.specs.Written.{escaped_char, hex_value, IsEscape, IsPiece, IsContent, itself, letter, short, long, nothing, more, IsWritten, iri, blank, plain, lang, typed, literal_of_type}
+use Rattle.rdf_term.specs.Written.{escaped_char, hex_value, IsPiece, IsContent, itself, letter, short, long, nothing, more, IsWritten, iri, blank, plain, lang, typed, literal_of_type}
 use Rattle.rdf_term.specs.Reader.{read}
 use Rattle.rdf_term.proofs.Reading.{reads}
 use Rattle.rdf_term.proofs.Escapes.{kind}

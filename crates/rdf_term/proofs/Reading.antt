@@ -6,7 +6,7 @@ use Rattle.rdf_term.specs.declared.content.Enclosure.TheVariants.{Brackets, Quot
 use Rattle.rdf_term.specs.declared.content.State.TheVariants.{Between}
 use Rattle.rdf_term.specs.declared.memory.OutOfMemory.{OutOfMemory}
 use Rattle.rdf_term.specs.declared.term.Term.{Term}
-use Rattle.rdf_term.specs.declared.term.Term.TheVariants.{Iri, Blank, Plain, Lang, Typed}
+use Rattle.rdf_term.specs.declared.term.Term.TheVariants.{Iri, Blank, Plain, Lang}
 use Rattle.rdf_term.specs.Grammar.{is_label, is_tag}
 use Rattle.rdf_term.specs.Reader.{read, content_of, split_ascii, whole, iri_in, behind, blank_in, typed_in, literal_with, literal_in}
 use Rattle.rdf_term.specs.Written.{IsContent, IsWritten, iri, blank, plain, lang, typed, literal_of_type}

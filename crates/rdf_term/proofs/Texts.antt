@@ -1,13 +1,12 @@
 -- Different terms have different canonical texts: a text can be undone.
-use Rattle.std.proofs.Common.{◌≡◌, ℕ, List, [], ◌∷◌, ◌++◌, Bool, true, false, refl, sym, ap, ◌∙◌, ⊎_elim, if◌then◌else◌, ◌==◌, Ordering, Less, Equal, Greater, eq-eqb, ne_eqb}
-use Rattle.std.specs.Cmp.{IsTotalOrder}
+use Rattle.std.proofs.Common.{◌≡◌, ℕ, List, [], ◌∷◌, ◌++◌, Bool, true, false, refl, sym, ap, ◌∙◌, ⊎_elim, if◌then◌else◌, ◌==◌, Ordering, Less, Equal, Greater, ne_eqb}
 use Rattle.std.specs.FinMap.{IsAntisymmetric, nat_cmp-IsAntisymmetric, slice_cmp-IsAntisymmetric}
 use Rattle.std.specs.Ordering.{ordering_then}
 use Rattle.rdf_term.specs.declared.term.Term.{Term}
 use Rattle.rdf_term.specs.declared.term.Term.TheVariants.{Iri, Blank, Plain, Lang, Typed}
 use Rattle.rdf_term.specs.declared.triple.Triple.{Triple}
-use Rattle.rdf_term.specs.Order.{bytes_cmp, term_cmp, triple_cmp}
-use Rattle.rdf_term.specs.Text.{escaped, escaped_byte, quoted, in_brackets, term_text}
+use Rattle.rdf_term.specs.Order.{term_cmp, triple_cmp}
+use Rattle.rdf_term.specs.Text.{escaped, in_brackets, term_text}
 use Rattle.rdf_term.proofs.Escapes.{kind, byte_of}
 
 -- all but the last

@@ -1,5 +1,5 @@
 -- What may stand in the parts of a term, after the grammar of N-Triples.
-use Rattle.std.specs.Prelude.{ℕ, Bool, true, false, not, ◌&&◌, List, [], ◌∷◌, ◌==◌, nat_lt, codes, if◌then◌else◌, ◌/◌, ◌%◌, ◌+◌}
+use Rattle.std.specs.Prelude.{ℕ, Bool, false, not, ◌&&◌, List, [], ◌∷◌, ◌==◌, nat_lt, if◌then◌else◌, ◌/◌, ◌%◌, ◌+◌}
 use Rattle.std.specs.Char.{is_ascii_alphabetic, is_ascii_alphanumeric}
 use Rattle.std.specs.List.{list_any, list_all, flat_map, slice_split}
 use Rattle.rdf_term.specs.declared.term.Term.{Term}
