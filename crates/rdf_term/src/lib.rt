@@ -1,8 +1,10 @@
 // RDF terms and triples, and the texts and lists that every crate above is built of.
 //
 // `text` and `list` have owned texts and lists that contracts see as lists; `memory` has the one fault
-// that every call which allocates shares. `term` and `triple` have the values of RDF, `write` their
-// canonical texts, `order` the order by those texts, and `triple_set` the set that the order makes.
+// that every call which allocates shares. `term` and `triple` have the values of RDF, `write` and `escape`
+// their canonical texts in N-Triples, `order` the order by those texts, and `triple_set` the set that the
+// order makes. `read`, `content`, `label` and `tag` read terms by the grammar of N-Triples, and `tag` and
+// `percent` make fit terms of any texts.
 #![tactic(auto)]
 
 mod content;
