@@ -1,17 +1,21 @@
 -- The order of written texts, by the order of what each byte is written as.
-use Rattle.std.proofs.Common.{◌≡◌, ◌≢◌, ℕ, List, [], ◌∷◌, ◌++◌, ◌⊎◌, Ordering, refl, sym, ap, ◌∙◌, inl, inr, ⊎_elim, arith, slice_index, if◌then◌else◌, ◌==◌}
+use Rattle.std.proofs.Common.{◌≡◌, ◌≢◌, ℕ, ◌<◌, Some, List, [], ◌∷◌, ◌++◌, ◌⊎◌, Ordering, refl, sym, ap, ◌∙◌, inl, inr, ⊎_elim, append_assoc, arith, length, min, slice_get, slice_index, if◌then◌else◌, ◌==◌}
 use Rattle.std.specs.declared.cmp.Ordering.TheVariants.{Less, Equal, Greater}
 use Rattle.std.specs.Ordering.{ordering_then, nat_cmp}
-use Rattle.std.proofs.lemmas.Bool.{cases_eq, eq-eqb, ne_eqb}
+use Rattle.std.proofs.lemmas.Bool.{cases_eq, ne_eqb}
 use Rattle.std.proofs.lemmas.Bool.Decides.{nat_tests}
 use Rattle.rdf_term.specs.Order.{bytes_cmp}
+use Rattle.rdf_term.specs.declared.content.Enclosure.TheVariants.{Quotes}
 use Rattle.rdf_term.specs.Text.{escaped, escaped_byte}
+use Rattle.rdf_term.specs.Written.{letter_char}
 
 -- the byte is written as it is
 pub record Stands (x : ℕ) : Type 0 where
   pub is : escaped_byte x ≡ x ∷ []
   pub not_quote : x ≢ 34
   pub not_backslash : x ≢ 92
+  pub not_lf : x ≢ 10
+  pub not_cr : x ≢ 13
 
 -- the byte that the letter behind a backslash stands for
 abbrev pub byte_of : ℕ → ℕ
@@ -22,14 +26,16 @@ pub record Escapes (x : ℕ) : Type 0 where
   pub letter : ℕ
   pub is : escaped_byte x ≡ 92 ∷ letter ∷ []
   pub byte : byte_of letter ≡ x
+  pub meant : letter_char Quotes letter ≡ Some x
+  pub low : x < 128
 
 pub kind : (x : ℕ) → Stands x ⊎ Escapes x
 kind x =
-    ⊎_elim (λ e. inr (record { letter = 34; is = ap escaped_byte e; byte = sym e }))
-    (λ a. ⊎_elim (λ e. inr (record { letter = 92; is = ap escaped_byte e; byte = sym e }))
-    (λ b. ⊎_elim (λ e. inr (record { letter = 110; is = ap escaped_byte e; byte = sym e }))
-    (λ c. ⊎_elim (λ e. inr (record { letter = 114; is = ap escaped_byte e; byte = sym e }))
-    (λ d. inl (record { is = rw (ne_eqb x 34 a, ne_eqb x 92 b, ne_eqb x 10 c, ne_eqb x 13 d) refl; not_quote = a; not_backslash = b }))
+    ⊎_elim (λ e. inr (record { letter = 34; is = ap escaped_byte e; byte = sym e; meant = ap (λ b. Some b) (sym e); low = omega arith }))
+    (λ a. ⊎_elim (λ e. inr (record { letter = 92; is = ap escaped_byte e; byte = sym e; meant = ap (λ b. Some b) (sym e); low = omega arith }))
+    (λ b. ⊎_elim (λ e. inr (record { letter = 110; is = ap escaped_byte e; byte = sym e; meant = ap (λ b. Some b) (sym e); low = omega arith }))
+    (λ c. ⊎_elim (λ e. inr (record { letter = 114; is = ap escaped_byte e; byte = sym e; meant = ap (λ b. Some b) (sym e); low = omega arith }))
+    (λ d. inl (record { is = rw (ne_eqb x 34 a, ne_eqb x 92 b, ne_eqb x 10 c, ne_eqb x 13 d) refl; not_quote = a; not_backslash = b; not_lf = c; not_cr = d }))
     (cases_eq x 13)) (cases_eq x 10)) (cases_eq x 92)) (cases_eq x 34)
 
 then_assoc : (a b c : Ordering) → ordering_then (ordering_then a b) c ≡ ordering_then a (ordering_then b c)
@@ -90,6 +96,38 @@ longer (y ∷ ys) t x = refl
 pub shorter : (s t : List ℕ) (x : ℕ) → bytes_cmp [] (s ++ x ∷ t) ≡ Less
 shorter [] t x = refl
 shorter (y ∷ ys) t x = refl
+
+-- fronts of one length decide first
+fronts_then : (s t u v : List ℕ) → length s ≡ length t → bytes_cmp (s ++ u) (t ++ v) ≡ ordering_then (bytes_cmp s t) (bytes_cmp u v)
+fronts_then [] [] u v h = refl
+fronts_then [] (y ∷ ys) u v h = absurd (omega arith)
+fronts_then (x ∷ xs) [] u v h = absurd (omega arith)
+fronts_then (x ∷ xs) (y ∷ ys) u v h =
+    ap (λ o. ordering_then (nat_cmp x y) o) (fronts_then xs ys u v (omega arith)) ∙ sym (then_assoc (nat_cmp x y) (bytes_cmp xs ys) (bytes_cmp u v))
+
+not_tied : (o p : Ordering) → (o ≡ Equal → ⊥) → ordering_then o p ≡ o
+not_tied Less p n = refl
+not_tied Equal p n = absurd (n refl)
+not_tied Greater p n = refl
+
+-- two IRIs in parts, of which the first ones are of one length
+module _ (a b s t u v : List ℕ) (first : a ≡ s ++ u) (second : b ≡ t ++ v) (h : length s ≡ length t) where
+  parts_then : bytes_cmp (a ++ 62 ∷ []) (b ++ 62 ∷ []) ≡ ordering_then (bytes_cmp s t) (bytes_cmp (u ++ 62 ∷ []) (v ++ 62 ∷ []))
+  parts_then = rw (first, second, append_assoc s u (62 ∷ []), append_assoc t v (62 ∷ [])) (fronts_then s t (u ++ 62 ∷ []) (v ++ 62 ∷ []) h)
+
+  pub parts_tied : (o r : Ordering) → o ≡ bytes_cmp s t → o ≡ Equal → r ≡ bytes_cmp (u ++ 62 ∷ []) (v ++ 62 ∷ []) → r ≡ bytes_cmp (a ++ 62 ∷ []) (b ++ 62 ∷ [])
+  parts_tied o r fronts tie ends = ends ∙ ap (λ p. ordering_then p (bytes_cmp (u ++ 62 ∷ []) (v ++ 62 ∷ []))) (sym tie ∙ fronts) ∙ sym parts_then
+
+  pub parts_decided : (o : Ordering) → o ≡ bytes_cmp s t → (o ≡ Equal → ⊥) → o ≡ bytes_cmp (a ++ 62 ∷ []) (b ++ 62 ∷ [])
+  parts_decided o fronts n = sym (not_tied o (bytes_cmp (u ++ 62 ∷ []) (v ++ 62 ∷ [])) n) ∙ ap (λ p. ordering_then p (bytes_cmp (u ++ 62 ∷ []) (v ++ 62 ∷ []))) fronts ∙ sym parts_then
+
+-- the second IRI ends first
+pub second_ends : (xs ys : List ℕ) (x : ℕ) → Some x ≡ slice_get xs 0 → min (length xs) (length ys) ≡ 0 → ordering_then (nat_cmp x 62) Greater ≡ bytes_cmp (xs ++ 62 ∷ []) (ys ++ 62 ∷ [])
+second_ends [] ys x first h = cc
+second_ends (z ∷ zs) [] x first h =
+    let same : x ≡ z = cc in
+    rw (same, longer zs [] 62) refl
+second_ends (z ∷ zs) (y ∷ ys) x first h = absurd (omega arith)
 
 -- numbers that differ decide what follows them, too
 decided : (x y : ℕ) → x ≢ y → (o p q : Ordering) → ordering_then (nat_cmp x y) o ≡ ordering_then (ordering_then (nat_cmp x y) p) q

@@ -1,13 +1,12 @@
 -- Different terms have different canonical texts: a text can be undone.
-use Rattle.std.proofs.Common.{◌≡◌, ℕ, List, [], ◌∷◌, ◌++◌, Bool, true, false, refl, sym, ap, ◌∙◌, ⊎_elim, if◌then◌else◌, ◌==◌, Ordering, Less, Equal, Greater, eq-eqb, ne_eqb}
-use Rattle.std.specs.Cmp.{IsTotalOrder}
+use Rattle.std.proofs.Common.{◌≡◌, ℕ, List, [], ◌∷◌, ◌++◌, Bool, true, false, refl, sym, ap, ◌∙◌, ⊎_elim, if◌then◌else◌, ◌==◌, Ordering, Less, Equal, Greater, ne_eqb}
 use Rattle.std.specs.FinMap.{IsAntisymmetric, nat_cmp-IsAntisymmetric, slice_cmp-IsAntisymmetric}
 use Rattle.std.specs.Ordering.{ordering_then}
 use Rattle.rdf_term.specs.declared.term.Term.{Term}
 use Rattle.rdf_term.specs.declared.term.Term.TheVariants.{Iri, Blank, Plain, Lang, Typed}
 use Rattle.rdf_term.specs.declared.triple.Triple.{Triple}
-use Rattle.rdf_term.specs.Order.{bytes_cmp, term_cmp, triple_cmp}
-use Rattle.rdf_term.specs.Text.{escaped, escaped_byte, quoted, in_brackets, term_text}
+use Rattle.rdf_term.specs.Order.{term_cmp, triple_cmp}
+use Rattle.rdf_term.specs.Text.{escaped, in_brackets, term_text}
 use Rattle.rdf_term.proofs.Escapes.{kind, byte_of}
 
 -- all but the last
@@ -107,3 +106,8 @@ triple_cmp-IsAntisymmetric a b e =
     let predicate = term_cmp-IsAntisymmetric a.predicate b.predicate (then_first _ _ rest) in
     let object = term_cmp-IsAntisymmetric a.object b.object (then_second (term_cmp a.predicate b.predicate) _ rest) in
     λ i. record { subject = subject i; predicate = predicate i; object = object i }
+
+-- triples are equal whose subjects tie, and whose other terms tie
+pub tied_triples : (a b : Triple) (first rest : Ordering) → first ≡ term_cmp a.subject b.subject → first ≡ Equal → rest ≡ ordering_then (term_cmp a.predicate b.predicate) (term_cmp a.object b.object) → rest ≡ Equal → a ≡ b
+tied_triples a b first rest s e r k =
+    triple_cmp-IsAntisymmetric a b (ap (λ o. ordering_then o (ordering_then (term_cmp a.predicate b.predicate) (term_cmp a.object b.object))) (sym s ∙ e) ∙ sym r ∙ k)

@@ -1,6 +1,7 @@
 // The canonical text of N-Triples, written.
 
 ghost use Rattle.std.specs.Prelude.{◌≡◌, ◌++◌, ◌∷◌, [], OnOk, OnErr};
+ghost use Rattle.rdf_term.specs.declared.term.Term.{Term};
 ghost use Rattle.rdf_term.specs.Append.{Appends};
 ghost use Rattle.rdf_term.specs.Text.{escaped, escaped_byte, in_brackets, quoted, spaced, term_text, triple_text};
 
@@ -14,6 +15,9 @@ use crate::triple::Triple;
 pub fn write_term(term: &Term, out: &mut Vec<u8>) -> Result<(), OutOfMemory>
     ensures ok { OnOk result (out.new.items ≡ out.old.items ++ term_text term.now) }
     ensures err { OnErr result (out.new.items ≡ out.old.items) }
+
+    // No other term has this text.
+    ensures only { (other : Term) → term_text other ≡ term_text term.now → other ≡ term.now }
 {
     let start = out.len();
     match append_term(term, out) {
@@ -65,18 +69,18 @@ fn append_term(term: &Term, out: &mut Vec<u8>) -> Result<(), OutOfMemory>
     ensures { Appends out.old.items out.new.items (term_text term.now) result }
 {
     match term {
-        Term::Iri(iri) => append_iri(iri.as_str().as_bytes(), out),
-        Term::Blank(label) => append_blank(label.as_str().as_bytes(), out),
-        Term::Plain(text) => append_quoted(text.as_str().as_bytes(), out),
+        Term::Iri(iri) => append_iri(iri.as_bytes(), out),
+        Term::Blank(label) => append_blank(label.as_bytes(), out),
+        Term::Plain(text) => append_quoted(text.as_bytes(), out),
         Term::Lang(text, tag) => {
-            append_quoted(text.as_str().as_bytes(), out)?;
+            append_quoted(text.as_bytes(), out)?;
             append_bytes(b"@", out)?;
-            append_bytes(tag.as_str().as_bytes(), out)
+            append_bytes(tag.as_bytes(), out)
         }
         Term::Typed(text, datatype) => {
-            append_quoted(text.as_str().as_bytes(), out)?;
+            append_quoted(text.as_bytes(), out)?;
             append_bytes(b"^^", out)?;
-            append_iri(datatype.as_str().as_bytes(), out)
+            append_iri(datatype.as_bytes(), out)
         }
     }
 }

@@ -1,18 +1,9 @@
-use Rattle.std.proofs.Common.{◌≡◌, ℕ, List, [], ◌∷◌, ◌++◌, length, refl, arith}
-use Rattle.std.specs.declared.cmp.Ordering.TheVariants.{Greater}
-use Rattle.std.specs.Ordering.{ordering_then, nat_cmp}
-use Rattle.rdf_term.specs.Order.{bytes_cmp}
-use Rattle.rdf_term.proofs.Escapes.{longer}
+use Rattle.std.proofs.Common.{sym, ◌∙◌}
+use Rattle.rdf_term.proofs.Escapes.{parts_tied, parts_decided}
 use Rattle.rdf_term.proofs.order.compare_iris.Goals as goal
 
--- the second IRI ends first
-ends_first : (xs ys rest : List ℕ) (x : ℕ) → xs ≡ x ∷ rest → length ys ≡ 0 → ordering_then (nat_cmp x 62) Greater ≡ bytes_cmp (xs ++ 62 ∷ []) (ys ++ 62 ∷ [])
-ends_first xs [] rest x e h = rw (e, longer rest [] 62) refl
-ends_first xs (y ∷ ys) rest x e h = absurd (omega arith)
+pub returns-in-Equal : goal.returns-in-Equal
+returns-in-Equal c = parts_tied _ _ _ _ _ _ (sym c.as_bytes-a.ensures ∙ c.split_at.ensures.by_index.0) (sym c.as_bytes-b.ensures ∙ c.split_at-2.ensures.by_index.0) (c.split_at.ensures.front_len ∙ sym c.split_at-2.ensures.front_len) _ _ c.cmp.ensures c.in-Equal.is c.compare_ends.ensures
 
-pub returns-in-Some-None : goal.returns-in-Some-None
-returns-in-Some-None c =
-    let first = c.in-Some-None.ensures.cases in
-    let none = c.in-Some-None.ensures'.cases in
-    let bracket = ends_first _ _ _ _ first.0 none in
-    cc
+pub returns-in_default : goal.returns-in_default
+returns-in_default c = parts_decided _ _ _ _ _ _ (sym c.as_bytes-a.ensures ∙ c.split_at.ensures.by_index.0) (sym c.as_bytes-b.ensures ∙ c.split_at-2.ensures.by_index.0) (c.split_at.ensures.front_len ∙ sym c.split_at-2.ensures.front_len) _ c.cmp.ensures c.in_default.not-Equal
