@@ -1,14 +1,21 @@
 -- The text and the number of each status.
 use Rattle.std.specs.Prelude.{ℕ, List, [], ◌++◌, decimal, codes}
 use Rattle.event_line.specs.declared.deliveries.LineCause.{LineCause}
-use Rattle.event_line.specs.declared.deliveries.LineCause.TheVariants.{LineLong, NoForm}
+use Rattle.event_line.specs.declared.deliveries.LineCause.TheVariants.{LineLong, NotJson, NoForm, Kind, Entity, Rev, Time, Mode, Pattern}
 use Rattle.session.specs.declared.status.Status.{Status}
 use Rattle.session.specs.declared.status.Status.TheVariants.{Ok as Ended, BadWords, BadLine, ReadFault, WriteFault, TooLong, OutOfMemory}
 
 -- the name of a cause
 unfoldable pub cause_name : LineCause → List ℕ
 cause_name LineLong = codes "LineLong"
+cause_name NotJson = codes "NotJson"
 cause_name NoForm = codes "NoForm"
+cause_name Kind = codes "Kind"
+cause_name Entity = codes "Entity"
+cause_name Rev = codes "Rev"
+cause_name Time = codes "Time"
+cause_name Mode = codes "Mode"
+cause_name Pattern = codes "Pattern"
 
 -- the line on a line that is no delivery
 abbrev pub bad_line_text : ℕ → LineCause → List ℕ

@@ -101,6 +101,13 @@ fn cause_name(cause: LineCause) -> &'static str
 {
     match cause {
         LineCause::LineLong => "LineLong",
+        LineCause::NotJson => "NotJson",
         LineCause::NoForm => "NoForm",
+        LineCause::Kind => "Kind",
+        LineCause::Entity => "Entity",
+        LineCause::Rev => "Rev",
+        LineCause::Time => "Time",
+        LineCause::Mode => "Mode",
+        LineCause::Pattern => "Pattern",
     }
 }
