@@ -1,0 +1,16 @@
+// JSON texts as RFC 8259 defines them, with the spelling of each number kept.
+//
+// `json` has the values and the look-up of a member, `fault` what a text is refused for, and `read` the reader of
+// a whole text. Below it, `deep` counts brackets, `number` and `string` read those two, and `bytes` steps over
+// white space and digits. `laws` has what holds of the grammar itself.
+#![tactic(auto)]
+
+mod bytes;
+mod deep;
+mod fault;
+mod json;
+mod number;
+mod string;
+
+pub use fault::JsonFault;
+pub use json::{Json, Member};
