@@ -78,6 +78,10 @@ unfoldable pub escape_at : Parse ℕ
 escape_at [] = None
 escape_at (x ∷ s) = cond (x == 0x75) (unicode_at s) (option_map (λ c. (c, s)) (short_escape x))
 
+-- what follows a run of bytes that stand for themselves, which is UTF-8
+abbrev pub run_at : List ℕ → Option (List ℕ)
+run_at s = let rest = skip is_unescaped s in cond (is_utf8 (before rest s)) (Some rest) None
+
 -- the content of a string from an unescaped run on, up to the closing quotation mark
 abbrev pub after_run : Parse (List ℕ) → List ℕ → Parse (List ℕ)
 after_run more run [] = None
@@ -86,10 +90,7 @@ after_run more run (x ∷ s) =
     (cond (x == 0x5C) (escape_at s >>= λ p. read_map (λ m. run ++ (encode_utf8 p.0 ++ m)) (more p.1)) None)
 
 abbrev pub content_by : Parse (List ℕ) → Parse (List ℕ)
-content_by more s =
-    let rest = skip is_unescaped s in
-    let run = before rest s in
-    cond (is_utf8 run) (after_run more run rest) None
+content_by more s = run_at s >>= λ rest. after_run more (before rest s) rest
 
 -- the content of a string, after its opening quotation mark; the number bounds the escapes
 unfoldable pub content : ℕ → Parse (List ℕ)

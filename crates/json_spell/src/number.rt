@@ -82,6 +82,7 @@ fn after_number(bytes: &[u8]) -> Option<&[u8]>
 }
 
 // The number at the front, as it is spelled, and what follows it.
+#[tactic(auto, unfolding(crate::specs::Reading::number_at))]
 pub(crate) fn read_number(alloc: Global, bytes: &[u8]) -> Result<(Text, &[u8]), JsonFault>
     ensures read { Gives (λ p. (p.0, p.1.now)) result (number_at bytes.now) }
     ensures no_longer { IfOk result (λ p. length p.1.now ≤ length bytes.now) }

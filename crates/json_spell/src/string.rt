@@ -1,12 +1,12 @@
 // Reads a string: RFC 8259, section 7.
 
-ghost use Rattle.std.specs.Prelude.{◌≡◌, ◌≤◌, ◌<◌, ◌^◌, IsTrue, length, option_map, IfSome, IfOk};
+ghost use Rattle.std.specs.Prelude.{◌≡◌, ◌≤◌, ◌<◌, ◌^◌, IsTrue, length, option_map, IfSome, IfOk, ◌++◌, string_bytes};
 ghost use Rattle.std.specs.Char.{digit_value};
 ghost use Rattle.json_spell.specs.Text.{short_escape, code_unit, is_high_surrogate, is_low_surrogate};
-ghost use Rattle.json_spell.specs.Reading.{low_half, unicode_at, escape_at, content_at, name_at};
+ghost use Rattle.json_spell.specs.Reading.{before, run_at, low_half, unicode_at, escape_at, content_at};
 ghost use Rattle.json_spell.specs.Gives.{Gives};
 
-use crate::bytes::{before, skip_unescaped, utf8};
+use crate::bytes::{before, next, skip_unescaped, utf8};
 use crate::fault::JsonFault;
 use rdf_term::Text;
 use std::alloc::Global;
@@ -93,7 +93,22 @@ fn read_escape(bytes: &[u8]) -> Option<(char, &[u8])>
     }
 }
 
+// Puts the bytes up to the next quotation mark, backslash or control character to the content, and gives what follows.
+fn push_run<'a>(content: &mut String, bytes: &'a [u8]) -> Result<&'a [u8], JsonFault>
+    ensures read { Gives (λ rest. rest.now) result (run_at bytes.now) }
+    ensures pushed { IfOk result (λ rest. string_bytes content.new ≡ string_bytes content.old ++ before rest.now bytes.now) }
+    ensures no_longer { IfOk result (λ rest. length rest.now ≤ length bytes.now) }
+{
+    let rest = skip_unescaped(bytes);
+    let Some(run) = utf8(before(bytes, rest)) else {
+        return Err(JsonFault::NotJson);
+    };
+    content.push_str(run)?;
+    Ok(rest)
+}
+
 // The content of a string after its opening quotation mark, and what follows the closing one.
+#[tactic(auto, using(crate::proofs::ContentSteps::content_steps))]
 pub(crate) fn read_content(alloc: Global, bytes: &[u8]) -> Result<(Text, &[u8]), JsonFault>
     ensures read { Gives (λ p. (p.0, p.1.now)) result (content_at bytes.now) }
     ensures no_longer { IfOk result (λ p. length p.1.now ≤ length bytes.now) }
@@ -101,21 +116,20 @@ pub(crate) fn read_content(alloc: Global, bytes: &[u8]) -> Result<(Text, &[u8]),
     let mut content = String::new(alloc);
     let mut left = bytes;
     loop {
-        let rest = skip_unescaped(left);
-        let Some(run) = utf8(before(left, rest)) else {
+        let rest = push_run(&mut content, left)?;
+        let Some((byte, rest)) = next(rest) else {
             return Err(JsonFault::NotJson);
         };
-        content.push_str(run)?;
-        match rest {
-            [b'"', rest @ ..] => return Ok((Text::from_string(content), rest)),
-            [b'\\', rest @ ..] => {
-                let Some((character, rest)) = read_escape(rest) else {
-                    return Err(JsonFault::NotJson);
-                };
-                content.push(character)?;
-                left = rest;
-            }
-            _ => return Err(JsonFault::NotJson),
+        if byte == b'"' {
+            return Ok((Text::from_string(content), rest));
         }
+        if byte != b'\\' {
+            return Err(JsonFault::NotJson);
+        }
+        let Some((character, rest)) = read_escape(rest) else {
+            return Err(JsonFault::NotJson);
+        };
+        content.push(character)?;
+        left = rest;
     }
 }
