@@ -215,3 +215,7 @@ content-past (suc n) c s m r scalar_is h e =
     ∙ ap (λ q. after_run (content n) q (skip is_unescaped (x ++ s))) run_is
     ∙ ap (λ q. after_run (content n) (x ++ run) q) left_is
     ∙ after_run-past (content n) x run (skip is_unescaped s) m r g.1
+
+pub content_at-sound : (s m r : List ℕ) → content_at s ≡ Some (m, r) → Content s m r
+unfolding content_at
+content_at-sound s m r e = content-sound (suc (length s)) s m r e

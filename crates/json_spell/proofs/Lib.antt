@@ -4,3 +4,9 @@ pub mod Numbers
 pub mod Chars
 pub mod Contents
 pub mod ContentSteps
+pub mod Lists
+pub mod Values
+pub mod ValueSteps
+pub mod Complete
+pub mod GivesLemmas
+pub mod ListSteps

@@ -53,6 +53,10 @@ true_name = 0x74 ∷ 0x72 ∷ 0x75 ∷ 0x65 ∷ []
 abbrev pub false_name : List ℕ
 false_name = 0x66 ∷ 0x61 ∷ 0x6C ∷ 0x73 ∷ 0x65 ∷ []
 
+-- Section 4: member = string name-separator value.
+abbrev pub IsMember : List ℕ → (List ℕ → Type 0) → List ℕ → Type 0
+IsMember name Value text = Then (Spaced (IsString name)) (After 0x3A (Spaced Value)) text
+
 abbrev mutual
   -- Section 3: value = false / null / true / object / array / number / string.
   pub IsValue : Tree → List ℕ → Type 0
@@ -74,16 +78,15 @@ abbrev mutual
   AreMoreValues no_trees text = text ≡ []
   AreMoreValues (tree t ts) text = After 0x2C (Then (Spaced (IsValue t)) (AreMoreValues ts)) text
 
-  -- Section 4, between the brackets: [ member *( value-separator member ) ], with member = string name-separator value.
+  -- Section 4, between the brackets: [ member *( value-separator member ) ].
   pub AreMembers : Pairs → List ℕ → Type 0
   AreMembers no_pairs text = IsWs text
-  AreMembers (pair k t ps) text = Then (Then (Spaced (IsString k)) (After 0x3A (Spaced (IsValue t)))) (AreMoreMembers ps) text
+  AreMembers (pair k t ps) text = Then (IsMember k (IsValue t)) (AreMoreMembers ps) text
 
   -- *( value-separator member )
   pub AreMoreMembers : Pairs → List ℕ → Type 0
   AreMoreMembers no_pairs text = text ≡ []
-  AreMoreMembers (pair k t ps) text =
-      After 0x2C (Then (Then (Spaced (IsString k)) (After 0x3A (Spaced (IsValue t)))) (AreMoreMembers ps)) text
+  AreMoreMembers (pair k t ps) text = After 0x2C (Then (IsMember k (IsValue t)) (AreMoreMembers ps)) text
 
 -- Section 2: JSON-text = ws value ws.
 abbrev pub Reads : List ℕ → Tree → Type 0

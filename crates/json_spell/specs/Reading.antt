@@ -25,6 +25,11 @@ abbrev pub skip : (ℕ → Bool) → List ℕ → List ℕ
 skip test [] = []
 skip test (x ∷ s) = cond (test x) (skip test s) (x ∷ s)
 
+-- what follows a byte, where it stands at the front
+abbrev pub after_byte : ℕ → List ℕ → Option (List ℕ)
+after_byte byte [] = None
+after_byte byte (x ∷ s) = cond (x == byte) (Some s) None
+
 -- the bytes before what is left of them
 abbrev pub before : List ℕ → List ℕ → List ℕ
 before rest s = take (length s - length rest) s
@@ -100,15 +105,15 @@ content (suc n) s = content_by (content n) s
 unfoldable pub content_at : Parse (List ℕ)
 content_at s = content (suc (length s)) s
 
--- what follows a name, where it stands at the front
-abbrev pub after_name : List ℕ → List ℕ → Option (List ℕ)
-after_name [] s = Some s
-after_name (c ∷ cs) [] = None
-after_name (c ∷ cs) (x ∷ s) = cond (x == c) (after_name cs s) None
+-- what follows a word, where it stands at the front
+abbrev pub after_word : List ℕ → List ℕ → Option (List ℕ)
+after_word [] s = Some s
+after_word (c ∷ cs) [] = None
+after_word (c ∷ cs) (x ∷ s) = cond (x == c) (after_word cs s) None
 
 -- a value that a literal name stands for
 abbrev pub named : List ℕ → Tree → Parse Tree
-named name t s = option_map (λ rest. (t, rest)) (after_name name s)
+named name t s = option_map (λ rest. (t, rest)) (after_word name s)
 
 -- a literal name
 unfoldable pub literal_at : Parse Tree
@@ -132,26 +137,25 @@ unfoldable pub parts : {A L : Type 0} → Parse A → (A → L → L) → L → 
 parts part cons none close zero s = None
 parts part cons none close (suc n) s = parts_by part cons none close (parts part cons none close n) s
 
-abbrev pub closed : {L : Type 0} → L → Option (L × List ℕ) → ℕ → Parse L
-closed none more close [] = more
-closed none more close (x ∷ s) = cond (x == close) (Some (none, s)) more
+-- a list that closes at once, or else what its parts give
+abbrev pub closed : {L : Type 0} → L → Option (L × List ℕ) → Option (List ℕ) → Option (L × List ℕ)
+closed none more (Some rest) = Some (none, rest)
+closed none more None = more
 
 -- a list of parts after its opening bracket, which may be empty
 abbrev pub list_by : {L : Type 0} → L → ℕ → Parse L → Parse L
-list_by none close more s = closed none (more s) close (skip is_ws s)
+list_by none close more s = closed none (more s) (after_byte close (skip is_ws s))
 
 -- a name in quotation marks
-unfoldable pub name_at : Parse (List ℕ)
-name_at [] = None
-name_at (x ∷ s) = cond (x == 0x22) (content_at s) None
+abbrev pub name_at : Parse (List ℕ)
+name_at s = after_byte 0x22 s >>= content_at
 
 -- the value of a member, after its name
-abbrev pub after_key : Parse Tree → List ℕ → Parse (List ℕ × Tree)
-after_key value k [] = None
-after_key value k (x ∷ s) = cond (x == 0x3A) (read_map (λ t. (k, t)) (spaced value s)) None
+abbrev pub after_name : Parse Tree → List ℕ → Parse (List ℕ × Tree)
+after_name value name s = after_byte 0x3A s >>= λ rest. read_map (λ t. (name, t)) (spaced value rest)
 
 abbrev pub member_by : Parse Tree → Parse (List ℕ × Tree)
-member_by value s = spaced name_at s >>= λ p. after_key value p.0 p.1
+member_by value s = spaced name_at s >>= λ p. after_name value p.0 p.1
 
 abbrev pub add_pair : List ℕ × Tree → Pairs → Pairs
 add_pair p ps = pair p.0 p.1 ps
@@ -162,6 +166,10 @@ values value n = parts (spaced value) tree no_trees 0x5D n
 abbrev pub members : Parse Tree → ℕ → Parse Pairs
 members value n = parts (member_by value) add_pair no_pairs 0x7D n
 
+-- a literal name or a number
+unfoldable pub scalar_at : Parse Tree
+scalar_at s = first_there (literal_at s) (read_map number (number_at s))
+
 -- a value whose lists are read as given
 abbrev pub value_by : Parse Trees → Parse Pairs → Parse Tree
 value_by values members [] = None
@@ -169,7 +177,7 @@ value_by values members (x ∷ s) =
     cond (x == 0x22) (read_map string (content_at s))
     (cond (x == 0x5B) (read_map array (list_by no_trees 0x5D values s))
     (cond (x == 0x7B) (read_map object (list_by no_pairs 0x7D members s))
-    (first_there (literal_at (x ∷ s)) (read_map number (number_at (x ∷ s))))))
+    (scalar_at (x ∷ s))))
 
 -- a value, with nesting bounded by the number
 unfoldable pub value : ℕ → Parse Tree

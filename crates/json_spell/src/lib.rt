@@ -11,6 +11,7 @@ mod fault;
 mod json;
 mod number;
 mod string;
+mod value;
 
 pub use fault::JsonFault;
 pub use json::{Json, Member};
