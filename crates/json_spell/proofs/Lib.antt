@@ -10,3 +10,7 @@ pub mod ValueSteps
 pub mod Complete
 pub mod GivesLemmas
 pub mod ListSteps
+pub mod Depth
+pub mod Weights
+pub mod AnswerLemmas
+pub mod Members

@@ -9,9 +9,13 @@ mod bytes;
 mod deep;
 mod fault;
 mod json;
+mod laws;
 mod number;
+mod reader;
 mod string;
 mod value;
 
 pub use fault::JsonFault;
 pub use json::{Json, Member};
+pub use laws::{has_one_tree, weighs_no_more_than_text};
+pub use reader::read;

@@ -1,0 +1,20 @@
+// What holds of the grammar itself. Each law is the contract of a function that does nothing.
+
+ghost use Rattle.std.specs.Prelude.{◌≡◌, ℕ, ◌≤◌, List, length};
+ghost use Rattle.json_spell.specs.Tree.{Tree};
+ghost use Rattle.json_spell.specs.Grammar.{Reads};
+ghost use Rattle.json_spell.specs.Weight.{weight};
+
+/// A text has at most one value.
+#[tactic(auto, using(crate::proofs::Complete::one_tree))]
+pub fn has_one_tree()
+    ensures { (bytes : List ℕ) (t u : Tree) → Reads bytes t → Reads bytes u → t ≡ u }
+{
+}
+
+/// The strings, numbers and names of a value have together no more bytes than the text that it is read from.
+#[tactic(auto, using(crate::proofs::Weights::reads_weight))]
+pub fn weighs_no_more_than_text()
+    ensures { (bytes : List ℕ) (t : Tree) → Reads bytes t → weight t ≤ length bytes }
+{
+}
