@@ -19,3 +19,6 @@ pub use fault::JsonFault;
 pub use json::{Json, Member};
 pub use laws::{has_one_tree, weighs_no_more_than_text};
 pub use reader::read;
+
+#[cfg(test)]
+mod tests;
