@@ -1,9 +1,8 @@
 -- What the reader of a whole text answers, by what its part gave.
-use Rattle.std.proofs.Common.{◌≡◌, ℕ, List, [], Some, None, sym, ap, ◌∙◌}
+use Rattle.std.proofs.Common.{◌≡◌, ℕ, List, [], Some, sym, ap, ◌∙◌}
 use Rattle.json_spell.specs.declared.fault.JsonFault.{JsonFault}
 use Rattle.json_spell.specs.declared.fault.JsonFault.TheVariants.{Deep, NotJson, OutOfMemory}
 use Rattle.json_spell.specs.Tree.{Tree}
-use Rattle.json_spell.specs.Grammar.{Reads}
 use Rattle.json_spell.specs.Deep.{IsDeep}
 use Rattle.json_spell.specs.Reading.{spaced, value_at}
 use Rattle.json_spell.specs.Gives.{Refuses}

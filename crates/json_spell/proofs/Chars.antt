@@ -1,17 +1,10 @@
 -- Reading the content of a string finds exactly the strings of the grammar.
-use Rattle.std.proofs.Common.{◌≡◌, ℕ, zero, suc, ◌+◌, ◌-◌, ◌<◌, ◌≤◌, Bool, true, false, not, ◌||◌, ◌&&◌, ◌==◌, cond, List, [], ◌∷◌, ◌++◌, length, Option, Some, None, option_map, ◌⊎◌, inl, inr, ⊎_elim, refl, sym, ap, subst, ◌∙◌, arith, append_assoc, length-append}
-use Rattle.std.specs.Prelude.{encode_utf8}
-use Rattle.std.specs.Char.{IsScalar}
-use Rattle.std.specs.Str.{IsUtf8, is_utf8, encode_utf8_all}
-use lib.Utf8.{scalar, scalars}
-use Rattle.std.proofs.lemmas.Str.{IsUtf8-from_is_utf8, is_utf8-from_IsUtf8, IsUtf8-append, IsUtf8-encode, IsUtf8-nil, encode_ascii}
-use Rattle.std.proofs.lemmas.Bool.{cases_lt}
+use Rattle.std.proofs.Common.{◌≡◌, ℕ, Bool, true, false, ◌&&◌, ◌==◌, cond, List, [], ◌∷◌, ◌++◌, Option, Some, None, option_map, ⊎_elim, refl, ap, subst, arith}
+use lib.Utf8.{scalar}
 use Rattle.std.proofs.lemmas.Bool.Decides.{nat_tests}
-use Rattle.json_spell.specs.Number.{Each}
-use Rattle.json_spell.specs.Text.{Char, unescaped, short, unit, two, is_unescaped, short_escape, code_unit, is_high_surrogate, is_low_surrogate, surrogate_pair, IsChar, spelled, meant, AreChars, all_spelled, all_meant}
-use Rattle.json_spell.specs.Reading.{Parse, read_map, ◌>>=◌, skip, before, low_half, unicode_at, escape_at, after_run, content_by, content, content_at}
-use Rattle.json_spell.proofs.Opened.{some_is, bind_some, map_some, chosen, guarded, Found}
-use Rattle.json_spell.proofs.Skips.{skip-split, skip-le, before-append}
+use Rattle.json_spell.specs.Text.{Char, short, unit, two, short_escape, code_unit, is_high_surrogate, is_low_surrogate, surrogate_pair, IsChar, spelled, meant}
+use Rattle.json_spell.specs.Reading.{low_half, unicode_at, escape_at}
+use Rattle.json_spell.proofs.Opened.{some_is, bind_some, map_some, chosen, guarded}
 
 -- an escape after its backslash, with the char that it spells
 pub record Escape (s : List ℕ) (c : ℕ) (rest : List ℕ) : Type 0 where

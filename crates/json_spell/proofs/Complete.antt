@@ -1,16 +1,16 @@
 -- Each value of the grammar is read, so a text has at most one tree.
-use Rattle.std.proofs.Common.{◌≡◌, ℕ, zero, suc, ◌+◌, ◌<◌, ◌≤◌, Bool, true, false, not, ◌||◌, ◌==◌, cond, List, [], ◌∷◌, ◌++◌, length, Option, Some, None, ◌⊎◌, inl, inr, ⊎_elim, refl, sym, ap, subst, ◌∙◌, arith, append_assoc, append-nil, length-append}
+use Rattle.std.proofs.Common.{◌≡◌, ℕ, zero, suc, ◌+◌, ◌≤◌, Bool, true, false, not, ◌||◌, ◌==◌, List, [], ◌∷◌, ◌++◌, length, Some, None, ◌⊎◌, inl, inr, ⊎_elim, refl, sym, ap, subst, ◌∙◌, arith, append_assoc, append-nil, length-append}
 use Rattle.std.proofs.lemmas.Bool.Decides.{nat_tests}
-use Rattle.json_spell.specs.Tree.{Tree, null, boolean, number, string, array, object, Trees, no_trees, tree, Pairs, no_pairs, pair, first_there}
+use Rattle.json_spell.specs.Tree.{Tree, null, boolean, number, string, array, object, Trees, no_trees, tree, Pairs, no_pairs, pair}
 use Rattle.json_spell.specs.Number.{is_digit, is_digit1_9, is_minus, IsOptional, IsInt, IsNumber}
-use Rattle.json_spell.specs.Text.{IsString, all_spelled, all_meant}
-use Rattle.json_spell.specs.Grammar.{is_ws, IsWs, Spaced, Within, Then, After, IsMember, IsValue, AreValues, AreMoreValues, AreMembers, AreMoreMembers, Reads, null_name, true_name, false_name}
-use Rattle.json_spell.specs.Reading.{Parse, read_map, ◌>>=◌, skip, after_byte, content_at, after_word, named, literal_at, spaced, parts, list_by, name_at, after_name, member_by, add_pair, values, members, number_at, scalar_at, value_by, value, value_at}
-use Rattle.json_spell.proofs.Opened.{some_is, Found}
+use Rattle.json_spell.specs.Text.{IsString, all_spelled}
+use Rattle.json_spell.specs.Grammar.{is_ws, Spaced, Within, Then, IsValue, AreValues, AreMoreValues, AreMembers, AreMoreMembers, Reads, null_name, true_name, false_name}
+use Rattle.json_spell.specs.Reading.{Parse, read_map, skip, after_byte, content_at, literal_at, spaced, list_by, name_at, member_by, add_pair, values, members, number_at, scalar_at, value_by, value, value_at}
+use Rattle.json_spell.proofs.Opened.{some_is}
 use Rattle.json_spell.proofs.Skips.{stops, skip-all}
 use Rattle.json_spell.proofs.Numbers.{in_number, number_at-complete}
 use Rattle.json_spell.proofs.ContentSteps.{content_at-complete}
-use Rattle.json_spell.proofs.Lists.{Sound, Ends, Complete, Next, after_byte-complete, spaced-sound, spaced-complete, parts-complete, list-empty, list-parts}
+use Rattle.json_spell.proofs.Lists.{Ends, Complete, Next, spaced-sound, spaced-complete, parts-complete, list-empty, list-parts}
 use Rattle.json_spell.proofs.Values.{Member}
 use Rattle.json_spell.proofs.ValueSteps.{value_at-sound}
 
@@ -89,7 +89,7 @@ spaced-start P starts x r h =
     let whole : x ++ r ≡ h.before ++ (h.inside ++ (h.after ++ r)) = ap (λ q. q ++ r) h.is ∙ simp append_assoc in
     let start = starts h.inside (h.after ++ r) h.holds in
     let skipped : skip is_ws (x ++ r) ≡ h.inside ++ (h.after ++ r) =
-        ap (skip is_ws) whole ∙ skip-all is_ws h.before (h.inside ++ (h.after ++ r)) h.ws_before (start-no_ws (h.inside ++ (h.after ++ r)) start) in
+    ap (skip is_ws) whole ∙ skip-all is_ws h.before (h.inside ++ (h.after ++ r)) h.ws_before (start-no_ws (h.inside ++ (h.after ++ r)) start) in
     rw skipped start
 
 -- names and members

@@ -1,16 +1,13 @@
 -- Reading the content of a string misses no string of the grammar, and its bound on escapes never matters.
-use Rattle.std.proofs.Common.{◌≡◌, ℕ, zero, suc, ◌+◌, ◌/◌, ◌%◌, ◌<◌, ◌≤◌, Bool, true, false, ◌==◌, cond, List, [], ◌∷◌, ◌++◌, length, Option, Some, None, ⊎_elim, refl, sym, ap, subst, ◌∙◌, arith, append_assoc, length-append, ltb}
+use Rattle.std.proofs.Common.{◌≡◌, ℕ, zero, suc, ◌+◌, ◌/◌, ◌%◌, ◌<◌, ◌≤◌, Bool, true, false, ◌==◌, cond, List, [], ◌∷◌, ◌++◌, length, Option, Some, None, refl, sym, ap, ◌∙◌, arith, append_assoc, length-append, ltb}
 use lib.Utf8.{encode}
 use Rattle.std.specs.Str.{is_utf8}
-use Rattle.std.specs.Char.{IsScalar}
 use Rattle.std.proofs.lemmas.Str.{is_utf8-from_IsUtf8, IsUtf8-nil, len_utf8_bounds, length-encode}
-use Rattle.std.proofs.lemmas.Bool.Decides.{nat_tests}
 use Rattle.json_spell.specs.Number.{Each}
-use Rattle.json_spell.specs.Text.{Char, unescaped, short, unit, two, is_unescaped, surrogate_pair, IsChar, spelled, meant, AreChars, all_spelled, all_meant}
+use Rattle.json_spell.specs.Text.{Char, unescaped, short, unit, two, is_unescaped, surrogate_pair, AreChars, all_spelled, all_meant}
 use Rattle.json_spell.specs.Reading.{Parse, read_map, ◌>>=◌, skip, before, escape_at, after_run, run_at, content_by, content, content_at}
-use Rattle.json_spell.proofs.Opened.{some_is}
 use Rattle.json_spell.proofs.Skips.{skip-le, before-append}
-use Rattle.json_spell.proofs.Chars.{Escape, escape-sound, short-complete, unit-complete, two-complete}
+use Rattle.json_spell.proofs.Chars.{escape-sound, short-complete, unit-complete, two-complete}
 use Rattle.json_spell.proofs.Contents.{high-unescaped, content-past, content_by-step}
 
 -- each byte of an unescaped character is one that stands for itself

@@ -1,17 +1,17 @@
 -- Reading the content of a string, run by run, finds exactly the strings of the grammar.
-use Rattle.std.proofs.Common.{◌≡◌, ℕ, zero, suc, ◌+◌, ◌-◌, ◌<◌, ◌≤◌, Bool, true, false, not, ◌||◌, ◌&&◌, ◌==◌, cond, List, [], ◌∷◌, ◌++◌, length, Option, Some, None, option_map, ◌⊎◌, inl, inr, ⊎_elim, refl, sym, ap, subst, ◌∙◌, arith, append_assoc, append-nil, length-append}
+use Rattle.std.proofs.Common.{◌≡◌, ℕ, zero, suc, ◌<◌, ◌≤◌, Bool, true, false, ◌&&◌, ◌==◌, cond, List, [], ◌∷◌, ◌++◌, length, Option, Some, None, ⊎_elim, refl, sym, ap, subst, ◌∙◌, arith, append_assoc, append-nil}
 use Rattle.std.specs.Prelude.{encode_utf8}
 use Rattle.std.specs.Char.{IsScalar}
-use Rattle.std.specs.Str.{IsUtf8, is_utf8, encode_utf8_all}
+use Rattle.std.specs.Str.{is_utf8, encode_utf8_all}
 use lib.Utf8.{scalar, scalars}
-use Rattle.std.proofs.lemmas.Str.{IsUtf8-from_is_utf8, is_utf8-from_IsUtf8, IsUtf8-append, IsUtf8-encode, IsUtf8-nil, encode_ascii}
+use Rattle.std.proofs.lemmas.Str.{IsUtf8-from_is_utf8, is_utf8-from_IsUtf8, IsUtf8-append, IsUtf8-encode, encode_ascii}
 use Rattle.std.proofs.lemmas.Bool.{cases_lt}
 use Rattle.std.proofs.lemmas.Bool.Decides.{nat_tests}
 use Rattle.json_spell.specs.Number.{Each}
-use Rattle.json_spell.specs.Text.{Char, unescaped, is_unescaped, IsChar, spelled, meant, AreChars, all_spelled, all_meant}
+use Rattle.json_spell.specs.Text.{Char, unescaped, is_unescaped, spelled, meant, AreChars, all_spelled, all_meant}
 use Rattle.json_spell.specs.Reading.{Parse, read_map, ◌>>=◌, skip, before, escape_at, after_run, run_at, content_by, content, content_at}
-use Rattle.json_spell.proofs.Opened.{some_is, bind_some, map_some, chosen, guarded, Found}
-use Rattle.json_spell.proofs.Skips.{skip-split, skip-le, before-append}
+use Rattle.json_spell.proofs.Opened.{some_is, bind_some, map_some, chosen, guarded}
+use Rattle.json_spell.proofs.Skips.{skip-split, before-append}
 use Rattle.json_spell.proofs.Chars.{Escape, escape-sound}
 
 -- chars with the bytes that they take and the bytes that they stand for
@@ -24,11 +24,11 @@ pub record Spells (text means : List ℕ) : Type 0 where
 -- chars one after another
 spells-append : {s t m n : List ℕ} → Spells s m → Spells t n → Spells (s ++ t) (m ++ n)
 spells-append {s} {t} {m} {n} f g = record {
-    chars = f.chars ++ g.chars;
-    are_chars = both f.chars f.are_chars;
-    text_is = rw (f.text_is, g.text_is) (sym (spelled-append f.chars));
-    means_is = rw (f.means_is, g.means_is) (sym (meant-append f.chars));
-  }
+  chars = f.chars ++ g.chars;
+  are_chars = both f.chars f.are_chars;
+  text_is = rw (f.text_is, g.text_is) (sym (spelled-append f.chars));
+  means_is = rw (f.means_is, g.means_is) (sym (meant-append f.chars));
+}
   where
     both : (ps : List Char) → AreChars ps → AreChars (ps ++ g.chars)
     both [] h = g.are_chars
@@ -84,11 +84,11 @@ run-spells run u h =
 
 escape-spells : (s : List ℕ) (c : ℕ) (r : List ℕ) (e : Escape s c r) → Spells (0x5C ∷ e.tail) (encode_utf8 c)
 escape-spells s c r e = record {
-    chars = e.char ∷ [];
-    are_chars = (e.holds, tt);
-    text_is = sym e.spells ∙ sym (append-nil (spelled e.char));
-    means_is = ap encode_utf8 (sym e.means) ∙ sym (append-nil (encode_utf8 (meant e.char)));
-  }
+  chars = e.char ∷ [];
+  are_chars = (e.holds, tt);
+  text_is = sym e.spells ∙ sym (append-nil (spelled e.char));
+  means_is = ap encode_utf8 (sym e.means) ∙ sym (append-nil (encode_utf8 (meant e.char)));
+}
 
 -- the content of a string up to its closing quotation mark, and what follows
 pub record Content (s m r : List ℕ) : Type 0 where
@@ -167,7 +167,7 @@ before-past x s test =
     let f = skip-split test s in
     let run_is : before (skip test s) s ≡ f.text = ap (λ q. before (skip test s) q) f.is ∙ before-append f.text (skip test s) in
     let whole : before (skip test s) (x ++ s) ≡ x ++ f.text =
-        ap (λ q. before (skip test s) (x ++ q)) f.is ∙ ap (λ q. before (skip test s) q) (sym (append_assoc x f.text (skip test s))) ∙ before-append (x ++ f.text) (skip test s) in
+    ap (λ q. before (skip test s) (x ++ q)) f.is ∙ ap (λ q. before (skip test s) q) (sym (append_assoc x f.text (skip test s))) ∙ before-append (x ++ f.text) (skip test s) in
     whole ∙ ap (λ q. x ++ q) (sym run_is)
 
 -- more bytes before a run stand before the content

@@ -1,6 +1,5 @@
 -- What each step over a part makes of the parts that were read before it.
-use Rattle.std.proofs.Common.{◌≡◌, ℕ, Bool, true, false, ◌==◌, cond, List, [], ◌∷◌, ◌++◌, map, Option, Some, None, option_map, Bor, refl, sym, ap, ◌∙◌}
-use Rattle.std.proofs.lemmas.List.{map-append}
+use Rattle.std.proofs.Common.{◌≡◌, ℕ, true, false, ◌==◌, List, [], ◌∷◌, ◌++◌, Option, Some, None, option_map, Bor, refl, sym, ap, ◌∙◌}
 use Rattle.json_spell.specs.Grammar.{is_ws}
 use Rattle.json_spell.specs.Reading.{Parse, read_map, ◌>>=◌, skip, after_byte, after_part, parts_by, closed, list_by}
 

@@ -1,11 +1,10 @@
 -- Reading parts with separators between them finds exactly the lists of the grammar, for arrays and objects alike.
-use Rattle.std.proofs.Common.{◌≡◌, ℕ, zero, suc, ◌+◌, ◌<◌, ◌≤◌, Bool, true, false, not, ◌==◌, cond, List, [], ◌∷◌, ◌++◌, length, Option, Some, None, option_map, ◌⊎◌, inl, inr, ⊎_elim, refl, sym, ap, subst, ◌∙◌, arith, append_assoc, append-nil, length-append}
+use Rattle.std.proofs.Common.{◌≡◌, ℕ, zero, suc, ◌+◌, ◌<◌, ◌≤◌, true, false, not, ◌==◌, cond, List, [], ◌∷◌, ◌++◌, length, Option, Some, None, ◌⊎◌, ⊎_elim, refl, sym, ap, subst, ◌∙◌, arith, append_assoc, append-nil, length-append}
 use Rattle.std.proofs.lemmas.Bool.Decides.{nat_tests}
-use Rattle.json_spell.specs.Number.{Each}
 use Rattle.json_spell.specs.Grammar.{is_ws, IsWs, Spaced, Then, After}
-use Rattle.json_spell.specs.Reading.{Parse, read_map, ◌>>=◌, skip, after_byte, spaced, after_part, parts_by, parts, closed, list_by}
+use Rattle.json_spell.specs.Reading.{Parse, read_map, ◌>>=◌, skip, after_byte, spaced, after_part, parts, closed, list_by}
 use Rattle.json_spell.proofs.Opened.{some_is, bind_some, map_some, chosen, guarded, Found}
-use Rattle.json_spell.proofs.Skips.{stops, skip-split, skip-all, skip-stops, skip-le}
+use Rattle.json_spell.proofs.Skips.{stops, skip-split, skip-all}
 use Rattle.json_spell.proofs.Numbers.{in_number}
 
 -- what is read is of the grammar

@@ -1,10 +1,10 @@
 -- Reading a number finds exactly the numbers of the grammar.
-use Rattle.std.proofs.Common.{◌≡◌, ℕ, ◌+◌, ◌<◌, Bool, true, false, not, ◌||◌, ◌==◌, cond, List, [], ◌∷◌, ◌++◌, Some, None, ◌⊎◌, inl, inr, ⊎_elim, refl, sym, ap, subst, ◌∙◌, arith, append_assoc}
-use Rattle.std.specs.Str.{IsUtf8, is_utf8, IsAscii}
+use Rattle.std.proofs.Common.{◌≡◌, ℕ, ◌<◌, Bool, true, false, not, ◌||◌, ◌==◌, cond, List, [], ◌∷◌, ◌++◌, Some, None, inl, inr, ⊎_elim, refl, sym, ap, subst, ◌∙◌, arith, append_assoc}
+use Rattle.std.specs.Str.{is_utf8, IsAscii}
 use Rattle.std.proofs.lemmas.Str.{IsUtf8-from_ascii, is_utf8-from_IsUtf8, IsAscii-append}
 use Rattle.std.proofs.lemmas.Str.Ascii.{IsAscii-nil, IsAscii-cons}
 use Rattle.std.proofs.lemmas.Bool.Decides.{nat_tests}
-use Rattle.json_spell.specs.Number.{Each, is_digit, is_digit1_9, is_minus, is_sign, is_point, is_e, AreDigits, IsOptional, IsInt, IsFrac, AreSignedDigits, IsExp, IsNumber}
+use Rattle.json_spell.specs.Number.{Each, is_digit, is_digit1_9, is_minus, is_sign, is_point, is_e, AreDigits, IsOptional, IsInt, IsFrac, IsExp, IsNumber}
 use Rattle.json_spell.specs.Reading.{skip, skip_one, before, after_digits, after_int, after_frac, after_exp, after_number, number_at}
 use Rattle.json_spell.proofs.Opened.{some_is, bind_some, map_some, chosen, guarded, Found}
 use Rattle.json_spell.proofs.Skips.{stops, skip-split, skip-all, skip_one-split, skip_one-all, before-append}
@@ -181,9 +181,12 @@ number-complete x r h e =
     let is : x ++ r ≡ h.minus ++ after_i = rw (h.is) (simp append_assoc) in
     let no_digit : stops is_digit after_e ≡ true = exp-start is_digit e-no_digit h.exp r h.exp_holds (ends-digits r e) in
     let no_point : stops is_point after_e ≡ true = exp-start is_point e-no_point h.exp r h.exp_holds (ends-point r e) in
-    rw (is, skip_one-all is_minus h.minus after_i h.optional_minus (int-start h.int after_f h.int_holds),
-        int-complete h.int after_f h.int_holds (frac-start h.frac after_e h.frac_holds no_digit),
-        frac-complete h.frac after_e h.frac_holds no_point no_digit)
+    rw (
+      is,
+      skip_one-all is_minus h.minus after_i h.optional_minus (int-start h.int after_f h.int_holds),
+      int-complete h.int after_f h.int_holds (frac-start h.frac after_e h.frac_holds no_digit),
+      frac-complete h.frac after_e h.frac_holds no_point no_digit,
+    )
     (exp-complete h.exp r h.exp_holds e)
 
 -- what is read as a number is one, and the bytes before the rest are its text

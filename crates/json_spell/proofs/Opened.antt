@@ -1,5 +1,5 @@
 -- What the result of a step says about the steps that led to it.
-use Rattle.std.proofs.Common.{◌≡◌, ℕ, Bool, true, false, cond, List, ◌++◌, Option, Some, None, option_map, option_and_then, ◌⊎◌, inl, inr, refl, sym, ap, ◌∙◌}
+use Rattle.std.proofs.Common.{◌≡◌, ℕ, Bool, true, false, cond, List, ◌++◌, Option, Some, None, option_map, ◌⊎◌, inl, inr, refl}
 use Rattle.json_spell.specs.Reading.{◌>>=◌}
 
 -- Some is one-to-one

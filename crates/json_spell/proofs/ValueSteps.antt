@@ -1,5 +1,5 @@
 -- The bound on nesting never matters, so a value is read by one step and then the same again.
-use Rattle.std.proofs.Common.{◌≡◌, ℕ, zero, suc, ◌+◌, ◌<◌, ◌≤◌, Bool, true, false, ◌==◌, List, [], ◌∷◌, ◌++◌, length, Option, Some, None, refl, sym, ap, ◌∙◌, arith}
+use Rattle.std.proofs.Common.{◌≡◌, ℕ, zero, suc, ◌<◌, ◌≤◌, false, ◌==◌, List, [], ◌∷◌, length, Option, Some, None, refl, sym, ap, ◌∙◌, arith}
 use Rattle.json_spell.specs.Tree.{Tree, string, array, object, Trees, no_trees, tree, Pairs, no_pairs}
 use Rattle.json_spell.specs.Text.{IsString}
 use Rattle.json_spell.specs.Grammar.{is_ws, Spaced, IsValue}

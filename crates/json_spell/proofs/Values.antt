@@ -1,14 +1,13 @@
 -- What is read as a value is a value of the grammar.
-use Rattle.std.proofs.Common.{◌≡◌, ℕ, zero, suc, ◌+◌, ◌<◌, ◌≤◌, Bool, true, false, ◌==◌, cond, List, [], ◌∷◌, ◌++◌, length, Option, Some, None, option_map, ◌⊎◌, inl, inr, ⊎_elim, refl, sym, ap, subst, ◌∙◌, arith, append_assoc, append-nil, length-append}
+use Rattle.std.proofs.Common.{◌≡◌, ℕ, zero, suc, Bool, true, false, ◌==◌, cond, List, [], ◌∷◌, ◌++◌, Option, Some, None, ◌⊎◌, inl, inr, ⊎_elim, refl, ap, subst, ◌∙◌, arith, append_assoc}
 use Rattle.std.proofs.lemmas.Bool.Decides.{nat_tests}
-use Rattle.json_spell.specs.Tree.{Tree, null, boolean, number, string, array, object, Trees, no_trees, tree, Pairs, no_pairs, pair, first_there}
-use Rattle.json_spell.specs.Number.{IsNumber}
-use Rattle.json_spell.specs.Text.{IsString, all_spelled}
-use Rattle.json_spell.specs.Grammar.{Spaced, Within, Then, After, IsMember, IsValue, AreValues, AreMoreValues, AreMembers, AreMoreMembers, null_name, true_name, false_name}
-use Rattle.json_spell.specs.Reading.{Parse, read_map, ◌>>=◌, after_byte, content_at, after_word, named, literal_at, spaced, list_by, name_at, after_name, member_by, add_pair, values, members, number_at, scalar_at, value_by, value}
+use Rattle.json_spell.specs.Tree.{Tree, null, boolean, number, string, array, object, Trees, no_trees, tree, Pairs, no_pairs, first_there}
+use Rattle.json_spell.specs.Text.{IsString}
+use Rattle.json_spell.specs.Grammar.{Spaced, IsMember, IsValue, AreValues, AreMoreValues, AreMembers, AreMoreMembers, null_name, true_name, false_name}
+use Rattle.json_spell.specs.Reading.{Parse, read_map, after_byte, content_at, after_word, named, literal_at, spaced, list_by, name_at, member_by, add_pair, values, members, number_at, scalar_at, value_by, value}
 use Rattle.json_spell.proofs.Opened.{some_is, bind_some, map_some, chosen, Found}
 use Rattle.json_spell.proofs.Numbers.{number_at-sound}
-use Rattle.json_spell.proofs.Contents.{Content, content_at-sound}
+use Rattle.json_spell.proofs.Contents.{content_at-sound}
 use Rattle.json_spell.proofs.Lists.{Sound, Listed, after_byte-sound, spaced-sound, parts-sound, list-sound}
 
 -- literal names

@@ -1,5 +1,5 @@
 -- The texts of a tree are no longer than the bytes that it is read from.
-use Rattle.std.proofs.Common.{◌≡◌, ℕ, suc, ◌+◌, ◌<◌, ◌≤◌, ◌==◌, ◌||◌, Bool, true, false, cond, List, [], ◌∷◌, ◌++◌, length, Option, Some, None, ⊎_elim, refl, sym, ap, subst, ◌∙◌, arith, length-append}
+use Rattle.std.proofs.Common.{◌≡◌, ℕ, suc, ◌+◌, ◌<◌, ◌≤◌, ◌==◌, ◌||◌, true, false, List, [], ◌∷◌, ◌++◌, length, Some, None, ⊎_elim, ap, ◌∙◌, arith, length-append}
 use lib.Utf8.{encode}
 use Rattle.std.proofs.lemmas.Str.{length-encode, len_utf8_bounds, len_utf8_ascii}
 use Rattle.std.proofs.lemmas.Bool.Decides.{nat_tests}
@@ -72,8 +72,15 @@ member-weight k t x value h =
     let name = h.holds in
     let rest = h.then_holds in
     let body = rest.holds in
-    omega (arith, then-long (Spaced (IsString k)) (After 0x3A (Spaced (IsValue t))) x h, after-long 0x3A (Spaced (IsValue t)) h.second rest,
-        spaced-long (IsString k) h.first name, spaced-long (IsValue t) rest.rest body, string-weight k name.inside name.holds, value body.inside body.holds)
+    omega (
+      arith,
+      then-long (Spaced (IsString k)) (After 0x3A (Spaced (IsValue t))) x h,
+      after-long 0x3A (Spaced (IsValue t)) h.second rest,
+      spaced-long (IsString k) h.first name,
+      spaced-long (IsValue t) rest.rest body,
+      string-weight k name.inside name.holds,
+      value body.inside body.holds,
+    )
 
 mutual
   pub value-weight : (t : Tree) (x : List ℕ) → IsValue t x → weight t ≤ length x
@@ -96,8 +103,14 @@ mutual
   more_values-weight (tree t ts) x h =
       let parts = h.holds in
       let first = parts.holds in
-      omega (arith, after-long 0x2C (Then (Spaced (IsValue t)) (AreMoreValues ts)) x h, then-long (Spaced (IsValue t)) (AreMoreValues ts) h.rest parts,
-          spaced-long (IsValue t) parts.first first, value-weight t first.inside first.holds, more_values-weight ts parts.second parts.then_holds)
+      omega (
+        arith,
+        after-long 0x2C (Then (Spaced (IsValue t)) (AreMoreValues ts)) x h,
+        then-long (Spaced (IsValue t)) (AreMoreValues ts) h.rest parts,
+        spaced-long (IsValue t) parts.first first,
+        value-weight t first.inside first.holds,
+        more_values-weight ts parts.second parts.then_holds,
+      )
 
   members-weight : (ps : Pairs) (x : List ℕ) → AreMembers ps x → members_weight ps ≤ length x
   members-weight no_pairs x h = omega arith
@@ -108,8 +121,13 @@ mutual
   more_members-weight no_pairs x h = omega arith
   more_members-weight (pair k t ps) x h =
       let parts = h.holds in
-      omega (arith, after-long 0x2C (Then (IsMember k (IsValue t)) (AreMoreMembers ps)) x h, then-long (IsMember k (IsValue t)) (AreMoreMembers ps) h.rest parts,
-          member-weight k t parts.first (λ y i. value-weight t y i) parts.holds, more_members-weight ps parts.second parts.then_holds)
+      omega (
+        arith,
+        after-long 0x2C (Then (IsMember k (IsValue t)) (AreMoreMembers ps)) x h,
+        then-long (IsMember k (IsValue t)) (AreMoreMembers ps) h.rest parts,
+        member-weight k t parts.first (λ y i. value-weight t y i) parts.holds,
+        more_members-weight ps parts.second parts.then_holds,
+      )
 
 pub reads_weight : (bytes : List ℕ) (t : Tree) → Reads bytes t → weight t ≤ length bytes
 reads_weight bytes t h = omega (arith, spaced-long (IsValue t) bytes h, value-weight t h.inside h.holds)

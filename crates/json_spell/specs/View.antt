@@ -1,5 +1,5 @@
 -- The tree that a `Json` stands for.
-use Rattle.std.specs.Prelude.{ℕ, List, [], ◌∷◌, map}
+use Rattle.std.specs.Prelude.{ℕ, List, [], ◌∷◌}
 use Rattle.json_spell.specs.declared.json.Json.{Json, fold-Json}
 use Rattle.json_spell.specs.declared.json.Json.TheOpen.{Json-F, Member-F}
 use Rattle.json_spell.specs.declared.json.Member.{Member, fold-Member}

@@ -9,12 +9,10 @@ ghost use Rattle.json_spell.specs.Weight.{weight};
 #[tactic(auto, using(crate::proofs::Complete::one_tree))]
 pub fn has_one_tree()
     ensures { (bytes : List ℕ) (t u : Tree) → Reads bytes t → Reads bytes u → t ≡ u }
-{
-}
+{}
 
 /// The strings, numbers and names of a value have together no more bytes than the text that it is read from.
 #[tactic(auto, using(crate::proofs::Weights::reads_weight))]
 pub fn weighs_no_more_than_text()
     ensures { (bytes : List ℕ) (t : Tree) → Reads bytes t → weight t ≤ length bytes }
-{
-}
+{}

@@ -52,18 +52,31 @@ fn reads_texts(rt: HostRuntime) -> Result<(), Fail> {
         ("[1.50,\"\\u0041\"]", "[#1.50 'A' ]"),
         (" \t\r\n null \t\r\n ", "null"),
         ("[true,false]", "[true false ]"),
-        ("[0,-0,-0.0,10,1E+400,0e-0,1.0,12345678901234567890]", "[#0 #-0 #-0.0 #10 #1E+400 #0e-0 #1.0 #12345678901234567890 ]"),
+        (
+            "[0,-0,-0.0,10,1E+400,0e-0,1.0,12345678901234567890]",
+            "[#0 #-0 #-0.0 #10 #1E+400 #0e-0 #1.0 #12345678901234567890 ]",
+        ),
         ("[]", "[]"),
         ("[ ]", "[]"),
         ("{ }", "{}"),
-        ("{\"\":{},\"a\":1,\"a\":[ 2 , 3 ]}", "{={} a=#1 a=[#2 #3 ] }"),
+        (
+            "{\"\":{},\"a\":1,\"a\":[ 2 , 3 ]}",
+            "{={} a=#1 a=[#2 #3 ] }",
+        ),
         ("\"\"", "''"),
         ("\"\\\"\\\\\\/\\b\\f\\n\\r\\t\"", "'\"\\/\u{8}\u{c}\n\r\t'"),
         ("\"\\u00e9\\u20AC\\u0000\"", "'\u{e9}\u{20ac}\0'"),
         ("\"\\uD834\\udd1e\\uDBFF\\uDFFF\"", "'\u{1d11e}\u{10ffff}'"),
-        ("\"\u{7f}\u{e9}\u{2028}\u{ffff}\u{1d11e}\"", "'\u{7f}\u{e9}\u{2028}\u{ffff}\u{1d11e}'"),
+        (
+            "\"\u{7f}\u{e9}\u{2028}\u{ffff}\u{1d11e}\"",
+            "'\u{7f}\u{e9}\u{2028}\u{ffff}\u{1d11e}'",
+        ),
     ] {
-        assert_eq!(rt; shown(rt.alloc(), text.as_bytes())?.as_str(), want, "at {text}");
+        assert_eq!(rt;
+            shown(rt.alloc(), text.as_bytes())?.as_str(),
+            want,
+            "at {text}"
+        );
     }
     Ok(())
 }
@@ -71,11 +84,60 @@ fn reads_texts(rt: HostRuntime) -> Result<(), Fail> {
 #[test]
 fn refuses_what_is_no_text(rt: HostRuntime) {
     for text in [
-        "", " ", "[01]", "-01", "-", "1.", ".5", "1e", "1e+", "+1", "0x1", "1.5.2", "NaN", "nul", "nulll", "True", "\"",
-        "\"a", "\"\\\"", "\"\\x\"", "\"\\U0041\"", "\"\\u12\"", "\"\\u12G4\"", "\"\\ud800\"", "\"\\udc00\"",
-        "\"\\ud800\\u0041\"", "\"\\ud800x\"", "\"\\ud800\\ud800\"", "\"\t\"", "\"\n\"", "\"\0\"", "[1,]", "[,1]",
-        "[1 2]", "[", "]", "{", "{\"a\"}", "{\"a\":}", "{\"a\":1,}", "{a:1}", "{1:1}", "{\"a\" 1}", "{\"a\":1 \"b\":2}",
-        "1 2", "[][]", "'a'", "/**/1", "\u{feff}1", "\u{c}1", "\u{a0}1", "[1]]", "[1}", "{\"a\":1]",
+        "",
+        " ",
+        "[01]",
+        "-01",
+        "-",
+        "1.",
+        ".5",
+        "1e",
+        "1e+",
+        "+1",
+        "0x1",
+        "1.5.2",
+        "NaN",
+        "nul",
+        "nulll",
+        "True",
+        "\"",
+        "\"a",
+        "\"\\\"",
+        "\"\\x\"",
+        "\"\\U0041\"",
+        "\"\\u12\"",
+        "\"\\u12G4\"",
+        "\"\\ud800\"",
+        "\"\\udc00\"",
+        "\"\\ud800\\u0041\"",
+        "\"\\ud800x\"",
+        "\"\\ud800\\ud800\"",
+        "\"\t\"",
+        "\"\n\"",
+        "\"\0\"",
+        "[1,]",
+        "[,1]",
+        "[1 2]",
+        "[",
+        "]",
+        "{",
+        "{\"a\"}",
+        "{\"a\":}",
+        "{\"a\":1,}",
+        "{a:1}",
+        "{1:1}",
+        "{\"a\" 1}",
+        "{\"a\":1 \"b\":2}",
+        "1 2",
+        "[][]",
+        "'a'",
+        "/**/1",
+        "\u{feff}1",
+        "\u{c}1",
+        "\u{a0}1",
+        "[1]]",
+        "[1}",
+        "{\"a\":1]",
     ] {
         let answer = read(rt.alloc(), text.as_bytes());
         assert!(rt; matches!(&answer, Err(JsonFault::NotJson)), "at {text}");
@@ -95,7 +157,12 @@ fn refuses_what_is_no_text(rt: HostRuntime) {
 }
 
 // `closing` times `]`, and then `opening` times `[` and `end`.
-fn brackets(alloc: Global, closing: usize, opening: usize, end: &str) -> Result<String, AllocError> {
+fn brackets(
+    alloc: Global,
+    closing: usize,
+    opening: usize,
+    end: &str,
+) -> Result<String, AllocError> {
     let mut text = String::new(alloc);
     for _ in 0..closing {
         text.push_str("]")?;
@@ -123,7 +190,11 @@ fn counts_brackets(rt: HostRuntime) -> Result<(), Fail> {
         let text = brackets(alloc, closing, opening, end)?;
         let answer = read(alloc, text.as_bytes());
         let fault = answer.err();
-        let want = if deep { JsonFault::Deep } else { JsonFault::NotJson };
+        let want = if deep {
+            JsonFault::Deep
+        } else {
+            JsonFault::NotJson
+        };
         assert_eq!(rt; fault, Some(want), "at {closing} {opening} {end}");
     }
     let mut nested = brackets(alloc, 0, 64, "")?;

@@ -1,7 +1,7 @@
 -- The bytes of a number are a text, so the exit for bytes that are none is never taken.
-use Rattle.std.proofs.Common.{◌≡◌, Some, true, false, sym, ap, ◌∙◌}
+use Rattle.std.proofs.Common.{◌≡◌, true, false, sym, ap, ◌∙◌}
 use Rattle.std.specs.Str.{is_utf8}
-use Rattle.json_spell.specs.Reading.{before, after_number}
+use Rattle.json_spell.specs.Reading.{before}
 use Rattle.json_spell.proofs.Numbers.{number_at-utf8}
 use Rattle.json_spell.proofs.number.read_number.Goals as goal
 

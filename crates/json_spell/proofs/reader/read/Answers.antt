@@ -1,5 +1,5 @@
 -- The scan decides what is deep, and then the value and what is left behind it.
-use Rattle.std.proofs.Common.{◌≡◌, ◌==◌, [], length, Some, true, false, sym, ap, ◌∙◌, arith}
+use Rattle.std.proofs.Common.{◌≡◌, ◌==◌, length, Some, true, false, sym, ap, ◌∙◌, arith}
 use Rattle.std.proofs.lemmas.List.{nil_from_length}
 use Rattle.std.proofs.lemmas.Result.{err_from_is_err_and}
 use Rattle.std.proofs.lemmas.Bool.Decides.{nat_tests}

@@ -1,5 +1,5 @@
 -- Each way through the loop is a step of the content.
-use Rattle.std.proofs.Common.{◌≡◌, ◌∷◌, ◌++◌, ◌==◌, Some, true, false, sym, ap, ◌∙◌, arith, rules}
+use Rattle.std.proofs.Common.{◌≡◌, ◌∷◌, ◌++◌, ◌==◌, false, sym, ap, ◌∙◌, arith, rules}
 use Rattle.std.specs.Prelude.{encode_utf8}
 use Rattle.std.specs.String.{string_bytes}
 use Rattle.std.proofs.lemmas.Bool.Decides.{nat_tests}

@@ -1,12 +1,12 @@
 -- Each way through the readers is a step of the grammar's.
-use Rattle.std.proofs.Common.{◌≡◌, ◌∷◌, ◌++◌, ◌==◌, ℕ, List, [], Some, None, true, false, map, option_map, refl, sym, ap, ◌∙◌, arith, rules}
+use Rattle.std.proofs.Common.{◌≡◌, ◌∷◌, ◌++◌, ◌==◌, ℕ, List, [], Some, true, false, map, refl, sym, ap, ◌∙◌, arith, rules}
 use Rattle.std.proofs.lemmas.Result.{err_from_is_err_and}
 use Rattle.std.proofs.lemmas.Bool.Decides.{nat_tests}
 use Rattle.std.proofs.lemmas.List.{map-append}
 use Rattle.json_spell.specs.declared.json.Json.{the_lemmas}
 use Rattle.json_spell.specs.Tree.{Tree, no_trees, tree, no_pairs, string, array, object}
 use Rattle.json_spell.specs.View.{json_view, member_view, trees_of, pairs_of}
-use Rattle.json_spell.specs.Reading.{read_map, content_at, list_by, add_pair, spaced, member_by, value_at, values_at, members_at, scalar_at}
+use Rattle.json_spell.specs.Reading.{read_map, content_at, list_by, add_pair, spaced, member_by, value_at, values_at, members_at}
 use Rattle.json_spell.proofs.GivesLemmas.{Refuses-passed}
 use Rattle.json_spell.proofs.ListSteps.{onto, list_by-open, so-none, so-end, so-other, so-closed, so-more}
 use Rattle.json_spell.proofs.ValueSteps.{value_at-end, value_at-string, value_at-array, value_at-object, value_at-scalar, values_at-is, members_at-is}

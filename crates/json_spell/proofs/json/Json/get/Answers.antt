@@ -3,7 +3,6 @@ use Rattle.std.proofs.Common.{◌≡◌, map, reverse, option_map, sym, ap, ◌�
 use Rattle.std.specs.List.{find}
 use Rattle.std.specs.Str.{bytes_eq}
 use Rattle.json_spell.specs.declared.json.Json.{the_lemmas}
-use Rattle.json_spell.specs.declared.json.Member.{Member}
 use Rattle.json_spell.specs.Tree.{object, member_of}
 use Rattle.json_spell.specs.View.{json_view, member_view, pairs_of}
 use Rattle.json_spell.proofs.Members.{found-last}
