@@ -2,7 +2,7 @@
 use Rattle.std.proofs.Common.{◌≡◌, ℕ, Bool, true, false, ◌&&◌, ◌==◌, cond, List, [], ◌∷◌, ◌++◌, Option, Some, None, option_map, ⊎_elim, refl, ap, subst, arith}
 use lib.Utf8.{scalar}
 use Rattle.std.proofs.lemmas.Bool.Decides.{nat_tests}
-use Rattle.json_spell.specs.Text.{Char, short, unit, two, short_escape, code_unit, is_high_surrogate, is_low_surrogate, surrogate_pair, IsChar, spelled, meant}
+use Rattle.json_spell.specs.Text.{Char, short, unicode, surrogates, short_escape, code_unit, is_high_surrogate, is_low_surrogate, surrogate_pair, IsChar, spelled, meant}
 use Rattle.json_spell.specs.Reading.{low_half, unicode_at, escape_at}
 use Rattle.json_spell.proofs.Opened.{some_is, bind_some, map_some, chosen, guarded}
 
@@ -55,7 +55,7 @@ unicode-sound (a ∷ b ∷ c ∷ d ∷ s) m r is = ⊎_elim pair one (chosen (is
     pair h =
         let low = low_half-sound u.0 s m r h.1 in
         record {
-          char = two a b c d u.0 low.e low.f low.g low.h low.low;
+          char = surrogates a b c d u.0 low.e low.f low.g low.h low.low;
           tail = 0x75 ∷ a ∷ b ∷ c ∷ d ∷ 0x5C ∷ 0x75 ∷ low.e ∷ low.f ∷ low.g ∷ low.h ∷ [];
           holds = (u.1.0, h.0, low.spells, low.is_low);
           spells = refl;
@@ -69,7 +69,7 @@ unicode-sound (a ∷ b ∷ c ∷ d ∷ s) m r is = ⊎_elim pair one (chosen (is
         let same = some_is g.1 in
         let rest_is : s ≡ r = ap (λ p. p.1) same in
         record {
-          char = unit a b c d u.0;
+          char = unicode a b c d u.0;
           tail = 0x75 ∷ a ∷ b ∷ c ∷ d ∷ [];
           holds = (u.1.0, g.0);
           spells = refl;
@@ -81,10 +81,10 @@ unicode-sound s m r is = absurd cc
 pub escape-sound : (s : List ℕ) (c : ℕ) (r : List ℕ) → escape_at s ≡ Some (c, r) → Escape s c r
 unfolding escape_at
 escape-sound [] c r is = absurd cc
-escape-sound (x ∷ s) c r is = ⊎_elim unicode letter (chosen (x == 0x75) is)
+escape-sound (x ∷ s) c r is = ⊎_elim hex letter (chosen (x == 0x75) is)
   where
-    unicode : ((x == 0x75) ≡ true) × (unicode_at s ≡ Some (c, r)) → Escape (x ∷ s) c r
-    unicode h = let x_is : 0x75 ≡ x = grind (arith, nat_tests, h.0) in subst (λ (y : ℕ). Escape (y ∷ s) c r) x_is (unicode-sound s c r h.1)
+    hex : ((x == 0x75) ≡ true) × (unicode_at s ≡ Some (c, r)) → Escape (x ∷ s) c r
+    hex h = let x_is : 0x75 ≡ x = grind (arith, nat_tests, h.0) in subst (λ (y : ℕ). Escape (y ∷ s) c r) x_is (unicode-sound s c r h.1)
 
     letter : ((x == 0x75) ≡ false) × (option_map {U = ℕ × List ℕ} (λ m. (m, s)) (short_escape x) ≡ Some (c, r)) → Escape (x ∷ s) c r
     letter h =
@@ -117,10 +117,10 @@ pub short-complete : (x c : ℕ) (r : List ℕ) → IsChar (short x c) → escap
 unfolding escape_at
 short-complete x c r h = rw (short-no_unicode x c h, h) refl
 
-pub unit-complete : (a b c d u : ℕ) (r : List ℕ) → IsChar (unit a b c d u) → escape_at (0x75 ∷ a ∷ b ∷ c ∷ d ∷ r) ≡ Some (u, r)
+pub unicode-complete : (a b c d u : ℕ) (r : List ℕ) → IsChar (unicode a b c d u) → escape_at (0x75 ∷ a ∷ b ∷ c ∷ d ∷ r) ≡ Some (u, r)
 unfolding escape_at unicode_at
-unit-complete a b c d u r h = rw (h.0, high-no_scalar u h.1, h.1) refl
+unicode-complete a b c d u r h = rw (h.0, high-no_scalar u h.1, h.1) refl
 
-pub two-complete : (a b c d u e f g h v : ℕ) (r : List ℕ) → IsChar (two a b c d u e f g h v) → escape_at (0x75 ∷ a ∷ b ∷ c ∷ d ∷ 0x5C ∷ 0x75 ∷ e ∷ f ∷ g ∷ h ∷ r) ≡ Some (surrogate_pair u v, r)
+pub surrogates-complete : (a b c d u e f g h v : ℕ) (r : List ℕ) → IsChar (surrogates a b c d u e f g h v) → escape_at (0x75 ∷ a ∷ b ∷ c ∷ d ∷ 0x5C ∷ 0x75 ∷ e ∷ f ∷ g ∷ h ∷ r) ≡ Some (surrogate_pair u v, r)
 unfolding escape_at unicode_at
-two-complete a b c d u e f g h v r is = rw (is.0, is.1) (low_half-complete u e f g h v r is.2 is.3)
+surrogates-complete a b c d u e f g h v r is = rw (is.0, is.1) (low_half-complete u e f g h v r is.2 is.3)

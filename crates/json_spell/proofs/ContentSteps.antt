@@ -4,10 +4,10 @@ use lib.Utf8.{encode}
 use Rattle.std.specs.Str.{is_utf8}
 use Rattle.std.proofs.lemmas.Str.{is_utf8-from_IsUtf8, IsUtf8-nil, len_utf8_bounds, length-encode}
 use Rattle.json_spell.specs.Number.{Each}
-use Rattle.json_spell.specs.Text.{Char, unescaped, short, unit, two, is_unescaped, surrogate_pair, AreChars, all_spelled, all_meant}
+use Rattle.json_spell.specs.Text.{Char, unescaped, short, unicode, surrogates, is_unescaped, surrogate_pair, AreChars, all_spelled, all_meant}
 use Rattle.json_spell.specs.Reading.{Parse, read_map, ◌>>=◌, skip, before, escape_at, after_run, run_at, content_by, content, content_at}
 use Rattle.json_spell.proofs.Skips.{skip-le, before-append}
-use Rattle.json_spell.proofs.Chars.{escape-sound, short-complete, unit-complete, two-complete}
+use Rattle.json_spell.proofs.Chars.{escape-sound, short-complete, unicode-complete, surrogates-complete}
 use Rattle.json_spell.proofs.Contents.{high-unescaped, content-past, content_by-step}
 
 -- each byte of an unescaped character is one that stands for itself
@@ -54,19 +54,19 @@ content-complete (suc n) (unescaped c ∷ ps) r h l =
     rw (append_assoc (encode c) (all_spelled ps) (0x22 ∷ r)) (content-past (suc n) c (all_spelled ps ++ 0x22 ∷ r) (all_meant ps) r scalar (unescaped-bytes c h.0.1) behind)
 content-complete (suc n) (short x c ∷ ps) r h l =
     escape-step n (x ∷ (all_spelled ps ++ 0x22 ∷ r)) c (all_spelled ps ++ 0x22 ∷ r) (all_meant ps) r (short-complete x c (all_spelled ps ++ 0x22 ∷ r) h.0) (content-complete n ps r h.1 (omega arith))
-content-complete (suc n) (unit a b c d u ∷ ps) r h l =
-    escape-step n (0x75 ∷ a ∷ b ∷ c ∷ d ∷ (all_spelled ps ++ 0x22 ∷ r)) u (all_spelled ps ++ 0x22 ∷ r) (all_meant ps) r (unit-complete a b c d u (all_spelled ps ++ 0x22 ∷ r) h.0) (content-complete n ps r h.1 (omega arith))
-content-complete (suc n) (two a b c d u e f g k v ∷ ps) r h l =
+content-complete (suc n) (unicode a b c d u ∷ ps) r h l =
+    escape-step n (0x75 ∷ a ∷ b ∷ c ∷ d ∷ (all_spelled ps ++ 0x22 ∷ r)) u (all_spelled ps ++ 0x22 ∷ r) (all_meant ps) r (unicode-complete a b c d u (all_spelled ps ++ 0x22 ∷ r) h.0) (content-complete n ps r h.1 (omega arith))
+content-complete (suc n) (surrogates a b c d u e f g k v ∷ ps) r h l =
     escape-step n (0x75 ∷ a ∷ b ∷ c ∷ d ∷ 0x5C ∷ 0x75 ∷ e ∷ f ∷ g ∷ k ∷ (all_spelled ps ++ 0x22 ∷ r)) (surrogate_pair u v) (all_spelled ps ++ 0x22 ∷ r) (all_meant ps) r
-    (two-complete a b c d u e f g k v (all_spelled ps ++ 0x22 ∷ r) h.0) (content-complete n ps r h.1 (omega arith))
+    (surrogates-complete a b c d u e f g k v (all_spelled ps ++ 0x22 ∷ r) h.0) (content-complete n ps r h.1 (omega arith))
 
 -- each char takes a byte at least
 length-spelled : (ps : List Char) → length ps ≤ length (all_spelled ps)
 length-spelled [] = omega arith
 length-spelled (unescaped c ∷ ps) = let l = (len_utf8_bounds c).0 in omega (arith, length-append (encode c) (all_spelled ps), length-encode c, length-spelled ps)
 length-spelled (short x c ∷ ps) = omega (arith, length-spelled ps)
-length-spelled (unit a b c d u ∷ ps) = omega (arith, length-spelled ps)
-length-spelled (two a b c d u e f g k v ∷ ps) = omega (arith, length-spelled ps)
+length-spelled (unicode a b c d u ∷ ps) = omega (arith, length-spelled ps)
+length-spelled (surrogates a b c d u e f g k v ∷ ps) = omega (arith, length-spelled ps)
 
 pub content_at-complete : (ps : List Char) (r : List ℕ) → AreChars ps → content_at (all_spelled ps ++ 0x22 ∷ r) ≡ Some (all_meant ps, r)
 unfolding content_at

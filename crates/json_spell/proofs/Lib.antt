@@ -14,3 +14,5 @@ pub mod Depth
 pub mod Weights
 pub mod AnswerLemmas
 pub mod Members
+pub mod Names
+pub mod Utf8Texts

@@ -205,7 +205,7 @@ unfolding number_at
 number_at-complete x r h e = rw (number-complete x r h e, before-append x r) refl
 
 -- a number is ASCII
-each-ascii : (test : ℕ → Bool) → ((x : ℕ) → test x ≡ true → x < 128) → (xs : List ℕ) → Each test xs → IsAscii xs
+pub each-ascii : (test : ℕ → Bool) → ((x : ℕ) → test x ≡ true → x < 128) → (xs : List ℕ) → Each test xs → IsAscii xs
 each-ascii test low [] h = IsAscii-nil
 each-ascii test low (x ∷ xs) h = IsAscii-cons x xs (low x h.0) (each-ascii test low xs h.1)
 

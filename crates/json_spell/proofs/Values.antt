@@ -70,6 +70,9 @@ name-sound s m r e =
 abbrev pub Member : List ℕ × Tree → List ℕ → Type 0
 Member p text = IsMember p.0 (IsValue p.1) text
 
+member-text : (n b s k c v r : List ℕ) → s ≡ n ++ k → k ≡ 0x3A ∷ c → c ≡ b ++ v → v ≡ r → s ≡ (n ++ 0x3A ∷ b) ++ r
+member-text n b s k c v r e0 e1 e2 e3 = e0 ∙ ap (λ q. n ++ q) (e1 ∙ ap (λ q. 0x3A ∷ q) (e2 ∙ ap (λ q. b ++ q) e3)) ∙ simp append_assoc
+
 pub member-sound : (value : Parse Tree) → Sound value IsValue → Sound (member_by value) Member
 member-sound value sound s p r e =
     let k = bind_some (spaced name_at s) _ e in
@@ -83,7 +86,7 @@ member-sound value sound s p r e =
       text = name.text ++ 0x3A ∷ body.text;
       holds = subst (λ (q : List ℕ × Tree). Member q (name.text ++ 0x3A ∷ body.text)) p_is
           (record { first = name.text; second = 0x3A ∷ body.text; holds = name.holds; then_holds = record { rest = body.text; holds = body.holds; is = refl }; is = refl });
-      is = name.is ∙ ap (λ q. name.text ++ q) (after_byte-sound 0x3A k.0.1 colon.0 colon.1.0 ∙ ap (λ q. 0x3A ∷ q) (body.is ∙ ap (λ q. body.text ++ q) r_is)) ∙ simp append_assoc;
+      is = member-text name.text body.text s k.0.1 colon.0 v.0.1 r name.is (after_byte-sound 0x3A k.0.1 colon.0 colon.1.0) body.is r_is;
     }
 
 -- lists in their brackets
@@ -92,6 +95,10 @@ ListedValues = Listed tree 0x5D (λ t. Spaced (IsValue t)) AreMoreValues
 
 abbrev pub ListedMembers : Pairs → List ℕ → List ℕ → Type 0
 ListedMembers = Listed add_pair 0x7D Member AreMoreMembers
+
+-- a text by its first byte
+first-text : (x byte : ℕ) (s g q r : List ℕ) → x ≡ byte → byte ∷ s ≡ g ++ q → q ≡ r → x ∷ s ≡ g ++ r
+first-text x byte s g q r e0 e1 e2 = ap (λ y. y ∷ s) e0 ∙ e1 ∙ ap (λ t. g ++ t) e2
 
 -- a value, where its lists are sound
 value_by-sound : (values : Parse Trees) (members : Parse Pairs)
@@ -109,7 +116,7 @@ value_by-sound values members values_sound members_sound (x ∷ s) t r e =
         let x_is : x ≡ 0x22 = grind (arith, nat_tests, f.0) in
         let t_is : string p.0.0 ≡ t = ap (λ q. q.0) p.1.1 in
         let r_is : p.0.1 ≡ r = ap (λ q. q.1) p.1.1 in
-        record { text = g.text; holds = subst (λ (v : Tree). IsValue v g.text) t_is g.holds; is = ap (λ q. q ∷ s) x_is ∙ g.is ∙ ap (λ q. g.text ++ q) r_is }
+        record { text = g.text; holds = subst (λ (v : Tree). IsValue v g.text) t_is g.holds; is = first-text x 0x22 s g.text p.0.1 r x_is g.is r_is }
 
     items : ((x == 0x5B) ≡ true) × (read_map array (list_by no_trees 0x5D values s) ≡ Some (t, r)) → Found (IsValue t) (x ∷ s) r
     items f =
@@ -121,7 +128,7 @@ value_by-sound values members values_sound members_sound (x ∷ s) t r e =
         record {
           text = 0x5B ∷ g.text;
           holds = subst (λ (v : Tree). IsValue v (0x5B ∷ g.text)) t_is (record { inside = g.holds.0; holds = g.holds.1.0; is = ap (λ q. 0x5B ∷ q) g.holds.1.1 });
-          is = ap (λ q. q ∷ s) x_is ∙ ap (λ q. 0x5B ∷ q) (g.is ∙ ap (λ q. g.text ++ q) r_is);
+          is = first-text x 0x5B s (0x5B ∷ g.text) p.0.1 r x_is (ap (λ q. 0x5B ∷ q) g.is) r_is;
         }
 
     pairs : ((x == 0x7B) ≡ true) × (read_map object (list_by no_pairs 0x7D members s) ≡ Some (t, r)) → Found (IsValue t) (x ∷ s) r
@@ -134,7 +141,7 @@ value_by-sound values members values_sound members_sound (x ∷ s) t r e =
         record {
           text = 0x7B ∷ g.text;
           holds = subst (λ (v : Tree). IsValue v (0x7B ∷ g.text)) t_is (record { inside = g.holds.0; holds = g.holds.1.0; is = ap (λ q. 0x7B ∷ q) g.holds.1.1 });
-          is = ap (λ q. q ∷ s) x_is ∙ ap (λ q. 0x7B ∷ q) (g.is ∙ ap (λ q. g.text ++ q) r_is);
+          is = first-text x 0x7B s (0x7B ∷ g.text) p.0.1 r x_is (ap (λ q. 0x7B ∷ q) g.is) r_is;
         }
 
 pub values-sound : (value : Parse Tree) → Sound value IsValue → (n : ℕ) (s : List ℕ) (l : Trees) (r : List ℕ) → values value n s ≡ Some (l, r) → ListedValues l s r

@@ -4,7 +4,7 @@ use lib.Utf8.{encode}
 use Rattle.std.proofs.lemmas.Str.{length-encode, len_utf8_bounds, len_utf8_ascii}
 use Rattle.std.proofs.lemmas.Bool.Decides.{nat_tests}
 use Rattle.json_spell.specs.Tree.{Tree, null, boolean, number, string, array, object, Trees, no_trees, tree, Pairs, no_pairs, pair}
-use Rattle.json_spell.specs.Text.{Char, unescaped, short, unit, two, short_escape, IsChar, spelled, meant, AreChars, all_spelled, all_meant, IsString}
+use Rattle.json_spell.specs.Text.{Char, unescaped, short, unicode, surrogates, short_escape, IsChar, spelled, meant, AreChars, all_spelled, all_meant, IsString}
 use Rattle.json_spell.specs.Grammar.{Spaced, Within, Then, After, IsMember, IsValue, AreValues, AreMoreValues, AreMembers, AreMoreMembers, Reads}
 use Rattle.json_spell.specs.Weight.{weight, values_weight, members_weight}
 use Rattle.json_spell.proofs.Opened.{some_is, chosen}
@@ -35,9 +35,9 @@ short-low x c e =
 char-weight : (p : Char) → IsChar p → length (encode (meant p)) ≤ length (spelled p)
 char-weight (unescaped c) h = omega arith
 char-weight (short x c) h = omega (arith, length-encode c, len_utf8_ascii c (short-low x c h))
-char-weight (unit a b c d u) h = let l = (len_utf8_bounds u).1 in omega (arith, length-encode u)
-char-weight (two a b c d u e f g k v) h =
-    let m = meant (two a b c d u e f g k v) in let l = (len_utf8_bounds m).1 in omega (arith, length-encode m)
+char-weight (unicode a b c d u) h = let l = (len_utf8_bounds u).1 in omega (arith, length-encode u)
+char-weight (surrogates a b c d u e f g k v) h =
+    let m = meant (surrogates a b c d u e f g k v) in let l = (len_utf8_bounds m).1 in omega (arith, length-encode m)
 
 chars-weight : (ps : List Char) → AreChars ps → length (all_meant ps) ≤ length (all_spelled ps)
 chars-weight [] h = omega arith

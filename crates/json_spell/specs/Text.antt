@@ -10,9 +10,9 @@ pub data Char : Type 0 where
   -- the letter after a backslash, and the character that it stands for
   short : ℕ → ℕ → Char
   -- `\uXXXX`, and the character
-  unit : ℕ → ℕ → ℕ → ℕ → ℕ → Char
+  unicode : ℕ → ℕ → ℕ → ℕ → ℕ → Char
   -- `\uXXXX\uXXXX`, and the high and the low surrogate after their digits
-  two : ℕ → ℕ → ℕ → ℕ → ℕ → ℕ → ℕ → ℕ → ℕ → ℕ → Char
+  surrogates : ℕ → ℕ → ℕ → ℕ → ℕ → ℕ → ℕ → ℕ → ℕ → ℕ → Char
 
 -- unescaped = %x20-21 / %x23-5B / %x5D-10FFFF
 abbrev pub is_unescaped : ℕ → Bool
@@ -48,23 +48,23 @@ surrogate_pair high low = 0x10000 + (high - 0xD800) * 0x400 + (low - 0xDC00)
 abbrev pub IsChar : Char → Type 0
 IsChar (unescaped c) = IsScalar c × (is_unescaped c ≡ true)
 IsChar (short x c) = short_escape x ≡ Some c
-IsChar (unit a b c d u) = (code_unit a b c d ≡ Some u) × IsScalar u
-IsChar (two a b c d u e f g h v) =
+IsChar (unicode a b c d u) = (code_unit a b c d ≡ Some u) × IsScalar u
+IsChar (surrogates a b c d u e f g h v) =
     (code_unit a b c d ≡ Some u) × (is_high_surrogate u ≡ true) × (code_unit e f g h ≡ Some v) × (is_low_surrogate v ≡ true)
 
 -- the bytes that a char takes in the text
 abbrev pub spelled : Char → List ℕ
 spelled (unescaped c) = encode_utf8 c
 spelled (short x c) = 0x5C ∷ x ∷ []
-spelled (unit a b c d u) = 0x5C ∷ 0x75 ∷ a ∷ b ∷ c ∷ d ∷ []
-spelled (two a b c d u e f g h v) = 0x5C ∷ 0x75 ∷ a ∷ b ∷ c ∷ d ∷ 0x5C ∷ 0x75 ∷ e ∷ f ∷ g ∷ h ∷ []
+spelled (unicode a b c d u) = 0x5C ∷ 0x75 ∷ a ∷ b ∷ c ∷ d ∷ []
+spelled (surrogates a b c d u e f g h v) = 0x5C ∷ 0x75 ∷ a ∷ b ∷ c ∷ d ∷ 0x5C ∷ 0x75 ∷ e ∷ f ∷ g ∷ h ∷ []
 
 -- the character that a char stands for
 abbrev pub meant : Char → ℕ
 meant (unescaped c) = c
 meant (short x c) = c
-meant (unit a b c d u) = u
-meant (two a b c d u e f g h v) = surrogate_pair u v
+meant (unicode a b c d u) = u
+meant (surrogates a b c d u e f g h v) = surrogate_pair u v
 
 abbrev pub AreChars : List Char → Type 0
 AreChars [] = Unit {0}

@@ -1,4 +1,7 @@
-use crate::{Json, JsonFault, has_one_tree, read, weighs_no_more_than_text};
+use crate::{
+    Json, JsonFault, has_one_tree, members_weigh_no_more_than_value, read, text_is_utf8,
+    weighs_no_more_than_text,
+};
 use std::alloc::{AllocError, Global};
 use std::test::Fail;
 
@@ -218,6 +221,8 @@ fn finds_members(rt: HostRuntime) -> Result<(), Fail> {
     }
     assert!(rt; read(rt.alloc(), b"[1]")?.get("a").is_none());
     has_one_tree();
+    members_weigh_no_more_than_value();
+    text_is_utf8();
     weighs_no_more_than_text();
     Ok(())
 }
