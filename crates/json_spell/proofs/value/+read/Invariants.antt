@@ -1,0 +1,40 @@
+-- The bytes left fall along each call. In a loop, the parts read so far and those of what is left make those of all.
+use Rattle.std.proofs.Common.{◌≡◌, ◌≤◌, ◌+◌, ◌*◌, length, map}
+use Rattle.json_spell.specs.Tree.{tree}
+use Rattle.json_spell.specs.View.{json_view, member_view}
+use Rattle.json_spell.specs.Reading.{read_map, add_pair, values_at, members_at}
+use Rattle.json_spell.proofs.ListSteps.{onto}
+use Rattle.json_spell.proofs.value.+read.Given as goal
+
+abbrev pub decreases-read_items : goal.decreases-read_items
+decreases-read_items l = 4 * length l.bytes.now + 3
+
+abbrev pub decreases-read_member : goal.decreases-read_member
+decreases-read_member l = 4 * length l.bytes.now + 2
+
+abbrev pub decreases-read_members : goal.decreases-read_members
+decreases-read_members l = 4 * length l.bytes.now + 3
+
+abbrev pub decreases-read_spaced : goal.decreases-read_spaced
+decreases-read_spaced l = 4 * length l.bytes.now + 1
+
+abbrev pub decreases-read_value : goal.decreases-read_value
+decreases-read_value l = 4 * length l.bytes.now
+
+abbrev pub invariant-read_items-loop-items : goal.invariant-read_items-loop-items
+invariant-read_items-loop-items l = record {
+  same : read_map (onto tree (map json_view l.items.items)) (values_at l.left) ≡ values_at l.bytes;
+  no_longer : length l.left ≤ length l.bytes;
+}
+
+abbrev pub decreases-read_items-loop-items : goal.decreases-read_items-loop-items
+decreases-read_items-loop-items l = length l.left
+
+abbrev pub invariant-read_members-loop-members : goal.invariant-read_members-loop-members
+invariant-read_members-loop-members l = record {
+  same : read_map (onto add_pair (map member_view l.members.items)) (members_at l.left) ≡ members_at l.bytes;
+  no_longer : length l.left ≤ length l.bytes;
+}
+
+abbrev pub decreases-read_members-loop-members : goal.decreases-read_members-loop-members
+decreases-read_members-loop-members l = length l.left

@@ -1,0 +1,14 @@
+-- What a reader of a part answers: what is there at the front of the bytes, NotJson where nothing is, or want of memory at any time.
+use Rattle.std.specs.Prelude.{Option, Some, None, Result, Ok, Err, ◌≡◌}
+use Rattle.json_spell.specs.declared.fault.JsonFault.{JsonFault}
+use Rattle.json_spell.specs.declared.fault.JsonFault.TheVariants.{Deep, NotJson, OutOfMemory}
+
+-- a fault of a reader, which never counts brackets
+abbrev pub Refuses : {A : Type 0} → JsonFault → Option A → Type 0
+Refuses Deep there = ⊥
+Refuses NotJson there = there ≡ None
+Refuses OutOfMemory there = Unit {0}
+
+abbrev pub Gives : {A B : Type 0} → (A → B) → Result A JsonFault → Option B → Type 0
+Gives view (Ok a) there = there ≡ Some (view a)
+Gives view (Err fault) there = Refuses fault there

@@ -1,0 +1,10 @@
+pub mod Tree
+pub mod View
+pub mod Grammar
+pub mod Number
+pub mod Text
+pub mod Deep
+pub mod Answers
+pub mod Reading
+pub mod Weight
+pub mod Gives

@@ -1,0 +1,46 @@
+// What a text is refused for.
+
+ghost use Rattle.std.specs.Prelude.{◌≡◌};
+ghost use Rattle.json_spell.specs.declared.fault.JsonFault.TheVariants.{OutOfMemory as Refused};
+
+use rdf_term::OutOfMemory;
+use std::alloc::{AllocError, AllocFailed};
+use thiserror::Error;
+
+/// Why bytes were not read.
+#[derive(Clone, Copy, Debug, PartialEq, Eq, Error)]
+pub enum JsonFault {
+    /// Outside of strings, the opening brackets exceed the closing ones by more than 64 at some byte.
+    #[error("brackets open deeper than 64")]
+    Deep,
+    /// The bytes are no JSON text of RFC 8259.
+    #[error("not a JSON text")]
+    NotJson,
+    /// A request for memory was refused.
+    #[error("out of memory")]
+    OutOfMemory,
+}
+
+impl From<OutOfMemory> for JsonFault {
+    ghost from_gives = { λ _ e. e ≡ Refused };
+
+    fn from(_refused: OutOfMemory) -> JsonFault {
+        JsonFault::OutOfMemory
+    }
+}
+
+impl From<AllocError> for JsonFault {
+    ghost from_gives = { λ _ e. e ≡ Refused };
+
+    fn from(_refused: AllocError) -> JsonFault {
+        JsonFault::OutOfMemory
+    }
+}
+
+impl<T: Drop> From<AllocFailed<T>> for JsonFault {
+    ghost from_gives = { λ _ e. e ≡ Refused };
+
+    fn from(_refused: AllocFailed<T>) -> JsonFault {
+        JsonFault::OutOfMemory
+    }
+}

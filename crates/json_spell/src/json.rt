@@ -1,0 +1,63 @@
+// JSON values, and the look-up of a member.
+
+ghost use Rattle.std.specs.Prelude.{◌≡◌, option_map, reverse};
+ghost use Rattle.std.specs.List.{find};
+ghost use Rattle.std.specs.Str.{bytes_eq};
+
+use rdf_term::Text;
+
+/// A JSON value: RFC 8259, section 3. A number is kept as it is spelled, and an object keeps its members in the
+/// order of the text, with each that repeats a name.
+#[derive(Debug, Drop)]
+#[cycle(json)]
+pub enum Json {
+    /// `null`
+    Null,
+    /// `true` or `false`
+    Bool(bool),
+    /// A number, as the text spells it.
+    Number(Text),
+    /// A string, with its escapes replaced by their characters.
+    Str(Text),
+    /// An array.
+    Items(Vec<Json>),
+    /// An object.
+    Members(Vec<Member>),
+}
+
+/// A member of an object: RFC 8259, section 4.
+#[derive(Debug, Drop)]
+#[cycle(json)]
+pub struct Member {
+    /// The name, with its escapes replaced by their characters.
+    pub key: Text,
+    /// The value.
+    pub value: Json,
+}
+
+// The last member with the name.
+fn last_with_key<'a>(members: &'a [Member], key: &str) -> Option<&'a Member>
+    ensures { option_map (λ member. member.now) result ≡ find (λ member. bytes_eq member.key key.now) (reverse members.now) }
+{
+    members
+        .iter()
+        .rev()
+        .find(|member| member.key.as_str() == key)
+}
+
+impl Json {
+    ghost use Rattle.std.specs.Prelude.{◌≡◌, option_map};
+    ghost use Rattle.json_spell.specs.Tree.{member_of};
+    ghost use Rattle.json_spell.specs.View.{json_view};
+
+    /// The value of the last member with the name; none where there is no such member or the value is no object.
+    pub fn get(&self, key: &str) -> Option<&Json>
+        ensures { option_map (λ value. json_view value.now) result ≡ member_of key.now (json_view self.now) }
+    {
+        let Json::Members(members) = self else {
+            return None;
+        };
+        let member = last_with_key(members, key)?;
+        Some(&member.value)
+    }
+}

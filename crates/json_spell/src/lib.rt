@@ -1,0 +1,27 @@
+// JSON texts as RFC 8259 defines them, with the spelling of each number kept.
+//
+// `json` has the values and the look-up of a member, `fault` what a text is refused for, and `reader` the reader of
+// a whole text. It stands on `deep`, which counts brackets, and on `value`, which reads the value; `number` and
+// `string` read those two, and `bytes` steps over white space, digits and the like. `laws` has what holds of the
+// grammar itself.
+#![tactic(auto)]
+
+mod bytes;
+mod deep;
+mod fault;
+mod json;
+mod laws;
+mod number;
+mod reader;
+mod string;
+mod value;
+
+pub use fault::JsonFault;
+pub use json::{Json, Member};
+pub use laws::{
+    has_one_tree, members_weigh_no_more_than_value, text_is_utf8, weighs_no_more_than_text,
+};
+pub use reader::read;
+
+#[cfg(test)]
+mod tests;

@@ -1,0 +1,135 @@
+// Reads a string: RFC 8259, section 7.
+
+ghost use Rattle.std.specs.Prelude.{◌≡◌, ◌≤◌, ◌<◌, ◌^◌, IsTrue, length, option_map, IfSome, IfOk, ◌++◌, string_bytes};
+ghost use Rattle.std.specs.Char.{digit_value};
+ghost use Rattle.json_spell.specs.Text.{short_escape, code_unit, is_high_surrogate, is_low_surrogate};
+ghost use Rattle.json_spell.specs.Reading.{before, run_at, low_half, unicode_at, escape_at, content_at};
+ghost use Rattle.json_spell.specs.Gives.{Gives};
+
+use crate::bytes::{before, next, skip_unescaped, utf8};
+use crate::fault::JsonFault;
+use rdf_term::Text;
+use std::alloc::Global;
+
+// What a letter after a backslash stands for.
+#[tactic(auto, unfolding(crate::specs::Text::short_escape))]
+fn short_escape(letter: u8) -> Option<char>
+    ensures { result ≡ short_escape letter }
+{
+    match letter {
+        b'"' => Some('"'),
+        b'\\' => Some('\\'),
+        b'/' => Some('/'),
+        b'b' => Some('\u{8}'),
+        b'f' => Some('\u{c}'),
+        b'n' => Some('\n'),
+        b'r' => Some('\r'),
+        b't' => Some('\t'),
+        _ => None,
+    }
+}
+
+// The number that four hexadecimal digits spell.
+#[tactic(auto, unfolding(crate::specs::Text::code_unit))]
+fn code_unit(a: u8, b: u8, c: u8, d: u8) -> Option<u32>
+    ensures unit { result ≡ code_unit a b c d }
+    ensures small { IfSome result (λ unit. unit < 2 ^ 16) }
+{
+    let a = char::from(a).to_digit(16)?;
+    let b = char::from(b).to_digit(16)?;
+    let c = char::from(c).to_digit(16)?;
+    let d = char::from(d).to_digit(16)?;
+    Some(a * 4096 + b * 256 + c * 16 + d)
+}
+
+// The character of a surrogate pair, after its high surrogate.
+#[tactic(auto, unfolding(crate::specs::Reading::low_half))]
+fn low_half(high: u32, bytes: &[u8]) -> Option<(char, &[u8])>
+    requires { IsTrue (is_high_surrogate high) }
+    ensures read { option_map (λ p. (p.0, p.1.now)) result ≡ low_half high bytes.now }
+    ensures shorter { IfSome result (λ p. length p.1.now ≤ length bytes.now) }
+{
+    let [b'\\', b'u', e, f, g, h, rest @ ..] = bytes else {
+        return None;
+    };
+    let low = code_unit(*e, *f, *g, *h)?;
+    if !(0xDC00..=0xDFFF).contains(&low) {
+        return None;
+    }
+    let character = char::from_u32(0x10000 + (high - 0xD800) * 0x400 + (low - 0xDC00))?;
+    Some((character, rest))
+}
+
+// The character of an escape, after `\u`.
+#[tactic(auto, unfolding(crate::specs::Reading::unicode_at))]
+fn read_unicode(bytes: &[u8]) -> Option<(char, &[u8])>
+    ensures read { option_map (λ p. (p.0, p.1.now)) result ≡ unicode_at bytes.now }
+    ensures shorter { IfSome result (λ p. length p.1.now ≤ length bytes.now) }
+{
+    let [a, b, c, d, rest @ ..] = bytes else {
+        return None;
+    };
+    let unit = code_unit(*a, *b, *c, *d)?;
+    if (0xD800..=0xDBFF).contains(&unit) {
+        return low_half(unit, rest);
+    }
+    let character = char::from_u32(unit)?;
+    Some((character, rest))
+}
+
+// The character of an escape, after its backslash.
+#[tactic(auto, unfolding(crate::specs::Reading::escape_at))]
+fn read_escape(bytes: &[u8]) -> Option<(char, &[u8])>
+    ensures read { option_map (λ p. (p.0, p.1.now)) result ≡ escape_at bytes.now }
+    ensures shorter { IfSome result (λ p. length p.1.now ≤ length bytes.now) }
+{
+    match bytes {
+        [b'u', rest @ ..] => read_unicode(rest),
+        [letter, rest @ ..] => {
+            let character = short_escape(*letter)?;
+            Some((character, rest))
+        }
+        [] => None,
+    }
+}
+
+// Puts the bytes up to the next quotation mark, backslash or control character to the content, and gives what follows.
+fn push_run<'a>(content: &mut String, bytes: &'a [u8]) -> Result<&'a [u8], JsonFault>
+    ensures read { Gives (λ rest. rest.now) result (run_at bytes.now) }
+    ensures pushed { IfOk result (λ rest. string_bytes content.new ≡ string_bytes content.old ++ before rest.now bytes.now) }
+    ensures no_longer { IfOk result (λ rest. length rest.now ≤ length bytes.now) }
+{
+    let rest = skip_unescaped(bytes);
+    let Some(run) = utf8(before(bytes, rest)) else {
+        return Err(JsonFault::NotJson);
+    };
+    content.push_str(run)?;
+    Ok(rest)
+}
+
+// The content of a string after its opening quotation mark, and what follows the closing one.
+#[tactic(auto, using(crate::proofs::ContentSteps::content_steps))]
+pub(crate) fn read_content(alloc: Global, bytes: &[u8]) -> Result<(Text, &[u8]), JsonFault>
+    ensures read { Gives (λ p. (p.0, p.1.now)) result (content_at bytes.now) }
+    ensures no_longer { IfOk result (λ p. length p.1.now ≤ length bytes.now) }
+{
+    let mut content = String::new(alloc);
+    let mut left = bytes;
+    loop {
+        let rest = push_run(&mut content, left)?;
+        let Some((byte, rest)) = next(rest) else {
+            return Err(JsonFault::NotJson);
+        };
+        if byte == b'"' {
+            return Ok((Text::from_string(content), rest));
+        }
+        if byte != b'\\' {
+            return Err(JsonFault::NotJson);
+        }
+        let Some((character, rest)) = read_escape(rest) else {
+            return Err(JsonFault::NotJson);
+        };
+        content.push(character)?;
+        left = rest;
+    }
+}
