@@ -1,0 +1,5 @@
+#![tactic(auto)]
+
+mod calendar;
+mod gregorian_day;
+mod written;
