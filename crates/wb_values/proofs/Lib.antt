@@ -1,2 +1,3 @@
 pub mod CalendarLemmas
+pub mod LiteralLemmas
 pub mod WrittenLemmas

@@ -1,6 +1,5 @@
 -- Which day of the proleptic Gregorian calendar a written date means.
-use Rattle.std.specs.Prelude.{◌≡◌, ℕ, ◌+◌, Bool, ◌&&◌, ◌||◌, ◌==◌, nat_lt, nat_le, if◌then◌else◌, Option, Some, None, ℤ, pos, ◌+ℤ◌, unsigned_abs}
-use Rattle.std.specs.Ordering.{int_eq, int_lt}
+use Rattle.std.specs.Prelude.{◌≡◌, ℕ, ◌+◌, Bool, ◌&&◌, ◌||◌, ◌==◌, nat_lt, nat_le, if◌then◌else◌, Option, Some, None, ℤ, pos, ◌+ℤ◌, unsigned_abs, int_lt}
 use Rattle.wb_values.specs.declared.calendar.Calendar.{Calendar}
 use Rattle.wb_values.specs.declared.calendar.Calendar.TheVariants.{Julian, Gregorian}
 use Rattle.wb_values.specs.declared.calendar.CalendarDate.{CalendarDate}

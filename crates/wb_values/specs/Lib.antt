@@ -1,3 +1,5 @@
 pub mod Calendar
+pub mod Decimal
 pub mod GregorianDay
+pub mod Literal
 pub mod Written

@@ -12,7 +12,11 @@ const DAY_PRECISION: u8 = 11;
 ///
 /// A written year of -1 is the year 0, and there is no written year 0. A month or a day of 0 means
 /// that it isn't known. Years of more than four digits have no month and day.
-pub(crate) fn gregorian_day(written: CalendarDate, precision: u8, julian: bool) -> Option<CalendarDate>
+pub(crate) fn gregorian_day(
+    written: CalendarDate,
+    precision: u8,
+    julian: bool,
+) -> Option<CalendarDate>
     ensures { result ≡ gregorian_day written precision julian }
 {
     if is_undated(written) {
@@ -20,11 +24,19 @@ pub(crate) fn gregorian_day(written: CalendarDate, precision: u8, julian: bool) 
     }
     if written.year.unsigned_abs() > 9999 {
         let year = astronomical_year(written.year);
-        return Some(CalendarDate { year, month: 1, day: 1 });
+        return Some(CalendarDate {
+            year,
+            month: 1,
+            day: 1,
+        });
     }
     let date = first_of(written);
     if is_converted(written, precision, julian) {
-        return converted(date);
+        return if Calendar::Julian.has_day(date) {
+            Some(gregorian_date(date))
+        } else {
+            None
+        };
     }
     Calendar::Gregorian.has_day(date).then_some(date)
 }
@@ -53,8 +65,16 @@ fn first_of(written: CalendarDate) -> CalendarDate
     let year = astronomical_year(written.year);
     let CalendarDate { month, day, .. } = written;
     match (month, day) {
-        (0, _) => CalendarDate { year, month: 1, day: 1 },
-        (_, 0) => CalendarDate { year, month, day: 1 },
+        (0, _) => CalendarDate {
+            year,
+            month: 1,
+            day: 1,
+        },
+        (_, 0) => CalendarDate {
+            year,
+            month,
+            day: 1,
+        },
         _ => CalendarDate { year, month, day },
     }
 }

@@ -6,6 +6,7 @@ ghost use Rattle.std.specs.List.{list_all};
 ghost use Rattle.wb_values.specs.Written.{two_digits, is_below, is_clock, date_in_year, is_year, decimal_value, signed_year, written_date, written_time};
 
 use crate::calendar::CalendarDate;
+use crate::digits::are_digits;
 
 /// The date as the text has it, with no year 0 between the years -1 and 1, and the clock `hh:mm:ssZ`.
 pub(crate) fn written_time(text: &str) -> Option<(CalendarDate, &str)>
@@ -57,12 +58,6 @@ fn is_year(digits: &[u8]) -> bool
     ensures { result ≡ is_year digits.now }
 {
     !digits.is_empty() && digits.len() <= 16 && are_digits(digits)
-}
-
-fn are_digits(text: &[u8]) -> bool
-    ensures { result ≡ list_all is_ascii_digit text.now }
-{
-    text.iter().all(|b| b.is_ascii_digit())
 }
 
 fn decimal_value(digits: &[u8]) -> u64
