@@ -7,13 +7,13 @@ use Rattle.std.proofs.lemmas.Int.{by_lt_z}
 use Rattle.jiff_core.specs.Calendar.{days_of_years as jiff_days_of_years, days_of_months as jiff_days_of_months, days_in_month as jiff_days_in_month, day_count as jiff_day_count}
 use Rattle.jiff_core.specs.declared.civil.date.Date.{Date}
 use Rattle.jiff_core.specs.Date.{epoch_day}
-use Rattle.jiff_core.proofs.SignedLemmas.{signed_arith}
+use Rattle.jiff_core.proofs.SignedLemmas.{signed_arith, unsigned_abs-parts}
 use Rattle.jiff_core.proofs.MarchLemmas.{day_count-late}
 use Rattle.jiff_core.proofs.CalendarLemmas.{days_from_civil-day_count, day_count-day, day_count-next_month, day_count-next_year, day_count-later_year, day_count-day_of_year, day_of_year_before, days_in_month_bounds, days_of_months_all, days_of_months_more}
 use Rattle.wb_values.specs.declared.calendar.Calendar.{Calendar}
 use Rattle.wb_values.specs.declared.calendar.Calendar.TheVariants.{Julian, Gregorian}
 use Rattle.wb_values.specs.declared.calendar.CalendarDate.{CalendarDate}
-use Rattle.wb_values.specs.Calendar.{is_leap_year, days_in_year, days_in_month, days_of_years, days_of_months, day_count, last_julian_day, first_gregorian_day, nth_date, gregorian_date_of, IsSameDay}
+use Rattle.wb_values.specs.Calendar.{is_leap_year, days_in_year, days_in_month, days_of_years, days_of_months, day_count, last_julian_day, first_gregorian_day, nth_date, gregorian_date_of, IsDate, IsSameDay}
 use borrow.Author.Tests.{ltb-true, ltb-false}
 
 -- 1 for a Julian leap year, and else 0
@@ -205,3 +205,19 @@ pub gregorian_date_is : (julian : CalendarDate) (date : Date) (year : ℤ) (days
 gregorian_date_is julian date year days same found e =
     let count : jiff_day_count date.year date.month date.day ≡ days + 366 = omega (arith, signed_arith, days_from_civil-day_count date.year date.month date.day) in
     rw same (gregorian_date_of_is julian (record { year = date.year; month = date.month; day = date.day }) (days + 366) date.month_in date.day_in (omega (arith, signed_arith, date.year_in)) count (omega arith))
+
+-- the Gregorian date that is found for a Julian one is a date, and the same day
+pub gregorian_date_of_there : (julian : CalendarDate) → IsDate Julian julian → neg_ℤ (pos 9998) ≤ℤ julian.year → IsDate Gregorian (gregorian_date_of julian) × IsSameDay julian (gregorian_date_of julian)
+gregorian_date_of_there julian here low =
+    let days = day_count Julian julian + day_count Gregorian first_gregorian_day - day_count Julian last_julian_day in
+    let there = nth_date_counted days in
+    let date = nth_date Gregorian days in
+    let enough = day_count-julian julian (unsigned_abs (julian.year +ℤ pos 10000)) (years_from (julian.year +ℤ pos 10000) (omega (arith, signed_arith))) in
+    let years : 2 ≤ unsigned_abs (julian.year +ℤ pos 10000) = omega (arith, signed_arith, unsigned_abs-parts (julian.year +ℤ pos 10000)) in
+    (record { year_from = there.year_from; month_in = there.month_in; day_in = there.day_in },
+     omega (arith, day_count-last_julian_day, day_count-first_gregorian_day, day_count-gregorian date there.day_in.0, there.count))
+
+-- and no other Gregorian date is the same day
+pub only_same_day : (julian date : CalendarDate) → neg_ℤ (pos 9998) ≤ℤ julian.year → IsDate Gregorian date → IsSameDay julian date → gregorian_date_of julian ≡ date
+only_same_day julian date low there same =
+    sym (gregorian_date_of_is julian date (jiff_day_count date.year date.month date.day) there.month_in there.day_in there.year_from refl (omega (arith, day_count-last_julian_day, day_count-first_gregorian_day, day_count-gregorian date there.day_in.0))).0

@@ -1,3 +1,4 @@
 pub mod CalendarLemmas
+pub mod DayLemmas
 pub mod LiteralLemmas
 pub mod WrittenLemmas

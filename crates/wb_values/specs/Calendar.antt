@@ -1,5 +1,5 @@
 -- The Julian and the proleptic Gregorian calendar, day by day. The year before 1 is 0, and the year before that is -1.
-use Rattle.std.specs.Prelude.{◌≡◌, ℕ, zero, suc, ◌+◌, ◌-◌, ◌%◌, ◌≤◌, Bool, not, ◌&&◌, ◌||◌, ◌==◌, nat_lt, nat_le, if◌then◌else◌, ℤ, pos, negsuc, ◌+ℤ◌, ◌-ℤ◌, ◌≤ℤ◌, unsigned_abs}
+use Rattle.std.specs.Prelude.{◌≡◌, ℕ, zero, suc, ◌+◌, ◌-◌, ◌%◌, ◌≤◌, Bool, not, ◌&&◌, ◌||◌, ◌==◌, nat_lt, nat_le, if◌then◌else◌, ℤ, pos, neg_ℤ, ◌+ℤ◌, ◌-ℤ◌, ◌≤ℤ◌, unsigned_abs}
 use Rattle.std.specs.Int.{IsInRange}
 use Rattle.wb_values.specs.declared.calendar.Calendar.{Calendar}
 use Rattle.wb_values.specs.declared.calendar.Calendar.TheVariants.{Julian, Gregorian}
@@ -25,8 +25,9 @@ days_in_month calendar year month =
 abbrev pub has_day : Calendar → CalendarDate → Bool
 has_day calendar date = nat_le date.day (days_in_month calendar date.year date.month)
 
--- the calendar has this day
+-- the calendar has this day, and counts it: counts begin with the year -10000
 pub record IsDate (calendar : Calendar) (date : CalendarDate) : Type 0 where
+  pub year_from : neg_ℤ (pos 10000) ≤ℤ date.year
   pub month_in : IsInRange 1 12 date.month
   pub day_in : IsInRange 1 (days_in_month calendar date.year date.month) date.day
 

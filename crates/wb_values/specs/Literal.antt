@@ -1,11 +1,11 @@
 -- The literal that a time becomes.
-use Rattle.std.specs.Prelude.{ℕ, ◌-◌, Bool, List, [], ◌∷◌, ◌++◌, length, replicate, if◌then◌else◌, Option, Some, None, option_map, option_and_then, ℤ, pos, unsigned_abs, int_lt}
+use Rattle.std.specs.Prelude.{◌≡◌, ℕ, ◌-◌, Bool, List, [], ◌∷◌, ◌++◌, length, replicate, if◌then◌else◌, Option, Some, None, option_map, option_and_then, ℤ, pos, unsigned_abs, int_lt}
 use Rattle.std.specs.Fmt.{decimal}
 use Rattle.wb_values.specs.declared.calendar.CalendarDate.{CalendarDate}
 use Rattle.wb_values.specs.declared.literal.TimeText.{TimeText}
 use Rattle.wb_values.specs.declared.literal.TimeText.TheVariants.{DateTime, Plain}
-use Rattle.wb_values.specs.GregorianDay.{gregorian_day}
-use Rattle.wb_values.specs.Written.{written_time}
+use Rattle.wb_values.specs.GregorianDay.{gregorian_day, MeansDay}
+use Rattle.wb_values.specs.Written.{written_time, IsWritten}
 
 -- the digits of n, padded with zeros in front
 abbrev pub zero_padded : ℕ → ℕ → List ℕ
@@ -33,3 +33,14 @@ literal_of text (Some (day, clock)) = DateTime (date_time_text day clock)
 -- the literal of a time's text: a date and time where it means a day, and else the text as it is
 abbrev pub time_literal : List ℕ → ℕ → Bool → TimeText
 time_literal text precision julian = literal_of text (meant_time text precision julian)
+
+-- the literal of a time's text, by its parts: where the text writes a date that means a day, that day and the clock as
+-- they stand in xsd:dateTime; and else the text
+pub data IsLiteral (text : List ℕ) (precision : ℕ) (julian : Bool) (literal : TimeText) : Type 0 where
+  date_time : (written : CalendarDate) (clock : List ℕ) (day : CalendarDate) → IsWritten text written clock → MeansDay written precision julian day → literal ≡ DateTime (date_time_text day clock) → IsLiteral text precision julian literal
+  plain : ((written : CalendarDate) (clock : List ℕ) (day : CalendarDate) → IsWritten text written clock → ¬ (MeansDay written precision julian day)) → literal ≡ Plain text → IsLiteral text precision julian literal
+
+-- it is a literal of the text, and the text has no other
+pub record IsOnlyLiteral (text : List ℕ) (precision : ℕ) (julian : Bool) (literal : TimeText) : Type 0 where
+  pub is : IsLiteral text precision julian literal
+  pub only : (other : TimeText) → IsLiteral text precision julian other → other ≡ literal

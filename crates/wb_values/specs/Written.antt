@@ -1,5 +1,5 @@
 -- The text of a time: a sign, 1 to 16 digits of the year, `-MM-DDT`, `hh:mm:ss` and `Z`.
-use Rattle.std.specs.Prelude.{◌≡◌, ℕ, ◌+◌, ◌-◌, ◌*◌, ◌<◌, ◌≤◌, ◌⊎◌, Bool, true, false, ◌&&◌, ◌||◌, ◌==◌, nat_lt, nat_le, if◌then◌else◌, List, [], ◌∷◌, ◌++◌, length, take, drop, fold, Option, Some, None, option_map, option_and_then, ℤ, pos, neg_ℤ}
+use Rattle.std.specs.Prelude.{◌≡◌, ℕ, ◌+◌, ◌-◌, ◌*◌, ◌<◌, ◌≤◌, ◌⊎◌, Bool, true, false, ◌&&◌, ◌||◌, ◌==◌, nat_lt, nat_le, if◌then◌else◌, List, [], ◌∷◌, ◌++◌, length, take, drop, fold, Option, Some, None, option_map, option_and_then, IsTrue, ℤ, pos, neg_ℤ}
 use Rattle.std.specs.Char.{is_ascii_digit}
 use Rattle.std.specs.Option.{option_map_or}
 use Rattle.std.specs.List.{list_all, before_first, after_first}
@@ -59,3 +59,24 @@ clock_part text = after_first (λ b. b == 84) text
 abbrev pub written_time : List ℕ → Option (CalendarDate × List ℕ)
 written_time text =
     if is_clock (clock_part text) then option_map (λ date. (date, clock_part text)) (written_date (date_part text)) else None
+
+-- a text is a sign, 1 to 16 digits of a year, and `-MM-DD`, and this is the date that they write
+pub record IsWrittenDate (text : List ℕ) (written : CalendarDate) : Type 0 where
+  pub sign : ℕ
+  pub digits : List ℕ
+  pub m₁ : ℕ
+  pub m₂ : ℕ
+  pub d₁ : ℕ
+  pub d₂ : ℕ
+  pub is_year : IsTrue (is_year digits)
+  pub year : signed sign (decimal_value digits) ≡ Some written.year
+  pub month : two_digits m₁ m₂ ≡ Some written.month
+  pub day : two_digits d₁ d₂ ≡ Some written.day
+  pub is : text ≡ sign ∷ (digits ++ (45 ∷ m₁ ∷ m₂ ∷ 45 ∷ d₁ ∷ d₂ ∷ []))
+
+-- a text is a date, `T` and a clock
+pub record IsWritten (text : List ℕ) (written : CalendarDate) (clock : List ℕ) : Type 0 where
+  pub date : List ℕ
+  pub is_date : IsWrittenDate date written
+  pub is_clock : IsTrue (is_clock clock)
+  pub is : text ≡ date ++ 84 ∷ clock

@@ -1,7 +1,7 @@
 // The literal of a time.
 
 ghost use Rattle.std.specs.Prelude.{◌≡◌, IfOk, option_map};
-ghost use Rattle.wb_values.specs.Literal.{date_time_text, meant_time, time_literal};
+ghost use Rattle.wb_values.specs.Literal.{date_time_text, meant_time, time_literal, IsOnlyLiteral};
 
 use crate::calendar::CalendarDate;
 use crate::gregorian_day::gregorian_day;
@@ -29,7 +29,8 @@ pub fn time_literal(
     precision: u8,
     julian: bool,
 ) -> Result<TimeText, OutOfMemory>
-    ensures { IfOk result (λ literal. literal ≡ time_literal text.now precision julian) }
+    ensures value { IfOk result (λ literal. literal ≡ time_literal text.now precision julian) }
+    ensures rules { IfOk result (IsOnlyLiteral text.now precision julian) }
 {
     match meant_time(text, precision, julian) {
         Some((day, clock)) => Ok(TimeText::DateTime(date_time_text(alloc, day, clock)?)),
