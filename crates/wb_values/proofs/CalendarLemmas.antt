@@ -213,9 +213,10 @@ gregorian_date_of_there julian here low =
     let there = nth_date_counted days in
     let date = nth_date Gregorian days in
     let enough = day_count-julian julian (unsigned_abs (julian.year +ℤ pos 10000)) (years_from (julian.year +ℤ pos 10000) (omega (arith, signed_arith))) in
-    let years : 2 ≤ unsigned_abs (julian.year +ℤ pos 10000) = omega (arith, signed_arith, unsigned_abs-parts (julian.year +ℤ pos 10000)) in
-    (record { year_from = there.year_from; month_in = there.month_in; day_in = there.day_in },
-     omega (arith, day_count-last_julian_day, day_count-first_gregorian_day, day_count-gregorian date there.day_in.0, there.count))
+    let years : 2 ≤ unsigned_abs (julian.year +ℤ pos 10000) = omega (arith, signed_arith, unsigned_abs-parts (julian.year +ℤ pos 10000)) in (
+      record { year_from = there.year_from; month_in = there.month_in; day_in = there.day_in },
+      omega (arith, day_count-last_julian_day, day_count-first_gregorian_day, day_count-gregorian date there.day_in.0, there.count),
+    )
 
 -- and no other Gregorian date is the same day
 pub only_same_day : (julian date : CalendarDate) → neg_ℤ (pos 9998) ≤ℤ julian.year → IsDate Gregorian date → IsSameDay julian date → gregorian_date_of julian ≡ date

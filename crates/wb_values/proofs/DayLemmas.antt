@@ -16,7 +16,7 @@ is_dated : (written : CalendarDate) → is_undated written ≡ false → IsDated
 is_dated written e = record {
   year = λ zero_year. grind (arith, nat_tests, ap unsigned_abs zero_year);
   month = grind (arith, nat_tests);
-  day = grind (arith, nat_tests)
+  day = grind (arith, nat_tests);
 }
 
 abs_zero : (year : ℤ) → unsigned_abs year ≡ 0 → year ≡ pos 0
@@ -65,7 +65,7 @@ is_date : (calendar : Calendar) (written : CalendarDate) → IsDated written →
 is_date calendar written here short e = record {
   year_from = rw first_year (astronomical_from written.year short);
   month_in = first_month written here;
-  day_in = (first_day written, grind (arith, nat_tests))
+  day_in = (first_day written, grind (arith, nat_tests));
 }
 
 -- and only there
@@ -82,7 +82,7 @@ first_low written short = rw first_year (either_low (int_lt (pos 0) written.year
 
 -- which way each choice went, of those that find the day
 found_by : (undated long conv : Bool) (written : CalendarDate) (precision : ℕ) (julian : Bool) (day : CalendarDate) → is_undated written ≡ undated → nat_lt 9999 (unsigned_abs written.year) ≡ long → is_converted written precision julian ≡ conv
-  → cond undated None (cond long (Some (january_first written)) (cond conv (cond (has_day Julian (first_of written)) (Some (gregorian_date_of (first_of written))) None) (cond (has_day Gregorian (first_of written)) (Some (first_of written)) None))) ≡ Some day → MeansDay written precision julian day
+    → cond undated None (cond long (Some (january_first written)) (cond conv (cond (has_day Julian (first_of written)) (Some (gregorian_date_of (first_of written))) None) (cond (has_day Gregorian (first_of written)) (Some (first_of written)) None))) ≡ Some day → MeansDay written precision julian day
 found_by true long conv written precision julian day u l k e = cc
 found_by false true conv written precision julian day u l k e =
     long_year (is_dated written u) (grind (arith, nat_tests)) (sym (same_Some _ _ e))

@@ -1,4 +1,5 @@
 pub mod CalendarLemmas
 pub mod DayLemmas
+pub mod DecimalLemmas
 pub mod LiteralLemmas
 pub mod WrittenLemmas

@@ -29,10 +29,11 @@ meant_sound text precision julian day clock e =
     let found = chained _ (written_time text) (day, clock) e in
     let m = mapped _ (gregorian_day found.0.0 precision julian) (day, clock) found.2 in
     let here : m.0 ≡ day = ap (λ p. p.0) m.2 in
-    let tail : found.0.1 ≡ clock = ap (λ p. p.1) m.2 in
-    (found.0.0,
-     written_sound text found.0.0 clock (found.1 ∙ ap (λ c. Some (found.0.0, c)) tail),
-     found_is_meant found.0.0 precision julian day (m.1 ∙ ap Some here))
+    let tail : found.0.1 ≡ clock = ap (λ p. p.1) m.2 in (
+      found.0.0,
+      written_sound text found.0.0 clock (found.1 ∙ ap (λ c. Some (found.0.0, c)) tail),
+      found_is_meant found.0.0 precision julian day (m.1 ∙ ap Some here),
+    )
 
 meant_complete : (text : List ℕ) (precision : ℕ) (julian : Bool) (written : CalendarDate) (clock : List ℕ) (day : CalendarDate) → IsWritten text written clock → MeansDay written precision julian day → meant_time text precision julian ≡ Some (day, clock)
 meant_complete text precision julian written clock day there means =
@@ -51,13 +52,13 @@ only_by text precision julian literal (date_time written clock day there means e
     e ∙ sym (ap (literal_of text) (meant_complete text precision julian written clock day there means))
 only_by text precision julian literal (plain none e) = e ∙ sym (ap (literal_of text) (no_meaning (meant_time text precision julian) refl))
   where
-  no_meaning : (meant : Option (CalendarDate × List ℕ)) → meant_time text precision julian ≡ meant → meant_time text precision julian ≡ None
-  no_meaning None m = m
-  no_meaning (Some (day, clock)) m = let s = meant_sound text precision julian day clock m in absurd (none s.0 clock day s.1 s.2)
+    no_meaning : (meant : Option (CalendarDate × List ℕ)) → meant_time text precision julian ≡ meant → meant_time text precision julian ≡ None
+    no_meaning None m = m
+    no_meaning (Some (day, clock)) m = let s = meant_sound text precision julian day clock m in absurd (none s.0 clock day s.1 s.2)
 
 -- what the rules compute is the one literal that they allow
 pub only_literal : (text : List ℕ) (precision : ℕ) (julian : Bool) (literal : TimeText) → literal ≡ time_literal text precision julian → IsOnlyLiteral text precision julian literal
 only_literal text precision julian literal e = record {
   is = rw e (literal_by text precision julian (meant_time text precision julian) refl);
-  only = λ other o. only_by text precision julian other o ∙ sym e
+  only = λ other o. only_by text precision julian other o ∙ sym e;
 }

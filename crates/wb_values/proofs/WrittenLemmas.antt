@@ -27,8 +27,8 @@ guarded : {A : Type 0} (b : Bool) (o : Option A) (y : A) → cond b o None ≡ S
 guarded true o y e = (refl, e)
 guarded false o y e = absurd (none_some y e)
   where
-  none_some : {A : Type 0} (y : A) → None ≡ Some y → ⊥
-  none_some y e = cc
+    none_some : {A : Type 0} (y : A) → None ≡ Some y → ⊥
+    none_some y e = cc
 
 pub mapped : {A B : Type 0} (f : A → B) (o : Option A) (y : B) → option_map f o ≡ Some y → (x : A) × (o ≡ Some x) × (f x ≡ y)
 mapped f None y e = cc
@@ -38,7 +38,7 @@ pub chained : {A B : Type 0} (f : A → Option B) (o : Option A) (y : B) → opt
 chained f None y e = cc
 chained f (Some x) y e = (x, refl, e)
 
-both : (a b : Bool) → (a && b) ≡ true → (a ≡ true) × (b ≡ true)
+pub both : (a b : Bool) → (a && b) ≡ true → (a ≡ true) × (b ≡ true)
 both true b e = (refl, e)
 both false b e = absurd (false≢true e)
 
@@ -83,11 +83,14 @@ month_and_day_sound year (a ∷ m₁ ∷ m₂ ∷ b ∷ d₁ ∷ d₂ ∷ []) da
     let first : a ≡ 45 = grind (arith, nat_tests, dashes.0) in
     let second : b ≡ 45 = grind (arith, nat_tests, dashes.1) in
     record {
-      m₁ = m₁; m₂ = m₂; d₁ = d₁; d₂ = d₂;
+      m₁ = m₁;
+      m₂ = m₂;
+      d₁ = d₁;
+      d₂ = d₂;
       year_is = sym (ap (λ d. d.year) day.2);
       month = month.1 ∙ ap Some (ap (λ d. d.month) day.2);
       day = day.1 ∙ ap Some (ap (λ d. d.day) day.2);
-      is = rw (first, second)
+      is = rw (first, second);
     }
 
 date_sound : (text : List ℕ) (date : CalendarDate) → written_date text ≡ Some date → IsWrittenDate text date
@@ -97,13 +100,17 @@ date_sound text date e =
     let front = year_sound (take cut text) year.0 year.1 in
     let back = month_and_day_sound year.0 (drop cut text) date year.2 in
     record {
-      sign = front.sign; digits = front.digits;
-      m₁ = back.m₁; m₂ = back.m₂; d₁ = back.d₁; d₂ = back.d₂;
+      sign = front.sign;
+      digits = front.digits;
+      m₁ = back.m₁;
+      m₂ = back.m₂;
+      d₁ = back.d₁;
+      d₂ = back.d₂;
       is_year = front.is_digits;
       year = front.number ∙ ap Some (sym back.year_is);
       month = back.month;
       day = back.day;
-      is = sym (take-append-drop cut text) ∙ ap (λ xs. xs ++ drop cut text) front.is ∙ ap (λ ys. front.sign ∷ (front.digits ++ ys)) back.is
+      is = sym (take-append-drop cut text) ∙ ap (λ xs. xs ++ drop cut text) front.is ∙ ap (λ ys. front.sign ∷ (front.digits ++ ys)) back.is;
     }
 
 -- a byte is `T`
@@ -133,11 +140,11 @@ written_sound text date clock e =
       date = date_part text;
       is_date = date_sound (date_part text) date (m.1 ∙ ap Some same);
       is_clock = rw (← tail) g.0;
-      is = split_at_first is_t text 0 here ∙ ap (λ t. date_part text ++ (t ∷ clock_part text)) mark ∙ ap (λ c. date_part text ++ (84 ∷ c)) tail
+      is = split_at_first is_t text 0 here ∙ ap (λ t. date_part text ++ (t ∷ clock_part text)) mark ∙ ap (λ c. date_part text ++ (84 ∷ c)) tail;
     }
 
 -- a list of which no element passes, and then one that does
-first_place : (p : ℕ → Bool) (xs : List ℕ) (y : ℕ) (ys : List ℕ) → list_all (λ x. not (p x)) xs ≡ true → p y ≡ true → position_or_len p (xs ++ (y ∷ ys)) ≡ length xs
+pub first_place : (p : ℕ → Bool) (xs : List ℕ) (y : ℕ) (ys : List ℕ) → list_all (λ x. not (p x)) xs ≡ true → p y ≡ true → position_or_len p (xs ++ (y ∷ ys)) ≡ length xs
 first_place p [] y ys none here = rw here
 first_place p (x ∷ xs) y ys none here =
     let n = both (not (p x)) (list_all (λ x. not (p x)) xs) none in

@@ -27,14 +27,14 @@ is_decimal text = is_unsigned_decimal (unsigned_part text)
 
 -- a sign, or none
 pub data IsSign : List ℕ → Type 0 where
-  none : IsSign []
-  plus : IsSign (43 ∷ [])
-  minus : IsSign (45 ∷ [])
+  no_sign : IsSign []
+  plus_sign : IsSign (43 ∷ [])
+  minus_sign : IsSign (45 ∷ [])
 
 -- a point and digits, or nothing
 pub data IsFraction : List ℕ → Type 0 where
-  none : IsFraction []
-  point : (digits : List ℕ) → IsTrue (is_numeral digits) → IsFraction (46 ∷ digits)
+  no_fraction : IsFraction []
+  point_digits : (digits : List ℕ) → IsTrue (is_numeral digits) → IsFraction (46 ∷ digits)
 
 -- a text is a decimal number: a sign or none, digits, and a fraction or none
 pub record IsDecimal (text : List ℕ) : Type 0 where

@@ -1,13 +1,14 @@
 // Decimal numbers.
 
-ghost use Rattle.std.specs.Prelude.{◌≡◌, ◌==◌, position};
-ghost use Rattle.wb_values.specs.Decimal.{is_decimal, is_numeral, is_unsigned_decimal};
+ghost use Rattle.std.specs.Prelude.{◌≡◌, ◌↔◌, ◌==◌, position, IsTrue};
+ghost use Rattle.wb_values.specs.Decimal.{is_decimal, is_numeral, is_unsigned_decimal, IsDecimal};
 
 use crate::digits::are_digits;
 
 /// Whether a text is `[+-]?[0-9]+(\.[0-9]+)?`: a quantity's amount that `xsd:decimal` takes.
 pub fn is_decimal(text: &str) -> bool
     ensures value { result ≡ is_decimal text.now }
+    ensures grammar { IsTrue result ↔ IsDecimal text.now }
 {
     match text.as_bytes() {
         [b'+' | b'-', unsigned @ ..] => is_unsigned_decimal(unsigned),
