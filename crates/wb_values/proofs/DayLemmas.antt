@@ -1,14 +1,13 @@
 -- The day that is found for a written date is the one day that the date means.
-use Rattle.std.proofs.Common.{◌≡◌, ◌≢◌, ℕ, zero, suc, ◌+◌, ◌-◌, ◌*◌, ◌/◌, ◌<◌, ◌≤◌, Bool, true, false, not, ◌&&◌, ◌||◌, cond, nat_eq, nat_lt, IsTrue, Option, Some, None, ℤ, pos, negsuc, neg_ℤ, ◌+ℤ◌, ◌≤ℤ◌, ◌<ℤ◌, unsigned_abs, int_lt, refl, sym, ap, ◌∙◌, arith}
+use Rattle.std.proofs.Common.{◌≡◌, ◌≢◌, ℕ, ◌≤◌, Bool, true, false, cond, nat_eq, nat_lt, Some, None, ℤ, pos, negsuc, neg_ℤ, ◌+ℤ◌, ◌≤ℤ◌, unsigned_abs, int_lt, refl, sym, ap, arith}
 use Rattle.std.specs.Int.{IsInRange}
-use Rattle.std.specs.Bool.{IsFalse}
 use Rattle.std.proofs.lemmas.Bool.Decides.{nat_tests}
 use Rattle.std.proofs.lemmas.Option.{cond_some, same_Some}
 use Rattle.jiff_core.proofs.SignedLemmas.{signed_arith, unsigned_abs-parts}
 use Rattle.wb_values.specs.declared.calendar.Calendar.{Calendar}
 use Rattle.wb_values.specs.declared.calendar.Calendar.TheVariants.{Julian, Gregorian}
 use Rattle.wb_values.specs.declared.calendar.CalendarDate.{CalendarDate}
-use Rattle.wb_values.specs.Calendar.{has_day, gregorian_date_of, IsDate, IsSameDay}
+use Rattle.wb_values.specs.Calendar.{has_day, gregorian_date_of, IsDate}
 use Rattle.wb_values.proofs.CalendarLemmas.{gregorian_date_of_there, only_same_day}
 use Rattle.wb_values.specs.GregorianDay.{astronomical_year, january_first, first_of, gregorian_day, is_converted, is_undated, IsDated, MeansDay, long_year, converted, kept}
 

@@ -1,9 +1,9 @@
 -- A time's text has one literal. What the formats `{:04}` and `{:02}` write, and the text of a date with its parts joined from the right.
-use Rattle.std.proofs.Common.{◌≡◌, ℕ, ◌-◌, List, [], ◌∷◌, ◌++◌, length, refl, sym, ap, ◌∙◌, arith, append_assoc, Bool, cond, ℤ, pos, Option, Some, None}
-use Rattle.std.specs.Prelude.{replicate, int_lt, unsigned_abs}
+use Rattle.std.proofs.Common.{◌≡◌, ℕ, List, [], ◌∷◌, ◌++◌, refl, sym, ap, ◌∙◌, append_assoc, Bool, Option, Some, None}
+use Rattle.std.specs.Prelude.{unsigned_abs}
 use Rattle.std.proofs.Math.Nat.{sub-zero}
 use Rattle.std.proofs.lemmas.List.{append-nil}
-use Rattle.std.specs.Fmt.{char_count, decimal, padded_integral, format_spec, styled_decimal}
+use Rattle.std.specs.Fmt.{char_count, padded_integral, format_spec, styled_decimal}
 use Rattle.wb_values.specs.declared.calendar.CalendarDate.{CalendarDate}
 use Rattle.std.proofs.lemmas.Option.{none-some}
 use Rattle.wb_values.specs.declared.literal.TimeText.{TimeText}

@@ -1,4 +1,4 @@
-use Rattle.std.proofs.Common.{◌≡◌, ◌+ℤ◌, pos, arith, FitsSigned, unsigned_abs, w64, to_z-of_z}
+use Rattle.std.proofs.Common.{◌+ℤ◌, pos, arith, FitsSigned, unsigned_abs, w64, to_z-of_z}
 use Rattle.jiff_core.proofs.SignedLemmas.{signed_arith}
 use Rattle.wb_values.proofs.CalendarLemmas.{day_count-julian, years_from}
 use Rattle.wb_values.proofs.calendar.julian_day_count.Goals as goal

@@ -1,4 +1,4 @@
-use Rattle.std.proofs.Common.{◌≡◌, ◌++◌, [], ◌∷◌, ◌∙◌, ap, sym, true, false, pos, to_z, of_z, w64, to_z-of_z, FitsSigned, arith, rules, string_bytes, unsigned_abs}
+use Rattle.std.proofs.Common.{◌≡◌, ◌++◌, [], ◌∷◌, ◌∙◌, ap, w64, to_z-of_z, FitsSigned, rules, string_bytes, unsigned_abs}
 use Rattle.std.specs.Fmt.{styled_decimal}
 use Rattle.wb_values.specs.Literal.{sign_text}
 use Rattle.wb_values.proofs.LiteralLemmas.{four_digits, two_digits, date_time_text_is}

@@ -1,4 +1,4 @@
-use Rattle.std.proofs.Common.{◌≤◌, ◌<◌, ◌^◌, length, arith}
+use Rattle.std.proofs.Common.{arith}
 use Rattle.wb_values.proofs.WrittenLemmas.{few_places}
 use Rattle.wb_values.proofs.written.decimal_value.Goals as goal
 

@@ -1,4 +1,4 @@
-use Rattle.std.proofs.Common.{◌≡◌, ◌+◌, ◌-◌, ◌≤◌, ◌∙◌, ap, sym, arith, ℤ, to_z, of_z, w64, w32, Fits, to_z-of_z}
+use Rattle.std.proofs.Common.{◌≡◌, ◌+◌, ◌-◌, ◌∙◌, ap, sym, arith, ℤ, to_z, of_z, w64, to_z-of_z}
 use Rattle.wb_values.specs.Calendar.{days_of_months}
 use Rattle.wb_values.proofs.CalendarLemmas.{days_of_months-none, days_of_months-more, days_of_months_bound}
 use Rattle.wb_values.proofs.calendar.Calendar.days_before_month.Goals as goal
