@@ -3,3 +3,4 @@ pub mod IdKind
 pub mod EntityId
 pub mod Kind
 pub mod Event
+pub mod IdOf

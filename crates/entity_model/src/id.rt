@@ -1,11 +1,14 @@
-ghost use Rattle.std.specs.Prelude.{◌≡◌, IfSome, Some, OnOk};
+ghost use Rattle.std.specs.Prelude.{◌≡◌, ◌≢◌, ℕ, ◌<◌, ◌≤◌, ◌^◌, List, ◌∷◌, slice_index, IsTrue, ◌↔◌, IfSome, IfNone, Some, IfOk};
+ghost use Rattle.std.specs.Fmt.{decimal};
 ghost use Rattle.std.specs.Ordering.{nat_cmp, on};
-ghost use Rattle.entity_model.specs.IdKind.{id_kind_place};
+ghost use Rattle.entity_model.specs.IdKind.{id_kind_place, letter_of};
 
+use rdf_term::{OutOfMemory, Text};
+use std::alloc::Global;
 use std::cmp::Ordering;
 
 /// The kind of an entity, by the letter of its id.
-#[derive(Clone, Copy, PartialEq, Eq, PartialOrd, Ord, Debug)]
+#[derive(Clone, Copy, PartialEq, Eq, PartialOrd, Ord, Hash, Debug)]
 pub enum IdKind {
     /// A property, as P31.
     P,
@@ -23,12 +26,82 @@ impl IdKind {
 }
 
 /// The id of an entity of Wikidata: a letter and a number from 1, as Q42.
-#[derive(Clone, Copy, Debug)]
+#[derive(Clone, Copy, Hash, Debug)]
 pub struct EntityId {
     /// The letter.
     pub kind: IdKind,
     /// The number.
     pub number: u32,
+}
+
+impl EntityId {
+    ghost use Rattle.entity_model.specs.EntityId.{id_text, IsId};
+    ghost use Rattle.entity_model.specs.IdOf.{id_of};
+
+    /// Reads an id: the letter P or Q, and then a number from 1 to 4,294,967,295 in decimal without
+    /// a leading zero. Any other text is none.
+    pub fn read(text: &str) -> Option<EntityId>
+        ensures sound { IfSome result (λ id. IsId id × (id_text id ≡ text.now)) }
+        ensures complete { (id : EntityId) → IsId id → id_text id ≡ text.now → result ≡ Some id }
+        ensures value { result ≡ id_of text.now }
+    {
+        EntityId::parse(text)
+    }
+
+    // The same, by its parts.
+    fn parse(text: &str) -> Option<EntityId>
+        ensures sound { IfSome result (λ id. IsId id × (id_text id ≡ text.now)) }
+        ensures complete { (id : EntityId) → IsId id → id_text id ≡ text.now → result ≡ Some id }
+    {
+        let (kind, digits) = split_letter(text)?;
+        let number = read_number(digits)?;
+        Some(EntityId { kind, number })
+    }
+
+    /// The text of the id: the letter and the number in decimal.
+    pub fn text(&self, alloc: Global) -> Result<Text, OutOfMemory>
+        ensures { IfOk result (λ text. text ≡ id_text self.now) }
+    {
+        let number = self.number;
+        let string = match self.kind {
+            IdKind::P => format!(in alloc; "P{number}")?,
+            IdKind::Q => format!(in alloc; "Q{number}")?,
+        };
+        Ok(Text::from_string(string))
+    }
+}
+
+/// The kind that the first letter says, and the rest of the text.
+fn split_letter(text: &str) -> Option<(IdKind, &str)>
+    ensures none { IfNone result ((kind : IdKind) (rest : List ℕ) → text.now ≢ letter_of kind ∷ rest) }
+    ensures parts { IfSome result (λ parts. text.now ≡ letter_of parts.0 ∷ parts.1.now) }
+{
+    match text.strip_prefix('P') {
+        Some(rest) => Some((IdKind::P, rest)),
+        None => {
+            let rest = text.strip_prefix('Q')?;
+            Some((IdKind::Q, rest))
+        }
+    }
+}
+
+/// Reads a number from 1 to 4,294,967,295 in decimal without a leading zero.
+fn read_number(digits: &str) -> Option<u32>
+    ensures sound { IfSome result (λ n. (0 < n) × (decimal n ≡ digits.now)) }
+    ensures complete { (n : ℕ) → 0 < n → n < 2 ^ 32 → decimal n ≡ digits.now → result ≡ Some n }
+{
+    if starts_above_zero(digits) {
+        digits.parse().ok()
+    } else {
+        None
+    }
+}
+
+/// Whether the text starts with a digit from 1 to 9.
+fn starts_above_zero(text: &str) -> bool
+    ensures { IsTrue result ↔ ((49 ≤ slice_index text.now 0) × (slice_index text.now 0 ≤ 57)) }
+{
+    matches!(text.as_bytes(), [b'1'..=b'9', ..])
 }
 
 impl PartialEq for EntityId {

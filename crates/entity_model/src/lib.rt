@@ -3,10 +3,12 @@
 // bytes of a page are no document.
 #![tactic(auto)]
 
+mod document;
 mod event;
 mod id;
 mod unfit;
 
+pub use document::Document;
 pub use event::{Event, Kind};
 pub use id::{EntityId, IdKind};
 pub use unfit::Unfit;

@@ -1,2 +1,4 @@
 pub mod State
 pub mod Record
+pub mod Tabled
+pub mod Table

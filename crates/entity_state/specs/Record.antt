@@ -1,5 +1,6 @@
 -- The record of an entity.
 use Rattle.std.specs.Prelude.{ℕ, Bool, false, Option, None, Some, ◌&&◌, ◌==◌, not}
+use Rattle.entity_model.specs.declared.event.Event.{Event}
 use Rattle.entity_state.specs.declared.state.State.{State}
 use Rattle.entity_state.specs.declared.record.Held.{Held}
 use Rattle.entity_state.specs.declared.record.Record.{Record}
@@ -8,6 +9,10 @@ use Rattle.entity_state.specs.State.{unknown, is_kept}
 -- the record of an entity before its first event
 abbrev pub blank : {H : Type 0} → Record H
 blank = record { state = unknown; held = None; reconciled = None }
+
+-- the record with another state and another last reconciliation; what it holds stays
+abbrev pub with_state : {H : Type 0} → Record H → State → Option Event → Record H
+with_state r s reconciled = record r { state = s; reconciled = reconciled }
 
 -- the number of the revision that is held
 abbrev pub held_revision : {H : Type 0} → Option (Held H) → Option ℕ

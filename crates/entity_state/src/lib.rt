@@ -4,6 +4,8 @@
 
 mod record;
 mod state;
+mod table;
 
 pub use record::{Held, Record};
 pub use state::{Mode, State, step};
+pub use table::Table;

@@ -26,7 +26,7 @@ pub struct Record<H> {
 }
 
 impl<H> Record<H> {
-    ghost use Rattle.entity_state.specs.Record.{blank};
+    ghost use Rattle.entity_state.specs.Record.{blank, with_state};
 
     /// The record of an entity before its first event.
     pub fn blank() -> Record<H>
@@ -37,5 +37,13 @@ impl<H> Record<H> {
             held: None,
             reconciled: None,
         }
+    }
+
+    /// Sets the state and the last reconciliation. What is held stays.
+    pub fn set_state(&mut self, state: State, reconciled: Option<Event>)
+        ensures { self.new ≡ with_state self.old state reconciled }
+    {
+        self.state = state;
+        self.reconciled = reconciled;
     }
 }

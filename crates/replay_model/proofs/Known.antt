@@ -24,11 +24,10 @@ use Rattle.rising.proofs.Finding.{list_any-sorted, list_any-filter}
 use Rattle.replay_model.specs.Acceptance.{mark, events, is_repeat, is_late, is_accepted, accepted, late, due, known}
 use Rattle.replay_model.specs.Fate.{is_of, events_of, in_order, fate}
 use Rattle.replay_model.specs.Play.{is_reconciliation}
-use Rattle.replay_model.specs.Entries.{settles, is_open_late}
+use Rattle.replay_model.specs.Entries.{is_later, settles, is_open_late}
 use Rattle.replay_model.proofs.Times.{not_false, reached-greater}
 use Rattle.replay_model.proofs.Deliveries.{mark-kept, mark-watermark, events-kept, events-told, events_passing-kept, events_passing-told}
 use Rattle.replay_model.proofs.RecordOf.{entity_of, events_of-in_order}
-use Rattle.replay_model.proofs.OpenLate.{is_later}
 
 contradicts : {G : Type 0} (b : Bool) → b ≡ true → b ≡ false → G
 contradicts b p q = absurd (true≢false (sym p ∙ q))
@@ -121,11 +120,11 @@ split false false ev la ac t e r = ap (λ v. v || (t || false)) e ∙ turn la ac
     turn false true t = refl
     turn false false t = refl
 
-has-one : (q e : Event) (b : Bool) → has event_cmp q (cond b (e ∷ []) []) ≡ cond b (eq_by_cmp event_cmp q e || false) false
+pub has-one : (q e : Event) (b : Bool) → has event_cmp q (cond b (e ∷ []) []) ≡ cond b (eq_by_cmp event_cmp q e || false) false
 has-one q e true = refl
 has-one q e false = refl
 
-has-events : (q : Event) (ds : List Delivery) → has event_cmp q (events ds) ≡ (has event_cmp q (late ds) || has event_cmp q (accepted ds))
+pub has-events : (q : Event) (ds : List Delivery) → has event_cmp q (events ds) ≡ (has event_cmp q (late ds) || has event_cmp q (accepted ds))
 has-events q = by_pushes (λ ds. has event_cmp q (events ds) ≡ (has event_cmp q (late ds) || has event_cmp q (accepted ds))) refl step
   where
     step : (ds : List Delivery) (d : Delivery) → has event_cmp q (events ds) ≡ (has event_cmp q (late ds) || has event_cmp q (accepted ds)) → has event_cmp q (events (ds ++ d ∷ [])) ≡ (has event_cmp q (late (ds ++ d ∷ [])) || has event_cmp q (accepted (ds ++ d ∷ [])))

@@ -23,14 +23,14 @@ late-entry_of e r (Ok bytes) = refl
 late-entry_of e r (Err cause) = refl
 
 -- applying an event makes no late entry
-late-entries_after : (replies : Replies) (e : Event) (r : Record Bytes) → late_events (entries_after replies e r) ≡ []
+pub late-entries_after : (replies : Replies) (e : Event) (r : Record Bytes) → late_events (entries_after replies e r) ≡ []
 late-entries_after replies e r = only (wants (state_after r.state e) (held_revision r.held))
   where
     only : (b : Bool) → late_events (cond b (entry_of e (state_after r.state e).rev (replies e (state_after r.state e).rev)) []) ≡ []
     only true = late-entry_of e (state_after r.state e).rev (replies e (state_after r.state e).rev)
     only false = refl
 
-late-append : (side more : List Entry) → late_events more ≡ [] → late_events (side ++ more) ≡ late_events side
+pub late-append : (side more : List Entry) → late_events more ≡ [] → late_events (side ++ more) ≡ late_events side
 late-append side more h = filter_map-append late_event side more ∙ ap (λ l. late_events side ++ l) h ∙ append-nil (late_events side)
 
 pub late-apply_all : (replies : Replies) (p : Played) (es : List Event) → late_events (apply_all replies p es).side ≡ late_events p.side

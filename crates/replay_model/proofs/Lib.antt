@@ -1,7 +1,10 @@
+pub mod Applied
 pub mod Arrivals
 pub mod Confluence
 pub mod Deliveries
 pub mod DueParts
+pub mod FetchCounts
+pub mod Following
 pub mod Known
 pub mod LateEntries
 pub mod OpenLate

@@ -14,7 +14,7 @@ use Rattle.replay_model.specs.Acceptance.{due}
 use Rattle.replay_model.specs.Fate.{is_of, events_of, in_order}
 use Rattle.replay_model.specs.Records.{Bytes, record_of}
 use Rattle.replay_model.specs.Play.{Replies, is_reconciliation, reconciled_after, played}
-use Rattle.replay_model.specs.Entries.{settles, is_open_late}
+use Rattle.replay_model.specs.Entries.{is_later, settles, is_open_late}
 use Rattle.replay_model.proofs.RecordOf.{record-played, reconciled-applied_to}
 
 less : (r : Ordering) → is_lt r ≡ true → r ≡ Less
@@ -30,10 +30,6 @@ left_of : (a b : Bool) → (b ≡ true → a ≡ true) → a ≡ (a || b)
 left_of true b h = refl
 left_of false true h = h refl
 left_of false false h = refl
-
--- whether r is a reconciliation after e
-abbrev pub is_later : Event → Event → Bool
-is_later e r = is_reconciliation r.kind && is_lt (event_cmp e r)
 
 before-after : (e : Event) (s : Option Event) (r : Event) → is_before e (reconciled_after s r) ≡ (is_before e s || is_later e r)
 before-after e None r =

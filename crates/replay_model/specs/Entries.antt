@@ -23,9 +23,13 @@ late_event (Revision e r cause) = None
 abbrev pub late_events : List Entry → List Event
 late_events side = filter_map late_event side
 
--- whether the event r is a reconciliation of the entity of e, and after e in the order of events
+-- whether the event r is a reconciliation after e in the order of events
+abbrev pub is_later : Event → Event → Bool
+is_later e r = is_reconciliation r.kind && is_lt (event_cmp e r)
+
+-- whether the event r is such a reconciliation of the entity of e
 abbrev pub settles : Event → Event → Bool
-settles e r = is_of e.entity r && (is_reconciliation r.kind && is_lt (event_cmp e r))
+settles e r = is_of e.entity r && is_later e r
 
 -- whether a late event is open: none of the due events is such a reconciliation
 abbrev pub is_open_late : List Event → Event → Bool

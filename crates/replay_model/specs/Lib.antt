@@ -7,3 +7,4 @@ pub mod Entries
 pub mod Union
 pub mod Transcript
 pub mod ReplayState
+pub mod Explained

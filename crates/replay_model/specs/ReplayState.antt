@@ -11,7 +11,8 @@ use Rattle.reorder_buffer.specs.Watermarks.{is_due}
 use Rattle.reorder_buffer.specs.Buffered.{Buffered, nothing_taken, answer_to, after_taking, after_raising, after_closing, first_due, after_dropping}
 use Rattle.replay_model.specs.Acceptance.{mark, events, accepted}
 use Rattle.replay_model.specs.Fate.{in_order}
-use Rattle.replay_model.specs.Play.{Replies, Played, nothing_played, apply, apply_all, play, play_to_end}
+use Rattle.replay_model.specs.Records.{record_of}
+use Rattle.replay_model.specs.Play.{Replies, Played, Fetch, nothing_played, apply, apply_all, play, play_to_end, fetches_of, fetches_of_all}
 
 -- the events that were taken and wait, and what was played of them
 pub record ReplayState : Type 0 where
@@ -91,3 +92,21 @@ following_to_end replies ds = record {
   buffer = record { taken = in_order (events ds); waiting = []; mark = mark ds; closed = true };
   played = play_to_end replies ds;
 }
+
+-- the fetches that the application of an event makes in this state
+abbrev pub fetches_for : ReplayState → Option Event → List Fetch
+fetches_for w None = []
+fetches_for w (Some e) = fetches_of e (record_of w.played.records e.entity)
+
+-- the fetches that the application of the least due event makes
+abbrev pub fetches_next : ReplayState → List Fetch
+fetches_next w = fetches_for w (first_due w.buffer)
+
+-- the fetches that the application of all due events makes
+abbrev pub fetches_due : Replies → ReplayState → List Fetch
+fetches_due replies w = fetches_of_all replies w.played (due_now w.buffer)
+
+-- the fetches that a delivery makes
+abbrev pub fetches_delivered : Replies → ReplayState → Delivery → List Fetch
+fetches_delivered replies w (Told e) = []
+fetches_delivered replies w (Watermark m) = fetches_due replies (after_mark w m)

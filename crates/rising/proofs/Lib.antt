@@ -1,6 +1,7 @@
 pub mod Bools
 pub mod Filtering
 pub mod Finding
+pub mod FirstPassing
 pub mod Pushes
 pub mod Rising
 pub mod Sorting

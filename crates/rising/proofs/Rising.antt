@@ -7,7 +7,7 @@ use Rattle.std.proofs.lemmas.Cmp.{tied_itself, tied_back, alike_right}
 use Rattle.std.proofs.lemmas.List.Folds.{list_any-append}
 use Rattle.std.specs.BTreeSet.{insert_key}
 use Rattle.rising.specs.Rising.{sorted, has, Above, IsRising}
-use Rattle.rising.proofs.Bools.{clash, equal, or_swap, or_false, or_true}
+use Rattle.rising.proofs.Bools.{clash, equal, or_swap, or_false, or_none, or_comm}
 
 -- the other way round, an answer is reversed
 pub turned : {K : Type 0} {R : K → K → Ordering} → IsTotalOrder R → (x y : K) (r : Ordering) → R x y ≡ r → R y x ≡ ordering_reverse r
@@ -74,16 +74,16 @@ head_below : {K : Type 0} {R : K → K → Ordering} → IsTotalOrder R → {G :
 head_below {R = R} o x y xs ys h e less = clash (sym (e x) ∙ has_itself o x xs) (has-above R x (y ∷ ys) (less, Above-weaken o x y ys less h.0))
 
 -- an element that ties with the head of a rising list isn't in the rest
-among : {K : Type 0} {R : K → K → Ordering} → IsTotalOrder R → (q x : K) (xs : List K) → R q x ≡ Equal → Above R x xs → has R q xs ≡ false
-among o q x [] e h = refl
-among {R = R} o q x (y ∷ ys) e h = or_false (eq_by_cmp R q y) _ (ap is_eq (o.congr q x y e ∙ h.0)) (among o q x ys e h.1)
+pub has-tied_above : {K : Type 0} {R : K → K → Ordering} → IsTotalOrder R → (q x : K) (xs : List K) → R q x ≡ Equal → Above R x xs → has R q xs ≡ false
+has-tied_above o q x [] e h = refl
+has-tied_above {R = R} o q x (y ∷ ys) e h = or_false (eq_by_cmp R q y) _ (ap is_eq (o.congr q x y e ∙ h.0)) (has-tied_above o q x ys e h.1)
 
 -- without the shared head, two rising lists have the same elements
 rest_alike : {K : Type 0} {R : K → K → Ordering} → IsTotalOrder R → (x y : K) (xs ys : List K) → Above R x xs → Above R y ys → R x y ≡ Equal → ((q : K) → has R q (x ∷ xs) ≡ has R q (y ∷ ys)) → (q : K) → has R q xs ≡ has R q ys
 rest_alike {K} {R} o x y xs ys hx hy t e q =
     elim (R q x) as (λ r. R q x ≡ r → has R q xs ≡ has R q ys) [
       | Less ↦ λ a. past (ap is_eq a)
-      | Equal ↦ λ a. among o q x xs a hx ∙ sym (among o q y ys (sym (alike_right o x y q t) ∙ a) hy)
+      | Equal ↦ λ a. has-tied_above o q x xs a hx ∙ sym (has-tied_above o q y ys (sym (alike_right o x y q t) ∙ a) hy)
       | Greater ↦ λ a. past (ap is_eq a)
     ] refl
   where
@@ -109,3 +109,18 @@ sorted_same {R = R} o same xs ys e = same_rising o same _ _ (IsRising-sorted o x
 -- a rising list is its own sorted list
 pub sorted_rising : {K : Type 0} {R : K → K → Ordering} → IsTotalOrder R → IsAntisymmetric R → (xs : List K) → IsRising R xs → sorted R xs ≡ xs
 sorted_rising {R = R} o same xs h = same_rising o same _ _ (IsRising-sorted o xs) h (λ q. has-sorted o q xs)
+
+-- one more element at the end of a list is put at its place in the sorted list
+pub sorted-push : {K : Type 0} {R : K → K → Ordering} → IsTotalOrder R → IsAntisymmetric R → (xs : List K) (x : K) → sorted R (xs ++ x ∷ []) ≡ insert_key R (sorted R xs) x
+sorted-push {R = R} o same xs x = sorted_same o same (xs ++ x ∷ []) (x ∷ xs) (λ q. has-append R q xs (x ∷ []) ∙ ap (λ b. has R q xs || b) (or_none (eq_by_cmp R q x)) ∙ or_comm (has R q xs) (eq_by_cmp R q x))
+
+-- an element that is there is put nowhere
+pub sorted-push_again : {K : Type 0} {R : K → K → Ordering} → IsTotalOrder R → IsAntisymmetric R → (xs : List K) (x : K) → has R x xs ≡ true → sorted R (xs ++ x ∷ []) ≡ sorted R xs
+sorted-push_again {K} {R} o same xs x there = sorted_same o same (xs ++ x ∷ []) xs again
+  where
+    kept : (a b : Bool) → (b ≡ true → a ≡ true) → (a || (b || false)) ≡ a
+    kept true b h = refl
+    kept false true h = sym (h refl)
+    kept false false h = refl
+    again : (q : K) → has R q (xs ++ x ∷ []) ≡ has R q xs
+    again q = has-append R q xs (x ∷ []) ∙ kept (has R q xs) (eq_by_cmp R q x) (λ t. ap (λ y. has R y xs) (same q x (equal _ t)) ∙ there)

@@ -1,0 +1,2 @@
+mod Number
+pub mod IdReading

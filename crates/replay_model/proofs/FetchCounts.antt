@@ -1,0 +1,38 @@
+-- The fetches of a replay, delivery by delivery and event by event, and how a count rises by them.
+use Rattle.std.proofs.Common.{◌≡◌, ℕ, ◌+◌, ◌-◌, ◌^◌, min, Bool, ℤ, List, [], ◌∷◌, ◌++◌, Option, None, Some, length, filter, refl, sym, ◌∙◌, ap, append-nil, arith}
+use Rattle.entity_model.specs.declared.event.Event.{Event}
+use Rattle.event_line.specs.declared.delivery.Delivery.{Delivery}
+use Rattle.event_line.specs.declared.delivery.Delivery.TheVariants.{Event as Told, Watermark}
+use Rattle.reorder_buffer.specs.Watermarks.{greater, is_due}
+use Rattle.reorder_buffer.specs.Buffered.{first_due}
+use Rattle.rising.proofs.FirstPassing.{filter-first, filter-none}
+use Rattle.replay_model.specs.Acceptance.{mark, accepted, is_accepted}
+use Rattle.replay_model.specs.Play.{Replies, Played, Fetch, fetches_of_all, play, fetches, fetches_to_end, risen_by}
+use Rattle.replay_model.specs.ReplayState.{ReplayState, after_mark, after_end, after_applying, after_next, due_now, following, fetches_for, fetches_next, fetches_due, fetches_delivered}
+use Rattle.replay_model.proofs.Arrivals.{fetches-push}
+use Rattle.replay_model.proofs.Deliveries.{mark-watermark, events_passing-kept}
+use Rattle.replay_model.proofs.Following.{newly_due-watermark, newly_due-end}
+
+-- the fetches of the least due event come first
+pub fetches_due-next : (replies : Replies) (w : ReplayState) → fetches_due replies w ≡ fetches_next w ++ fetches_due replies (after_next replies w)
+fetches_due-next replies w =
+    elim (first_due w.buffer) as (λ o. first_due w.buffer ≡ o → fetches_due replies w ≡ fetches_for w o ++ fetches_due replies (after_applying replies w o)) [
+      | None ↦ λ _. refl
+      | Some e ↦ λ some. ap (fetches_of_all replies w.played) (filter-first (is_due w.buffer.closed w.buffer.mark) w.buffer.waiting e some)
+    ] refl
+
+pub fetches_due-none : (replies : Replies) (w : ReplayState) → first_due w.buffer ≡ None → fetches_due replies w ≡ []
+fetches_due-none replies w none = ap (fetches_of_all replies w.played) (filter-none (is_due w.buffer.closed w.buffer.mark) w.buffer.waiting none)
+
+-- after one more delivery
+pub fetches-delivered : (replies : Replies) (ds : List Delivery) (d : Delivery) → fetches replies (ds ++ d ∷ []) ≡ fetches replies ds ++ fetches_delivered replies (following replies ds) d
+fetches-delivered replies ds (Told e) = fetches-push replies ds (Told e)
+fetches-delivered replies ds (Watermark w) = fetches-push replies ds (Watermark w) ∙ ap (λ es. fetches replies ds ++ fetches_of_all replies (play replies ds) es) (newly_due-watermark ds w)
+
+-- after the end
+pub fetches-end : (replies : Replies) (ds : List Delivery) → fetches_to_end replies ds ≡ fetches replies ds ++ fetches_due replies (after_end (following replies ds))
+fetches-end replies ds = ap (λ es. fetches replies ds ++ fetches_of_all replies (play replies ds) es) (newly_due-end ds)
+
+-- a count that rises twice
+pub risen_by-risen_by : (m n count : ℕ) → risen_by m (risen_by n count) ≡ risen_by (n + m) count
+risen_by-risen_by m n count = omega arith

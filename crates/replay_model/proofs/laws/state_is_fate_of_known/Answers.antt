@@ -1,0 +1,8 @@
+-- The fate over known events is that over due events.
+use Rattle.std.proofs.Common.{◌∙◌}
+use Rattle.replay_model.proofs.RecordOf.{state-played}
+use Rattle.replay_model.proofs.Known.{fate-known}
+use Rattle.replay_model.proofs.laws.state_is_fate_of_known.Goals as goal
+
+pub returns : goal.returns
+returns c closed replies ds x none = state-played closed replies ds x ∙ fate-known closed ds x none

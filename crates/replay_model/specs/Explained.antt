@@ -1,0 +1,49 @@
+-- When the state of a replay that fetches from a source is that of a play, and what a play over told contents replies.
+use Rattle.std.specs.Prelude.{◌≡◌, ℕ, Bool, true, false, not, ◌&&◌, ◌⊎◌, List, Option, None, Some, Result, Err}
+use Rattle.rising.specs.Rising.{has, IsRising}
+use Rattle.entity_model.specs.declared.event.Event.{Event}
+use Rattle.entity_model.specs.Event.{event_cmp}
+use Rattle.side_output.specs.declared.entry.Cause.{Cause}
+use Rattle.side_output.specs.declared.entry.Cause.TheVariants.{Failed}
+use Rattle.entity_state.specs.State.{state_after}
+use Rattle.entity_state.specs.Record.{held_revision}
+use Rattle.replay_model.specs.Entries.{late_events}
+use Rattle.replay_model.specs.Play.{Replies}
+use Rattle.replay_model.specs.Records.{Bytes, record_of, wants}
+use Rattle.replay_model.specs.Replies.{Judgement, reply_there, source_replies, failed_events}
+use Rattle.replay_model.specs.ReplayState.{ReplayState, after_due}
+
+-- whether the event was applied: it was taken, doesn't wait and wasn't late
+abbrev pub is_applied : ReplayState → Event → Bool
+is_applied w e = has event_cmp e w.buffer.taken && (not (has event_cmp e w.buffer.waiting) && not (has event_cmp e (late_events w.played.side)))
+
+-- others reply as these do to each event that was applied
+abbrev pub AgreeOnApplied : ReplayState → Replies → Replies → Type 0
+AgreeOnApplied w replies others = (e : Event) (r : ℕ) → is_applied w e ≡ true → others e r ≡ replies e r
+
+-- the revision that the application of an event would fetch
+abbrev pub revision_wanted : ReplayState → Event → ℕ
+revision_wanted w e = (state_after (record_of w.played.records e.entity).state e).rev
+
+-- whether the application of an event fetches
+abbrev pub is_fetching : ReplayState → Event → Bool
+is_fetching w e = wants (state_after (record_of w.played.records e.entity).state e) (held_revision (record_of w.played.records e.entity).held)
+
+-- a reply that a source with these contents may give to the fetch for an event: the fetch failed, or this is what is there
+abbrev pub IsHonest : Judgement → (ℕ → Option Bytes) → Event → ℕ → Result Bytes Cause → Type 0
+IsHonest unfit contents e r reply = (reply ≡ Err Failed) ⊎ (reply ≡ reply_there unfit e.entity (contents r))
+
+-- the state leads, when all due events are applied, to that of a play with some replies; where the contents are told, the replies so far are those of the contents and of the failed events that the side output names
+pub record Explained (unfit : Judgement) (told : Option (ℕ → Option Bytes)) (play_of : Replies → ReplayState) (w : ReplayState) : Type 0 where
+  -- the replies
+  pub replies : Replies
+  -- the waiting events are in order, were taken and aren't late
+  pub rises : IsRising event_cmp w.buffer.waiting
+  pub within : (e : Event) → has event_cmp e w.buffer.waiting ≡ true → has event_cmp e w.buffer.taken ≡ true
+  pub not_late : (e : Event) → has event_cmp e w.buffer.waiting ≡ true → has event_cmp e (late_events w.played.side) ≡ false
+  -- the state leads to the play's, whatever is replied to events that aren't applied yet
+  pub leads : (others : Replies) → AgreeOnApplied w replies others → after_due others w ≡ play_of others
+  -- the replies are the source's
+  pub honest : (contents : ℕ → Option Bytes) → told ≡ Some contents → AgreeOnApplied w (source_replies unfit contents (failed_events w.played.side)) replies
+  -- fetches failed for applied events alone
+  pub failed_applied : (e : Event) → has event_cmp e (failed_events w.played.side) ≡ true → is_applied w e ≡ true
