@@ -18,15 +18,16 @@ is_iri-append (x ∷ xs) ys h k =
 low : (b : ℕ) → is_iri_char b ≡ false → b < 128
 low b e = ⊎_elim (λ l. l) (λ h. absurd (false≢true (sym e ∙ is_iri_char-high b h))) (cases_lt b 128)
 
+kept : (b : ℕ) → is_iri_char b ≡ true → is_iri (percent_encoded_byte b) ≡ true
+kept b t = rw t (rw t refl)
+
+encoded : (b : ℕ) → is_iri_char b ≡ false → is_iri (percent_encoded_byte b) ≡ true
+encoded b f =
+    let small = low b f in
+    rw (f, is_iri_char-hex_digit (b / 16) (omega arith), is_iri_char-hex_digit (b % 16) (omega arith)) refl
+
 is_iri-percent_encoded_byte : (b : ℕ) → is_iri (percent_encoded_byte b) ≡ true
-is_iri-percent_encoded_byte b = ⊎_elim
-    (λ t. rw (t, t) refl)
-    (λ f.
-        let small = low b f in
-        let high_digit = is_iri_char-hex_digit (b / 16) (omega arith) in
-        let low_digit = is_iri_char-hex_digit (b % 16) (omega arith) in
-        rw (f, high_digit, low_digit) refl)
-    (cases_Bool (is_iri_char b))
+is_iri-percent_encoded_byte b = ⊎_elim (kept b) (encoded b) (cases_Bool (is_iri_char b))
 
 pub iri_of_fit : (text : List ℕ) → is_fit (iri_of text) ≡ true
 iri_of_fit [] = refl

@@ -61,7 +61,10 @@ pub fn compare_terms(a: &Term, b: &Term) -> Ordering
             compare_quoted(a.as_bytes(), b.as_bytes()).then_with(|| compare_texts(x, y))
         }
         (Term::Typed(a, x), Term::Typed(b, y)) => {
-            compare_quoted(a.as_bytes(), b.as_bytes()).then_with(|| compare_iris(x.as_bytes(), y.as_bytes()))
+            compare_quoted(a.as_bytes(), b.as_bytes()).then_with(|| compare_iris(
+                x.as_bytes(),
+                y.as_bytes(),
+            ))
         }
     }
 }
