@@ -1,4 +1,5 @@
 pub mod Appending
+pub mod Contents
 pub mod Escapes
 pub mod FitTerms
 pub mod HighBytes

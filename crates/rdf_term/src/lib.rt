@@ -5,6 +5,7 @@
 // canonical texts, `order` the order by those texts, and `triple_set` the set that the order makes.
 #![tactic(auto)]
 
+mod content;
 mod escape;
 mod list;
 mod memory;
