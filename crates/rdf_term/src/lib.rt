@@ -5,10 +5,13 @@
 // canonical texts, `order` the order by those texts, and `triple_set` the set that the order makes.
 #![tactic(auto)]
 
+mod content;
 mod escape;
 mod list;
 mod memory;
 mod order;
+mod percent;
+mod tag;
 mod term;
 mod text;
 mod triple;
@@ -18,6 +21,8 @@ mod write;
 pub use list::List;
 pub use memory::OutOfMemory;
 pub use order::{compare, compare_terms};
+pub use percent::iri;
+pub use tag::tagged;
 pub use term::Term;
 pub use text::Text;
 pub use triple::{Pattern, Triple};

@@ -76,6 +76,16 @@ impl<T> List<T> {
 }
 
 impl<T: Drop> List<T> {
+    /// Moves the items of another list to the end; after `OutOfMemory` this list is as it was.
+    pub fn append(&mut self, other: List<T>) -> Result<(), OutOfMemory>
+        ensures ok { OnOk result (self.new ≡ self.old ++ other) }
+        ensures err { OnErr result (self.new ≡ self.old) }
+    {
+        let mut moved = other.into_vec();
+        self.cells.append(&mut moved)?;
+        Ok(())
+    }
+
     /// Puts an item at the end; after `OutOfMemory` the list is as it was.
     pub fn push(&mut self, item: T) -> Result<(), OutOfMemory>
         ensures ok { OnOk result (self.new ≡ self.old ++ item ∷ []) }

@@ -38,30 +38,33 @@ pub fn compare_terms(a: &Term, b: &Term) -> Ordering
     ensures { result ≡ term_cmp a.now b.now }
 {
     match (a, b) {
-        (Term::Iri(a), Term::Iri(b)) => compare_iris(bytes(a), bytes(b)),
+        (Term::Iri(a), Term::Iri(b)) => compare_iris(a.as_bytes(), b.as_bytes()),
         (Term::Blank(a), Term::Blank(b)) => compare_texts(a, b),
         (Term::Iri(_), Term::Blank(_)) => Ordering::Less,
         (Term::Blank(_), Term::Iri(_)) => Ordering::Greater,
         (Term::Iri(_) | Term::Blank(_), _) => Ordering::Greater,
         (_, Term::Iri(_) | Term::Blank(_)) => Ordering::Less,
-        (Term::Plain(a), Term::Plain(b)) => compare_quoted(bytes(a), bytes(b)),
+        (Term::Plain(a), Term::Plain(b)) => compare_quoted(a.as_bytes(), b.as_bytes()),
         (Term::Plain(a), Term::Lang(b, _) | Term::Typed(b, _)) => {
-            compare_quoted(bytes(a), bytes(b)).then(Ordering::Less)
+            compare_quoted(a.as_bytes(), b.as_bytes()).then(Ordering::Less)
         }
         (Term::Lang(a, _) | Term::Typed(a, _), Term::Plain(b)) => {
-            compare_quoted(bytes(a), bytes(b)).then(Ordering::Greater)
+            compare_quoted(a.as_bytes(), b.as_bytes()).then(Ordering::Greater)
         }
         (Term::Lang(a, _), Term::Typed(b, _)) => {
-            compare_quoted(bytes(a), bytes(b)).then(Ordering::Less)
+            compare_quoted(a.as_bytes(), b.as_bytes()).then(Ordering::Less)
         }
         (Term::Typed(a, _), Term::Lang(b, _)) => {
-            compare_quoted(bytes(a), bytes(b)).then(Ordering::Greater)
+            compare_quoted(a.as_bytes(), b.as_bytes()).then(Ordering::Greater)
         }
         (Term::Lang(a, x), Term::Lang(b, y)) => {
-            compare_quoted(bytes(a), bytes(b)).then_with(|| compare_texts(x, y))
+            compare_quoted(a.as_bytes(), b.as_bytes()).then_with(|| compare_texts(x, y))
         }
         (Term::Typed(a, x), Term::Typed(b, y)) => {
-            compare_quoted(bytes(a), bytes(b)).then_with(|| compare_iris(bytes(x), bytes(y)))
+            compare_quoted(a.as_bytes(), b.as_bytes()).then_with(|| compare_iris(
+                x.as_bytes(),
+                y.as_bytes(),
+            ))
         }
     }
 }
@@ -70,14 +73,7 @@ pub fn compare_terms(a: &Term, b: &Term) -> Ordering
 fn compare_texts(a: &Text, b: &Text) -> Ordering
     ensures { result ≡ bytes_cmp a.now b.now }
 {
-    bytes(a).cmp(bytes(b))
-}
-
-// The bytes of the text.
-fn bytes(text: &Text) -> &[u8]
-    ensures { result.now ≡ text.now }
-{
-    text.as_str().as_bytes()
+    a.as_bytes().cmp(b.as_bytes())
 }
 
 // The order of two IRIs with the bracket that closes them.

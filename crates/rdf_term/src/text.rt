@@ -1,6 +1,9 @@
 // An owned UTF-8 text.
 
 ghost use Rattle.std.specs.Prelude.{◌≡◌, IfOk, string_bytes};
+ghost use Rattle.std.specs.Cmp.Rules.{comparing};
+ghost use Rattle.std.specs.Str.{bytes_eq};
+ghost use Rattle.std.proofs.Common.{rules};
 
 use crate::memory::OutOfMemory;
 use std::alloc::Global;
@@ -52,10 +55,31 @@ impl Text {
         self.string.as_str()
     }
 
+    /// The bytes of the characters.
+    pub fn as_bytes(&self) -> &[u8]
+        ensures { result.now ≡ self.now }
+    {
+        self.string.as_str().as_bytes()
+    }
+
     /// An equal text in memory of its own.
     pub fn copy(&self, alloc: Global) -> Result<Text, OutOfMemory>
         ensures { IfOk result (λ text. text ≡ self.now) }
     {
         Text::new(alloc, self.as_str())
     }
+}
+
+impl PartialEq for Text {
+    ghost eq = { bytes_eq };
+
+    ghost laws = { Prim.search (comparing, rules) };
+
+    fn eq(&self, other: &Text) -> bool {
+        self.as_str() == other.as_str()
+    }
+}
+
+impl Eq for Text {
+    ghost laws = { Prim.search (comparing, rules) };
 }

@@ -43,6 +43,23 @@ impl TripleSet {
         })
     }
 
+    /// The set of triples that rise strictly already, without a sort.
+    pub fn from_rising(rows: List<Triple>) -> TripleSet
+        requires { IsRising triple_cmp rows }
+        ensures { result ≡ rows }
+    {
+        TripleSet { rows }
+    }
+
+    /// Gives the triples away, in strictly rising order.
+    pub fn into_list(self) -> List<Triple>
+        ensures items { result ≡ self }
+        ensures rising { IsRising triple_cmp self }
+    {
+        let TripleSet { rows } = self;
+        rows
+    }
+
     /// The triples in strictly rising order.
     pub fn items(&self) -> &[Triple]
         ensures items { result.now ≡ self.now }

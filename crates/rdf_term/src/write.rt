@@ -65,18 +65,18 @@ fn append_term(term: &Term, out: &mut Vec<u8>) -> Result<(), OutOfMemory>
     ensures { Appends out.old.items out.new.items (term_text term.now) result }
 {
     match term {
-        Term::Iri(iri) => append_iri(iri.as_str().as_bytes(), out),
-        Term::Blank(label) => append_blank(label.as_str().as_bytes(), out),
-        Term::Plain(text) => append_quoted(text.as_str().as_bytes(), out),
+        Term::Iri(iri) => append_iri(iri.as_bytes(), out),
+        Term::Blank(label) => append_blank(label.as_bytes(), out),
+        Term::Plain(text) => append_quoted(text.as_bytes(), out),
         Term::Lang(text, tag) => {
-            append_quoted(text.as_str().as_bytes(), out)?;
+            append_quoted(text.as_bytes(), out)?;
             append_bytes(b"@", out)?;
-            append_bytes(tag.as_str().as_bytes(), out)
+            append_bytes(tag.as_bytes(), out)
         }
         Term::Typed(text, datatype) => {
-            append_quoted(text.as_str().as_bytes(), out)?;
+            append_quoted(text.as_bytes(), out)?;
             append_bytes(b"^^", out)?;
-            append_iri(datatype.as_str().as_bytes(), out)
+            append_iri(datatype.as_bytes(), out)
         }
     }
 }

@@ -1,0 +1,23 @@
+-- A character that may stand in an IRI is its own percent-encoding.
+use Rattle.std.proofs.Common.{◌≡◌, ℕ, ◌==◌, ◌<◌, ◌≤◌, Bool, true, false, lit<, List, [], ◌∷◌, ◌++◌, refl, sym, ap, ◌∙◌, arith, ⊎_elim}
+use Rattle.std.proofs.lemmas.Bool.{cases_lt, lt-ltb, ne_eqb}
+use Rattle.std.proofs.lemmas.Str.{encode_ascii}
+use Rattle.rising.specs.Rising.{Each}
+use Rattle.rdf_term.specs.Grammar.{is_iri_char, percent_encoded}
+use Rattle.rdf_term.proofs.HighBytes.{encode_high}
+use lib.Utf8.{encode}
+
+pub is_iri_char-high : (b : ℕ) → 128 ≤ b → is_iri_char b ≡ true
+is_iri_char-high b h =
+    let other : (k : ℕ) → k < 128 → (b == k) ≡ false = λ k l. ne_eqb b k (λ e. let n : ⊥ = omega arith in n) in
+    rw (lt-ltb 32 b (omega arith), other 60 (lit< tt), other 62 (lit< tt), other 34 (lit< tt), other 123 (lit< tt), other 125 (lit< tt), other 124 (lit< tt), other 94 (lit< tt), other 96 (lit< tt), other 92 (lit< tt)) refl
+
+percent_encoded-high : (bs : List ℕ) → Each (λ b. 128 ≤ b) bs → percent_encoded bs ≡ bs
+percent_encoded-high [] h = refl
+percent_encoded-high (b ∷ bs) h = rw (is_iri_char-high b h.0) (ap (λ rest. b ∷ rest) (percent_encoded-high bs h.1))
+
+pub percent_encoded_char : (c : ℕ) → is_iri_char c ≡ true → percent_encoded (encode c) ≡ encode c
+percent_encoded_char c e = ⊎_elim
+    (λ low. rw (encode_ascii c low, e) refl)
+    (λ high. percent_encoded-high (encode c) (encode_high c high))
+    (cases_lt c 128)

@@ -1,0 +1,77 @@
+// Language tags, and the literals that have one.
+
+ghost use Rattle.std.specs.Prelude.{◌≡◌, IfOk, true};
+ghost use Rattle.rdf_term.specs.Fit.{is_fit};
+ghost use Rattle.rdf_term.specs.Grammar.{is_tag, tagged_of};
+ghost use Rattle.rdf_term.specs.TagReader.{is_end, place_after};
+
+use crate::memory::OutOfMemory;
+use crate::term::Term;
+use crate::text::Text;
+use std::alloc::Global;
+
+/// The literal of a text in a language: `Lang` where the tag is in the grammar of N-Triples,
+/// `[a-zA-Z]+(-[a-zA-Z0-9]+)*`, and `Plain` else. The tag keeps its case.
+pub fn tagged(alloc: Global, text: &str, tag: &str) -> Result<Term, OutOfMemory>
+    ensures value { IfOk result (λ term. term ≡ tagged_of text.now tag.now) }
+    ensures fit { IfOk result (λ term. is_fit term ≡ true) }
+{
+    let text = Text::new(alloc, text)?;
+    if is_tag(tag.as_bytes()) {
+        let tag = Text::new(alloc, tag)?;
+        return Ok(Term::Lang(text, tag));
+    }
+    Ok(Term::Plain(text))
+}
+
+/// Whether the bytes are a language tag.
+
+pub fn is_tag(tag: &[u8]) -> bool
+    ensures { result ≡ is_tag tag.now }
+{
+    let mut place = Place::Start;
+    for byte in tag {
+        match place.after(*byte) {
+            Some(next) => place = next,
+            None => return false,
+        }
+    }
+    place.is_end()
+}
+
+/// Where a reader of a tag stands.
+#[derive(Clone, Copy)]
+pub enum Place {
+    /// Before the first part.
+    Start,
+    /// In the first part.
+    First,
+    /// Behind a dash.
+    Dash,
+    /// In a later part.
+    Later,
+}
+
+impl Place {
+    // The place behind the byte, where it may stand here.
+    fn after(self, byte: u8) -> Option<Place>
+        ensures { result ≡ place_after self byte }
+    {
+        match self {
+            Place::Start | Place::First if byte.is_ascii_alphabetic() => Some(Place::First),
+            Place::Dash | Place::Later if byte.is_ascii_alphanumeric() => Some(Place::Later),
+            Place::First | Place::Later if byte == b'-' => Some(Place::Dash),
+            _ => None,
+        }
+    }
+
+    // Whether a tag may end here.
+    fn is_end(self) -> bool
+        ensures { result ≡ is_end self }
+    {
+        match self {
+            Place::First | Place::Later => true,
+            Place::Start | Place::Dash => false,
+        }
+    }
+}
