@@ -1,7 +1,7 @@
 // Values from outside: Wikibase's own examples, and conversions of the Julian calendar by the
 // formulas for Julian day numbers.
 
-use crate::{TimeText, is_decimal, time_literal};
+use crate::{TimeText, is_decimal, point_text, time_literal};
 use std::process::Abort;
 use std::test::Fail;
 
@@ -97,4 +97,28 @@ fn decimals(rt: HostRuntime) {
     ] {
         assert!(rt; !is_decimal(text), "{text}");
     }
+}
+
+#[test]
+fn points(rt: HostRuntime) -> Result<(), Fail> {
+    for (latitude, longitude, globe, point) in [
+        (
+            "52.50",
+            "13.4",
+            "http://www.wikidata.org/entity/Q2",
+            "Point(13.4 52.50)",
+        ),
+        (
+            "1",
+            "-2",
+            "http://www.wikidata.org/entity/Q405",
+            "<http://www.wikidata.org/entity/Q405> Point(-2 1)",
+        ),
+        ("0", "0", "a b>é", "<a%20b%3Eé> Point(0 0)"),
+        ("0", "0", "", "<> Point(0 0)"),
+    ] {
+        let found = point_text(rt.alloc(), latitude, longitude, globe)?;
+        assert_eq!(rt; found.as_str(), point);
+    }
+    Ok(())
 }
