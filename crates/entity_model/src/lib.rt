@@ -7,8 +7,10 @@ mod document;
 mod event;
 mod id;
 mod unfit;
+mod value;
 
 pub use document::Document;
 pub use event::{Event, Kind};
 pub use id::{EntityId, IdKind};
 pub use unfit::Unfit;
+pub use value::{GlobeParts, QuantityParts, Tagged, TimeParts, Value};
