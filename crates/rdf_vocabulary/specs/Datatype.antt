@@ -1,7 +1,7 @@
 -- The datatypes of the dump's literals.
-use Rattle.std.specs.Prelude.{ℕ, List, ◌++◌, codes}
+use Rattle.std.specs.Prelude.{ℕ, List, codes}
 use Rattle.rdf_term.specs.declared.term.Term.{Term}
-use Rattle.rdf_term.specs.declared.term.Term.TheVariants.{Iri, Typed}
+use Rattle.rdf_term.specs.declared.term.Term.TheVariants.{Typed}
 use Rattle.rdf_vocabulary.specs.declared.datatype.Datatype.{Datatype}
 use Rattle.rdf_vocabulary.specs.declared.datatype.Datatype.TheVariants.{Integer, Decimal, Double, DateTime, WktLiteral}
 

@@ -1,7 +1,7 @@
 -- Namespaces of IRIs, and the IRIs of names in them.
 use Rattle.std.specs.Prelude.{ℕ, List, ◌++◌, codes}
 use Rattle.rdf_term.specs.declared.term.Term.{Term}
-use Rattle.rdf_term.specs.declared.term.Term.TheVariants.{Iri, Typed}
+use Rattle.rdf_term.specs.declared.term.Term.TheVariants.{Iri}
 use Rattle.rdf_vocabulary.specs.declared.prefix.Prefix.{Prefix}
 use Rattle.rdf_vocabulary.specs.declared.prefix.Prefix.TheVariants.{Wd, Wds, Wdv, Wdref, Wdt, P, Ps, Psv, Pq, Pqv, Pr, Prv, Wdno, Data, Genid, Wikibase, FilePath}
 

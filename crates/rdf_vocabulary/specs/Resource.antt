@@ -1,7 +1,7 @@
 -- The classes, ranks and the licence of the dump.
-use Rattle.std.specs.Prelude.{ℕ, List, ◌++◌, codes}
+use Rattle.std.specs.Prelude.{ℕ, List, codes}
 use Rattle.rdf_term.specs.declared.term.Term.{Term}
-use Rattle.rdf_term.specs.declared.term.Term.TheVariants.{Iri, Typed}
+use Rattle.rdf_term.specs.declared.term.Term.TheVariants.{Iri}
 use Rattle.rdf_vocabulary.specs.declared.resource.Resource.{Resource}
 use Rattle.rdf_vocabulary.specs.declared.resource.Resource.TheVariants.{Item, Property, Statement, Reference, BestRank, PreferredRank, NormalRank, DeprecatedRank, TimeValue, QuantityValue, GlobecoordinateValue, Dataset, Article, PublicDomain}
 

@@ -7,6 +7,8 @@
 mod name;
 mod nodes;
 mod terms;
+#[cfg(test)]
+mod tests;
 
 pub use name::node_name;
 pub use nodes::node_triples;
