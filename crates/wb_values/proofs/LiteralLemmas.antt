@@ -24,7 +24,7 @@ two_digits n = simp (sub-zero, append-nil)
 pub date_time_text_is : (date : CalendarDate) (clock sign : List ℕ) → sign ≡ sign_text date.year → sign ++ (zero_padded 4 (unsigned_abs date.year) ++ ((45 ∷ []) ++ (zero_padded 2 date.month ++ ((45 ∷ []) ++ (zero_padded 2 date.day ++ ((84 ∷ []) ++ clock)))))) ≡ date_time_text date clock
 date_time_text_is date clock sign e = rw e (simp append_assoc)
 
-meant_sound : (text : List ℕ) (precision : ℕ) (julian : Bool) (day : CalendarDate) (clock : List ℕ) → meant_time text precision julian ≡ Some (day, clock) → (written : CalendarDate) × IsWritten text written clock × MeansDay written precision julian day
+pub meant_sound : (text : List ℕ) (precision : ℕ) (julian : Bool) (day : CalendarDate) (clock : List ℕ) → meant_time text precision julian ≡ Some (day, clock) → (written : CalendarDate) × IsWritten text written clock × MeansDay written precision julian day
 meant_sound text precision julian day clock e =
     let found = chained _ (written_time text) (day, clock) e in
     let m = mapped _ (gregorian_day found.0.0 precision julian) (day, clock) found.2 in
