@@ -40,7 +40,7 @@ use Rattle.value_nodes.specs.Terms.{url, commons_media, julian_calendar, text_te
 pub plain_fit : (text : List ℕ) → length text ≤ 16777000 → IsFitAndShort (Plain text)
 plain_fit text h = record {
   fit = refl;
-  short = omega (arith, escaped_short text, length-append (escaped text) (34 ∷ []))
+  short = omega (arith, escaped_short text, length-append (escaped text) (34 ∷ []));
 }
 
 -- typed texts
@@ -59,7 +59,7 @@ percent_encoded_short (b ∷ text) =
 pub iri_fit : (text : List ℕ) → length text ≤ 8388608 → IsFitAndShort (iri_of text)
 iri_fit text h = record {
   fit = iri_of_fit text;
-  short = omega (arith, percent_encoded_short text, length-append (percent_encoded text) (62 ∷ []))
+  short = omega (arith, percent_encoded_short text, length-append (percent_encoded text) (62 ∷ []));
 }
 
 chosen : (P : Term → Type 0) (b : Bool) (x y : Term) → P x → P y → P (cond b x y)
@@ -124,15 +124,27 @@ globe_term_fit globe h =
     let c = codes " " in
     let d = codes ")" in
     typed_fit (point_text globe.latitude globe.longitude globe.globe) WktLiteral
-    (omega (arith, globe_text_short (bytes_eq globe.globe earth) globe.globe, escaped_short b, escaped_short c, escaped_short d, escaped_short globe.latitude, escaped_short globe.longitude,
-      pieces a b, pieces (a ++ b) globe.longitude, pieces (a ++ b ++ globe.longitude) c, pieces (a ++ b ++ globe.longitude ++ c) globe.latitude, pieces (a ++ b ++ globe.longitude ++ c ++ globe.latitude) d))
+    (omega (
+      arith,
+      globe_text_short (bytes_eq globe.globe earth) globe.globe,
+      escaped_short b,
+      escaped_short c,
+      escaped_short d,
+      escaped_short globe.latitude,
+      escaped_short globe.longitude,
+      pieces a b,
+      pieces (a ++ b) globe.longitude,
+      pieces (a ++ b ++ globe.longitude) c,
+      pieces (a ++ b ++ globe.longitude ++ c) globe.latitude,
+      pieces (a ++ b ++ globe.longitude ++ c ++ globe.latitude) d,
+    ))
 
 tagged_fit : (text tag : List ℕ) → length text + length tag ≤ 8388608 → IsFitAndShort (tagged_of text tag)
 tagged_fit text tag h = by_tag (is_tag tag) refl
   where
-  by_tag : (b : Bool) → is_tag tag ≡ b → IsFitAndShort (cond b (Lang text tag) (Plain text))
-  by_tag true e = record { fit = e; short = omega (arith, escaped_short text, length-append (escaped text) (34 ∷ 64 ∷ tag)) }
-  by_tag false e = plain_fit text (omega arith)
+    by_tag : (b : Bool) → is_tag tag ≡ b → IsFitAndShort (cond b (Lang text tag) (Plain text))
+    by_tag true e = record { fit = e; short = omega (arith, escaped_short text, length-append (escaped text) (34 ∷ 64 ∷ tag)) }
+    by_tag false e = plain_fit text (omega arith)
 
 entity_iri : (id : List ℕ) → list_all (λ c. is_ascii_alphanumeric c || (c == 45)) id ≡ true → is_iri id ≡ true
 entity_iri [] h = refl
@@ -152,3 +164,7 @@ simple_term_fit datatype (Quantity quantity) s = amount_term_fit quantity.amount
 simple_term_fit datatype (Globe globe) s = globe_term_fit globe (omega (arith, s.texts))
 simple_term_fit datatype (Mono tagged) s = tagged_fit tagged.text tagged.language s.texts
 simple_term_fit datatype Other s = tt
+
+-- the same of the term that was found
+pub found_term_fit : (datatype : List ℕ) (value : Value) (term : Term) → Some term ≡ simple_term datatype value → IsSmallValue value → IsFitAndShort term
+found_term_fit datatype value term e s = rw (← e) at (simple_term_fit datatype value s)

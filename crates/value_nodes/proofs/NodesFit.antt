@@ -37,9 +37,9 @@ unit_fit : (unit : List ℕ) → length unit ≤ 8388608 → IsFitAndShort (unit
 unfolding number_one
 unit_fit unit h = by_test (bytes_eq unit one)
   where
-  by_test : (b : Bool) → IsFitAndShort (cond b (prefixed Wd number_one) (iri_of unit))
-  by_test true = prefixed_fit Wd number_one refl (omega arith)
-  by_test false = iri_fit unit h
+    by_test : (b : Bool) → IsFitAndShort (cond b (prefixed Wd number_one) (iri_of unit))
+    by_test true = prefixed_fit Wd number_one refl (omega arith)
+    by_test false = iri_fit unit h
 
 bound_fit : (node : Term) (predicate : Predicate) (bound : Option (List ℕ)) → IsFitAndShort node → optional_length bound ≤ 8388608 → AllByRecursion HasFitAndShortTerms (bound_triples node predicate bound)
 bound_fit node predicate None n h = tt
@@ -50,36 +50,47 @@ precision_fit node None n h = tt
 precision_fit node (Some precision) n h = (about_fit node P.GeoPrecision _ n (literal_fit precision Double (omega arith)), tt)
 
 parts_fit : (node : Term) (value : Value) → IsFitAndShort node → IsSmallValue value → AllByRecursion HasFitAndShortTerms (part_triples node value)
-parts_fit node (Time time) n s =
-    (about_fit node P.RdfType _ n (resource_fit TimeValue),
-     (about_fit node P.TimeValue _ n (time_term_fit time (omega (arith, s.texts))),
-      (about_fit node P.TimePrecision _ n (literal_fit time.precision_text Integer (omega (arith, s.texts))),
-       (about_fit node P.TimeTimezone _ n (literal_fit time.timezone Integer (omega (arith, s.texts))),
-        (about_fit node P.TimeCalendarModel _ n (iri_fit time.calendar (omega (arith, s.texts))), tt)))))
+parts_fit node (Time time) n s = (
+  about_fit node P.RdfType _ n (resource_fit TimeValue),
+  (
+    about_fit node P.TimeValue _ n (time_term_fit time (omega (arith, s.texts))),
+    (
+      about_fit node P.TimePrecision _ n (literal_fit time.precision_text Integer (omega (arith, s.texts))),
+      (
+        about_fit node P.TimeTimezone _ n (literal_fit time.timezone Integer (omega (arith, s.texts))),
+        (about_fit node P.TimeCalendarModel _ n (iri_fit time.calendar (omega (arith, s.texts))), tt),
+      ),
+    ),
+  ),
+)
 parts_fit node (Quantity quantity) n s =
     let amount = about node P.QuantityAmount (amount_term quantity.amount) in
     let unit = about node P.QuantityUnit (unit_term quantity.unit) in
-    let front : AllByRecursion HasFitAndShortTerms (amount ∷ unit ∷ []) =
-        (about_fit node P.QuantityAmount (amount_term quantity.amount) n (amount_term_fit quantity.amount (omega (arith, s.texts))),
-         (about_fit node P.QuantityUnit (unit_term quantity.unit) n (unit_fit quantity.unit (omega (arith, s.texts))), tt)) in
+    let front : AllByRecursion HasFitAndShortTerms (amount ∷ unit ∷ []) = (
+      about_fit node P.QuantityAmount (amount_term quantity.amount) n (amount_term_fit quantity.amount (omega (arith, s.texts))),
+      (about_fit node P.QuantityUnit (unit_term quantity.unit) n (unit_fit quantity.unit (omega (arith, s.texts))), tt),
+    ) in
     let upper = bound_triples node P.QuantityUpperBound quantity.upper in
     let lower = bound_triples node P.QuantityLowerBound quantity.lower in
-    let most = join HasFitAndShortTerms (amount ∷ unit ∷ []) upper front (bound_fit node P.QuantityUpperBound quantity.upper n (omega (arith, s.texts))) in
-    (about_fit node P.RdfType (resource_term QuantityValue) n (resource_fit QuantityValue),
-     join HasFitAndShortTerms ((amount ∷ unit ∷ []) ++ upper) lower most (bound_fit node P.QuantityLowerBound quantity.lower n (omega (arith, s.texts))))
+    let most = join HasFitAndShortTerms (amount ∷ unit ∷ []) upper front (bound_fit node P.QuantityUpperBound quantity.upper n (omega (arith, s.texts))) in (
+      about_fit node P.RdfType (resource_term QuantityValue) n (resource_fit QuantityValue),
+      join HasFitAndShortTerms ((amount ∷ unit ∷ []) ++ upper) lower most (bound_fit node P.QuantityLowerBound quantity.lower n (omega (arith, s.texts))),
+    )
 parts_fit node (Globe globe) n s =
     let latitude = about node P.GeoLatitude (typed globe.latitude Double) in
     let longitude = about node P.GeoLongitude (typed globe.longitude Double) in
-    let front : AllByRecursion HasFitAndShortTerms (latitude ∷ longitude ∷ []) =
-        (about_fit node P.GeoLatitude (typed globe.latitude Double) n (literal_fit globe.latitude Double (omega (arith, s.texts))),
-         (about_fit node P.GeoLongitude (typed globe.longitude Double) n (literal_fit globe.longitude Double (omega (arith, s.texts))), tt)) in
+    let front : AllByRecursion HasFitAndShortTerms (latitude ∷ longitude ∷ []) = (
+      about_fit node P.GeoLatitude (typed globe.latitude Double) n (literal_fit globe.latitude Double (omega (arith, s.texts))),
+      (about_fit node P.GeoLongitude (typed globe.longitude Double) n (literal_fit globe.longitude Double (omega (arith, s.texts))), tt),
+    ) in
     let precision = precision_triples node globe.precision in
     let model = about node P.GeoGlobe (iri_of globe.globe) in
     let back : AllByRecursion HasFitAndShortTerms (model ∷ []) =
-        (about_fit node P.GeoGlobe (iri_of globe.globe) n (iri_fit globe.globe (omega (arith, s.texts))), tt) in
-    let most = join HasFitAndShortTerms (latitude ∷ longitude ∷ []) precision front (precision_fit node globe.precision n (omega (arith, s.texts))) in
-    (about_fit node P.RdfType (resource_term GlobecoordinateValue) n (resource_fit GlobecoordinateValue),
-     join HasFitAndShortTerms ((latitude ∷ longitude ∷ []) ++ precision) (model ∷ []) most back)
+    (about_fit node P.GeoGlobe (iri_of globe.globe) n (iri_fit globe.globe (omega (arith, s.texts))), tt) in
+    let most = join HasFitAndShortTerms (latitude ∷ longitude ∷ []) precision front (precision_fit node globe.precision n (omega (arith, s.texts))) in (
+      about_fit node P.RdfType (resource_term GlobecoordinateValue) n (resource_fit GlobecoordinateValue),
+      join HasFitAndShortTerms ((latitude ∷ longitude ∷ []) ++ precision) (model ∷ []) most back,
+    )
 parts_fit node (Entity id) n s = tt
 parts_fit node (Str text) n s = tt
 parts_fit node (Mono tagged) n s = tt

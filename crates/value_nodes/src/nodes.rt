@@ -2,6 +2,9 @@
 
 ghost use Rattle.std.specs.Prelude.{◌≡◌, [], ◌∷◌, ◌++◌, IfOk, OnOk, OnErr};
 ghost use Rattle.std.specs.Option.{option_copied};
+ghost use Rattle.std.specs.List.{AllByRecursion};
+ghost use Rattle.rdf_term.specs.Fit.{HasFitAndShortTerms};
+ghost use Rattle.entity_model.specs.Value.{IsSmallValue};
 ghost use Rattle.value_nodes.specs.Nodes.{about, bound_triples, globe_triples, named_triples, node_triples, part_triples, precision_triples, quantity_triples, time_triples, type_triple, unit_term};
 
 use crate::name::node_name;
@@ -16,6 +19,7 @@ use std::alloc::Global;
 pub fn node_triples(alloc: Global, value: &Value, out: &mut List<Triple>) -> Result<(), OutOfMemory>
     ensures ok { OnOk result (out.new ≡ out.old ++ node_triples value.now) }
     ensures err { OnErr result (out.new ≡ out.old) }
+    ensures fit { IsSmallValue value.now → AllByRecursion HasFitAndShortTerms (node_triples value.now) }
 {
     let triples = named_triples(alloc, value)?;
     out.append(triples)

@@ -1,6 +1,8 @@
 // The simple terms of data values.
 
-ghost use Rattle.std.specs.Prelude.{◌≡◌, IfOk};
+ghost use Rattle.std.specs.Prelude.{◌≡◌, IfOk, IfSome};
+ghost use Rattle.rdf_term.specs.Fit.{IsFitAndShort};
+ghost use Rattle.entity_model.specs.Value.{IsSmallValue};
 ghost use Rattle.std.specs.Str.{bytes_eq};
 ghost use Rattle.value_nodes.specs.Terms.{amount_term, globe_term, julian_calendar, simple_term, text_term, time_term, time_text_term};
 
@@ -14,7 +16,8 @@ use wb_values::{TimeText, is_decimal, point_text, time_literal};
 /// a file of Wikimedia Commons, a text with or without its language, an `xsd:decimal`, an
 /// `xsd:dateTime` or a `geo:wktLiteral`. Values of other types have none.
 pub fn simple(alloc: Global, datatype: &str, value: &Value) -> Result<Option<Term>, OutOfMemory>
-    ensures { IfOk result (λ term. term ≡ simple_term datatype.now value.now) }
+    ensures value { IfOk result (λ term. term ≡ simple_term datatype.now value.now) }
+    ensures fit { IsSmallValue value.now → IfOk result (λ term. IfSome term IsFitAndShort) }
 {
     let term = match value {
         Value::Entity(id) => Prefix::Wd.term(alloc, id.as_str())?,
