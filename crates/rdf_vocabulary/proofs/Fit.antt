@@ -1,14 +1,12 @@
 -- The terms of the vocabulary are fit and short.
-use Rattle.std.proofs.Common.{◌≡◌, ℕ, suc, ◌+◌, ◌*◌, ◌/◌, ◌%◌, ◌<◌, ◌≤◌, Bool, true, false, not, ◌&&◌, ◌||◌, cond, nat_eq, nat_lt, List, [], ◌∷◌, ◌++◌, length, refl, sym, ap, ◌∙◌, arith, lit≤}
+use Rattle.std.proofs.Common.{◌≡◌, ℕ, ◌+◌, ◌*◌, ◌≤◌, true, false, List, [], ◌∷◌, ◌++◌, length, refl, arith, lit≤}
 use Rattle.std.proofs.lemmas.Bool.Decides.{nat_tests}
 use Rattle.std.proofs.lemmas.List.{length-append}
 use Rattle.std.proofs.lemmas.List.Folds.{list_all-append}
-use Rattle.std.specs.List.{list_all, flat_map}
 use Rattle.std.specs.Str.{bytes_eq}
-use Rattle.rdf_term.specs.declared.term.Term.{Term}
-use Rattle.rdf_term.specs.Fit.{is_fit, xsd_string, IsFitAndShort}
+use Rattle.rdf_term.specs.Fit.{xsd_string, IsFitAndShort}
 use Rattle.rdf_term.specs.Grammar.{is_iri, is_iri_char}
-use Rattle.rdf_term.specs.Text.{term_text, escaped, escaped_byte}
+use Rattle.rdf_term.specs.Text.{escaped, escaped_byte}
 use Rattle.rdf_vocabulary.specs.declared.prefix.Prefix.{Prefix}
 use Rattle.rdf_vocabulary.specs.declared.prefix.Prefix.TheVariants as Prefixs
 use Rattle.rdf_vocabulary.specs.declared.predicate.Predicate.{Predicate}
@@ -132,7 +130,7 @@ prefixed_fit prefix name h short =
     let w = prefix_text_is prefix in
     record {
       fit = rw (list_all-append is_iri_char (prefix_text prefix) name, w.0) h;
-      short = omega (arith, w.1, iri_short (prefix_text prefix ++ name) 33554200 (omega (arith, w.1, length-append (prefix_text prefix) name)))
+      short = omega (arith, w.1, iri_short (prefix_text prefix ++ name) 33554200 (omega (arith, w.1, length-append (prefix_text prefix) name)));
     }
 
 -- a byte of a literal is written as one or two
@@ -150,5 +148,5 @@ typed_fit text word h =
     let w = datatype_text_is word in
     record {
       fit = rw (w.0, w.1);
-      short = omega (arith, w.2, length-append (escaped text) (34 ∷ 94 ∷ 94 ∷ 60 ∷ (datatype_text word ++ (62 ∷ []))), length-append (datatype_text word) (62 ∷ []))
+      short = omega (arith, w.2, length-append (escaped text) (34 ∷ 94 ∷ 94 ∷ 60 ∷ (datatype_text word ++ (62 ∷ []))), length-append (datatype_text word) (62 ∷ []));
     }

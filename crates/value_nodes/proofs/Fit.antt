@@ -1,16 +1,16 @@
 -- The terms and triples of a small value are fit and short.
-use Rattle.std.proofs.Common.{◌≡◌, ℕ, zero, suc, ◌+◌, ◌-◌, ◌*◌, ◌/◌, ◌%◌, ◌<◌, ◌≤◌, ◌⊎◌, inl, inr, Bool, true, false, not, ◌&&◌, ◌||◌, cond, nat_eq, nat_lt, nat_le, List, [], ◌∷◌, ◌++◌, length, take, drop, Option, Some, None, ℤ, refl, sym, ap, ◌∙◌, arith}
+use Rattle.std.proofs.Common.{◌≡◌, ℕ, ◌+◌, ◌*◌, ◌≤◌, inl, inr, Bool, true, false, ◌&&◌, ◌||◌, cond, nat_le, List, [], ◌∷◌, ◌++◌, length, Some, refl, ap, ◌∙◌, arith}
 use Rattle.std.proofs.lemmas.Bool.Decides.{nat_tests}
 use Rattle.std.proofs.lemmas.Bool.{agree_below, agree_below_at, cases_lt}
 use Rattle.std.proofs.lemmas.List.{length-append}
 use Rattle.std.proofs.lemmas.List.Concat.{flat_map-append}
 use Rattle.std.specs.Prelude.{codes, IfSome, ◌==◌}
 use Rattle.std.specs.Char.{is_ascii_alphanumeric}
-use Rattle.std.specs.List.{list_all, flat_map}
+use Rattle.std.specs.List.{list_all}
 use Rattle.std.specs.Str.{bytes_eq}
 use Rattle.rdf_term.specs.declared.term.Term.{Term}
 use Rattle.rdf_term.specs.declared.term.Term.TheVariants.{Plain, Lang}
-use Rattle.rdf_term.specs.Fit.{is_fit, IsFitAndShort}
+use Rattle.rdf_term.specs.Fit.{IsFitAndShort}
 use Rattle.rdf_term.specs.Grammar.{is_iri, is_iri_char, is_tag, iri_of, tagged_of, percent_encoded, percent_encoded_byte}
 use Rattle.rdf_term.specs.Text.{escaped, escaped_byte}
 use Rattle.rdf_term.proofs.FitTerms.{iri_of_fit}
@@ -24,7 +24,6 @@ use Rattle.rdf_vocabulary.specs.declared.datatype.Datatype.{Datatype}
 use Rattle.rdf_vocabulary.specs.declared.datatype.Datatype.TheVariants.{DateTime as XsdDateTime, Decimal, WktLiteral}
 use Rattle.rdf_vocabulary.specs.declared.prefix.Prefix.TheVariants.{Wd, FilePath}
 use Rattle.rdf_vocabulary.specs.Datatype.{typed}
-use Rattle.rdf_vocabulary.specs.Prefix.{prefixed}
 use Rattle.rdf_vocabulary.specs.Unreserved.{escaped_name}
 use Rattle.rdf_vocabulary.proofs.Fit.{prefixed_fit, typed_fit, escaped_short}
 use Rattle.rdf_vocabulary.proofs.NamesFit.{escaped_name_iri, escaped_name_short}

@@ -1,5 +1,5 @@
 -- The triples of a small value's node have fit and short terms.
-use Rattle.std.proofs.Common.{◌≡◌, ℕ, ◌+◌, ◌≤◌, Bool, true, false, cond, List, [], ◌∷◌, ◌++◌, length, Option, Some, None, refl, sym, ◌∙◌, arith}
+use Rattle.std.proofs.Common.{ℕ, ◌≤◌, Bool, true, false, cond, List, [], ◌∷◌, ◌++◌, length, Option, Some, None, refl, arith}
 use Rattle.std.specs.List.{AllByRecursion}
 use Rattle.std.specs.Str.{bytes_eq}
 use Rattle.rdf_term.specs.declared.term.Term.{Term}
@@ -13,7 +13,6 @@ use Rattle.rdf_vocabulary.specs.declared.datatype.Datatype.TheVariants.{Integer,
 use Rattle.rdf_vocabulary.specs.declared.predicate.Predicate.{Predicate}
 use Rattle.rdf_vocabulary.specs.declared.predicate.Predicate.TheVariants as P
 use Rattle.rdf_vocabulary.specs.declared.prefix.Prefix.TheVariants.{Wd, Wdv}
-use Rattle.rdf_vocabulary.specs.declared.resource.Resource.{Resource}
 use Rattle.rdf_vocabulary.specs.declared.resource.Resource.TheVariants.{TimeValue, QuantityValue, GlobecoordinateValue}
 use Rattle.rdf_vocabulary.specs.Fields.{hashed_name}
 use Rattle.rdf_vocabulary.specs.Datatype.{typed}
@@ -23,7 +22,7 @@ use Rattle.value_nodes.specs.Terms.{amount_term}
 use Rattle.rdf_vocabulary.proofs.Fit.{predicate_fit, resource_fit, prefixed_fit}
 use Rattle.rdf_vocabulary.proofs.NamesFit.{hashed_name_iri, length-hashed_name}
 use Rattle.value_nodes.specs.Name.{time_fields, quantity_fields, globe_fields}
-use Rattle.value_nodes.specs.Nodes.{about, type_triple, one, number_one, unit_term, bound_triples, precision_triples, part_triples, node_triples}
+use Rattle.value_nodes.specs.Nodes.{about, one, number_one, unit_term, bound_triples, precision_triples, part_triples, node_triples}
 use Rattle.value_nodes.proofs.Fit.{iri_fit, literal_fit, amount_term_fit, time_term_fit}
 
 about_fit : (node : Term) (predicate : Predicate) (object : Term) → IsFitAndShort node → IsFitAndShort object → HasFitAndShortTerms (about node predicate object)
