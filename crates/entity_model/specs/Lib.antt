@@ -4,3 +4,4 @@ pub mod EntityId
 pub mod Kind
 pub mod Event
 pub mod IdOf
+pub mod Value

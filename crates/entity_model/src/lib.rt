@@ -1,17 +1,19 @@
 // The values that the whole workspace speaks of: the ids of Wikidata's items and properties, the
-// events of their pages with the order in which they are applied, and the reasons for which the
-// bytes of a page are no document.
+// events of their pages with the order in which they are applied, the documents and values of pages,
+// and the reasons for which the bytes of a page are no document.
 #![tactic(auto)]
 
 mod document;
 mod event;
 mod id;
 mod unfit;
+mod value;
 
 pub use document::Document;
 pub use event::{Event, Kind};
 pub use id::{EntityId, IdKind};
 pub use unfit::Unfit;
+pub use value::{GlobeParts, QuantityParts, Tagged, TimeParts, Value};
 
 #[cfg(test)]
 mod tests;

@@ -1,0 +1,6 @@
+pub mod CalendarLemmas
+pub mod DayLemmas
+pub mod DecimalLemmas
+pub mod Lengths
+pub mod LiteralLemmas
+pub mod WrittenLemmas

@@ -1,0 +1,21 @@
+// The texts that Wikibase's data values become in RDF: the literal of a time, the test for a decimal
+// amount and the point of a coordinate.
+//
+// `written` reads the text of a time, `calendar` counts the days of the Julian and the Gregorian
+// calendar, `gregorian_day` finds the day that a written date means, and `literal` writes it;
+// `decimal` tests amounts, and `digits` is what both read digits with; `point` writes points.
+#![tactic(auto)]
+
+mod calendar;
+mod decimal;
+mod digits;
+mod gregorian_day;
+mod literal;
+mod point;
+#[cfg(test)]
+mod tests;
+mod written;
+
+pub use decimal::is_decimal;
+pub use literal::{TimeText, time_literal};
+pub use point::point_text;
