@@ -1,10 +1,10 @@
 // The texts of times.
 
-ghost use Rattle.std.specs.Prelude.{◌≡◌, ◌*◌, ◌-◌, ◌^◌, ◌<◌, ◌≤◌, length, IsTrue, IfSome};
+ghost use Rattle.std.specs.Prelude.{◌≡◌, ◌*◌, ◌-◌, ◌^◌, ◌<◌, ◌≤◌, length, ℤ, IsTrue, IfSome, Some};
 ghost use Rattle.std.specs.Char.{is_ascii_digit};
 ghost use Rattle.std.specs.List.{list_all};
 ghost use Rattle.jiff_core.specs.Calendar.{IsEpochDay};
-ghost use Rattle.event_line.specs.Time.{in_microseconds, two_digits, four_digits, digits_below, decimal_value, day_of, day_number, second_of, microsecond_of, is_fraction, time_before_zone, time_of};
+ghost use Rattle.event_line.specs.Time.{in_microseconds, two_digits, four_digits, digits_below, decimal_value, day_of, day_number, second_of, microsecond_of, is_fraction, time_before_zone, time_of, IsTime};
 
 use jiff_core::civil::Date;
 
@@ -12,6 +12,15 @@ use jiff_core::civil::Date;
 /// 1 to 6 digits in front of the `Z`. Years are from 1 and have four digits, and dates are those of the
 /// Gregorian calendar (ISO 8601).
 pub(crate) fn microseconds(text: &[u8]) -> Option<i64>
+    ensures value { result ≡ time_of text.now }
+    ensures sound { IfSome result (IsTime text.now) }
+    ensures complete { (time : ℤ) → IsTime text.now time → result ≡ Some time }
+{
+    with_zone(text)
+}
+
+/// The same, by its parts.
+fn with_zone(text: &[u8]) -> Option<i64>
     ensures { result ≡ time_of text.now }
 {
     match text {
