@@ -8,8 +8,6 @@ pub mod IriChars
 pub mod Pieces
 pub mod ReadBack
 pub mod Reading
-pub mod HighBytes
-pub mod IriChars
 pub mod Tags
 pub mod Texts
 pub mod Words
