@@ -1,3 +1,4 @@
 pub mod Reading
 pub mod TimeLemmas
+pub mod TimeDigits
 pub mod TimeReading

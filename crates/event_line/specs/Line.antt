@@ -1,6 +1,5 @@
 -- What one line of an event file delivers, or the first cause for which it delivers nothing.
-use Rattle.std.specs.Prelude.{◌≡◌, ℕ, nat_lt, if◌then◌else◌, List, codes, Option, Some, None, option_map, option_and_then, Result, Ok, Err, ℤ}
-use Rattle.std.specs.Option.{ok_or}
+use Rattle.std.specs.Prelude.{◌≡◌, ℕ, nat_lt, if◌then◌else◌, List, codes, Option, Some, None, option_and_then, Result, Ok, Err, ℤ}
 use Rattle.std.specs.Str.{is_utf8, bytes_eq}
 use Rattle.serde_json.specs.Data.{Data}
 use Rattle.serde_json.specs.Find.{get, as_str, as_number, as_u64}

@@ -1,6 +1,6 @@
 // One line of an event file.
 
-ghost use Rattle.std.specs.Prelude.{◌≡◌, Ok, Err, Some, option_map, MatchResult, IfErr, ◌⊎◌, None};
+ghost use Rattle.std.specs.Prelude.{◌≡◌, ◌⊎◌, None, Some, MatchResult};
 ghost use Rattle.serde_json.specs.View.{view};
 ghost use Rattle.event_line.specs.Line.{Answers, data_of, delivery_in, event_of, watermark_of, kind_named, kind_name, entity_of, rev_of, time_at, whole_kind};
 ghost use Rattle.event_line.specs.declared.deliveries.DeliveryFault.TheVariants.{Bad as Refused, OutOfMemory as NoMemory};
