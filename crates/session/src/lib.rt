@@ -12,4 +12,3 @@ mod words;
 
 pub use replaying::run;
 pub use status::{Status, status_number, status_text};
-
