@@ -5,6 +5,8 @@
 
 mod fault;
 mod page;
+#[cfg(test)]
+mod tests;
 
 pub use fault::DocumentFault;
 pub use page::{document, documents_are_redirects};

@@ -7,6 +7,8 @@
 mod folder;
 mod memory;
 mod revisions;
+#[cfg(test)]
+mod tests;
 
 pub use folder::Folder;
 pub use memory::{MemoryRevisions, RevisionBytes};

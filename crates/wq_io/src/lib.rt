@@ -11,6 +11,8 @@ mod memory;
 mod sink;
 mod source;
 mod streams;
+#[cfg(test)]
+mod tests;
 
 pub use failing::FailingCalls;
 pub use lines::{LineFault, Lines};
