@@ -11,7 +11,7 @@ use Rattle.session.specs.Stops.{Settles}
 
 -- an event is taken
 pub event_taken : (told : Option (ℕ → Option Bytes)) (ds : List Delivery) (old : ReplayState) (e : Event) →
-  AtRest told ds old → AtRest told (ds ++ Told e ∷ []) (after_event old e)
+    AtRest told ds old → AtRest told (ds ++ Told e ∷ []) (after_event old e)
 event_taken told ds old e at_rest = record {
   explained = Explained-event judgement told ds old e at_rest.explained at_rest.rests;
   rests = Explained-event_rests judgement told ds old e at_rest.explained at_rest.rests;
@@ -19,7 +19,7 @@ event_taken told ds old e at_rest = record {
 
 -- a watermark is taken, and what is due is applied
 pub mark_taken : (told : Option (ℕ → Option Bytes)) (ds : List Delivery) (old new : ReplayState) (m : ℤ) →
-  Settles told (after_mark old m) new → AtRest told ds old → AtRest told (ds ++ Watermark m ∷ []) new
+    Settles told (after_mark old m) new → AtRest told ds old → AtRest told (ds ++ Watermark m ∷ []) new
 mark_taken told ds old new m settles at_rest = record {
   explained = settles.leads (λ replies. following replies (ds ++ Watermark m ∷ [])) (Explained-mark judgement told ds old m at_rest.explained at_rest.rests);
   rests = settles.rests;
@@ -27,7 +27,7 @@ mark_taken told ds old new m settles at_rest = record {
 
 -- the end is taken, and what waits is applied
 pub end_taken : (told : Option (ℕ → Option Bytes)) (ds : List Delivery) (old new : ReplayState) →
-  Settles told (after_end old) new → AtRest told ds old → AtEnd told ds new
+    Settles told (after_end old) new → AtRest told ds old → AtEnd told ds new
 end_taken told ds old new settles at_rest = record {
   explained = settles.leads (λ replies. following_to_end replies ds) (Explained-end judgement told ds old at_rest.explained at_rest.rests);
   rests = settles.rests;

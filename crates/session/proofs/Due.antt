@@ -31,8 +31,8 @@ unfit_there x unfit (Some bytes) has = rw has refl
 
 -- a reply that agrees with what is told is honest
 pub reply_is_honest : (contents : Option Contents) (place : List ℕ) (x : EntityId) (r : ℕ) (reply : Result Bytes Cause) →
-  IsReply contents place x r reply → (there : ℕ → Option Bytes) → told_at contents place ≡ Some there →
-  (reply ≡ Err Failed) ⊎ (reply ≡ reply_there judgement x (there r))
+    IsReply contents place x r reply → (there : ℕ → Option Bytes) → told_at contents place ≡ Some there →
+    (reply ≡ Err Failed) ⊎ (reply ≡ reply_there judgement x (there r))
 reply_is_honest None place x r reply is there told = cc
 reply_is_honest (Some c) place x r (Ok bytes) is there told =
     let same : c place ≡ there = cc in
@@ -49,10 +49,10 @@ reply_is_honest (Some c) place x r (Err (NoDocument unfit)) is there told =
 
 -- the world still leads to its play
 pub applies-leads : (contents : Option Contents) (place : List ℕ) (old new : ReplayState) (applied : Applied) → Applies contents place old new applied →
-  (play_of : Replies → ReplayState) → Explained judgement (told_at contents place) play_of old → Explained judgement (told_at contents place) play_of new
+    (play_of : Replies → ReplayState) → Explained judgement (told_at contents place) play_of old → Explained judgement (told_at contents place) play_of new
 applies-leads contents place old new applied a play_of explained =
     rw a.new_is (Explained-next judgement (told_at contents place) play_of old applied.event a.reply explained a.due
-      (λ there told _. reply_is_honest contents place applied.event.entity _ a.reply a.is_reply there told))
+    (λ there told _. reply_is_honest contents place applied.event.entity _ a.reply a.is_reply there told))
 
 removed : {K : Type 0} (p : K → Bool) (e : K) (xs : List K) → find p xs ≡ Some e → length (remove_key p xs) < length xs
 removed p e [] found = cc
@@ -63,16 +63,16 @@ removed {K} p e (x ∷ xs) found =
 
 -- fewer events wait
 pub applies-fewer : (contents : Option Contents) (place : List ℕ) (old new : ReplayState) (applied : Applied) → Applies contents place old new applied →
-  length new.buffer.waiting < length old.buffer.waiting
+    length new.buffer.waiting < length old.buffer.waiting
 applies-fewer contents place old new applied a =
     rw a.new_is (removed _ applied.event old.buffer.waiting a.due)
 
 -- one event more
 pub goes-next : (contents_start contents contents_next : Option Contents) (place : List ℕ) (start now next : ReplayState) (applied : Applied) →
-  Goes contents_start contents place start now → Applies contents place now next applied → contents_next ≡ contents →
-  Goes contents_start contents_next place start next
+    Goes contents_start contents place start now → Applies contents place now next applied → contents_next ≡ contents →
+    Goes contents_start contents_next place start next
 goes-next contents_start contents contents_next place start now next applied goes applies same = record {
   told = same ∙ goes.told;
   leads = λ play_of explained.
-    applies-leads contents_start place now next applied (rw goes.told at applies) play_of (goes.leads play_of explained);
+      applies-leads contents_start place now next applied (rw goes.told at applies) play_of (goes.leads play_of explained);
 }

@@ -47,45 +47,45 @@ nothing_said replies (a ∷ others) = nothing_said replies others
 
 -- what was printed is the transcript
 pub printed : (plan : Plan) (told : Option (ℕ → Option Bytes)) (ds : List Delivery) (world : ReplayState) (held held_now : Option (List ℕ)) →
-  IsPlayed told (λ replies. following_to_end replies ds) world → held_now ≡ after_known held (closing meaning (sections_of plan) world.played) →
-  HasPrinted plan told ds world held held_now
+    IsPlayed told (λ replies. following_to_end replies ds) world → held_now ≡ after_known held (closing meaning (sections_of plan) world.played) →
+    HasPrinted plan told ds world held held_now
 printed plan told ds world held held_now play is = record {
   sections = is;
   all = λ contents known.
-    let replies : Replies = source_replies judgement contents (failed_events world.played.side) in
-    let same : closing meaning (sections_of plan) world.played ≡ closing meaning (sections_of plan) (following_to_end replies ds).played =
+      let replies : Replies = source_replies judgement contents (failed_events world.played.side) in
+      let same : closing meaning (sections_of plan) world.played ≡ closing meaning (sections_of plan) (following_to_end replies ds).played =
       ap (λ (w : ReplayState). closing meaning (sections_of plan) w.played) (play.source contents known) in
-    let silent : said meaning replies ds ≡ [] = nothing_said replies (arrivals ds) in
-    is ∙ ap (after_known held) (same ∙ ap (λ xs. xs ++ closing meaning (sections_of plan) (following_to_end replies ds).played) (sym silent));
+      let silent : said meaning replies ds ≡ [] = nothing_said replies (arrivals ds) in
+      is ∙ ap (after_known held) (same ∙ ap (λ xs. xs ++ closing meaning (sections_of plan) (following_to_end replies ds).played) (sym silent));
 }
 
 fates : (ds : List Delivery) (world : ReplayState) (replies : Replies) → played true replies ds ≡ world.played → HasFates ds world
 fates ds world replies whole = record {
   of_due = λ x. let P : Played → Type 0 = λ p. (record_of p.records x).state ≡ fate (in_order (events_of x (due true ds))) in subst P whole (state-played true replies ds x);
   of_known = λ x none.
-    let P : Played → Type 0 = λ p. (record_of p.records x).state ≡ fate (in_order (events_of x (known true ds))) in
-    subst P whole (state-played true replies ds x ∙ fate-known true ds x none);
+      let P : Played → Type 0 = λ p. (record_of p.records x).state ≡ fate (in_order (events_of x (known true ds))) in
+      subst P whole (state-played true replies ds x ∙ fate-known true ds x none);
 }
 
 holds : (told : Option (ℕ → Option Bytes)) (ds : List Delivery) (world : ReplayState) (replies : Replies) → played true replies ds ≡ world.played →
-  ((contents : ℕ → Option Bytes) → told ≡ Some contents → played true (source_replies judgement contents (failed_events world.played.side)) ds ≡ world.played) → HoldsRightly told world
+    ((contents : ℕ → Option Bytes) → told ≡ Some contents → played true (source_replies judgement contents (failed_events world.played.side)) ds ≡ world.played) → HoldsRightly told world
 holds told ds world replies whole source = record {
   settled = λ x. let P : Played → Type 0 = λ p. is_settled (record_of p.records x) ≡ not (has_open_revision p.records p.side x) in subst P whole (settled-played true replies ds x);
   empty = λ x.
-    let P : Played → Type 0 = λ p. is_kept (record_of p.records x).state.mode ≡ false → (record_of p.records x).held ≡ None in
-    subst P whole (Tells-played true replies ds x).empty_unless_kept;
+      let P : Played → Type 0 = λ p. is_kept (record_of p.records x).state.mode ≡ false → (record_of p.records x).held ≡ None in
+      subst P whole (Tells-played true replies ds x).empty_unless_kept;
   there = λ contents known x.
-    let P : Played → Type 0 = λ p. HoldsWhatIsThere judgement contents x (record_of p.records x).held in
-    subst P (source contents known) (held-told judgement contents (failed_events world.played.side) true ds x);
+      let P : Played → Type 0 = λ p. HoldsWhatIsThere judgement contents x (record_of p.records x).held in
+      subst P (source contents known) (held-told judgement contents (failed_events world.played.side) true ds x);
 }
 
 names : (told : Option (ℕ → Option Bytes)) (ds : List Delivery) (world : ReplayState) (replies : Replies) → played true replies ds ≡ world.played →
-  ((contents : ℕ → Option Bytes) → told ≡ Some contents → played true (source_replies judgement contents (failed_events world.played.side)) ds ≡ world.played) → NamesRightly told ds world
+    ((contents : ℕ → Option Bytes) → told ≡ Some contents → played true (source_replies judgement contents (failed_events world.played.side)) ds ≡ world.played) → NamesRightly told ds world
 names told ds world replies whole source = record {
   late_ones = let P : Played → Type 0 = λ p. late_events p.side ≡ late ds in subst P whole (late-played true replies ds);
   there = λ contents known.
-    let P : Played → Type 0 = λ p. Each (TellsWhatIsThere judgement contents (failed_events world.played.side)) p.side in
-    subst P (source contents known) (entries-told judgement contents (failed_events world.played.side) true ds);
+      let P : Played → Type 0 = λ p. Each (TellsWhatIsThere judgement contents (failed_events world.played.side)) p.side in
+      subst P (source contents known) (entries-told judgement contents (failed_events world.played.side) true ds);
 }
 
 -- at the end the world has the states, holds and names what it should
@@ -94,7 +94,7 @@ replayed left told ds world are at_end =
     let play : IsPlayed told (λ replies. following_to_end replies ds) world = is_played told (λ replies. following_to_end replies ds) world at_end.explained at_end.rests in
     let whole : played true play.replies ds ≡ world.played = ap (λ (w : ReplayState). w.played) (sym play.is) in
     let source : (contents : ℕ → Option Bytes) → told ≡ Some contents → played true (source_replies judgement contents (failed_events world.played.side)) ds ≡ world.played =
-      λ contents known. ap (λ (w : ReplayState). w.played) (sym (play.source contents known)) in
+    λ contents known. ap (λ (w : ReplayState). w.played) (sym (play.source contents known)) in
     record {
       deliveries = ds;
       are = are;
@@ -106,7 +106,7 @@ replayed left told ds world are at_end =
 
 -- a stop of the taking, with nothing printed
 pub stopped : (status : Status) (left : Option (List ℕ)) (told : Option (ℕ → Option Bytes)) (world : ReplayState) (held held_now : Option (List ℕ)) (reads reads_now writes writes_now : ℕ) →
-  Stops status left told world reads reads_now → held_now ≡ held → Stopped status left told world held held_now reads reads_now writes writes_now
+    Stops status left told world reads reads_now → held_now ≡ held → Stopped status left told world held held_now reads reads_now writes writes_now
 stopped Ended left told world held held_now reads reads_now writes writes_now stops same = absurd stops
 stopped BadWords left told world held held_now reads reads_now writes writes_now stops same = absurd stops
 stopped (BadLine number cause) left told world held held_now reads reads_now writes writes_now stops same =
@@ -120,7 +120,7 @@ stopped OutOfMemory left told world held held_now reads reads_now writes writes_
 
 -- a fault of the sink, with the world at its end
 pub unwritten : (status : Status) (left : Option (List ℕ)) (told : Option (ℕ → Option Bytes)) (world : ReplayState) (held held_now : Option (List ℕ)) (reads reads_now writes writes_now : ℕ) →
-  IsUnwritten status writes writes_now → Replayed left told world → Stopped status left told world held held_now reads reads_now writes writes_now
+    IsUnwritten status writes writes_now → Replayed left told world → Stopped status left told world held held_now reads reads_now writes writes_now
 unwritten Ended left told world held held_now reads reads_now writes writes_now why ends = absurd why
 unwritten BadWords left told world held held_now reads reads_now writes writes_now why ends = absurd why
 unwritten (BadLine number cause) left told world held held_now reads reads_now writes writes_now why ends = absurd why

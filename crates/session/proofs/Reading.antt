@@ -32,7 +32,7 @@ pub record Progress (left_start : Option (List ℕ)) (told : Option (ℕ → Opt
 
 -- one line more is one delivery more
 pub onto-push : (r : Result Delivery LineCause) (o more : Option (List Delivery)) (ds : List Delivery) (d : Delivery) →
-  ((others : List Delivery) → o ≡ Some others → more ≡ Some (others ++ d ∷ [])) → onto_deliveries r o ≡ Some ds → onto_deliveries r more ≡ Some (ds ++ d ∷ [])
+    ((others : List Delivery) → o ≡ Some others → more ≡ Some (others ++ d ∷ [])) → onto_deliveries r o ≡ Some ds → onto_deliveries r more ≡ Some (ds ++ d ∷ [])
 onto-push (Ok first) (Some others) more ds d grows is =
     let whole : first ∷ others ≡ ds = cc in
     rw (grows others refl, ← whole) refl
@@ -40,7 +40,7 @@ onto-push (Ok first) None more ds d grows is = cc
 onto-push (Err cause) o more ds d grows is = cc
 
 pub deliveries-push : (done : List (List ℕ)) (line : List ℕ) (ds : List Delivery) (d : Delivery) → deliveries_of done ≡ Some ds → delivery_of line ≡ Ok d →
-  deliveries_of (done ++ line ∷ []) ≡ Some (ds ++ d ∷ [])
+    deliveries_of (done ++ line ∷ []) ≡ Some (ds ++ d ∷ [])
 deliveries-push [] line ds d done_is line_is =
     let none : [] ≡ ds = cc in
     rw (line_is, ← none) refl
@@ -69,8 +69,8 @@ start left told = record {
 
 -- where the input is told, what is unread is
 told_parts : (bytes : List ℕ) (done : List (List ℕ)) (consumed : ℕ) (known : Option (List ℕ)) →
-  Some (lines bytes) ≡ option_map (λ (ls : List (List ℕ)). done ++ ls) (lines_of known) → option_map (λ (u : List ℕ). consumed + length u) known ≡ Some (length bytes) →
-  (u : List ℕ) × ((known ≡ Some u) × (lines bytes ≡ done ++ lines u) × (consumed + length u ≡ length bytes))
+    Some (lines bytes) ≡ option_map (λ (ls : List (List ℕ)). done ++ ls) (lines_of known) → option_map (λ (u : List ℕ). consumed + length u) known ≡ Some (length bytes) →
+    (u : List ℕ) × ((known ≡ Some u) × (lines bytes ≡ done ++ lines u) × (consumed + length u ≡ length bytes))
 told_parts bytes done consumed None front total = cc
 told_parts bytes done consumed (Some u) front total = (u, (refl, cc, cc))
 
@@ -83,7 +83,7 @@ too_long bytes u max consumed over within total = omega (arith, over.more)
 
 module _ (told : Option (ℕ → Option Bytes)) where
   stops_too_long : (left_start : Option (List ℕ)) (reader : Reading) (left : Option (List ℕ)) (world : ReplayState) → Progress left_start told reader left world →
-    IfSome (unread reader left) (IsTooLong (room reader)) → IfSome left_start (λ bytes. most_bytes < length bytes)
+      IfSome (unread reader left) (IsTooLong (room reader)) → IfSome left_start (λ bytes. most_bytes < length bytes)
   stops_too_long None reader left world so_far over = tt
   stops_too_long (Some bytes) reader left world so_far over =
       let parts = told_parts bytes so_far.read.done reader.consumed (unread reader left) so_far.read.front so_far.read.total in
@@ -92,29 +92,32 @@ module _ (told : Option (ℕ → Option Bytes)) where
       omega (arith, so_far.limit)
 
   stops_long_line : (left_start : Option (List ℕ)) (reader : Reading) (left : Option (List ℕ)) (world : ReplayState) (number : ℕ) (so_far : Progress left_start told reader left world) →
-    number ≡ reader.given + 1 → IfSome (unread reader left) (IsLineLong (room reader)) →
-    IfSome left_start (λ bytes. IsRefusedLine bytes so_far.deliveries number LineLong)
+      number ≡ reader.given + 1 → IfSome (unread reader left) (IsLineLong (room reader)) →
+      IfSome left_start (λ bytes. IsRefusedLine bytes so_far.deliveries number LineLong)
   stops_long_line None reader left world number so_far next over = tt
   stops_long_line (Some bytes) reader left world number so_far next over =
       let parts = told_parts bytes so_far.read.done reader.consumed (unread reader left) so_far.read.front so_far.read.total in
       let here : IsLineLong (room reader) parts.0 = at_told (unread reader left) parts.0 (IsLineLong (room reader)) parts.1.0 over in
-      inr (refl, record {
-        before = so_far.read.done;
-        consumed = reader.consumed;
-        unread_bytes = parts.0;
-        are_lines = parts.1.1;
-        all = sym parts.1.2;
-        delivered = so_far.read.delivered;
-        counted = next ∙ ap (λ n. n + 1) so_far.read.counted;
-        over = rw so_far.limit at here;
-      })
+      inr (
+        refl,
+        record {
+          before = so_far.read.done;
+          consumed = reader.consumed;
+          unread_bytes = parts.0;
+          are_lines = parts.1.1;
+          all = sym parts.1.2;
+          delivered = so_far.read.delivered;
+          counted = next ∙ ap (λ n. n + 1) so_far.read.counted;
+          over = rw so_far.limit at here;
+        },
+      )
 
   rose_since : (before between after : ℕ) → before ≤ between → Rose between after → Rose before after
   rose_since before between after earlier rose = omega arith
 
   -- a fault of the reader stops the taking
   pub fault_stops : (fault : LineFault) (left_start : Option (List ℕ)) (reader : Reading) (left : Option (List ℕ)) (world : ReplayState) (before between after : ℕ) →
-    Progress left_start told reader left world → before ≤ between → HasCause fault reader left between after → Stops (fault_status fault) left_start told world before after
+      Progress left_start told reader left world → before ≤ between → HasCause fault reader left between after → Stops (fault_status fault) left_start told world before after
   fault_stops NotRead left_start reader left world before between after so_far earlier cause =
       (rose_since before between after earlier cause, record { deliveries = so_far.deliveries; at_rest = so_far.at_rest })
   fault_stops PastLimit left_start reader left world before between after so_far earlier cause =
@@ -124,7 +127,7 @@ module _ (told : Option (ℕ → Option Bytes)) where
   fault_stops Refused left_start reader left world before between after so_far earlier cause = tt
 
   taken_all : (left_start : Option (List ℕ)) (reader : Reading) (left : Option (List ℕ)) (world : ReplayState) (so_far : Progress left_start told reader left world) →
-    IsAtEnd (unread reader left) → AreDeliveries left_start so_far.deliveries
+      IsAtEnd (unread reader left) → AreDeliveries left_start so_far.deliveries
   taken_all None reader left world so_far at_end = tt
   taken_all (Some bytes) reader left world so_far at_end =
       let parts = told_parts bytes so_far.read.done reader.consumed (unread reader left) so_far.read.front so_far.read.total in
@@ -134,7 +137,7 @@ module _ (told : Option (ℕ → Option Bytes)) where
 
   -- at the end of the input all lines were taken
   pub end_reached : (left_start : Option (List ℕ)) (reader : Reading) (left : Option (List ℕ)) (world : ReplayState) →
-    Progress left_start told reader left world → IsAtEnd (unread reader left) → HasTaken left_start told world
+      Progress left_start told reader left world → IsAtEnd (unread reader left) → HasTaken left_start told world
   end_reached left_start reader left world so_far at_end = record {
     deliveries = so_far.deliveries;
     are = taken_all left_start reader left world so_far at_end;
@@ -142,8 +145,8 @@ module _ (told : Option (ℕ → Option Bytes)) where
   }
 
   bad_line : (left_start : Option (List ℕ)) (reader : Reading) (left known : Option (List ℕ)) (world : ReplayState) (line : List ℕ) (number : ℕ) (cause : LineCause) (so_far : Progress left_start told reader left world) →
-    lines_of (unread reader left) ≡ before_lines line (lines_of known) → number ≡ reader.given + 1 → delivery_of line ≡ Err cause →
-    IfSome left_start (λ bytes. IsRefusedLine bytes so_far.deliveries number cause)
+      lines_of (unread reader left) ≡ before_lines line (lines_of known) → number ≡ reader.given + 1 → delivery_of line ≡ Err cause →
+      IfSome left_start (λ bytes. IsRefusedLine bytes so_far.deliveries number cause)
   bad_line None reader left known world line number cause so_far first next refused = tt
   bad_line (Some bytes) reader left None world line number cause so_far first next refused =
       let none : Some (lines bytes) ≡ None = so_far.read.front ∙ ap (λ (o : Option (List (List ℕ))). option_map (λ ls. so_far.read.done ++ ls) o) first in cc
@@ -161,8 +164,8 @@ module _ (told : Option (ℕ → Option Bytes)) where
 
   -- a line that is refused stops the taking
   pub line_stops : (status : Status) (left_start : Option (List ℕ)) (reader : Reading) (left known : Option (List ℕ)) (world world_now : ReplayState) (line : List ℕ) (number before after : ℕ) →
-    Progress left_start told reader left world → lines_of (unread reader left) ≡ before_lines line (lines_of known) → number ≡ reader.given + 1 →
-    IsRefused status line number world world_now → Stops status left_start told world_now before after
+      Progress left_start told reader left world → lines_of (unread reader left) ≡ before_lines line (lines_of known) → number ≡ reader.given + 1 →
+      IsRefused status line number world world_now → Stops status left_start told world_now before after
   line_stops Ended left_start reader left known world world_now line number before after so_far first next refused = absurd refused
   line_stops BadWords left_start reader left known world world_now line number before after so_far first next refused = absurd refused
   line_stops (BadLine n cause) left_start reader left known world world_now line number before after so_far first next refused =
@@ -177,16 +180,16 @@ module _ (told : Option (ℕ → Option Bytes)) where
   line_stops OutOfMemory left_start reader left known world world_now line number before after so_far first next refused = tt
 
   front_grows : (left_start : Option (List (List ℕ))) (known next : Option (List (List ℕ))) (done : List (List ℕ)) (line : List ℕ) →
-    left_start ≡ option_map (λ (ls : List (List ℕ)). done ++ ls) known → known ≡ before_lines line next →
-    left_start ≡ option_map (λ (ls : List (List ℕ)). (done ++ line ∷ []) ++ ls) next
+      left_start ≡ option_map (λ (ls : List (List ℕ)). done ++ ls) known → known ≡ before_lines line next →
+      left_start ≡ option_map (λ (ls : List (List ℕ)). (done ++ line ∷ []) ++ ls) next
   front_grows left_start known None done line front first = rw (front, first) refl
   front_grows left_start known (Some ls) done line front first = rw (front, first) (ap Some (sym (append_assoc done (line ∷ []) ls)))
 
   -- a line that is taken
   pub line_taken : (left_start : Option (List ℕ)) (reader next : Reading) (left left_next : Option (List ℕ)) (world world_now : ReplayState) (line : List ℕ) →
-    Progress left_start told reader left world → lines_of (unread reader left) ≡ before_lines line (lines_of (unread next left_next)) →
-    input_length next left_next ≡ input_length reader left → next.given ≡ reader.given + 1 → next.max_bytes ≡ reader.max_bytes → IsSound next → next.failed ≡ false →
-    (next.ended ≡ true → IsAtEnd left_next) → TakesLine told line world world_now → Progress left_start told next left_next world_now
+      Progress left_start told reader left world → lines_of (unread reader left) ≡ before_lines line (lines_of (unread next left_next)) →
+      input_length next left_next ≡ input_length reader left → next.given ≡ reader.given + 1 → next.max_bytes ≡ reader.max_bytes → IsSound next → next.failed ≡ false →
+      (next.ended ≡ true → IsAtEnd left_next) → TakesLine told line world world_now → Progress left_start told next left_next world_now
   line_taken left_start reader next left left_next world world_now line so_far first total given limit sound going ended takes = record {
     deliveries = so_far.deliveries ++ takes.delivery ∷ [];
     read = record {

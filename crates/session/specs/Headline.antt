@@ -34,7 +34,7 @@ pub record IsPlayed (told : Option (ℕ → Option Bytes)) (play_of : Replies �
 pub record HasFates (ds : List Delivery) (world : ReplayState) : Type 0 where
   pub of_due : (x : EntityId) → (record_of world.played.records x).state ≡ fate (in_order (events_of x (due true ds)))
   pub of_known : (x : EntityId) → list_any (is_open_late (due true ds)) (events_of x (late ds)) ≡ false →
-    (record_of world.played.records x).state ≡ fate (in_order (events_of x (known true ds)))
+      (record_of world.played.records x).state ≡ fate (in_order (events_of x (known true ds)))
 
 -- what is held: what the state wants, exactly where no revision entry of the entity is open; nothing of a page that
 -- isn't kept; and what the source tells
@@ -62,7 +62,7 @@ pub record Replayed (left : Option (List ℕ)) (told : Option (ℕ → Option By
 pub record HasPrinted (plan : Plan) (told : Option (ℕ → Option Bytes)) (ds : List Delivery) (world : ReplayState) (held held_now : Option (List ℕ)) : Type 0 where
   pub sections : held_now ≡ after_known held (closing meaning (sections_of plan) world.played)
   pub all : (contents : ℕ → Option Bytes) → told ≡ Some contents →
-    held_now ≡ after_known held (transcript meaning (sections_of plan) (source_replies judgement contents (failed_events world.played.side)) ds)
+      held_now ≡ after_known held (transcript meaning (sections_of plan) (source_replies judgement contents (failed_events world.played.side)) ds)
 
 -- the world has taken some deliveries, those of the lines before a stop
 pub record StandsAfter (told : Option (ℕ → Option Bytes)) (world : ReplayState) : Type 0 where

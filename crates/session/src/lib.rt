@@ -13,3 +13,5 @@ mod words;
 pub use replaying::run;
 pub use status::{Status, status_number, status_text};
 
+#[cfg(test)]
+mod tests;

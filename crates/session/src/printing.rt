@@ -7,17 +7,20 @@ ghost use Rattle.replay_model.specs.Transcript.{closing, export_head, export_sec
 ghost use Rattle.world.specs.Meaning.{meaning};
 ghost use Rattle.session.specs.Printing.{IsUnwritten, sections_of};
 
-use std::alloc::Global;
-
+use crate::status::Status;
+use crate::words::Plan;
 use rdf_term::{Triple, write_triple};
+use std::alloc::Global;
 use world::World;
 use wq_io::{NoWrite, Sink};
 
-use crate::status::Status;
-use crate::words::Plan;
-
 /// Prints the sections that were asked for.
-pub fn print_closing<K: Sink>(alloc: Global, plan: Plan, world: &World, out: &mut K) -> Result<(), Status>
+pub fn print_closing<K: Sink>(
+    alloc: Global,
+    plan: Plan,
+    world: &World,
+    out: &mut K,
+) -> Result<(), Status>
     ensures ok { OnOk result (K.held out.new ≡ after_known (K.held out.old) (closing meaning (sections_of plan) world.now.played)) }
     ensures err { IfErr result (λ status. IsUnwritten status (K.faults out.old) (K.faults out.new)) }
     ensures later { K.faults out.old ≤ K.faults out.new }

@@ -8,16 +8,14 @@ ghost use Rattle.session.specs.Stops.{Stops};
 ghost use Rattle.session.specs.Words.{plan_of};
 ghost use Rattle.session.specs.declared.words.Plan.{Plan};
 
-use std::alloc::Global;
-
-use revisions::Revisions;
-use world::World;
-use wq_io::{Sink, Source};
-
 use crate::printing::print_closing;
 use crate::status::Status;
 use crate::taking::{take_end, take_lines};
 use crate::words::{Plan, read_plan};
+use revisions::Revisions;
+use std::alloc::Global;
+use world::World;
+use wq_io::{Sink, Source};
 
 /// Where the revisions are.
 const PLACE: &str = ".";

@@ -4,10 +4,9 @@ ghost use Rattle.std.specs.Prelude.{◌≡◌, IfOk};
 ghost use Rattle.session.specs.Status.{bad_line_text, cause_name as name_of, number_of, text_of};
 ghost use Rattle.session.specs.declared.status.Status.TheVariants.{OutOfMemory as Refused};
 
-use std::alloc::Global;
-
 use event_line::LineCause;
 use rdf_term::{OutOfMemory, Text};
+use std::alloc::Global;
 use wq_io::LineFault;
 
 /// How a run ended.
@@ -74,9 +73,7 @@ fn bad_line(alloc: Global, number: u64, cause: LineCause) -> Result<Text, OutOfM
     ensures { IfOk result (λ text. text ≡ bad_line_text number cause) }
 {
     let cause = cause_name(cause);
-    Ok(Text::from_string(
-        format!(in alloc; "wdq: line {number}: {cause}")?,
-    ))
+    Ok(Text::from_string(format!(in alloc; "wdq: line {number}: {cause}")?))
 }
 
 /// The exit status of the process.

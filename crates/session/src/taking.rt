@@ -6,16 +6,14 @@ ghost use Rattle.event_line.specs.declared.deliveries.Delivery.{Delivery};
 ghost use Rattle.session.specs.Running.{AtEnd, AtRest, told_at};
 ghost use Rattle.session.specs.Stops.{HasTaken, IsRefused, Settles, Stops, TakesLine};
 
-use std::alloc::Global;
-
+use crate::status::Status;
 use entity_model::Event;
 use event_line::{Delivery, DeliveryFault, delivery};
 use rdf_term::OutOfMemory;
 use revisions::Revisions;
+use std::alloc::Global;
 use world::{World, WorldFault};
 use wq_io::{Lines, Source};
-
-use crate::status::Status;
 
 /// The most bytes that an input may have.
 const MOST_BYTES: u64 = 1_073_741_824;
@@ -45,7 +43,11 @@ pub fn take_lines<S: Source, R: Revisions>(
 }
 
 /// Takes the end of the input, and applies all that waits.
-pub fn take_end<R: Revisions>(place: &str, revisions: &mut R, world: &mut World) -> Result<(), OutOfMemory>
+pub fn take_end<R: Revisions>(
+    place: &str,
+    revisions: &mut R,
+    world: &mut World,
+) -> Result<(), OutOfMemory>
     ensures ok { OnOk result ((ds : List Delivery) → AtRest (told_at (R.contents revisions.old) place.now) ds world.old
         → AtEnd (told_at (R.contents revisions.old) place.now) ds world.new) }
     ensures told { R.contents revisions.new ≡ R.contents revisions.old }
@@ -125,7 +127,11 @@ fn take_event(event: Event, world: &mut World) -> Result<(), OutOfMemory>
 }
 
 // Applies all due events, the least first.
-fn apply_due<R: Revisions>(place: &str, revisions: &mut R, world: &mut World) -> Result<(), OutOfMemory>
+fn apply_due<R: Revisions>(
+    place: &str,
+    revisions: &mut R,
+    world: &mut World,
+) -> Result<(), OutOfMemory>
     ensures ok { OnOk result (Settles (told_at (R.contents revisions.old) place.now) world.old world.new) }
     ensures told { R.contents revisions.new ≡ R.contents revisions.old }
     ensures more_faults { R.faults revisions.old ≤ R.faults revisions.new }

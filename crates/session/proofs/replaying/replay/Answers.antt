@@ -23,6 +23,6 @@ returns-clause-ok g c =
     let held_now : Option (List ℕ) = g.K.Sink.held c.print_closing.new.out in
     let ends : Replayed (g.S.Source.left c.args.events.now) told c.take_all.new.world = c.in_ok-take_all.ensures.ok in
     on_ok_weaker c.print_closing.result
-      (λ (is : held_now ≡ after_known held (closing meaning (sections_of c.args.plan) c.take_all.new.world.played)).
-        record { replayed = ends; printed = printed c.args.plan told ends.deliveries c.take_all.new.world held held_now ends.played is })
-      c.print_closing.ensures.ok
+    (λ (is : held_now ≡ after_known held (closing meaning (sections_of c.args.plan) c.take_all.new.world.played)).
+    record { replayed = ends; printed = printed c.args.plan told ends.deliveries c.take_all.new.world held held_now ends.played is })
+    c.print_closing.ensures.ok

@@ -13,10 +13,10 @@ pub returns-in-Event-clause-ok : goal.returns-in-Event-clause-ok
 returns-in-Event-clause-ok g c =
     let told : Option (ℕ → Option Bytes) = told_at (g.R.Revisions.contents c.args.revisions.now) c.args.place.now in
     rw c.in-Event.is (on_ok_weaker c.take_event.result (λ (taken : c.take_event.new.world ≡ after_event c.args.world.now c.in-Event.event) (ds : List Delivery) (at_rest : AtRest told ds c.args.world.now).
-      rw taken (event_taken told ds c.args.world.now c.in-Event.event at_rest)) c.take_event.ensures)
+    rw taken (event_taken told ds c.args.world.now c.in-Event.event at_rest)) c.take_event.ensures)
 
 pub returns-in-Watermark-clause-ok : goal.returns-in-Watermark-clause-ok
 returns-in-Watermark-clause-ok g c =
     let told : Option (ℕ → Option Bytes) = told_at (g.R.Revisions.contents c.args.revisions.now) c.args.place.now in
     rw c.in-Watermark.is (on_ok_weaker c.take_mark.result (λ (settles : Settles told (after_mark c.args.world.now c.in-Watermark.mark) c.take_mark.new.world) (ds : List Delivery) (at_rest : AtRest told ds c.args.world.now).
-      mark_taken told ds c.args.world.now c.take_mark.new.world c.in-Watermark.mark settles at_rest) c.take_mark.ensures.ok)
+    mark_taken told ds c.args.world.now c.take_mark.new.world c.in-Watermark.mark settles at_rest) c.take_mark.ensures.ok)

@@ -31,11 +31,14 @@ loop-line-preserved g c =
     let goes = c.in_ok-number.ensures.goes_on in
     let line = rw c.in-Some.is at c.in_ok-number.ensures.line in
     let number = rw c.in-Some.is at c.in_ok-number.ensures.number in
-    let takes = rw (c.as_slice.ensures.value, before.2) at c.in_ok-take_line.ensures.ok in
-    ( line_taken told _ c.loop-line.lines c.next.new.self _ _ c.loop-line.world c.take_line.new.world c.next.new.line.items before.0 line
-        c.in_ok-number.ensures.length (sym number.1 ∙ number.0) goes.limit goes.sound goes.going c.in_ok-number.ensures.ended takes
-    , omega (arith, before.1, c.in_ok-number.ensures.later), c.in_ok-take_line.ensures.told ∙ before.2
-    , omega (arith, before.3, c.in_ok-take_line.ensures.more_faults), omega (arith, before.4, c.in_ok-take_line.ensures.more_misses))
+    let takes = rw (c.as_slice.ensures.value, before.2) at c.in_ok-take_line.ensures.ok in (
+      line_taken told _ c.loop-line.lines c.next.new.self _ _ c.loop-line.world c.take_line.new.world c.next.new.line.items before.0 line
+          c.in_ok-number.ensures.length (sym number.1 ∙ number.0) goes.limit goes.sound goes.going c.in_ok-number.ensures.ended takes,
+      omega (arith, before.1, c.in_ok-number.ensures.later),
+      c.in_ok-take_line.ensures.told ∙ before.2,
+      omega (arith, before.3, c.in_ok-take_line.ensures.more_faults),
+      omega (arith, before.4, c.in_ok-take_line.ensures.more_misses),
+    )
 
 pub returns-in_err-take_line-clause-err : goal.returns-in_err-take_line-clause-err
 returns-in_err-take_line-clause-err g c =
