@@ -12,3 +12,6 @@ mod words;
 
 pub use replaying::run;
 pub use status::{Status, status_number, status_text};
+
+#[cfg(test)]
+mod tests;

@@ -1,0 +1,446 @@
+// Whole runs over memory: what they print, how they end, and what the world holds then.
+//
+// The expected values were worked out by hand from the rules of events and states.
+
+use crate::{Status, run, status_number, status_text};
+use entity_model::EntityId;
+use event_line::LineCause;
+use rdf_term::{List, OutOfMemory, Text};
+use revisions::{MemoryRevisions, RevisionBytes};
+use side_output::Entry;
+use std::alloc::Global;
+use std::process::Abort;
+use std::test::Fail;
+use world::World;
+use wq_io::{MemorySink, MemorySource};
+
+// The revisions that are there.
+const PAGES: &[(u64, &str)] = &[
+    (1, r#"{"entity":"Q1","redirect":"Q2"}"#),
+    (2, r#"{"entity":"Q1","redirect":"Q3"}"#),
+    (3, r#"{"entity":"Q1","redirect":"P31"}"#),
+    (7, r#"{"type":"item"}"#),
+    (8, r#"{"entity":"Q2","redirect":"Q1"}"#),
+    (10, r#"{"entity":"Q10","redirect":"Q1"}"#),
+];
+
+// The triples of the revisions 1, 3 and 10, as an export has them.
+const EXPORT_OF_1: &str = "# export: 1 triples
+<http://www.wikidata.org/entity/Q1> <http://www.w3.org/2002/07/owl#sameAs> <http://www.wikidata.org/entity/Q2> .
+";
+
+const EXPORT_OF_3_AND_10: &str = "# export: 2 triples
+<http://www.wikidata.org/entity/Q10> <http://www.w3.org/2002/07/owl#sameAs> <http://www.wikidata.org/entity/Q1> .
+<http://www.wikidata.org/entity/Q1> <http://www.w3.org/2002/07/owl#sameAs> <http://www.wikidata.org/entity/P31> .
+";
+
+const EMPTY_EXPORT: &str = "# export: 0 triples\n";
+
+// What a run is given: its words and deliveries, what follows these in the input, the most bytes of a read and of a
+// write, and the numbers of the calls that fail.
+#[derive(Clone, Copy)]
+struct Given {
+    words: &'static [&'static str],
+    deliveries: &'static str,
+    rest: &'static str,
+    piece: usize,
+    failing_reads: &'static [u64],
+    failing_fetches: &'static [u64],
+    failing_writes: &'static [u64],
+}
+
+const EXPORT: Given = Given {
+    words: &["replay", "--export"],
+    deliveries: "",
+    rest: "",
+    piece: 4096,
+    failing_reads: &[],
+    failing_fetches: &[],
+    failing_writes: &[],
+};
+
+// What a run left.
+#[derive(Drop)]
+struct Left {
+    status: Status,
+    out: MemorySink,
+    world: World,
+    fetches: u64,
+}
+
+// The line of a delivery that is written as KIND ID REVISION SECONDS, or as `watermark` SECONDS.
+fn line(alloc: Global, delivery: &str) -> Result<String, Fail> {
+    let (kind, rest) = delivery.split_once(" ").ok_or("a delivery")?;
+    let Some((id, rest)) = rest.split_once(" ") else {
+        return Ok(format!(in alloc; "{{\"watermark\":\"2024-05-01T10:00:0{rest}Z\"}}\n")?);
+    };
+    let (rev, seconds) = rest.split_once(" ").ok_or("a revision")?;
+    Ok(format!(in alloc;
+        "{{\"kind\":\"{kind}\",\"entity\":\"{id}\",\"rev\":{rev},\"time\":\"2024-05-01T10:00:0{seconds}Z\",\"mode\":\"kept\"}}\n"
+    )?)
+}
+
+// The lines of deliveries, and what follows them.
+fn input(alloc: Global, given: &Given) -> Result<Vec<u8>, Fail> {
+    let mut text = Vec::new(alloc);
+    for delivery in given.deliveries.lines() {
+        text.extend_from_slice(line(alloc, delivery)?.as_bytes())?;
+    }
+    text.extend_from_slice(given.rest.as_bytes())?;
+    Ok(text)
+}
+
+// The words, each with memory of its own.
+fn words(alloc: Global, words: &[&str]) -> Result<Vec<String>, Fail> {
+    let mut list = Vec::new(alloc);
+    for word in words {
+        list.push(String::from_str(alloc, word)?)?;
+    }
+    Ok(list)
+}
+
+// The revisions at the place of the program.
+fn pages(alloc: Global) -> Result<List<RevisionBytes>, OutOfMemory> {
+    let mut list = List::new(alloc);
+    for (rev, page) in PAGES {
+        list.push(RevisionBytes {
+            place: Text::new(alloc, ".")?,
+            rev: *rev,
+            bytes: List::from_vec(Vec::from_slice(alloc, page.as_bytes())?),
+        })?;
+    }
+    Ok(list)
+}
+
+// The numbers of calls that are to fail.
+fn numbers(alloc: Global, numbers: &[u64]) -> Result<List<u64>, Fail> {
+    Ok(List::from_vec(Vec::from_slice(alloc, numbers)?))
+}
+
+// Runs the program over an input.
+fn run_over(
+    rt: &(impl Abort + Alloc<A = Global>),
+    given: &Given,
+    input: Vec<u8>,
+) -> Result<Left, Fail> {
+    let alloc = rt.alloc();
+    assert!(rt; 1 <= given.piece);
+    let words = words(alloc, given.words)?;
+    let mut events = MemorySource::new(input, given.piece, numbers(alloc, given.failing_reads)?);
+    let mut revisions = MemoryRevisions::new(pages(alloc)?, numbers(alloc, given.failing_fetches)?);
+    let mut out = MemorySink::new(alloc, given.piece, numbers(alloc, given.failing_writes)?);
+    let mut world = World::new(alloc)?;
+    let status = run(
+        alloc,
+        words.as_slice(),
+        &mut events,
+        &mut revisions,
+        &mut out,
+        &mut world,
+    );
+    Ok(Left {
+        status,
+        out,
+        world,
+        fetches: revisions.fetches(),
+    })
+}
+
+// What is seen of an entity: its state and the number of the revision that it holds.
+fn entity_text(alloc: Global, world: &World, id: EntityId) -> Result<String, Fail> {
+    let name = id.text(alloc)?;
+    let name = name.as_str();
+    let state = world.state(id);
+    let mode = state.mode;
+    let rev = state.rev;
+    let held = world.held(id).map(|held| held.0);
+    Ok(format!(in alloc; "{name} {mode:?} {rev}, holds {held:?}\n")?)
+}
+
+// What is seen of an entry of the side output.
+fn entry_text(alloc: Global, entry: &Entry) -> Result<String, Fail> {
+    match entry {
+        Entry::Late(event) => {
+            let kind = event.kind;
+            let rev = event.rev;
+            let time = event.time;
+            Ok(format!(in alloc; "late {kind:?} {rev} {time}\n")?)
+        }
+        Entry::Revision(event, rev, cause) => {
+            let number = event.entity.number;
+            Ok(format!(in alloc; "{cause:?} {number} {rev}\n")?)
+        }
+    }
+}
+
+// What is seen of a world: its entities, its side output and how many events wait.
+fn seen(alloc: Global, world: &World) -> Result<String, Fail> {
+    let mut text = String::new(alloc);
+    let ids = world.entities()?;
+    for id in ids.as_slice() {
+        text.push_str(entity_text(alloc, world, *id)?.as_str())?;
+    }
+    for place in 0..world.side_len() {
+        let entry = world.side(place).ok_or("an entry")?;
+        text.push_str(entry_text(alloc, entry)?.as_str())?;
+    }
+    let waiting = world.pending();
+    if waiting > 0 {
+        text.push_str(format!(in alloc; "waiting {waiting}\n")?.as_str())?;
+    }
+    Ok(text)
+}
+
+// Checks how a run ends, what it prints, and what the world holds then.
+fn check(
+    rt: &(impl Abort + Alloc<A = Global>),
+    given: &Given,
+    status: Status,
+    printed: &str,
+    seen_then: &str,
+) -> Result<(), Fail> {
+    let alloc = rt.alloc();
+    let left = run_over(rt, given, input(alloc, given)?)?;
+    let deliveries = given.deliveries;
+    assert_eq!(rt; left.status, status, "of {deliveries}");
+    assert_eq!(rt; left.out.bytes(), printed.as_bytes(), "of {deliveries}");
+    let fetches = left.fetches;
+    let text = seen(alloc, &left.world)?;
+    let text = text.as_str();
+    let text = format!(in alloc; "{text}fetches {fetches}")?;
+    assert_eq!(rt; text.as_str(), seen_then, "of {deliveries}");
+    Ok(())
+}
+
+#[test]
+fn worlds(rt: HostRuntime) -> Result<(), Fail> {
+    for (deliveries, failing_fetches, printed, seen_then) in [
+        ("", &[][..], EMPTY_EXPORT, "fetches 0"),
+        (
+            "edit Q1 1 1",
+            &[][..],
+            EXPORT_OF_1,
+            "Q1 Kept 1, holds Some(1)\nfetches 1",
+        ),
+        // Events out of order are applied in their order.
+        (
+            "edit Q1 3 5\nedit Q10 10 6\nedit Q1 2 4\nwatermark 6",
+            &[][..],
+            EXPORT_OF_3_AND_10,
+            "Q1 Kept 3, holds Some(3)\nQ10 Kept 10, holds Some(10)\nfetches 3",
+        ),
+        // An event whose time the watermark has reached is late, once.
+        (
+            "watermark 0\nedit Q1 1 0\nedit Q2 8 0.000001\nedit Q1 1 0",
+            &[][..],
+            "# export: 1 triples
+<http://www.wikidata.org/entity/Q2> <http://www.w3.org/2002/07/owl#sameAs> <http://www.wikidata.org/entity/Q1> .
+",
+            "Q2 Kept 8, holds Some(8)\nlate Edit 1 1714557600000000\nfetches 1",
+        ),
+        // A lower watermark changes nothing, and a repeat is never late.
+        (
+            "edit Q1 1 1\nwatermark 5\nwatermark 0\nedit Q1 2 3\nedit Q1 1 1",
+            &[][..],
+            EXPORT_OF_1,
+            "Q1 Kept 1, holds Some(1)\nlate Edit 2 1714557603000000\nfetches 1",
+        ),
+        // A deletion drops what is held, and an undeletion fetches it again.
+        (
+            "edit Q1 1 1\ndelete Q1 1 2",
+            &[][..],
+            EMPTY_EXPORT,
+            "Q1 Deleted 1, holds None\nfetches 1",
+        ),
+        (
+            "edit Q1 1 1\ndelete Q1 1 2\nwatermark 2\ndelete Q1 1 2\nundelete Q1 1 3\nwatermark 3\ndelete Q1 1 2",
+            &[][..],
+            EXPORT_OF_1,
+            "Q1 Kept 1, holds Some(1)\nfetches 2",
+        ),
+        // An undeletion that comes before an older deletion.
+        (
+            "edit Q1 1 1\nundelete Q1 1 3\ndelete Q1 1 2",
+            &[][..],
+            EXPORT_OF_1,
+            "Q1 Kept 1, holds Some(1)\nfetches 2",
+        ),
+        // A reconciliation with what is held fetches nothing.
+        (
+            "edit Q1 2 1\nwatermark 5\nedit Q1 3 3\nreconcile Q1 1 6\nreconcile Q1 1 7",
+            &[][..],
+            EXPORT_OF_1,
+            "Q1 Kept 1, holds Some(1)\nlate Edit 3 1714557603000000\nfetches 2",
+        ),
+        // A fetch in vain leaves what is held, and is made no second time.
+        (
+            "edit Q1 1 1\nedit Q1 2 2",
+            &[2][..],
+            EXPORT_OF_1,
+            "Q1 Kept 2, holds Some(1)\nFailed 1 2\nfetches 2",
+        ),
+        (
+            "edit Q1 1 1\nedit Q1 2 2\nedit Q1 3 3\nedit Q10 10 4",
+            &[2][..],
+            EXPORT_OF_3_AND_10,
+            "Q1 Kept 3, holds Some(3)\nQ10 Kept 10, holds Some(10)\nFailed 1 2\nfetches 4",
+        ),
+        (
+            "edit Q1 1 1\nedit Q1 9 2",
+            &[][..],
+            EXPORT_OF_1,
+            "Q1 Kept 9, holds Some(1)\nMissing 1 9\nfetches 2",
+        ),
+        (
+            "edit Q1 7 1\nedit Q1 8 2",
+            &[][..],
+            EMPTY_EXPORT,
+            "Q1 Kept 8, holds None\nUnfit(Shape) 1 7\nUnfit(Shape) 1 8\nfetches 2",
+        ),
+    ] {
+        let given = Given {
+            deliveries,
+            failing_fetches,
+            ..EXPORT
+        };
+        check(&rt, &given, Status::Ok, printed, seen_then)?;
+    }
+    Ok(())
+}
+
+#[test]
+fn endings(rt: HostRuntime) -> Result<(), Fail> {
+    let first = "Q1 Kept 1, holds Some(1)\nfetches 1";
+    for (given, status, printed, seen_then) in [
+        // The end of the input ends the last line; nothing is printed where nothing is asked for.
+        (
+            Given {
+                words: &["replay"],
+                deliveries: "edit Q1 1 1",
+                rest: r#"{"watermark":"2024-05-01T10:00:05Z"}"#,
+                ..EXPORT
+            },
+            Status::Ok,
+            "",
+            first,
+        ),
+        // Reads and writes of a single byte.
+        (
+            Given {
+                deliveries: "edit Q1 1 1",
+                piece: 1,
+                ..EXPORT
+            },
+            Status::Ok,
+            EXPORT_OF_1,
+            first,
+        ),
+        // What the watermark made due was applied before the line that is refused.
+        (
+            Given {
+                deliveries: "edit Q1 1 1\nwatermark 1\nedit Q1 2 2\nedit Q1 0 3",
+                ..EXPORT
+            },
+            Status::BadLine(4, LineCause::Rev),
+            "",
+            "Q1 Kept 1, holds Some(1)\nwaiting 1\nfetches 1",
+        ),
+        (
+            Given {
+                rest: "\n",
+                ..EXPORT
+            },
+            Status::BadLine(1, LineCause::NotJson),
+            "",
+            "fetches 0",
+        ),
+        // The second read fails in the middle of the third line.
+        (
+            Given {
+                deliveries: "edit Q1 1 1\nwatermark 1\nedit Q1 2 2",
+                piece: 150,
+                failing_reads: &[2],
+                ..EXPORT
+            },
+            Status::ReadFault,
+            "",
+            first,
+        ),
+        // The second write fails in the middle of a line.
+        (
+            Given {
+                piece: 7,
+                failing_writes: &[2],
+                ..EXPORT
+            },
+            Status::WriteFault,
+            "# expor",
+            "fetches 0",
+        ),
+    ] {
+        check(&rt, &given, status, printed, seen_then)?;
+    }
+    Ok(())
+}
+
+#[test]
+fn words_that_are_not_understood(rt: HostRuntime) -> Result<(), Fail> {
+    for words in [
+        &[][..],
+        &["--export"][..],
+        &["Replay"][..],
+        &["replay", "x"][..],
+        &["replay", ""][..],
+        &["replay", "--export=1"][..],
+        &["replay", "--export", "--export"][..],
+    ] {
+        let given = Given {
+            words,
+            deliveries: "edit Q1 1 1",
+            ..EXPORT
+        };
+        check(&rt, &given, Status::BadWords, "", "fetches 0")?;
+    }
+    Ok(())
+}
+
+#[test]
+fn long_lines(rt: HostRuntime) -> Result<(), Fail> {
+    for (letters, cause) in [(65_536, LineCause::NotJson), (65_537, LineCause::LineLong)] {
+        let mut input = Vec::new(rt.alloc());
+        for _ in 0..letters {
+            input.push(b'a')?;
+        }
+        input.push(b'\n')?;
+        let left = run_over(&rt, &EXPORT, input)?;
+        assert_eq!(rt;
+            left.status,
+            Status::BadLine(1, cause),
+            "of {letters} letters"
+        );
+    }
+    Ok(())
+}
+
+#[test]
+fn texts_and_numbers(rt: HostRuntime) -> Result<(), Fail> {
+    for (status, text, number) in [
+        (Status::Ok, "", 0),
+        (Status::BadWords, "wdq: words not understood", 1),
+        (Status::BadLine(4, LineCause::Rev), "wdq: line 4: Rev", 2),
+        (
+            Status::BadLine(18_446_744_073_709_551_615, LineCause::NotJson),
+            "wdq: line 18446744073709551615: NotJson",
+            2,
+        ),
+        (Status::ReadFault, "wdq: read fault", 3),
+        (Status::WriteFault, "wdq: write fault", 4),
+        (Status::TooLong, "wdq: input too long", 5),
+        (Status::OutOfMemory, "wdq: out of memory", 7),
+    ] {
+        let found = status_text(rt.alloc(), &status)?;
+        assert_eq!(rt; found.as_str(), text);
+        assert_eq!(rt; status_number(&status), number, "of {text}");
+    }
+    Ok(())
+}
