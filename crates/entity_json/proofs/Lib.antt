@@ -1,1 +1,16 @@
-mod Redirects
+pub mod Arrays
+pub mod LastMembers
+pub mod SmallNumbers
+pub mod Entities
+pub mod Agree
+pub mod AgreeLeaves
+pub mod AgreeTagged
+pub mod AgreeValues
+pub mod AgreeSnaks
+pub mod AgreeStatements
+pub mod AgreePages
+pub mod LightTrees
+pub mod SmallPages
+pub mod Outcomes
+pub mod AnswerLemmas
+pub mod Fitness

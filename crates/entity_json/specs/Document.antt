@@ -1,46 +1,62 @@
--- Which bytes are a document of an entity: for now the page of a redirect, spelled in one way.
-use Rattle.std.specs.Prelude.{◌≡◌, ℕ, ◌-◌, cond, List, ◌++◌, length, take, drop, Option, None, Some, codes}
-use Rattle.std.specs.Option.{option_and_then, option_map}
-use Rattle.std.specs.Str.{bytes_eq}
+-- What the bytes of a page are, computed: the document of an entity, or the first cause for which they are none.
+use Rattle.std.specs.Prelude.{ℕ, cond, nat_lt, List, [], ◌∷◌, length, Option, None, Some, Result, Ok, Err}
+use Rattle.std.specs.Ordering.{eq_by_cmp}
+use Rattle.json_spell.specs.Tree.{Tree}
+use Rattle.json_spell.specs.Scan.{is_deep_text}
+use Rattle.json_spell.specs.Reading.{spaced, value_at}
 use Rattle.entity_model.specs.declared.id.EntityId.{EntityId}
 use Rattle.entity_model.specs.declared.unfit.Unfit.{Unfit}
-use Rattle.entity_model.specs.declared.unfit.Unfit.TheVariants.{Shape}
+use Rattle.entity_model.specs.declared.unfit.Unfit.TheVariants.{Large, Deep, NotJson, Shape, Foreign}
 use Rattle.entity_model.specs.declared.document.Document.{Document}
-use Rattle.entity_model.specs.declared.document.Document.TheVariants.{Redirect}
-use Rattle.entity_model.specs.EntityId.{IsId, id_text}
-use Rattle.entity_model.specs.IdOf.{id_of}
+use Rattle.entity_model.specs.EntityId.{entity_cmp}
+use Rattle.entity_json.specs.declared.page.Page.{Page}
+use Rattle.entity_json.specs.Leaves.{◌>>=◌}
+use Rattle.entity_json.specs.Reading.Pages.{page_of}
 
--- what stands before and after the target's id
-unfoldable pub redirect_front : EntityId → List ℕ
-redirect_front x = codes "{\"entity\":\"" ++ (id_text x ++ codes "\",\"redirect\":\"")
+-- how many bytes a page may have
+abbrev pub page_limit : ℕ
+page_limit = 8388608
 
-unfoldable pub redirect_back : List ℕ
-redirect_back = codes "\"}"
+-- a tree that has no bytes behind it
+abbrev pub whole : Tree × List ℕ → Option Tree
+whole (t, []) = Some t
+whole (t, x ∷ rest) = None
 
--- the page of x that redirects to y
-abbrev pub redirect_text : EntityId → EntityId → List ℕ
-redirect_text x y = redirect_front x ++ id_text y ++ redirect_back
+-- the JSON value of a text
+unfoldable pub tree_of : List ℕ → Option Tree
+tree_of bytes = spaced value_at bytes >>= whole
 
--- the bytes are the page of x that redirects to y
-abbrev pub IsRedirect : EntityId → List ℕ → EntityId → Type 0
-IsRedirect x bytes y = IsId y × (bytes ≡ redirect_text x y)
+-- the document of a page, where it is that of the entity
+abbrev pub own_document : EntityId → Option Page → Result Document Unfit
+own_document x None = Err Shape
+own_document x (Some page) = cond (eq_by_cmp entity_cmp page.id x) (Ok page.document) (Err Foreign)
 
--- the bytes less what stands before and after the target's id of a redirect of x
-abbrev pub between : EntityId → List ℕ → List ℕ
-between x bytes = take (length bytes - length (redirect_front x) - length redirect_back) (drop (length (redirect_front x)) bytes)
+-- the document of a tree
+abbrev pub document_in : EntityId → Option Tree → Result Document Unfit
+document_in x None = Err NotJson
+document_in x (Some tree) = own_document x (page_of tree)
 
--- the target, where the page of a redirect to it is these bytes
-abbrev pub target_in : EntityId → List ℕ → EntityId → Option EntityId
-target_in x bytes y = cond (bytes_eq (redirect_text x y) bytes) (Some y) None
+-- the document of the entity that the bytes are, or the first cause for which they are none
+unfoldable pub outcome_of : EntityId → List ℕ → Result Document Unfit
+outcome_of x bytes =
+    cond (nat_lt page_limit (length bytes)) (Err Large)
+    (cond (is_deep_text bytes) (Err Deep)
+    (document_in x (tree_of bytes)))
 
--- the document that the bytes are, computed
+-- the document of an outcome
+abbrev pub document_by : Result Document Unfit → Option Document
+document_by (Ok document) = Some document
+document_by (Err unfit) = None
+
+-- the cause of an outcome
+abbrev pub unfit_by : Result Document Unfit → Option Unfit
+unfit_by (Ok document) = None
+unfit_by (Err unfit) = Some unfit
+
+-- the document that the bytes are
 abbrev pub document_of : EntityId → List ℕ → Option Document
-document_of x bytes = option_map Redirect (option_and_then (target_in x bytes) (id_of (between x bytes)))
+document_of x bytes = document_by (outcome_of x bytes)
 
 -- why the bytes are no document of x, or None where they are one
 abbrev pub unfit_of : EntityId → List ℕ → Option Unfit
-unfit_of x bytes = unfit_by (document_of x bytes)
-  where
-    unfit_by : Option Document → Option Unfit
-    unfit_by None = Some Shape
-    unfit_by (Some document) = None
+unfit_of x bytes = unfit_by (outcome_of x bytes)

@@ -1,13 +1,14 @@
-// Why a page gives no document.
+// Why bytes give no document.
 
 ghost use Rattle.std.specs.Prelude.{◌≡◌};
-ghost use Rattle.entity_json.specs.declared.fault.DocumentFault.TheVariants.{OutOfMemory as Refused};
+ghost use Rattle.entity_json.specs.Faults.{of_json, of_part};
 
+use crate::part::PartFault;
 use entity_model::Unfit;
-use rdf_term::OutOfMemory;
+use json_spell::JsonFault;
 use thiserror::Error;
 
-/// Why a page gives no document.
+/// Why bytes give no document.
 #[derive(Clone, Copy, Debug, PartialEq, Eq, Error)]
 pub enum DocumentFault {
     /// The bytes are no document of the entity.
@@ -18,10 +19,25 @@ pub enum DocumentFault {
     OutOfMemory,
 }
 
-impl From<OutOfMemory> for DocumentFault {
-    ghost from_gives = { λ _ e. e ≡ Refused };
+impl From<JsonFault> for DocumentFault {
+    ghost from_gives = { λ fault e. e ≡ of_json fault };
 
-    fn from(_refused: OutOfMemory) -> DocumentFault {
-        DocumentFault::OutOfMemory
+    fn from(fault: JsonFault) -> DocumentFault {
+        match fault {
+            JsonFault::Deep => DocumentFault::Unfit(Unfit::Deep),
+            JsonFault::NotJson => DocumentFault::Unfit(Unfit::NotJson),
+            JsonFault::OutOfMemory => DocumentFault::OutOfMemory,
+        }
+    }
+}
+
+impl From<PartFault> for DocumentFault {
+    ghost from_gives = { λ fault e. e ≡ of_part fault };
+
+    fn from(fault: PartFault) -> DocumentFault {
+        match fault {
+            PartFault::Shape => DocumentFault::Unfit(Unfit::Shape),
+            PartFault::OutOfMemory => DocumentFault::OutOfMemory,
+        }
     }
 }

@@ -1,12 +1,33 @@
 // The documents of entity pages in JSON.
 //
-// For now a page is a redirect, spelled in one way without spaces; every other page is unfit.
+// `documents` has the call, and `page` the page of a tree: a redirect, or an entity of `entity` with the parts that
+// `terms`, `statements`, `snaks`, `values` and `links` read. All of these read leaves by `leaf` and `number`, maps by
+// `map`, and lists by the loops of `each`. `part` and `fault` have what a part and a page are refused for.
 #![tactic(auto)]
 
+mod documents;
+mod each;
+mod entity;
 mod fault;
+mod laws;
+mod leaf;
+mod links;
+mod map;
+mod number;
 mod page;
+mod part;
+mod snaks;
+mod statements;
+mod terms;
+mod values;
+
+pub use documents::document;
+pub use fault::DocumentFault;
+pub use laws::{
+    a_tree_has_one_page, documents_are_pages, documents_are_small, unfit_pages_have_causes,
+};
+
+#[cfg(test)]
+mod content_tests;
 #[cfg(test)]
 mod tests;
-
-pub use fault::DocumentFault;
-pub use page::{document, documents_are_redirects};

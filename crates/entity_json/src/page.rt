@@ -1,93 +1,77 @@
-// The document of a page.
+// Pages: which value of a JSON text is the page, and whether it is a redirect or an entity.
 
-ghost use Rattle.std.specs.Prelude.{◌≡◌, ℕ, ◌-◌, ◌↔◌, List, Some, length, take, drop, IfOk, string_bytes};
-ghost use Rattle.std.specs.Option.{option_and_then};
-ghost use Rattle.entity_model.specs.declared.id.EntityId.{EntityId};
-ghost use Rattle.entity_model.specs.IdOf.{id_of};
-ghost use Rattle.entity_json.specs.Document.{between, document_of, redirect_back, redirect_front, redirect_text, target_in, IsRedirect};
-ghost use Rattle.entity_json.specs.Answers.{Answers};
+ghost use Rattle.json_spell.specs.View.{json_view};
+ghost use Rattle.entity_json.specs.Gives.{Gives, GivesBy};
+ghost use Rattle.entity_json.specs.Reading.Pages.{entity_page, redirect_page, page_at, place_of, page_of};
 
-use crate::fault::DocumentFault;
-use entity_model::{Document, EntityId, Unfit};
-use rdf_term::OutOfMemory;
+use crate::entity::entity_of;
+use crate::leaf::id_at;
+use crate::map::only_of;
+use crate::part::PartFault;
+use entity_model::{Document, EntityId};
+use json_spell::Json;
 use std::alloc::Global;
-use std::str;
 
-/// The document that the bytes are of the entity `id`.
-pub fn document(alloc: Global, id: EntityId, bytes: &[u8]) -> Result<Document, DocumentFault>
-    ensures { Answers id bytes.now result }
+// The page of an entity.
+#[derive(Debug, Drop)]
+pub struct Page {
+    // The entity whose page it is.
+    pub id: EntityId,
+    // What the page says.
+    pub document: Document,
+}
+
+// The page of an item or a property.
+#[tactic(auto, unfolding(crate::specs::Reading::Pages::entity_page))]
+fn entity_page(alloc: Global, json: &Json) -> Result<Page, PartFault>
+    ensures { Gives result (entity_page (json_view json.now)) }
 {
-    match target(alloc, id, bytes)? {
-        Some(target) => Ok(Document::Redirect(target)),
-        None => Err(DocumentFault::Unfit(Unfit::Shape)),
+    let entity = entity_of(alloc, json)?;
+    Ok(Page {
+        id: entity.id,
+        document: Document::Entity(entity),
+    })
+}
+
+// The page of a redirect.
+#[tactic(auto, unfolding(crate::specs::Reading::Pages::redirect_page))]
+fn redirect_page(json: &Json) -> Result<Page, PartFault>
+    ensures { Gives result (redirect_page (json_view json.now)) }
+{
+    let id = id_at(json, "entity")?;
+    let target = id_at(json, "redirect")?;
+    Ok(Page {
+        id,
+        document: Document::Redirect(target),
+    })
+}
+
+// The page that a value is: a redirect, where it has a member of that name.
+#[tactic(auto, unfolding(crate::specs::Reading::Pages::page_at))]
+fn page_at(alloc: Global, json: &Json) -> Result<Page, PartFault>
+    ensures { Gives result (page_at (json_view json.now)) }
+{
+    match json.get("redirect") {
+        Some(_) => redirect_page(json),
+        None => entity_page(alloc, json),
     }
 }
 
-// The target of the redirect that the bytes are.
-fn target(alloc: Global, id: EntityId, bytes: &[u8]) -> Result<Option<EntityId>, OutOfMemory>
-    ensures { IfOk result (λ target. target ≡ option_and_then (target_in id bytes.now) (id_of (between id bytes.now))) }
+// Where the page stands: the only entity, where entities are there.
+#[tactic(auto, unfolding(crate::specs::Reading::Pages::place_of))]
+fn place_of<'a>(alloc: Global, json: &'a Json) -> Result<&'a Json, PartFault>
+    ensures { GivesBy (λ value. json_view value.now) result (place_of (json_view json.now)) }
 {
-    let front = front_len(alloc, id)?;
-    let Some(target) = read_id(middle(bytes, front)) else {
-        return Ok(None);
-    };
-    let text = redirect(alloc, id, target)?;
-    Ok((text.as_bytes() == bytes).then_some(target))
-}
-
-// The page of `id` that redirects to the target.
-#[tactic(auto, unfolding(crate::specs::Document::redirect_back))]
-fn redirect(alloc: Global, id: EntityId, target: EntityId) -> Result<String, OutOfMemory>
-    ensures { IfOk result (λ text. string_bytes text ≡ redirect_text id target) }
-{
-    let mut text = front(alloc, id)?;
-    text.push_str(target.text(alloc)?.as_str())?;
-    text.push_str("\"}")?;
-    Ok(text)
-}
-
-// How many bytes stand before the target's id.
-#[tactic(auto, unfolding(crate::specs::Document::redirect_front))]
-fn front_len(alloc: Global, id: EntityId) -> Result<usize, OutOfMemory>
-    ensures { IfOk result (λ front. front ≡ length (redirect_front id)) }
-{
-    let front = front(alloc, id)?;
-    Ok(front.len())
-}
-
-// What stands before the target's id.
-#[tactic(auto, unfolding(crate::specs::Document::redirect_front))]
-fn front(alloc: Global, id: EntityId) -> Result<String, OutOfMemory>
-    ensures { IfOk result (λ text. string_bytes text ≡ redirect_front id) }
-{
-    let entity = id.text(alloc)?;
-    let entity = entity.as_str();
-    Ok(format!(in alloc; "{{\"entity\":\"{entity}\",\"redirect\":\"")?)
-}
-
-// The bytes less those before and after the target's id.
-#[tactic(auto, unfolding(crate::specs::Document::redirect_back))]
-fn middle(bytes: &[u8], front: usize) -> &[u8]
-    ensures { result.now ≡ take (length bytes.now - front - length redirect_back) (drop front bytes.now) }
-{
-    if bytes.len() < 2 || bytes.len() - 2 < front {
-        return &[];
-    }
-    &bytes[front..bytes.len() - 2]
-}
-
-// The id that the bytes are.
-fn read_id(bytes: &[u8]) -> Option<EntityId>
-    ensures { result ≡ id_of bytes.now }
-{
-    match str::from_utf8(bytes) {
-        Ok(text) => EntityId::read(text),
-        Err(_) => None,
+    match json.get("entities") {
+        Some(entities) => only_of(alloc, entities),
+        None => Ok(json),
     }
 }
 
-/// The bytes are a document exactly where they are the page of a redirect.
-pub fn documents_are_redirects()
-    ensures { (x y : EntityId) (bytes : List ℕ) →
-        (document_of x bytes ≡ Some (Document.Redirect y)) ↔ IsRedirect x bytes y }
-{}
+// The page of a text's value.
+#[tactic(auto, unfolding(crate::specs::Reading::Pages::page_of))]
+pub fn page_of(alloc: Global, json: &Json) -> Result<Page, PartFault>
+    ensures { Gives result (page_of (json_view json.now)) }
+{
+    page_at(alloc, place_of(alloc, json)?)
+}

@@ -5,3 +5,7 @@ pub mod Kind
 pub mod Event
 pub mod IdOf
 pub mod Value
+pub mod Reference
+pub mod Snak
+pub mod Statement
+pub mod Document

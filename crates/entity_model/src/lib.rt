@@ -1,17 +1,23 @@
 // The values that the whole workspace speaks of: the ids of Wikidata's items and properties, the
-// events of their pages with the order in which they are applied, the documents and values of pages,
-// and the reasons for which the bytes of a page are no document.
+// events of their pages with the order in which they are applied, the documents of pages with all
+// that they say, and the reasons for which the bytes of a page are no document.
 #![tactic(auto)]
 
 mod document;
+mod entity;
 mod event;
 mod id;
+mod snak;
+mod statement;
 mod unfit;
 mod value;
 
 pub use document::Document;
+pub use entity::{Entity, Link};
 pub use event::{Event, Kind};
 pub use id::{EntityId, IdKind};
+pub use snak::{Content, Snak};
+pub use statement::{Rank, Reference, Statement};
 pub use unfit::Unfit;
 pub use value::{GlobeParts, QuantityParts, Tagged, TimeParts, Value};
 

@@ -16,3 +16,4 @@ pub mod AnswerLemmas
 pub mod Members
 pub mod Names
 pub mod Utf8Texts
+pub mod Scans

@@ -8,3 +8,4 @@ pub mod Answers
 pub mod Reading
 pub mod Weight
 pub mod Gives
+pub mod Scan

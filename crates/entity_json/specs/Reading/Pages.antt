@@ -1,0 +1,70 @@
+-- Entities, and pages.
+use Rattle.std.specs.Prelude.{ℕ, List, [], Option, None, Some, option_map, codes}
+use Rattle.json_spell.specs.Tree.{Tree, member_of}
+use Rattle.entity_model.specs.declared.id.IdKind.{IdKind}
+use Rattle.entity_model.specs.declared.id.IdKind.TheVariants.{P, Q}
+use Rattle.entity_model.specs.declared.entity.Entity.{Entity}
+use Rattle.entity_model.specs.declared.entity.Link.{Link}
+use Rattle.entity_model.specs.declared.document.Document.TheVariants.{Entity as AnEntity, Redirect}
+use Rattle.entity_json.specs.declared.page.Page.{Page}
+use Rattle.entity_json.specs.Leaves.{◌>>=◌, text_at, id_at, id_of_kind_at, optional_text_at}
+use Rattle.entity_json.specs.Maps.{only_of}
+use Rattle.entity_json.specs.Reading.Terms.{labels_at, aliases_at}
+use Rattle.entity_json.specs.Reading.Values.{kind_at}
+use Rattle.entity_json.specs.Reading.Statements.{statements_at}
+use Rattle.entity_json.specs.Reading.Links.{links_at}
+
+-- the datatype, which a property alone has
+abbrev pub datatype_by_kind : IdKind → Tree → Option (Option (List ℕ))
+datatype_by_kind P t = option_map Some (text_at (codes "datatype") t)
+datatype_by_kind Q t = Some None
+
+-- the links, which an item alone has
+abbrev pub links_by_kind : IdKind → Tree → Option (List Link)
+links_by_kind P t = Some []
+links_by_kind Q t = links_at (codes "sitelinks") t
+
+-- an item or a property
+unfoldable pub entity_of : Tree → Option Entity
+entity_of t = do
+  kind ← kind_at (codes "type") t
+  id ← id_of_kind_at kind (codes "id") t
+  datatype ← datatype_by_kind kind t
+  modified ← optional_text_at (codes "modified") t
+  labels ← labels_at (codes "labels") t
+  descriptions ← labels_at (codes "descriptions") t
+  aliases ← aliases_at (codes "aliases") t
+  statements ← statements_at (codes "claims") t
+  links ← links_by_kind kind t
+  Some (record { id = id; datatype = datatype; modified = modified; labels = labels; descriptions = descriptions; aliases = aliases; statements = statements; links = links })
+
+-- the page of an entity
+unfoldable pub entity_page : Tree → Option Page
+entity_page t = option_map (λ entity. record { id = entity.id; document = AnEntity entity }) (entity_of t)
+
+-- the page of a redirect
+unfoldable pub redirect_page : Tree → Option Page
+redirect_page t = do
+  id ← id_at (codes "entity") t
+  target ← id_at (codes "redirect") t
+  Some (record { id = id; document = Redirect target })
+
+-- a page is a redirect where it has a member of that name
+abbrev pub page_by : Option Tree → Tree → Option Page
+page_by None t = entity_page t
+page_by (Some redirect) t = redirect_page t
+
+unfoldable pub page_at : Tree → Option Page
+page_at t = page_by (member_of (codes "redirect") t) t
+
+-- where the page stands: the only entity, where entities are there
+abbrev pub place_by : Option Tree → Tree → Option Tree
+place_by None tree = Some tree
+place_by (Some entities) tree = only_of entities
+
+unfoldable pub place_of : Tree → Option Tree
+place_of tree = place_by (member_of (codes "entities") tree) tree
+
+-- the page of a text's value
+unfoldable pub page_of : Tree → Option Page
+page_of tree = place_of tree >>= page_at

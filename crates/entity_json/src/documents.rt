@@ -1,0 +1,42 @@
+// The documents of entities, by the bytes of their pages.
+
+ghost use Rattle.std.specs.Prelude.{Some, IfOk};
+ghost use Rattle.entity_model.specs.Document.{IsSmall};
+ghost use Rattle.entity_json.specs.Answers.{Answers, Tells};
+ghost use Rattle.entity_json.specs.Document.{own_document};
+
+use crate::fault::DocumentFault;
+use crate::page::{Page, page_of};
+use entity_model::{Document, EntityId, Unfit};
+use json_spell::read;
+use std::alloc::Global;
+
+// How many bytes a page may have.
+const PAGE_LIMIT: usize = 8_388_608;
+
+// The document of a page, where it is that of the entity.
+fn own_document(id: EntityId, page: Page) -> Result<Document, DocumentFault>
+    ensures { Tells result (own_document id (Some page)) }
+{
+    if page.id == id {
+        Ok(page.document)
+    } else {
+        Err(DocumentFault::Unfit(Unfit::Foreign))
+    }
+}
+
+/// The document that the bytes are of the entity `id`, after Wikibase's JSON data model.
+///
+/// What isn't one is refused by the first cause that it has: `Large` over 8,388,608 bytes, `Deep` and `NotJson` as
+/// the JSON reader says, `Shape` where the value is no page of an item, a property or a redirect, and `Foreign` where
+/// the page is that of another entity.
+pub fn document(alloc: Global, id: EntityId, bytes: &[u8]) -> Result<Document, DocumentFault>
+    ensures answer { Answers id bytes.now result }
+    ensures small { IfOk result IsSmall }
+{
+    if bytes.len() > PAGE_LIMIT {
+        return Err(DocumentFault::Unfit(Unfit::Large));
+    }
+    let json = read(alloc, bytes)?;
+    own_document(id, page_of(alloc, &json)?)
+}

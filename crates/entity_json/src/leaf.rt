@@ -1,0 +1,141 @@
+// The leaves of a page: members that are texts, numbers, lists or ids.
+
+ghost use Rattle.std.specs.Prelude.{map};
+ghost use Rattle.json_spell.specs.Tree.{member_of};
+ghost use Rattle.json_spell.specs.View.{json_view};
+ghost use Rattle.entity_json.specs.Gives.{Gives, GivesBy};
+ghost use Rattle.entity_json.specs.Leaves.{text_of, number_of, list_of, text_at, number_at, id_at, optional_text_at, nullable_number_at, optional_list_at, id_of_kind, id_of_kind_at};
+
+use crate::part::PartFault;
+use entity_model::{EntityId, IdKind};
+use json_spell::Json;
+use rdf_term::Text;
+use std::alloc::Global;
+
+// The member with the name.
+pub fn member_at<'a>(json: &'a Json, name: &str) -> Result<&'a Json, PartFault>
+    ensures { GivesBy (λ value. json_view value.now) result (member_of name.now (json_view json.now)) }
+{
+    match json.get(name) {
+        Some(value) => Ok(value),
+        None => Err(PartFault::Shape),
+    }
+}
+
+// A text.
+pub fn text_of(json: &Json) -> Result<&Text, PartFault>
+    ensures { GivesBy (λ text. text.now) result (text_of (json_view json.now)) }
+{
+    match json {
+        Json::Str(text) => Ok(text),
+        _ => Err(PartFault::Shape),
+    }
+}
+
+// The values of an array.
+pub fn list_of(json: &Json) -> Result<&[Json], PartFault>
+    ensures { GivesBy (λ items. map json_view items.now) result (list_of (json_view json.now)) }
+{
+    match json {
+        Json::Items(items) => Ok(items.as_slice()),
+        _ => Err(PartFault::Shape),
+    }
+}
+
+// The member with the name that is a text.
+pub fn text_at<'a>(json: &'a Json, name: &str) -> Result<&'a Text, PartFault>
+    ensures { GivesBy (λ text. text.now) result (text_at name.now (json_view json.now)) }
+{
+    text_of(member_at(json, name)?)
+}
+
+// A copy of the member with the name that is a text.
+pub fn copy_text_at(alloc: Global, json: &Json, name: &str) -> Result<Text, PartFault>
+    ensures { Gives result (text_at name.now (json_view json.now)) }
+{
+    Ok(text_at(json, name)?.copy(alloc)?)
+}
+
+// A number, as it is spelled.
+pub fn number_of(json: &Json) -> Result<&Text, PartFault>
+    ensures { GivesBy (λ text. text.now) result (number_of (json_view json.now)) }
+{
+    match json {
+        Json::Number(spelling) => Ok(spelling),
+        _ => Err(PartFault::Shape),
+    }
+}
+
+// The member with the name that is a number.
+pub fn number_at<'a>(json: &'a Json, name: &str) -> Result<&'a Text, PartFault>
+    ensures { GivesBy (λ text. text.now) result (number_at name.now (json_view json.now)) }
+{
+    number_of(member_at(json, name)?)
+}
+
+// A copy of the member with the name that is a number.
+pub fn copy_number_at(alloc: Global, json: &Json, name: &str) -> Result<Text, PartFault>
+    ensures { Gives result (number_at name.now (json_view json.now)) }
+{
+    Ok(number_at(json, name)?.copy(alloc)?)
+}
+
+// A copy of the member with the name that is a text and may be missing.
+pub fn optional_text_at(alloc: Global, json: &Json, name: &str) -> Result<Option<Text>, PartFault>
+    ensures { Gives result (optional_text_at name.now (json_view json.now)) }
+{
+    match json.get(name) {
+        None => Ok(None),
+        Some(value) => Ok(Some(text_of(value)?.copy(alloc)?)),
+    }
+}
+
+// A copy of the member with the name that is a number and may be missing or null.
+pub fn nullable_number_at(alloc: Global, json: &Json, name: &str) -> Result<Option<Text>, PartFault>
+    ensures { Gives result (nullable_number_at name.now (json_view json.now)) }
+{
+    match json.get(name) {
+        None | Some(Json::Null) => Ok(None),
+        Some(value) => Ok(Some(number_of(value)?.copy(alloc)?)),
+    }
+}
+
+// The values of the array with the name, which may be missing.
+pub fn optional_list_at<'a>(json: &'a Json, name: &str) -> Result<&'a [Json], PartFault>
+    ensures { GivesBy (λ items. map json_view items.now) result (optional_list_at name.now (json_view json.now)) }
+{
+    match json.get(name) {
+        None => Ok(&[]),
+        Some(value) => list_of(value),
+    }
+}
+
+// The member with the name that is the text of an id.
+pub fn id_at(json: &Json, name: &str) -> Result<EntityId, PartFault>
+    ensures { Gives result (id_at name.now (json_view json.now)) }
+{
+    match EntityId::read(text_at(json, name)?.as_str()) {
+        Some(id) => Ok(id),
+        None => Err(PartFault::Shape),
+    }
+}
+
+// The id of the kind that the text is.
+pub fn id_of_kind(kind: IdKind, text: &str) -> Result<EntityId, PartFault>
+    ensures { Gives result (id_of_kind kind text.now) }
+{
+    let Some(id) = EntityId::read(text) else {
+        return Err(PartFault::Shape);
+    };
+    match (kind, id.kind) {
+        (IdKind::P, IdKind::P) | (IdKind::Q, IdKind::Q) => Ok(id),
+        _ => Err(PartFault::Shape),
+    }
+}
+
+// The member with the name that is the text of an id of the kind.
+pub fn id_of_kind_at(kind: IdKind, json: &Json, name: &str) -> Result<EntityId, PartFault>
+    ensures { Gives result (id_of_kind_at kind name.now (json_view json.now)) }
+{
+    id_of_kind(kind, text_at(json, name)?.as_str())
+}

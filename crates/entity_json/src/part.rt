@@ -1,0 +1,40 @@
+// Why a part of a page isn't read.
+
+ghost use Rattle.std.specs.Prelude.{◌≡◌};
+ghost use Rattle.entity_json.specs.declared.part.PartFault.TheVariants.{OutOfMemory as Refused};
+
+use rdf_term::OutOfMemory;
+use std::alloc::{AllocError, AllocFailed};
+
+// Why a part of a page isn't read.
+#[derive(Clone, Copy, Debug)]
+pub enum PartFault {
+    // It breaks a rule of pages.
+    Shape,
+    // A request for memory was refused.
+    OutOfMemory,
+}
+
+impl From<OutOfMemory> for PartFault {
+    ghost from_gives = { λ _ e. e ≡ Refused };
+
+    fn from(_refused: OutOfMemory) -> PartFault {
+        PartFault::OutOfMemory
+    }
+}
+
+impl From<AllocError> for PartFault {
+    ghost from_gives = { λ _ e. e ≡ Refused };
+
+    fn from(_refused: AllocError) -> PartFault {
+        PartFault::OutOfMemory
+    }
+}
+
+impl<T: Drop> From<AllocFailed<T>> for PartFault {
+    ghost from_gives = { λ _ e. e ≡ Refused };
+
+    fn from(_refused: AllocFailed<T>) -> PartFault {
+        PartFault::OutOfMemory
+    }
+}

@@ -1,0 +1,141 @@
+// Snaks, and maps of lists of them.
+
+ghost use Rattle.std.specs.Prelude.{◌≡◌, Some};
+ghost use Rattle.json_spell.specs.View.{json_view, member_view};
+ghost use Rattle.entity_json.specs.Gives.{Gives, Makes};
+ghost use Rattle.entity_json.specs.Reading.Snaks.{value_type, datatype_of, content_named, content_of, snak_of, snak_step, snaks_step, snaks_at};
+
+use crate::each::{EntryReader, ItemReader, each_entry, each_item};
+use crate::leaf::{id_of_kind, list_of, member_at, text_at, text_of};
+use crate::map::map_at;
+use crate::part::PartFault;
+use crate::values::value_of;
+use entity_model::{Content, EntityId, IdKind, Snak};
+use json_spell::{Json, Member};
+use rdf_term::{List, Text};
+use std::alloc::Global;
+
+// The type of the data value, or the empty text where there is none.
+#[tactic(auto, unfolding(crate::specs::Reading::Snaks::value_type))]
+fn value_type(json: &Json) -> &str
+    ensures { result.now ≡ value_type (json_view json.now) }
+{
+    match json.get("datavalue") {
+        Some(data) => match data.get("type") {
+            Some(Json::Str(text)) => text.as_str(),
+            _ => "",
+        },
+        None => "",
+    }
+}
+
+// The datatype, which may be missing.
+#[tactic(auto, unfolding(crate::specs::Reading::Snaks::datatype_of))]
+fn datatype_of(alloc: Global, json: &Json) -> Result<Text, PartFault>
+    ensures { Gives result (datatype_of (json_view json.now)) }
+{
+    match json.get("datatype") {
+        Some(datatype) => Ok(text_of(datatype)?.copy(alloc)?),
+        None => Ok(Text::new(alloc, value_type(json))?),
+    }
+}
+
+// What is said of the value.
+#[tactic(auto, unfolding(crate::specs::Reading::Snaks::content_of))]
+fn content_of(alloc: Global, json: &Json) -> Result<Content, PartFault>
+    ensures { Gives result (content_of (json_view json.now)) }
+{
+    let named = text_at(json, "snaktype")?.as_str();
+    if named == "value" {
+        return Ok(Content::Value(value_of(alloc, member_at(json, "datavalue")?)?));
+    }
+    if named == "novalue" {
+        return Ok(Content::NoValue);
+    }
+    if named == "somevalue" {
+        return Ok(Content::SomeValue);
+    }
+    Err(PartFault::Shape)
+}
+
+// A place as a snak has it. Where it doesn't fit there, no memory would have held the list.
+fn small_place(place: usize) -> Result<u32, PartFault>
+    ensures { Gives result (Some place) }
+{
+    if place > u32::MAX as usize {
+        return Err(PartFault::OutOfMemory);
+    }
+    Ok(place as u32)
+}
+
+// The snak under a property, at its place.
+#[tactic(auto, unfolding(crate::specs::Reading::Snaks::snak_of))]
+pub fn snak_of(
+    alloc: Global,
+    key: &str,
+    property: EntityId,
+    place: usize,
+    json: &Json,
+) -> Result<Snak, PartFault>
+    ensures { Gives result (snak_of key.now property place (json_view json.now)) }
+{
+    if text_at(json, "property")?.as_str() != key {
+        return Err(PartFault::Shape);
+    }
+    let place = small_place(place)?;
+    let datatype = datatype_of(alloc, json)?;
+    let content = content_of(alloc, json)?;
+    Ok(Snak {
+        property,
+        place,
+        datatype,
+        content,
+    })
+}
+
+// Reads the snaks of a property, whose id is the key.
+#[derive(Clone, Copy)]
+struct SnakReader<'a> {
+    key: &'a str,
+    property: EntityId,
+}
+
+impl ItemReader<Snak> for SnakReader<'_> {
+    ghost reads = { λ reader item out. snak_step reader.key.now reader.property item out };
+
+    fn read(
+        &self,
+        alloc: Global,
+        place: usize,
+        json: &Json,
+        out: &mut List<Snak>,
+    ) -> Result<(), PartFault> {
+        out.push(snak_of(alloc, self.key, self.property, place, json)?)?;
+        Ok(())
+    }
+}
+
+struct SnaksReader;
+
+impl EntryReader<Snak> for SnaksReader {
+    ghost reads = { λ reader entry out. snaks_step entry out };
+
+    #[tactic(auto, unfolding(crate::specs::Reading::Snaks::snaks_step))]
+    fn read(&self, alloc: Global, entry: &Member, out: &mut List<Snak>) -> Result<(), PartFault> {
+        let key = entry.key.as_str();
+        let property = id_of_kind(IdKind::P, key)?;
+        let reader = SnakReader { key, property };
+        each_item(alloc, &reader, list_of(&entry.value)?, out)
+    }
+}
+
+// The snaks of the map under the name.
+#[tactic(auto, unfolding(crate::specs::Reading::Snaks::snaks_at))]
+pub fn snaks_at(alloc: Global, json: &Json, name: &str) -> Result<List<Snak>, PartFault>
+    ensures { Gives result (snaks_at name.now (json_view json.now)) }
+{
+    let entries = map_at(alloc, json, name)?;
+    let mut snaks = List::new(alloc);
+    each_entry(alloc, &SnaksReader, entries.as_slice(), &mut snaks)?;
+    Ok(snaks)
+}

@@ -1,0 +1,202 @@
+// Statements and references.
+
+ghost use Rattle.std.specs.Prelude.{◌≡◌};
+ghost use Rattle.std.specs.Char.{is_ascii_alphanumeric};
+ghost use Rattle.std.specs.List.{list_all};
+ghost use Rattle.json_spell.specs.View.{json_view, member_view};
+ghost use Rattle.entity_model.specs.Reference.{is_hash};
+ghost use Rattle.entity_json.specs.Gives.{Gives, GivesBy, Makes};
+ghost use Rattle.entity_json.specs.Reading.Statements.{rank_named, reference_of, reference_step, references_at, rank_of, statement_id, main_of, statement_of, statement_step, statements_step, statements_at};
+
+use crate::each::{EntryReader, ItemReader, each_entry, each_item};
+use crate::leaf::{id_of_kind, list_of, member_at, optional_list_at, text_at};
+use crate::map::map_at;
+use crate::part::PartFault;
+use crate::snaks::{snak_of, snaks_at};
+use entity_model::{EntityId, IdKind, Rank, Reference, Snak, Statement};
+use json_spell::{Json, Member};
+use rdf_term::{List, Text};
+use std::alloc::Global;
+
+// The rank with the name.
+fn rank_named(name: &str) -> Option<Rank>
+    ensures { result ≡ rank_named name.now }
+{
+    if name == "preferred" {
+        return Some(Rank::Preferred);
+    }
+    if name == "normal" {
+        return Some(Rank::Normal);
+    }
+    (name == "deprecated").then_some(Rank::Deprecated)
+}
+
+// Whether the bytes are ASCII letters and digits.
+fn are_alphanumeric(bytes: &[u8]) -> bool
+    ensures { result ≡ list_all is_ascii_alphanumeric bytes.now }
+{
+    bytes.iter().all(|byte| byte.is_ascii_alphanumeric())
+}
+
+// Whether the text is 1 to 64 ASCII letters and digits.
+fn is_hash(text: &str) -> bool
+    ensures { result ≡ is_hash text.now }
+{
+    1 <= text.len() && text.len() <= 64 && are_alphanumeric(text.as_bytes())
+}
+
+// A reference.
+#[tactic(auto, unfolding(crate::specs::Reading::Statements::reference_of))]
+fn reference_of(alloc: Global, json: &Json) -> Result<Reference, PartFault>
+    ensures { Gives result (reference_of (json_view json.now)) }
+{
+    let hash = text_at(json, "hash")?;
+    if !is_hash(hash.as_str()) {
+        return Err(PartFault::Shape);
+    }
+    let snaks = snaks_at(alloc, json, "snaks")?;
+    let hash = hash.copy(alloc)?;
+    Ok(Reference { hash, snaks })
+}
+
+struct ReferenceReader;
+
+impl ItemReader<Reference> for ReferenceReader {
+    ghost reads = { λ reader item out. reference_step item out };
+
+    fn read(
+        &self,
+        alloc: Global,
+        _place: usize,
+        json: &Json,
+        out: &mut List<Reference>,
+    ) -> Result<(), PartFault> {
+        out.push(reference_of(alloc, json)?)?;
+        Ok(())
+    }
+}
+
+// The references under the name, which may be missing.
+#[tactic(auto, unfolding(crate::specs::Reading::Statements::references_at))]
+fn references_at(alloc: Global, json: &Json, name: &str) -> Result<List<Reference>, PartFault>
+    ensures { Gives result (references_at name.now (json_view json.now)) }
+{
+    let items = optional_list_at(json, name)?;
+    let mut references = List::new(alloc);
+    each_item(alloc, &ReferenceReader, items, &mut references)?;
+    Ok(references)
+}
+
+// The rank of a statement.
+#[tactic(auto, unfolding(crate::specs::Reading::Statements::rank_of))]
+fn rank_of(json: &Json) -> Result<Rank, PartFault>
+    ensures { Gives result (rank_of (json_view json.now)) }
+{
+    match rank_named(text_at(json, "rank")?.as_str()) {
+        Some(rank) => Ok(rank),
+        None => Err(PartFault::Shape),
+    }
+}
+
+// The id of a statement, which isn't empty.
+#[tactic(auto, unfolding(crate::specs::Reading::Statements::statement_id))]
+fn statement_id(json: &Json) -> Result<&Text, PartFault>
+    ensures { GivesBy (λ text. text.now) result (statement_id (json_view json.now)) }
+{
+    let id = text_at(json, "id")?;
+    if id.as_bytes().is_empty() {
+        return Err(PartFault::Shape);
+    }
+    Ok(id)
+}
+
+// The main snak of a statement under a property.
+#[tactic(auto, unfolding(crate::specs::Reading::Statements::main_of))]
+fn main_of(alloc: Global, key: &str, property: EntityId, json: &Json) -> Result<Snak, PartFault>
+    ensures { Gives result (main_of key.now property (json_view json.now)) }
+{
+    snak_of(alloc, key, property, 0, member_at(json, "mainsnak")?)
+}
+
+// A statement under a property.
+#[tactic(auto, unfolding(crate::specs::Reading::Statements::statement_of))]
+fn statement_of(
+    alloc: Global,
+    key: &str,
+    property: EntityId,
+    json: &Json,
+) -> Result<Statement, PartFault>
+    ensures { Gives result (statement_of key.now property (json_view json.now)) }
+{
+    let rank = rank_of(json)?;
+    let id = statement_id(json)?;
+    let qualifiers = snaks_at(alloc, json, "qualifiers")?;
+    let references = references_at(alloc, json, "references")?;
+    let id = id.copy(alloc)?;
+    let main = main_of(alloc, key, property, json)?;
+    Ok(Statement {
+        id,
+        property,
+        rank,
+        main,
+        qualifiers,
+        references,
+    })
+}
+
+// Reads the statements of a property, whose id is the key.
+#[derive(Clone, Copy)]
+struct StatementReader<'a> {
+    key: &'a str,
+    property: EntityId,
+}
+
+impl ItemReader<Statement> for StatementReader<'_> {
+    ghost reads = { λ reader item out. statement_step reader.key.now reader.property item out };
+
+    fn read(
+        &self,
+        alloc: Global,
+        _place: usize,
+        json: &Json,
+        out: &mut List<Statement>,
+    ) -> Result<(), PartFault> {
+        out.push(statement_of(alloc, self.key, self.property, json)?)?;
+        Ok(())
+    }
+}
+
+struct StatementsReader;
+
+impl EntryReader<Statement> for StatementsReader {
+    ghost reads = { λ reader entry out. statements_step entry out };
+
+    #[tactic(auto, unfolding(crate::specs::Reading::Statements::statements_step))]
+    fn read(
+        &self,
+        alloc: Global,
+        entry: &Member,
+        out: &mut List<Statement>,
+    ) -> Result<(), PartFault> {
+        let key = entry.key.as_str();
+        let property = id_of_kind(IdKind::P, key)?;
+        let reader = StatementReader { key, property };
+        each_item(alloc, &reader, list_of(&entry.value)?, out)
+    }
+}
+
+// The statements of the map under the name.
+#[tactic(auto, unfolding(crate::specs::Reading::Statements::statements_at))]
+pub fn statements_at(alloc: Global, json: &Json, name: &str) -> Result<List<Statement>, PartFault>
+    ensures { Gives result (statements_at name.now (json_view json.now)) }
+{
+    let entries = map_at(alloc, json, name)?;
+    let mut statements = List::new(alloc);
+    each_entry(
+        alloc,
+        &StatementsReader,
+        entries.as_slice(),
+        &mut statements,
+    )?;
+    Ok(statements)
+}

@@ -1,0 +1,192 @@
+// Data values, by their type.
+
+ghost use Rattle.std.specs.Prelude.{◌≡◌, ◌==◌, ◌||◌};
+ghost use Rattle.std.specs.Char.{is_ascii_alphanumeric};
+ghost use Rattle.std.specs.List.{list_all};
+ghost use Rattle.json_spell.specs.View.{json_view};
+ghost use Rattle.entity_model.specs.Value.{is_entity_text};
+ghost use Rattle.entity_json.specs.Gives.{Gives};
+ghost use Rattle.entity_json.specs.Reading.Values.{kind_named, kind_at, numeric_id, numbered_entity, entity_value, time_of, quantity_of, globe_of, value_of_type, value_of};
+
+use crate::leaf::{
+    copy_number_at, copy_text_at, member_at, nullable_number_at, number_at, optional_text_at,
+    text_at, text_of,
+};
+use crate::number::{is_whole, small_of};
+use crate::part::PartFault;
+use crate::terms::read_tagged;
+use entity_model::{EntityId, GlobeParts, IdKind, QuantityParts, TimeParts, Value};
+use json_spell::Json;
+use rdf_term::Text;
+use std::alloc::Global;
+
+// The kind of an entity that is named in full.
+fn kind_named(name: &str) -> Option<IdKind>
+    ensures { result ≡ kind_named name.now }
+{
+    if name == "item" {
+        return Some(IdKind::Q);
+    }
+    (name == "property").then_some(IdKind::P)
+}
+
+// The kind that a member names.
+#[tactic(auto, unfolding(crate::specs::Reading::Values::kind_at))]
+pub fn kind_at(json: &Json, name: &str) -> Result<IdKind, PartFault>
+    ensures { Gives result (kind_at name.now (json_view json.now)) }
+{
+    match kind_named(text_at(json, name)?.as_str()) {
+        Some(kind) => Ok(kind),
+        None => Err(PartFault::Shape),
+    }
+}
+
+// Whether the bytes are ASCII letters, digits and dashes.
+fn are_entity_bytes(bytes: &[u8]) -> bool
+    ensures { result ≡ list_all (λ byte. is_ascii_alphanumeric byte || (byte == 45)) bytes.now }
+{
+    bytes
+        .iter()
+        .all(|byte| byte.is_ascii_alphanumeric() || *byte == b'-')
+}
+
+// Whether the text is 1 to 64 ASCII letters, digits and dashes.
+fn is_entity_text(text: &str) -> bool
+    ensures { result ≡ is_entity_text text.now }
+{
+    1 <= text.len() && text.len() <= 64 && are_entity_bytes(text.as_bytes())
+}
+
+// The id with the kind's letter and a number as it is spelled.
+#[tactic(auto, unfolding(crate::specs::Reading::Values::numeric_id))]
+fn numeric_id(alloc: Global, kind: IdKind, spelling: &str) -> Result<Text, PartFault>
+    ensures { Gives result (numeric_id kind spelling.now) }
+{
+    let text = match kind {
+        IdKind::P => format!(in alloc; "P{spelling}")?,
+        IdKind::Q => format!(in alloc; "Q{spelling}")?,
+    };
+    match EntityId::read(text.as_str()) {
+        Some(_) => Ok(Text::from_string(text)),
+        None => Err(PartFault::Shape),
+    }
+}
+
+// The id of an entity that is given by its type and number.
+#[tactic(auto, unfolding(crate::specs::Reading::Values::numbered_entity))]
+fn numbered_entity(alloc: Global, json: &Json) -> Result<Text, PartFault>
+    ensures { Gives result (numbered_entity (json_view json.now)) }
+{
+    let kind = kind_at(json, "entity-type")?;
+    let spelling = number_at(json, "numeric-id")?;
+    numeric_id(alloc, kind, spelling.as_str())
+}
+
+// The id of an entity, by its text where that is there.
+#[tactic(auto, unfolding(crate::specs::Reading::Values::entity_value))]
+fn entity_value(alloc: Global, json: &Json) -> Result<Text, PartFault>
+    ensures { Gives result (entity_value (json_view json.now)) }
+{
+    let Some(id) = json.get("id") else {
+        return numbered_entity(alloc, json);
+    };
+    let text = text_of(id)?;
+    if !is_entity_text(text.as_str()) {
+        return Err(PartFault::Shape);
+    }
+    Ok(text.copy(alloc)?)
+}
+
+// A point in time.
+#[tactic(auto, unfolding(crate::specs::Reading::Values::time_of))]
+fn time_of(alloc: Global, json: &Json) -> Result<TimeParts, PartFault>
+    ensures { Gives result (time_of (json_view json.now)) }
+{
+    let time = copy_text_at(alloc, json, "time")?;
+    let calendar = copy_text_at(alloc, json, "calendarmodel")?;
+    let precision_text = copy_number_at(alloc, json, "precision")?;
+    let Some(precision) = small_of(precision_text.as_str()) else {
+        return Err(PartFault::Shape);
+    };
+    let timezone = copy_number_at(alloc, json, "timezone")?;
+    if !is_whole(timezone.as_bytes()) {
+        return Err(PartFault::Shape);
+    }
+    Ok(TimeParts {
+        time,
+        precision,
+        precision_text,
+        timezone,
+        calendar,
+    })
+}
+
+// A number with its unit and bounds.
+#[tactic(auto, unfolding(crate::specs::Reading::Values::quantity_of))]
+fn quantity_of(alloc: Global, json: &Json) -> Result<QuantityParts, PartFault>
+    ensures { Gives result (quantity_of (json_view json.now)) }
+{
+    let amount = copy_text_at(alloc, json, "amount")?;
+    let unit = copy_text_at(alloc, json, "unit")?;
+    let upper = optional_text_at(alloc, json, "upperBound")?;
+    let lower = optional_text_at(alloc, json, "lowerBound")?;
+    Ok(QuantityParts {
+        amount,
+        unit,
+        upper,
+        lower,
+    })
+}
+
+// A point on a globe.
+#[tactic(auto, unfolding(crate::specs::Reading::Values::globe_of))]
+fn globe_of(alloc: Global, json: &Json) -> Result<GlobeParts, PartFault>
+    ensures { Gives result (globe_of (json_view json.now)) }
+{
+    let latitude = copy_number_at(alloc, json, "latitude")?;
+    let longitude = copy_number_at(alloc, json, "longitude")?;
+    let precision = nullable_number_at(alloc, json, "precision")?;
+    let globe = copy_text_at(alloc, json, "globe")?;
+    Ok(GlobeParts {
+        latitude,
+        longitude,
+        precision,
+        globe,
+    })
+}
+
+// A value of the type; one of a type that isn't named here may be anything.
+#[tactic(auto, unfolding(crate::specs::Reading::Values::value_of_type))]
+fn value_of_type(alloc: Global, kind: &str, json: &Json) -> Result<Value, PartFault>
+    ensures { Gives result (value_of_type kind.now (json_view json.now)) }
+{
+    if kind == "string" {
+        return Ok(Value::Str(text_of(json)?.copy(alloc)?));
+    }
+    if kind == "wikibase-entityid" {
+        return Ok(Value::Entity(entity_value(alloc, json)?));
+    }
+    if kind == "time" {
+        return Ok(Value::Time(time_of(alloc, json)?));
+    }
+    if kind == "quantity" {
+        return Ok(Value::Quantity(quantity_of(alloc, json)?));
+    }
+    if kind == "globecoordinate" {
+        return Ok(Value::Globe(globe_of(alloc, json)?));
+    }
+    if kind == "monolingualtext" {
+        return Ok(Value::Mono(read_tagged(alloc, json, "text")?));
+    }
+    Ok(Value::Other)
+}
+
+// A data value.
+#[tactic(auto, unfolding(crate::specs::Reading::Values::value_of))]
+pub fn value_of(alloc: Global, json: &Json) -> Result<Value, PartFault>
+    ensures { Gives result (value_of (json_view json.now)) }
+{
+    let kind = text_at(json, "type")?;
+    let value = member_at(json, "value")?;
+    value_of_type(alloc, kind.as_str(), value)
+}

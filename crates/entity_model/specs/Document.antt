@@ -1,0 +1,33 @@
+-- Which documents are small: those that a page of the allowed size can have.
+use Rattle.std.specs.Prelude.{ℕ, ◌+◌, ◌≤◌, length}
+use Rattle.std.specs.List.{All}
+use Rattle.entity_model.specs.declared.value.Tagged.{Tagged}
+use Rattle.entity_model.specs.declared.entity.Link.{Link}
+use Rattle.entity_model.specs.declared.entity.Entity.{Entity}
+use Rattle.entity_model.specs.declared.document.Document.{Document}
+use Rattle.entity_model.specs.declared.document.Document.TheVariants.{Entity as AnEntity, Redirect}
+use Rattle.entity_model.specs.Value.{optional_length}
+use Rattle.entity_model.specs.Statement.{IsSmallStatement}
+
+-- a text and its language have at most 8 MiB together
+abbrev pub IsSmallTagged : Tagged → Type 0
+IsSmallTagged tagged = length tagged.text + length tagged.language ≤ 8388608
+
+-- a site and a title have at most 8 MiB together
+abbrev pub IsSmallLink : Link → Type 0
+IsSmallLink link = length link.site + length link.title ≤ 8388608
+
+-- each text has at most 8 MiB, and the parts are small
+pub record IsSmallEntity (entity : Entity) : Type 0 where
+  pub datatype : optional_length entity.datatype ≤ 8388608
+  pub modified : optional_length entity.modified ≤ 8388608
+  pub labels : All IsSmallTagged entity.labels
+  pub descriptions : All IsSmallTagged entity.descriptions
+  pub aliases : All IsSmallTagged entity.aliases
+  pub statements : All IsSmallStatement entity.statements
+  pub links : All IsSmallLink entity.links
+
+-- a redirect has an id alone, and is small
+abbrev pub IsSmall : Document → Type 0
+IsSmall (AnEntity entity) = IsSmallEntity entity
+IsSmall (Redirect target) = Unit {0}

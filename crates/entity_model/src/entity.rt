@@ -1,0 +1,38 @@
+// What the page of an item or a property says.
+
+use crate::id::EntityId;
+use crate::statement::Statement;
+use crate::value::Tagged;
+use rdf_term::{List, Text};
+
+/// An item or a property, after Wikibase's JSON format. Lists are in the order of the page.
+#[derive(Debug, Drop)]
+pub struct Entity {
+    /// The id: its letter says which of the two it is.
+    pub id: EntityId,
+    /// The datatype of a property's values, as `wikibase-item`. An item has none.
+    pub datatype: Option<Text>,
+    /// When the page was changed last, as `2024-05-01T10:00:00Z`.
+    pub modified: Option<Text>,
+    /// The labels, one for a language.
+    pub labels: List<Tagged>,
+    /// The descriptions, one for a language.
+    pub descriptions: List<Tagged>,
+    /// The aliases, any number for a language.
+    pub aliases: List<Tagged>,
+    /// The statements.
+    pub statements: List<Statement>,
+    /// The links to articles, one for a site. A property has none.
+    pub links: List<Link>,
+}
+
+/// A link to an article of a site.
+#[derive(Debug, Drop)]
+pub struct Link {
+    /// The site's id, as `enwiki`.
+    pub site: Text,
+    /// The article's title.
+    pub title: Text,
+    /// The items of the badges that the article has.
+    pub badges: List<EntityId>,
+}
