@@ -1,0 +1,4 @@
+pub mod Escapes
+pub mod Fit
+pub mod Ids
+pub mod NamesFit

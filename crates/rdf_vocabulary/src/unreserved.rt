@@ -1,0 +1,25 @@
+// Names in the paths of IRIs.
+
+ghost use Rattle.std.specs.Prelude.{◌≡◌, ◌++◌, OnOk, string_bytes};
+ghost use Rattle.rdf_vocabulary.specs.Unreserved.{escaped_name};
+
+use percent_encoding::{AsciiSet, NON_ALPHANUMERIC, ascii_set, utf8_percent_encode};
+use rdf_term::OutOfMemory;
+
+/// What is escaped: all that RFC 3986 has not as unreserved (section 2.3).
+const RESERVED: AsciiSet = ascii_set!(
+    NON_ALPHANUMERIC
+        .remove(b'-')
+        .remove(b'.')
+        .remove(b'_')
+        .remove(b'~')
+);
+
+/// Appends a name with each byte percent-encoded, by upper-case digits, that is no ASCII letter, no
+/// digit and none of `-._~`.
+pub fn push_escaped_name(name: &str, iri: &mut String) -> Result<(), OutOfMemory>
+    ensures { OnOk result (string_bytes iri.new ≡ string_bytes iri.old ++ escaped_name name.now) }
+{
+    utf8_percent_encode(name, RESERVED).append_to(iri)?;
+    Ok(())
+}

@@ -1,0 +1,110 @@
+-- The triples of a small value's node have fit and short terms.
+use Rattle.std.proofs.Common.{ℕ, ◌≤◌, Bool, true, false, cond, List, [], ◌∷◌, ◌++◌, length, Option, Some, None, refl, arith}
+use Rattle.std.specs.List.{AllByRecursion}
+use Rattle.std.specs.Str.{bytes_eq}
+use Rattle.rdf_term.specs.declared.term.Term.{Term}
+use Rattle.rdf_term.specs.declared.triple.Triple.{Triple}
+use Rattle.rdf_term.specs.Grammar.{iri_of}
+use Rattle.rdf_term.specs.Fit.{IsFitAndShort, HasFitAndShortTerms}
+use Rattle.entity_model.specs.declared.value.Value.{Value}
+use Rattle.entity_model.specs.declared.value.Value.TheVariants.{Entity, Str, Time, Quantity, Globe, Mono, Other}
+use Rattle.entity_model.specs.Value.{IsSmallValue, optional_length}
+use Rattle.rdf_vocabulary.specs.declared.datatype.Datatype.TheVariants.{Integer, Double}
+use Rattle.rdf_vocabulary.specs.declared.predicate.Predicate.{Predicate}
+use Rattle.rdf_vocabulary.specs.declared.predicate.Predicate.TheVariants as P
+use Rattle.rdf_vocabulary.specs.declared.prefix.Prefix.TheVariants.{Wd, Wdv}
+use Rattle.rdf_vocabulary.specs.declared.resource.Resource.TheVariants.{TimeValue, QuantityValue, GlobecoordinateValue}
+use Rattle.rdf_vocabulary.specs.Fields.{hashed_name}
+use Rattle.rdf_vocabulary.specs.Datatype.{typed}
+use Rattle.rdf_vocabulary.specs.Prefix.{prefixed}
+use Rattle.rdf_vocabulary.specs.Resource.{resource_term}
+use Rattle.value_nodes.specs.Terms.{amount_term}
+use Rattle.rdf_vocabulary.proofs.Fit.{predicate_fit, resource_fit, prefixed_fit}
+use Rattle.rdf_vocabulary.proofs.NamesFit.{hashed_name_iri, length-hashed_name}
+use Rattle.value_nodes.specs.Name.{time_fields, quantity_fields, globe_fields}
+use Rattle.value_nodes.specs.Nodes.{about, one, number_one, unit_term, bound_triples, precision_triples, part_triples, node_triples}
+use Rattle.value_nodes.proofs.Fit.{iri_fit, literal_fit, amount_term_fit, time_term_fit}
+
+about_fit : (node : Term) (predicate : Predicate) (object : Term) → IsFitAndShort node → IsFitAndShort object → HasFitAndShortTerms (about node predicate object)
+about_fit node predicate object n o = record { subject = n; predicate = predicate_fit predicate; object = o }
+
+join : (P : Triple → Type 0) (xs ys : List Triple) → AllByRecursion P xs → AllByRecursion P ys → AllByRecursion P (xs ++ ys)
+join P [] ys p q = q
+join P (x ∷ xs) ys p q = (p.0, join P xs ys p.1 q)
+
+unit_fit : (unit : List ℕ) → length unit ≤ 8388608 → IsFitAndShort (unit_term unit)
+unfolding number_one
+unit_fit unit h = by_test (bytes_eq unit one)
+  where
+    by_test : (b : Bool) → IsFitAndShort (cond b (prefixed Wd number_one) (iri_of unit))
+    by_test true = prefixed_fit Wd number_one refl (omega arith)
+    by_test false = iri_fit unit h
+
+bound_fit : (node : Term) (predicate : Predicate) (bound : Option (List ℕ)) → IsFitAndShort node → optional_length bound ≤ 8388608 → AllByRecursion HasFitAndShortTerms (bound_triples node predicate bound)
+bound_fit node predicate None n h = tt
+bound_fit node predicate (Some bound) n h = (about_fit node predicate _ n (amount_term_fit bound h), tt)
+
+precision_fit : (node : Term) (precision : Option (List ℕ)) → IsFitAndShort node → optional_length precision ≤ 8388608 → AllByRecursion HasFitAndShortTerms (precision_triples node precision)
+precision_fit node None n h = tt
+precision_fit node (Some precision) n h = (about_fit node P.GeoPrecision _ n (literal_fit precision Double (omega arith)), tt)
+
+parts_fit : (node : Term) (value : Value) → IsFitAndShort node → IsSmallValue value → AllByRecursion HasFitAndShortTerms (part_triples node value)
+parts_fit node (Time time) n s = (
+  about_fit node P.RdfType _ n (resource_fit TimeValue),
+  (
+    about_fit node P.TimeValue _ n (time_term_fit time (omega (arith, s.texts))),
+    (
+      about_fit node P.TimePrecision _ n (literal_fit time.precision_text Integer (omega (arith, s.texts))),
+      (
+        about_fit node P.TimeTimezone _ n (literal_fit time.timezone Integer (omega (arith, s.texts))),
+        (about_fit node P.TimeCalendarModel _ n (iri_fit time.calendar (omega (arith, s.texts))), tt),
+      ),
+    ),
+  ),
+)
+parts_fit node (Quantity quantity) n s =
+    let amount = about node P.QuantityAmount (amount_term quantity.amount) in
+    let unit = about node P.QuantityUnit (unit_term quantity.unit) in
+    let front : AllByRecursion HasFitAndShortTerms (amount ∷ unit ∷ []) = (
+      about_fit node P.QuantityAmount (amount_term quantity.amount) n (amount_term_fit quantity.amount (omega (arith, s.texts))),
+      (about_fit node P.QuantityUnit (unit_term quantity.unit) n (unit_fit quantity.unit (omega (arith, s.texts))), tt),
+    ) in
+    let upper = bound_triples node P.QuantityUpperBound quantity.upper in
+    let lower = bound_triples node P.QuantityLowerBound quantity.lower in
+    let most = join HasFitAndShortTerms (amount ∷ unit ∷ []) upper front (bound_fit node P.QuantityUpperBound quantity.upper n (omega (arith, s.texts))) in (
+      about_fit node P.RdfType (resource_term QuantityValue) n (resource_fit QuantityValue),
+      join HasFitAndShortTerms ((amount ∷ unit ∷ []) ++ upper) lower most (bound_fit node P.QuantityLowerBound quantity.lower n (omega (arith, s.texts))),
+    )
+parts_fit node (Globe globe) n s =
+    let latitude = about node P.GeoLatitude (typed globe.latitude Double) in
+    let longitude = about node P.GeoLongitude (typed globe.longitude Double) in
+    let front : AllByRecursion HasFitAndShortTerms (latitude ∷ longitude ∷ []) = (
+      about_fit node P.GeoLatitude (typed globe.latitude Double) n (literal_fit globe.latitude Double (omega (arith, s.texts))),
+      (about_fit node P.GeoLongitude (typed globe.longitude Double) n (literal_fit globe.longitude Double (omega (arith, s.texts))), tt),
+    ) in
+    let precision = precision_triples node globe.precision in
+    let model = about node P.GeoGlobe (iri_of globe.globe) in
+    let back : AllByRecursion HasFitAndShortTerms (model ∷ []) =
+    (about_fit node P.GeoGlobe (iri_of globe.globe) n (iri_fit globe.globe (omega (arith, s.texts))), tt) in
+    let most = join HasFitAndShortTerms (latitude ∷ longitude ∷ []) precision front (precision_fit node globe.precision n (omega (arith, s.texts))) in (
+      about_fit node P.RdfType (resource_term GlobecoordinateValue) n (resource_fit GlobecoordinateValue),
+      join HasFitAndShortTerms ((latitude ∷ longitude ∷ []) ++ precision) (model ∷ []) most back,
+    )
+parts_fit node (Entity id) n s = tt
+parts_fit node (Str text) n s = tt
+parts_fit node (Mono tagged) n s = tt
+parts_fit node Other n s = tt
+
+node_fit : (fields : List ℕ) → IsFitAndShort (prefixed Wdv (hashed_name fields))
+node_fit fields =
+    prefixed_fit Wdv (hashed_name fields) (hashed_name_iri fields) (omega (arith, length-hashed_name fields))
+
+-- the triples of a small value's node have fit and short terms
+pub node_triples_fit : (value : Value) → IsSmallValue value → AllByRecursion HasFitAndShortTerms (node_triples value)
+node_triples_fit (Time time) s = parts_fit _ (Time time) (node_fit (time_fields time)) s
+node_triples_fit (Quantity quantity) s = parts_fit _ (Quantity quantity) (node_fit (quantity_fields quantity)) s
+node_triples_fit (Globe globe) s = parts_fit _ (Globe globe) (node_fit (globe_fields globe)) s
+node_triples_fit (Entity id) s = tt
+node_triples_fit (Str text) s = tt
+node_triples_fit (Mono tagged) s = tt
+node_triples_fit Other s = tt
