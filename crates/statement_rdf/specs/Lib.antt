@@ -1,0 +1,6 @@
+pub mod Gives
+pub mod Node
+pub mod Ranking
+pub mod Role
+pub mod Snak
+pub mod Statement

@@ -1,0 +1,20 @@
+// What the statements of an entity become in RDF ("Wikibase RDF Dump Format", Statement types): which of
+// them are best, and the triples of each, of its qualifiers and of its references.
+//
+// `best` judges the statements of a list, and `statement_triples` has the triples of one.
+#![tactic(auto)]
+
+mod laws;
+mod node;
+mod ranking;
+mod role;
+mod snak;
+mod statement;
+#[cfg(test)]
+mod tests;
+
+pub use laws::{
+    best_is_ranked_highest, statement_names_keep_characters, statement_triples_are_given,
+};
+pub use ranking::best;
+pub use statement::statement_triples;
