@@ -1,0 +1,218 @@
+-- The triples of a small link have fit and short terms.
+use Rattle.std.proofs.Common.{◌≡◌, ℕ, ◌+◌, ◌≤◌, Bool, true, false, cond, List, [], ◌∷◌, ◌++◌, ◌-◌, length, map, drop, take, nat_eq, Option, Some, None, IfSome, refl, ◌∙◌, arith, lit≤}
+use Rattle.std.proofs.lemmas.Bool.Decides.{nat_tests}
+use Rattle.std.proofs.lemmas.List.{length-append, length-take, length-map}
+use Rattle.std.proofs.lemmas.List.Folds.{list_all-append}
+use Rattle.std.specs.Prelude.{codes}
+use Rattle.std.specs.Char.{is_ascii_lowercase}
+use Rattle.std.specs.List.{AllByRecursion}
+use Rattle.std.specs.Option.{option_map_or}
+use Rattle.std.specs.Str.{bytes_eq}
+use Rattle.rdf_term.specs.declared.term.Term.{Term}
+use Rattle.rdf_term.specs.declared.term.Term.TheVariants.{Iri, Plain, Lang}
+use Rattle.rdf_term.specs.declared.triple.Triple.{Triple}
+use Rattle.rdf_term.specs.Fit.{IsFitAndShort, HasFitAndShortTerms}
+use Rattle.rdf_term.specs.Grammar.{is_iri, is_iri_char, is_tag, tagged_of}
+use Rattle.rdf_term.specs.Text.{escaped}
+use Rattle.entity_model.specs.declared.entity.Link.{Link}
+use Rattle.entity_model.specs.declared.id.EntityId.{EntityId}
+use Rattle.entity_model.specs.Document.{IsSmallLink}
+use Rattle.rdf_vocabulary.specs.declared.predicate.Predicate.{Predicate}
+use Rattle.rdf_vocabulary.specs.declared.predicate.Predicate.TheVariants as Predicates
+use Rattle.rdf_vocabulary.specs.declared.prefix.Prefix.TheVariants.{Wd}
+use Rattle.rdf_vocabulary.specs.declared.resource.Resource.TheVariants.{Article}
+use Rattle.rdf_vocabulary.specs.Resource.{resource_term}
+use Rattle.rdf_vocabulary.specs.Unreserved.{escaped_name}
+use Rattle.rdf_vocabulary.proofs.Fit.{predicate_fit, resource_fit, escaped_short}
+use Rattle.rdf_vocabulary.proofs.Ids.{id_term_fit}
+use Rattle.rdf_vocabulary.proofs.NamesFit.{escaped_name_iri, escaped_name_short}
+use Rattle.sitelinks.specs.declared.language.Place.{Place}
+use Rattle.sitelinks.specs.declared.language.Place.TheVariants.{Start, First, Dash, Later}
+use Rattle.sitelinks.specs.declared.project.Project.{Project}
+use Rattle.sitelinks.specs.declared.project.Project.TheVariants as Projects
+use Rattle.sitelinks.specs.declared.sites.Site.{Site}
+use Rattle.sitelinks.specs.declared.special.SpecialSite.{SpecialSite}
+use Rattle.sitelinks.specs.declared.special.SpecialSite.TheVariants as Specials
+use Rattle.sitelinks.specs.Article.{article_iri, article_triples, badge_triple, entity_term, found_triples, group_triple, head_triples, said, triples_of}
+use Rattle.sitelinks.specs.Language.{is_language, is_lowercase_or_digit}
+use Rattle.sitelinks.specs.LanguageReader.{is_rest_of_language, place_after}
+use Rattle.sitelinks.specs.Project.{coded, coded_or, first_coded, project_group, project_suffix, projects}
+use Rattle.sitelinks.specs.Replaced.{replaced, replaced_byte}
+use Rattle.sitelinks.specs.Site.{coded_site, english, language_of, site_in, site_of, special_or, special_site}
+use Rattle.sitelinks.specs.Special.{special_base, special_group, special_named}
+use Rattle.sitelinks.proofs.Languages.{is_language_read}
+
+-- a site's texts: the base may stand in an IRI, and none is long
+record IsSmallSite (n : ℕ) (site : Site) : Type 0 where
+  iri : is_iri site.base ≡ true
+  base : length site.base ≤ n + 100
+  language : length site.language ≤ n + 100
+  group : length site.group ≤ n + 100
+
+special_small : (n : ℕ) (special : SpecialSite) → IsSmallSite n (special_site special)
+unfolding special_base special_group english
+special_small n Specials.Commons = record { iri = refl; base = omega arith; language = omega arith; group = omega arith }
+special_small n Specials.Meta = record { iri = refl; base = omega arith; language = omega arith; group = omega arith }
+special_small n Specials.Species = record { iri = refl; base = omega arith; language = omega arith; group = omega arith }
+special_small n Specials.Outreach = record { iri = refl; base = omega arith; language = omega arith; group = omega arith }
+special_small n Specials.MediaWiki = record { iri = refl; base = omega arith; language = omega arith; group = omega arith }
+special_small n Specials.Wikidata = record { iri = refl; base = omega arith; language = omega arith; group = omega arith }
+special_small n Specials.Sources = record { iri = refl; base = omega arith; language = omega arith; group = omega arith }
+special_small n Specials.Simple = record { iri = refl; base = omega arith; language = omega arith; group = omega arith }
+
+group_small : (project : Project) → (is_iri (project_group project) ≡ true) × (length (project_group project) ≤ 20)
+unfolding project_group
+group_small Projects.Wikibooks = (refl, lit≤ tt)
+group_small Projects.Wikinews = (refl, lit≤ tt)
+group_small Projects.Wikiquote = (refl, lit≤ tt)
+group_small Projects.Wikisource = (refl, lit≤ tt)
+group_small Projects.Wikiversity = (refl, lit≤ tt)
+group_small Projects.Wikivoyage = (refl, lit≤ tt)
+group_small Projects.Wiktionary = (refl, lit≤ tt)
+group_small Projects.Wikipedia = (refl, lit≤ tt)
+
+lowercase_iri : (c : ℕ) → is_ascii_lowercase c ≡ true → is_iri_char c ≡ true
+lowercase_iri c h = grind (arith, nat_tests)
+
+word_iri : (c : ℕ) → is_lowercase_or_digit c ≡ true → is_iri_char c ≡ true
+word_iri c h = grind (arith, nat_tests)
+
+dash_iri : (c : ℕ) → (nat_eq c 45) ≡ true → is_iri_char c ≡ true
+dash_iri c h = grind (arith, nat_tests)
+
+-- what is read of a language may stand in an IRI
+place_iri : (place next : Place) (c : ℕ) → place_after place c ≡ Some next → is_iri_char c ≡ true
+place_iri Start next c e = elim (is_ascii_lowercase c) as (λ b. is_ascii_lowercase c ≡ b → (cond b (Some First) None) ≡ Some next → is_iri_char c ≡ true) [ true ↦ λ h _. lowercase_iri c h | false ↦ λ h e. cc ] refl e
+place_iri First next c e = elim (is_ascii_lowercase c) as (λ b. is_ascii_lowercase c ≡ b → (cond b (Some First) (cond (nat_eq c 45) (Some Dash) None)) ≡ Some next → is_iri_char c ≡ true) [ true ↦ λ h _. lowercase_iri c h | false ↦ λ h e. dashed (nat_eq c 45) refl e ] refl e
+  where
+    dashed : (b : Bool) → nat_eq c 45 ≡ b → (cond b (Some Dash) None) ≡ Some next → is_iri_char c ≡ true
+    dashed true h e = dash_iri c h
+    dashed false h e = cc
+place_iri Dash next c e = elim (is_lowercase_or_digit c) as (λ b. is_lowercase_or_digit c ≡ b → (cond b (Some Later) None) ≡ Some next → is_iri_char c ≡ true) [ true ↦ λ h _. word_iri c h | false ↦ λ h e. cc ] refl e
+place_iri Later next c e = elim (is_lowercase_or_digit c) as (λ b. is_lowercase_or_digit c ≡ b → (cond b (Some Later) (cond (nat_eq c 45) (Some Dash) None)) ≡ Some next → is_iri_char c ≡ true) [ true ↦ λ h _. word_iri c h | false ↦ λ h e. dashed (nat_eq c 45) refl e ] refl e
+  where
+    dashed : (b : Bool) → nat_eq c 45 ≡ b → (cond b (Some Dash) None) ≡ Some next → is_iri_char c ≡ true
+    dashed true h e = dash_iri c h
+    dashed false h e = cc
+
+rest_iri : (text : List ℕ) (place : Place) → is_rest_of_language place text ≡ true → is_iri text ≡ true
+rest_iri [] place h = refl
+rest_iri (c ∷ cs) place h = by (λ q. rest_iri cs q) (place_after place c) refl h
+  where
+    by : ((q : Place) → is_rest_of_language q cs ≡ true → is_iri cs ≡ true) → (next : Option Place) → place_after place c ≡ next → option_map_or (λ q. is_rest_of_language q cs) next false ≡ true → is_iri (c ∷ cs) ≡ true
+    by more None e h = cc
+    by more (Some next) e h = rw (place_iri place next c e) (more next h)
+
+language_iri : (text : List ℕ) → is_language text ≡ true → is_iri text ≡ true
+language_iri text h = rest_iri text Start (is_language_read text ∙ h)
+
+-- the code of an id is no longer than the id
+code_small : (projects : List Project) (id : List ℕ) → IfSome (first_coded projects id) (λ p. length p.0 ≤ length id)
+code_small [] id = tt
+code_small (project ∷ more) id = by (bytes_eq (drop (length id - length (project_suffix project)) id) (project_suffix project)) (code_small more id)
+  where
+    by : (b : Bool) → IfSome (first_coded more id) (λ p. length p.0 ≤ length id) → IfSome (coded_or (first_coded more id) project (cond b (Some (take (length id - length (project_suffix project)) id)) None)) (λ p. length p.0 ≤ length id)
+    by true h = omega (arith, length-take (length id - length (project_suffix project)) id)
+    by false h = h
+
+all_iri : (xs ys : List ℕ) → is_iri xs ≡ true → is_iri ys ≡ true → is_iri (xs ++ ys) ≡ true
+all_iri xs ys h k = rw (list_all-append is_iri_char xs ys, h) k
+
+language_small : (n : ℕ) (language : List ℕ) (project : Project) → is_iri language ≡ true → length language ≤ n → IsSmallSite n (site_in language project)
+language_small n language project h short =
+    let g = group_small project in
+    let a = codes "https://" in
+    let b = codes "." in
+    let c = codes ".org/" in
+    record {
+      iri = all_iri (a ++ language ++ b ++ project_group project) c (all_iri (a ++ language ++ b) (project_group project) (all_iri (a ++ language) b (all_iri a language refl h) refl) g.0) refl;
+      base = omega (
+        arith,
+        g.1,
+        length-append a language,
+        length-append (a ++ language) b,
+        length-append (a ++ language ++ b) (project_group project),
+        length-append (a ++ language ++ b ++ project_group project) c,
+      );
+      language = omega arith;
+      group = omega (arith, g.1);
+    }
+
+coded_small : (n : ℕ) (c : Option (List ℕ × Project)) → IfSome c (λ p. length p.0 ≤ n) → IfSome (coded_site c) (IsSmallSite n)
+coded_small n None h = tt
+coded_small n (Some (code, project)) h = by (is_language (language_of code)) refl
+  where
+    by : (b : Bool) → is_language (language_of code) ≡ b → IfSome (cond b (Some (site_in (language_of code) project)) None) (IsSmallSite n)
+    by true e = language_small n (language_of code) project (language_iri (language_of code) e) (omega (arith, h, length-map code (replaced_byte 95 45)))
+    by false e = tt
+
+special_or_small : (n : ℕ) (special : Option SpecialSite) (other : Option Site) → IfSome other (IsSmallSite n) → IfSome (special_or special other) (IsSmallSite n)
+special_or_small n None other h = h
+special_or_small n (Some special) other h = special_small n special
+
+site_small : (id : List ℕ) → IfSome (site_of id) (IsSmallSite (length id))
+site_small id = special_or_small (length id) (special_named id) (coded_site (coded id)) (coded_small (length id) (coded id) (code_small projects id))
+
+plain_fit : (text : List ℕ) → length text ≤ 16777000 → IsFitAndShort (Plain text)
+plain_fit text h = record { fit = refl; short = omega (arith, escaped_short text, length-append (escaped text) (34 ∷ [])) }
+
+tagged_fit : (text tag : List ℕ) → length text ≤ 8388608 → length tag ≤ 8388800 → IsFitAndShort (tagged_of text tag)
+tagged_fit text tag h k = by (is_tag tag) refl
+  where
+    by : (b : Bool) → is_tag tag ≡ b → IsFitAndShort (cond b (Lang text tag) (Plain text))
+    by true e = record { fit = e; short = omega (arith, escaped_short text, length-append (escaped text) (34 ∷ 64 ∷ tag)) }
+    by false e = plain_fit text (omega arith)
+
+iri_fit : (iri : List ℕ) → is_iri iri ≡ true → length iri ≤ 33554000 → IsFitAndShort (Iri iri)
+iri_fit iri h short = record { fit = h; short = omega (arith, length-append iri (62 ∷ [])) }
+
+article_fit : (n : ℕ) (site : Site) (title : List ℕ) → IsSmallSite n site → n + length title ≤ 8388608 → IsFitAndShort (Iri (article_iri site title))
+article_fit n site title s h =
+    let name = replaced 32 95 title in
+    let front = site.base ++ codes "wiki/" in
+    iri_fit (article_iri site title)
+    (all_iri front (escaped_name name) (all_iri site.base (codes "wiki/") s.iri refl) (escaped_name_iri name))
+    (omega (arith, s.base, escaped_name_short name, length-map title (replaced_byte 32 95), length-append site.base (codes "wiki/"), length-append front (escaped_name name)))
+
+said_fit : (subject : Term) (predicate : Predicate) (object : Term) → IsFitAndShort subject → IsFitAndShort object → HasFitAndShortTerms (said subject predicate object)
+said_fit subject predicate object s o = record { subject = s; predicate = predicate_fit predicate; object = o }
+
+join : (P : Triple → Type 0) (xs ys : List Triple) → AllByRecursion P xs → AllByRecursion P ys → AllByRecursion P (xs ++ ys)
+join P [] ys p q = q
+join P (x ∷ xs) ys p q = (p.0, join P xs ys p.1 q)
+
+badges_fit : (article : Term) (badges : List EntityId) → IsFitAndShort article → AllByRecursion HasFitAndShortTerms (map (badge_triple article) badges)
+badges_fit article [] a = tt
+badges_fit article (badge ∷ badges) a = (said_fit article Predicates.Badge (entity_term badge) a (id_term_fit Wd badge), badges_fit article badges a)
+
+triples_fit : (article : Term) (entity : EntityId) (link : Link) (site : Site) → IsFitAndShort article → IsSmallSite (length link.site) site → IsSmallLink link → AllByRecursion HasFitAndShortTerms (triples_of article entity link site)
+triples_fit article entity link site a s h =
+    let base = iri_fit site.base s.iri (omega (arith, s.base)) in
+    let head : AllByRecursion HasFitAndShortTerms (head_triples article entity site) = (
+      said_fit article Predicates.RdfType (resource_term Article) a (resource_fit Article),
+      (
+        said_fit article Predicates.About (entity_term entity) a (id_term_fit Wd entity),
+        (
+          said_fit article Predicates.InLanguage (Plain site.language) a (plain_fit site.language (omega (arith, s.language))),
+          (said_fit article Predicates.IsPartOf (Iri site.base) a base, tt),
+        ),
+      ),
+    ) in
+    let name = said article Predicates.Name (tagged_of link.title site.language) in
+    let named : AllByRecursion HasFitAndShortTerms (name ∷ []) =
+    (said_fit article Predicates.Name (tagged_of link.title site.language) a (tagged_fit link.title site.language (omega arith) (omega (arith, s.language))), tt) in
+    let group : AllByRecursion HasFitAndShortTerms (group_triple site ∷ []) =
+    (said_fit (Iri site.base) Predicates.WikiGroup (Plain site.group) base (plain_fit site.group (omega (arith, s.group))), tt) in
+    let badges = map (badge_triple article) link.badges in
+    let front = head_triples article entity site ++ name ∷ [] in
+    join HasFitAndShortTerms (front ++ badges) (group_triple site ∷ [])
+    (join HasFitAndShortTerms front badges (join HasFitAndShortTerms (head_triples article entity site) (name ∷ []) head named) (badges_fit article link.badges a)) group
+
+found_fit : (entity : EntityId) (link : Link) (found : Option Site) → IfSome found (IsSmallSite (length link.site)) → IsSmallLink link → AllByRecursion HasFitAndShortTerms (found_triples entity link found)
+found_fit entity link None s h = tt
+found_fit entity link (Some site) s h =
+    triples_fit (Iri (article_iri site link.title)) entity link site (article_fit (length link.site) site link.title s h) s h
+
+-- the triples of a small link have fit and short terms
+pub article_triples_fit : (entity : EntityId) (link : Link) → IsSmallLink link → AllByRecursion HasFitAndShortTerms (article_triples entity link)
+article_triples_fit entity link h = found_fit entity link (site_of link.site) (site_small link.site) h

@@ -1,0 +1,5 @@
+pub mod Characters
+pub mod Fit
+pub mod Languages
+pub mod Names
+pub mod Suffixes

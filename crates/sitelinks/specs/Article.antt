@@ -1,0 +1,67 @@
+-- What a link to an article becomes.
+use Rattle.std.specs.Prelude.{ℕ, List, [], ◌∷◌, ◌++◌, codes, map, Option, Some, None}
+use Rattle.rdf_term.specs.declared.term.Term.{Term}
+use Rattle.rdf_term.specs.declared.term.Term.TheVariants.{Iri, Plain}
+use Rattle.rdf_term.specs.declared.triple.Triple.{Triple}
+use Rattle.rdf_term.specs.Grammar.{tagged_of}
+use Rattle.entity_model.specs.declared.entity.Link.{Link}
+use Rattle.entity_model.specs.declared.id.EntityId.{EntityId}
+use Rattle.entity_model.specs.EntityId.{id_text}
+use Rattle.rdf_vocabulary.specs.declared.predicate.Predicate.{Predicate}
+use Rattle.rdf_vocabulary.specs.declared.predicate.Predicate.TheVariants.{RdfType, About, InLanguage, IsPartOf, Name, Badge, WikiGroup}
+use Rattle.rdf_vocabulary.specs.declared.prefix.Prefix.TheVariants.{Wd}
+use Rattle.rdf_vocabulary.specs.declared.resource.Resource.TheVariants.{Article}
+use Rattle.rdf_vocabulary.specs.Predicate.{predicate_term}
+use Rattle.rdf_vocabulary.specs.Prefix.{prefixed}
+use Rattle.rdf_vocabulary.specs.Resource.{resource_term}
+use Rattle.rdf_vocabulary.specs.Unreserved.{escaped_name}
+use Rattle.sitelinks.specs.declared.sites.Site.{Site}
+use Rattle.sitelinks.specs.Replaced.{replaced}
+use Rattle.sitelinks.specs.Site.{site_of}
+
+-- the IRI of the article with this title: its spaces are `_`, and what is reserved in a path is percent-encoded
+abbrev pub article_iri : Site → List ℕ → List ℕ
+article_iri site title = site.base ++ codes "wiki/" ++ escaped_name (replaced 32 95 title)
+
+-- the IRI of an entity
+abbrev pub entity_term : EntityId → Term
+entity_term id = prefixed Wd (id_text id)
+
+-- a triple that says something of a subject
+abbrev pub said : Term → Predicate → Term → Triple
+said subject predicate object = record { subject = subject; predicate = predicate_term predicate; object = object }
+
+-- what the article is, and where
+abbrev pub head_triples : Term → EntityId → Site → List Triple
+head_triples article entity site =
+    said article RdfType (resource_term Article)
+    ∷ said article About (entity_term entity)
+    ∷ said article InLanguage (Plain site.language)
+    ∷ said article IsPartOf (Iri site.base) ∷ []
+
+-- a badge of the article
+abbrev pub badge_triple : Term → EntityId → Triple
+badge_triple article badge = said article Badge (entity_term badge)
+
+-- the group of the site
+abbrev pub group_triple : Site → Triple
+group_triple site = said (Iri site.base) WikiGroup (Plain site.group)
+
+-- the triples of an article of a site
+abbrev pub triples_of : Term → EntityId → Link → Site → List Triple
+triples_of article entity link site =
+    head_triples article entity site
+    ++ said article Name (tagged_of link.title site.language) ∷ []
+    ++ map (badge_triple article) link.badges
+    ++ group_triple site ∷ []
+
+abbrev pub site_triples : EntityId → Link → Site → List Triple
+site_triples entity link site = triples_of (Iri (article_iri site link.title)) entity link site
+
+-- the triples of a link: none where no rule names the site
+abbrev pub found_triples : EntityId → Link → Option Site → List Triple
+found_triples entity link None = []
+found_triples entity link (Some site) = site_triples entity link site
+
+abbrev pub article_triples : EntityId → Link → List Triple
+article_triples entity link = found_triples entity link (site_of link.site)

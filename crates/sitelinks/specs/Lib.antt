@@ -1,0 +1,8 @@
+pub mod Article
+pub mod Language
+pub mod LanguageReader
+pub mod Names
+pub mod Project
+pub mod Replaced
+pub mod Site
+pub mod Special

@@ -1,0 +1,65 @@
+// Sites by their ids.
+
+ghost use Rattle.std.specs.Prelude.{◌≡◌, ◌++◌, IfOk, string_bytes};
+ghost use Rattle.sitelinks.specs.Names.{IsNamed};
+ghost use Rattle.sitelinks.specs.Site.{language_base, language_site, site_of, special_site};
+
+use crate::language::is_language;
+use crate::project::{Project, coded};
+use crate::replaced::replaced;
+use crate::sites::Site;
+use crate::special::SpecialSite;
+use rdf_term::{OutOfMemory, Text};
+use std::alloc::Global;
+
+/// The site with this id, as `enwiki`: one of eight special sites, or the site of a project in a language.
+pub fn site(alloc: Global, id: &str) -> Result<Option<Site>, OutOfMemory>
+    ensures value { IfOk result (λ site. site ≡ site_of id.now) }
+    ensures rules { IfOk result (IsNamed id.now) }
+{
+    if let Some(special) = SpecialSite::named(id) {
+        return Ok(Some(special_site(alloc, special)?));
+    }
+    match coded(id) {
+        Some((code, project)) => language_site(alloc, code, project),
+        None => Ok(None),
+    }
+}
+
+#[tactic(auto, unfolding(crate::specs::Site::english))]
+fn special_site(alloc: Global, special: SpecialSite) -> Result<Site, OutOfMemory>
+    ensures { IfOk result (λ site. site ≡ special_site special) }
+{
+    Ok(Site {
+        base: Text::new(alloc, special.base())?,
+        language: Text::new(alloc, "en")?,
+        group: Text::new(alloc, special.group())?,
+    })
+}
+
+// The site of a project in the language with this code, if the code is one.
+fn language_site(alloc: Global, code: &str, project: Project) -> Result<Option<Site>, OutOfMemory>
+    ensures { IfOk result (λ site. site ≡ language_site code.now project) }
+{
+    let language = replaced(alloc, code, '_', '-')?;
+    if !is_language(language.as_str().as_bytes()) {
+        return Ok(None);
+    }
+    let base = language_base(alloc, language.as_str(), project)?;
+    Ok(Some(Site {
+        base,
+        language: Text::from_string(language),
+        group: Text::new(alloc, project.group())?,
+    }))
+}
+
+fn language_base(alloc: Global, language: &str, project: Project) -> Result<Text, OutOfMemory>
+    ensures { IfOk result (λ base. base ≡ language_base language.now project) }
+{
+    let mut base = String::from_str(alloc, "https://")?;
+    base.push_str(language)?;
+    base.push_str(".")?;
+    base.push_str(project.group())?;
+    base.push_str(".org/")?;
+    Ok(Text::from_string(base))
+}
