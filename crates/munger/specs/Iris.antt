@@ -1,0 +1,37 @@
+-- The IRIs that triples are judged by.
+use Rattle.std.specs.Prelude.{ℕ, Bool, false, List, ◌++◌}
+use Rattle.std.specs.Str.{bytes_eq}
+use Rattle.rdf_term.specs.declared.term.Term.{Term}
+use Rattle.rdf_term.specs.declared.term.Term.TheVariants.{Iri, Blank, Plain, Lang, Typed}
+use Rattle.entity_model.specs.declared.id.EntityId.{EntityId}
+use Rattle.entity_model.specs.EntityId.{id_text}
+use Rattle.rdf_vocabulary.specs.declared.predicate.Predicate.{Predicate}
+use Rattle.rdf_vocabulary.specs.declared.prefix.Prefix.TheVariants.{Wd, Data}
+use Rattle.rdf_vocabulary.specs.declared.resource.Resource.{Resource}
+use Rattle.rdf_vocabulary.specs.Predicate.{predicate_text}
+use Rattle.rdf_vocabulary.specs.Prefix.{prefix_text}
+use Rattle.rdf_vocabulary.specs.Resource.{resource_text}
+
+-- the IRI of an entity
+abbrev pub entity_iri : EntityId → List ℕ
+entity_iri id = prefix_text Wd ++ id_text id
+
+-- the IRI of the dataset that describes an entity
+abbrev pub dataset_iri : EntityId → List ℕ
+dataset_iri id = prefix_text Data ++ id_text id
+
+-- whether the term is the IRI with this text
+abbrev pub is_iri_of : List ℕ → Term → Bool
+is_iri_of iri (Iri text) = bytes_eq text iri
+is_iri_of iri (Blank label) = false
+is_iri_of iri (Plain text) = false
+is_iri_of iri (Lang text tag) = false
+is_iri_of iri (Typed text datatype) = false
+
+-- whether the term is the predicate
+abbrev pub is_predicate : Predicate → Term → Bool
+is_predicate word term = is_iri_of (predicate_text word) term
+
+-- whether the term is the class
+abbrev pub is_resource : Resource → Term → Bool
+is_resource word term = is_iri_of (resource_text word) term

@@ -1,0 +1,5 @@
+pub mod Iris
+pub mod Verdict
+pub mod Naming
+pub mod Munging
+pub mod Short

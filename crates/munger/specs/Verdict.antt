@@ -1,0 +1,35 @@
+-- What becomes of a triple of the dump, by the first rule that names it.
+use Rattle.std.specs.Prelude.{Bool, ◌&&◌, ◌||◌, if◌then◌else◌}
+use Rattle.rdf_term.specs.declared.term.Term.{Term}
+use Rattle.rdf_term.specs.declared.triple.Triple.{Triple}
+use Rattle.entity_model.specs.declared.id.EntityId.{EntityId}
+use Rattle.rdf_vocabulary.specs.declared.predicate.Predicate.TheVariants.{RdfType, PrefLabel, Name, Version, DateModified, Statements, Identifiers, Sitelinks}
+use Rattle.rdf_vocabulary.specs.declared.resource.Resource.TheVariants.{Item, Statement, Reference}
+use Rattle.munger.specs.declared.verdict.Verdict.{Verdict}
+use Rattle.munger.specs.declared.verdict.Verdict.TheVariants.{Moved, Dropped, Kept}
+use Rattle.munger.specs.Iris.{dataset_iri, entity_iri, is_iri_of, is_predicate, is_resource}
+
+-- the version, the time of the last edit and the counts, which the dataset says of itself
+abbrev pub is_moved : Term → Bool
+is_moved predicate =
+    is_predicate Version predicate || is_predicate DateModified predicate || is_predicate Statements predicate
+    || is_predicate Sitelinks predicate || is_predicate Identifiers predicate
+
+-- the type of an item, a statement or a reference
+abbrev pub has_untold_type : Triple → Bool
+has_untold_type triple =
+    is_predicate RdfType triple.predicate
+    && (is_resource Item triple.object || is_resource Statement triple.object || is_resource Reference triple.object)
+
+-- a label of the entity that stands under skos:prefLabel or schema:name too
+abbrev pub repeats_label : EntityId → Triple → Bool
+repeats_label id triple =
+    is_iri_of (entity_iri id) triple.subject && (is_predicate PrefLabel triple.predicate || is_predicate Name triple.predicate)
+
+-- of the dataset's triples some are moved to the entity and the others dropped; then untold types and repeated labels are dropped
+abbrev pub verdict : EntityId → Triple → Verdict
+verdict id triple =
+    if is_iri_of (dataset_iri id) triple.subject then (if is_moved triple.predicate then Moved else Dropped)
+    else (if has_untold_type triple then Dropped
+    else (if repeats_label id triple then Dropped
+    else Kept))

@@ -1,0 +1,97 @@
+// Values from outside: the data differences that the Wikidata Query Service documents, by hand.
+
+use super::*;
+use entity_model::EntityId;
+use rdf_term::{List, Term, Triple, TripleSet, read_term, write_triple};
+use std::alloc::Global;
+use std::process::Abort;
+use std::test::Fail;
+
+// Lines of a dump of Q64, and then what is left of them.
+const LINES: &str =
+    "<https://www.wikidata.org/wiki/Special:EntityData/Q64> <http://schema.org/version> \"17\" .
+<https://www.wikidata.org/wiki/Special:EntityData/Q64> <http://schema.org/dateModified> \"2024\" .
+<https://www.wikidata.org/wiki/Special:EntityData/Q64> <http://wikiba.se/ontology#statements> \"3\" .
+<https://www.wikidata.org/wiki/Special:EntityData/Q64> <http://wikiba.se/ontology#sitelinks> \"2\" .
+<https://www.wikidata.org/wiki/Special:EntityData/Q64> <http://wikiba.se/ontology#identifiers> \"0\" .
+<https://www.wikidata.org/wiki/Special:EntityData/Q64> <http://schema.org/about> <http://www.wikidata.org/entity/Q64> .
+<https://www.wikidata.org/wiki/Special:EntityData/Q64> <http://schema.org/softwareVersion> \"1.0.0\" .
+<https://www.wikidata.org/wiki/Special:EntityData/Q6> <http://schema.org/version> \"6\" .
+<http://www.wikidata.org/entity/Q64> <http://www.w3.org/1999/02/22-rdf-syntax-ns#type> <http://wikiba.se/ontology#Item> .
+<http://www.wikidata.org/entity/Q64> <http://www.w3.org/1999/02/22-rdf-syntax-ns#type> <http://wikiba.se/ontology#Property> .
+<http://www.wikidata.org/entity/statement/Q64-1> <http://www.w3.org/1999/02/22-rdf-syntax-ns#type> <http://wikiba.se/ontology#Statement> .
+<http://www.wikidata.org/entity/statement/Q64-1> <http://www.w3.org/1999/02/22-rdf-syntax-ns#type> <http://wikiba.se/ontology#BestRank> .
+<http://www.wikidata.org/reference/ab> <http://www.w3.org/1999/02/22-rdf-syntax-ns#type> <http://wikiba.se/ontology#Reference> .
+<http://www.wikidata.org/entity/Q64> <http://www.w3.org/2000/01/rdf-schema#label> \"Berlin\"@en .
+<http://www.wikidata.org/entity/Q64> <http://www.w3.org/2004/02/skos/core#prefLabel> \"Berlin\"@en .
+<http://www.wikidata.org/entity/Q64> <http://schema.org/name> \"Berlin\"@en .
+<http://www.wikidata.org/entity/Q64> <http://www.w3.org/2004/02/skos/core#altLabel> \"Berlin, Germany\"@en .
+<https://en.wikipedia.org/wiki/Berlin> <http://schema.org/name> \"Berlin\"@en .
+<http://www.wikidata.org/entity/Q64> <http://www.wikidata.org/prop/direct/P1> _:0a .
+_:0a <http://a/p> _:0b .";
+
+const MUNGED: &str =
+    "<http://www.wikidata.org/.well-known/genid/0a> <http://a/p> <http://www.wikidata.org/.well-known/genid/0b> .
+<http://www.wikidata.org/entity/Q64> <http://schema.org/dateModified> \"2024\" .
+<http://www.wikidata.org/entity/Q64> <http://schema.org/version> \"17\" .
+<http://www.wikidata.org/entity/Q64> <http://wikiba.se/ontology#identifiers> \"0\" .
+<http://www.wikidata.org/entity/Q64> <http://wikiba.se/ontology#sitelinks> \"2\" .
+<http://www.wikidata.org/entity/Q64> <http://wikiba.se/ontology#statements> \"3\" .
+<http://www.wikidata.org/entity/Q64> <http://www.w3.org/1999/02/22-rdf-syntax-ns#type> <http://wikiba.se/ontology#Property> .
+<http://www.wikidata.org/entity/Q64> <http://www.w3.org/2000/01/rdf-schema#label> \"Berlin\"@en .
+<http://www.wikidata.org/entity/Q64> <http://www.w3.org/2004/02/skos/core#altLabel> \"Berlin, Germany\"@en .
+<http://www.wikidata.org/entity/Q64> <http://www.wikidata.org/prop/direct/P1> <http://www.wikidata.org/.well-known/genid/0a> .
+<http://www.wikidata.org/entity/statement/Q64-1> <http://www.w3.org/1999/02/22-rdf-syntax-ns#type> <http://wikiba.se/ontology#BestRank> .
+<https://en.wikipedia.org/wiki/Berlin> <http://schema.org/name> \"Berlin\"@en .
+<https://www.wikidata.org/wiki/Special:EntityData/Q6> <http://schema.org/version> \"6\" .
+";
+
+// The term that the text writes.
+fn term(alloc: Global, text: &str) -> Result<Term, Fail> {
+    Ok(read_term(alloc, text)?.ok_or("a term")?)
+}
+
+// The triple of a line.
+fn triple(alloc: Global, line: &str) -> Result<Triple, Fail> {
+    let (subject, rest) = line.split_once(" ").ok_or("a subject")?;
+    let (predicate, rest) = rest.split_once(" ").ok_or("a predicate")?;
+    let object = rest.strip_suffix(" .").ok_or("an object")?;
+    let subject = term(alloc, subject)?;
+    let predicate = term(alloc, predicate)?;
+    let object = term(alloc, object)?;
+    Ok(Triple {
+        subject,
+        predicate,
+        object,
+    })
+}
+
+// The set of the lines' triples.
+fn set(alloc: Global, lines: &str) -> Result<TripleSet, Fail> {
+    let mut list = List::new(alloc);
+    for line in lines.lines() {
+        list.push(triple(alloc, line)?)?;
+    }
+    Ok(TripleSet::from_list(list)?)
+}
+
+// Checks that the set has the lines.
+fn check_lines(
+    rt: &(impl Abort + Alloc<A = Global>),
+    set: &TripleSet,
+    lines: &str,
+) -> Result<(), Fail> {
+    let mut out = Vec::new(rt.alloc());
+    for triple in set.items() {
+        write_triple(triple, &mut out)?;
+    }
+    assert_eq!(rt; out.as_slice(), lines.as_bytes());
+    Ok(())
+}
+
+#[test]
+fn a_page_is_munged(rt: HostRuntime) -> Result<(), Fail> {
+    let id = EntityId::read("Q64").ok_or("an id")?;
+    let dump = set(rt.alloc(), LINES)?;
+    check_lines(&rt, &munge(rt.alloc(), id, &dump)?, MUNGED)
+}
