@@ -1,0 +1,187 @@
+-- The triples of a small document have fit and short terms.
+use Rattle.std.proofs.Common.{◌≡◌, ℕ, ◌+◌, ◌≤◌, Bool, true, false, cond, List, [], ◌∷◌, ◌++◌, length, decimal, Option, Some, None, refl, arith}
+use Rattle.std.specs.List.{All, AllByRecursion, flat_map}
+use Rattle.std.proofs.lemmas.List.Elements.{recursion_from_All}
+use Rattle.rdf_term.specs.declared.term.Term.{Term}
+use Rattle.rdf_term.specs.declared.triple.Triple.{Triple}
+use Rattle.rdf_term.specs.Fit.{IsFitAndShort, HasFitAndShortTerms}
+use Rattle.rdf_term.specs.Grammar.{is_word}
+use Rattle.entity_model.specs.declared.id.EntityId.{EntityId}
+use Rattle.entity_model.specs.declared.id.IdKind.{IdKind}
+use Rattle.entity_model.specs.declared.id.IdKind.TheVariants as Letter
+use Rattle.entity_model.specs.declared.value.Tagged.{Tagged}
+use Rattle.entity_model.specs.declared.value.Value.TheVariants.{Mono}
+use Rattle.entity_model.specs.declared.statement.Statement.{Statement}
+use Rattle.entity_model.specs.declared.entity.Entity.{Entity}
+use Rattle.entity_model.specs.declared.document.Document.{Document}
+use Rattle.entity_model.specs.declared.document.Document.TheVariants.{Entity as AnEntity, Redirect}
+use Rattle.entity_model.specs.Value.{optional_length}
+use Rattle.entity_model.specs.Statement.{IsSmallStatement}
+use Rattle.entity_model.specs.Document.{IsSmall, IsSmallEntity, IsSmallLink, IsSmallTagged}
+use Rattle.rdf_vocabulary.specs.declared.datatype.Datatype.TheVariants.{Integer, DateTime}
+use Rattle.rdf_vocabulary.specs.declared.predicate.Predicate.{Predicate}
+use Rattle.rdf_vocabulary.specs.declared.predicate.Predicate.TheVariants as Say
+use Rattle.rdf_vocabulary.specs.declared.prefix.Prefix.{Prefix}
+use Rattle.rdf_vocabulary.specs.declared.prefix.Prefix.TheVariants.{Wd, Data, Wdt, P, Ps, Psv, Pq, Pqv, Pr, Prv, Wdno, Wikibase}
+use Rattle.rdf_vocabulary.specs.declared.resource.Resource.TheVariants.{Dataset, PublicDomain}
+use Rattle.rdf_vocabulary.specs.Prefix.{prefixed}
+use Rattle.rdf_vocabulary.proofs.Fit.{predicate_fit, resource_fit, prefixed_fit}
+use Rattle.value_nodes.specs.Nodes.{about}
+use Rattle.value_nodes.proofs.Fit.{literal_fit, plain_fit, simple_term_fit}
+use Rattle.statement_rdf.specs.Ranking.{is_best}
+use Rattle.statement_rdf.proofs.NamesFit.{id_term_fit, decimal_short}
+use Rattle.statement_rdf.proofs.Fit.{statement_triples_fit}
+use Rattle.entity_rdf.specs.About.{alias_triples, change_triples, class_of, class_triples, dataset_term, dataset_triples, description_triples, entity_term, format_version, identifiers, label_triples, link_count, number_term, number_triples, page_triples, text_term}
+use Rattle.entity_rdf.specs.Property.{datatype_triples, is_datatype_char, other_predicates, predicate_triple, property_triples, property_triples_of, type_name, type_triples, value_predicates}
+use Rattle.entity_rdf.specs.Statements.{judged_triples, statements_triples}
+use Rattle.entity_rdf.specs.Dump.{dump, entity_triples, redirect_triples, spoken_triples, text_triples}
+use Rattle.sitelinks.specs.Article.{article_triples}
+use Rattle.sitelinks.proofs.Fit.{article_triples_fit}
+use Rattle.entity_rdf.proofs.TypeNames.{type_name_iri, type_name_short}
+
+-- all terms of the triples are fit and short
+abbrev AreFit : List Triple → Type 0
+AreFit triples = AllByRecursion HasFitAndShortTerms triples
+
+about_fit : (node : Term) (predicate : Predicate) (object : Term) → IsFitAndShort node → IsFitAndShort object → HasFitAndShortTerms (about node predicate object)
+about_fit node predicate object n o = record { subject = n; predicate = predicate_fit predicate; object = o }
+
+join : (xs ys : List Triple) → AreFit xs → AreFit ys → AreFit (xs ++ ys)
+join [] ys p q = q
+join (x ∷ xs) ys p q = (p.0, join xs ys p.1 q)
+
+join_all : {A : Type 0} (Small : A → Type 0) (f : A → List Triple) (xs : List A) → ((x : A) → Small x → AreFit (f x)) → AllByRecursion Small xs → AreFit (flat_map f xs)
+join_all Small f [] fits all = tt
+join_all Small f (x ∷ xs) fits all = join (f x) (flat_map f xs) (fits x all.0) (join_all Small f xs fits all.1)
+
+entity_fit : (x : EntityId) → IsFitAndShort (entity_term x)
+entity_fit x = id_term_fit Wd x
+
+dataset_fit : (x : EntityId) → IsFitAndShort (dataset_term x)
+dataset_fit x = id_term_fit Data x
+
+text_fit : (t : Tagged) → IsSmallTagged t → IsFitAndShort (text_term t)
+text_fit t small = simple_term_fit [] (Mono t) (record { texts = small; id = tt })
+
+number_fit : (n : ℕ) → IsFitAndShort (number_term n)
+number_fit n = literal_fit (decimal n) Integer (omega (arith, decimal_short n))
+
+label_fit : (node : Term) → IsFitAndShort node → (t : Tagged) → IsSmallTagged t → AreFit (label_triples node t)
+label_fit node n t small =
+    let text = text_fit t small in
+    (about_fit node Say.Label _ n text, (about_fit node Say.PrefLabel _ n text, (about_fit node Say.Name _ n text, tt)))
+
+description_fit : (node : Term) → IsFitAndShort node → (t : Tagged) → IsSmallTagged t → AreFit (description_triples node t)
+description_fit node n t small = (about_fit node Say.Description _ n (text_fit t small), tt)
+
+alias_fit : (node : Term) → IsFitAndShort node → (t : Tagged) → IsSmallTagged t → AreFit (alias_triples node t)
+alias_fit node n t small = (about_fit node Say.AltLabel _ n (text_fit t small), tt)
+
+texts_fit : (x : EntityId) (e : Entity) → IsSmallEntity e → AreFit (text_triples x e)
+texts_fit x e small =
+    let node = entity_term x in
+    let n = entity_fit x in
+    let labels = flat_map (label_triples node) e.labels in
+    let descriptions = flat_map (description_triples node) e.descriptions in
+    let aliases = flat_map (alias_triples node) e.aliases in
+    join (class_triples x ++ labels ++ descriptions) aliases
+    (join (class_triples x ++ labels) descriptions
+    (join (class_triples x) labels (about_fit node Say.RdfType _ n (resource_fit (class_of x.kind)), tt)
+    (join_all IsSmallTagged (label_triples node) e.labels (label_fit node n) (recursion_from_All IsSmallTagged e.labels small.labels)))
+    (join_all IsSmallTagged (description_triples node) e.descriptions (description_fit node n) (recursion_from_All IsSmallTagged e.descriptions small.descriptions)))
+    (join_all IsSmallTagged (alias_triples node) e.aliases (alias_fit node n) (recursion_from_All IsSmallTagged e.aliases small.aliases))
+
+page_fit : (x : EntityId) → AreFit (page_triples x)
+unfolding format_version
+page_fit x =
+    let node = dataset_term x in
+    let n = dataset_fit x in (
+      about_fit node Say.RdfType _ n (resource_fit Dataset),
+      (
+        about_fit node Say.About _ n (entity_fit x),
+        (about_fit node Say.License _ n (resource_fit PublicDomain), (about_fit node Say.SoftwareVersion _ n (plain_fit format_version (omega arith)), tt)),
+      ),
+    )
+
+numbers_fit : (x : EntityId) (rev : ℕ) (statements : List Statement) → AreFit (number_triples (dataset_term x) rev statements)
+numbers_fit x rev statements =
+    let node = dataset_term x in
+    let n = dataset_fit x in (
+      about_fit node Say.Version _ n (number_fit rev),
+      (
+        about_fit node Say.Statements _ n (number_fit (length statements)),
+        (about_fit node Say.Identifiers _ n (number_fit (identifiers statements)), tt),
+      ),
+    )
+
+count_fit : (kind : IdKind) (x : EntityId) (links : ℕ) → AreFit (link_count kind (dataset_term x) links)
+count_fit Letter.P x links = tt
+count_fit Letter.Q x links = (about_fit (dataset_term x) Say.Sitelinks _ (dataset_fit x) (number_fit links), tt)
+
+change_fit : (x : EntityId) (time : Option (List ℕ)) → optional_length time ≤ 8388608 → AreFit (change_triples (dataset_term x) time)
+change_fit x None small = tt
+change_fit x (Some time) small = (about_fit (dataset_term x) Say.DateModified _ (dataset_fit x) (literal_fit time DateTime (omega (arith, small))), tt)
+
+set_fit : (x : EntityId) (rev : ℕ) (e : Entity) → IsSmallEntity e → AreFit (dataset_triples x rev e)
+set_fit x rev e small =
+    let node = dataset_term x in
+    let numbers = number_triples node rev e.statements in
+    let count = link_count x.kind node (length e.links) in
+    let change = change_triples node e.modified in
+    join (page_triples x ++ numbers ++ count) change
+    (join (page_triples x ++ numbers) count
+    (join (page_triples x) numbers (page_fit x) (numbers_fit x rev e.statements))
+    (count_fit x.kind x (length e.links)))
+    (change_fit x e.modified small.modified)
+
+typed_fit : (b : Bool) (x : EntityId) (datatype : List ℕ) → is_word is_datatype_char datatype ≡ b → length datatype ≤ 8388608 →
+    AreFit (cond b (about (entity_term x) Say.PropertyType (prefixed Wikibase (type_name datatype)) ∷ []) [])
+typed_fit false x datatype is small = tt
+typed_fit true x datatype is small =
+    (about_fit (entity_term x) Say.PropertyType _ (entity_fit x) (prefixed_fit Wikibase (type_name datatype) (type_name_iri datatype is) (omega (arith, small, type_name_short datatype))), tt)
+
+datatype_fit : (x : EntityId) (datatype : Option (List ℕ)) → optional_length datatype ≤ 8388608 → AreFit (datatype_triples (entity_term x) datatype)
+datatype_fit x None small = tt
+datatype_fit x (Some datatype) small = typed_fit (is_word is_datatype_char datatype) x datatype refl small
+
+predicate_of : (x : EntityId) (predicate : Predicate) (prefix : Prefix) → HasFitAndShortTerms (predicate_triple x predicate prefix)
+predicate_of x predicate prefix = about_fit (entity_term x) predicate _ (entity_fit x) (id_term_fit prefix x)
+
+values_fit : (x : EntityId) → AreFit (value_predicates x)
+values_fit x = (predicate_of x Say.DirectClaim Wdt, (predicate_of x Say.Claim P, (predicate_of x Say.StatementProperty Ps, (predicate_of x Say.StatementValue Psv, tt))))
+
+others_fit : (x : EntityId) → AreFit (other_predicates x)
+others_fit x =
+    (predicate_of x Say.Qualifier Pq, (predicate_of x Say.QualifierValue Pqv, (predicate_of x Say.Reference Pr, (predicate_of x Say.ReferenceValue Prv, (predicate_of x Say.Novalue Wdno, tt)))))
+
+property_fit : (kind : IdKind) (x : EntityId) (datatype : Option (List ℕ)) → optional_length datatype ≤ 8388608 → AreFit (property_triples_of kind x datatype)
+property_fit Letter.P x datatype small =
+    let types = datatype_triples (entity_term x) datatype in
+    join (types ++ value_predicates x) (other_predicates x) (join types (value_predicates x) (datatype_fit x datatype small) (values_fit x)) (others_fit x)
+property_fit Letter.Q x datatype small = tt
+
+statements_fit : (x : EntityId) (e : Entity) → IsSmallEntity e → AreFit (statements_triples x e.statements)
+statements_fit x e small =
+    join_all IsSmallStatement (judged_triples x e.statements) e.statements (λ s is. statement_triples_fit x s (is_best e.statements s) is) (recursion_from_All IsSmallStatement e.statements small.statements)
+
+articles_fit : (x : EntityId) (e : Entity) → IsSmallEntity e → AreFit (flat_map (article_triples x) e.links)
+articles_fit x e small =
+    join_all IsSmallLink (article_triples x) e.links (λ l is. article_triples_fit x l is) (recursion_from_All IsSmallLink e.links small.links)
+
+spoken_fit : (x : EntityId) (rev : ℕ) (e : Entity) → IsSmallEntity e → AreFit (spoken_triples x rev e)
+spoken_fit x rev e small =
+    let texts = text_triples x e in
+    let set = dataset_triples x rev e in
+    join (texts ++ set) (property_triples x e.datatype)
+    (join texts set (texts_fit x e small) (set_fit x rev e small))
+    (property_fit x.kind x e.datatype small.datatype)
+
+-- the triples of a small document
+pub dump_fit : (x : EntityId) (rev : ℕ) (document : Document) → IsSmall document → AreFit (dump x rev document)
+dump_fit x rev (AnEntity e) small =
+    let spoken = spoken_triples x rev e in
+    let articles = flat_map (article_triples x) e.links in
+    join (spoken ++ articles) (statements_triples x e.statements)
+    (join spoken articles (spoken_fit x rev e small) (articles_fit x e small))
+    (statements_fit x e small)
+dump_fit x rev (Redirect y) small = (about_fit (entity_term x) Say.SameAs _ (entity_fit x) (entity_fit y), tt)

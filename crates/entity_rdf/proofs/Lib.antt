@@ -1,0 +1,4 @@
+pub mod Capitals
+pub mod Given
+pub mod TypeNames
+pub mod Fit

@@ -1,0 +1,39 @@
+-- The dump of a document: the triples that its rules give.
+use Rattle.std.specs.Prelude.{ℕ, List, [], ◌∷◌, ◌++◌}
+use Rattle.std.specs.List.{flat_map}
+use Rattle.rdf_term.specs.declared.triple.Triple.{Triple}
+use Rattle.entity_model.specs.declared.id.EntityId.{EntityId}
+use Rattle.entity_model.specs.declared.entity.Entity.{Entity}
+use Rattle.entity_model.specs.declared.document.Document.{Document}
+use Rattle.entity_model.specs.declared.document.Document.TheVariants.{Entity as AnEntity, Redirect}
+use Rattle.rdf_vocabulary.specs.declared.predicate.Predicate.TheVariants as Say
+use Rattle.value_nodes.specs.Nodes.{about}
+use Rattle.sitelinks.specs.Article.{article_triples}
+use Rattle.entity_rdf.specs.About.{alias_triples, class_triples, dataset_triples, description_triples, entity_term, label_triples}
+use Rattle.entity_rdf.specs.Property.{property_triples}
+use Rattle.entity_rdf.specs.Statements.{statements_triples}
+
+-- the class and the texts of an entity
+abbrev pub text_triples : EntityId → Entity → List Triple
+text_triples x e =
+    class_triples x
+    ++ flat_map (label_triples (entity_term x)) e.labels
+    ++ flat_map (description_triples (entity_term x)) e.descriptions
+    ++ flat_map (alias_triples (entity_term x)) e.aliases
+
+-- what a page says but for its site links and statements
+abbrev pub spoken_triples : EntityId → ℕ → Entity → List Triple
+spoken_triples x rev e = text_triples x e ++ dataset_triples x rev e ++ property_triples x e.datatype
+
+-- all that an entity's page says
+abbrev pub entity_triples : EntityId → ℕ → Entity → List Triple
+entity_triples x rev e =
+    spoken_triples x rev e ++ flat_map (article_triples x) e.links ++ statements_triples x e.statements
+
+-- a redirect says that the entity is the one that it redirects to
+abbrev pub redirect_triples : EntityId → EntityId → List Triple
+redirect_triples x y = about (entity_term x) Say.SameAs (entity_term y) ∷ []
+
+abbrev pub dump : EntityId → ℕ → Document → List Triple
+dump x rev (AnEntity e) = entity_triples x rev e
+dump x rev (Redirect y) = redirect_triples x y

@@ -1,0 +1,15 @@
+-- The triples of all statements of an entity, each judged among them.
+use Rattle.std.specs.Prelude.{List}
+use Rattle.std.specs.List.{flat_map}
+use Rattle.rdf_term.specs.declared.triple.Triple.{Triple}
+use Rattle.entity_model.specs.declared.id.EntityId.{EntityId}
+use Rattle.entity_model.specs.declared.statement.Statement.{Statement}
+use Rattle.statement_rdf.specs.Ranking.{is_best}
+use Rattle.statement_rdf.specs.Statement.{statement_triples}
+
+-- a statement, best or not among all of them
+abbrev pub judged_triples : EntityId → List Statement → Statement → List Triple
+judged_triples x all s = statement_triples x s (is_best all s)
+
+abbrev pub statements_triples : EntityId → List Statement → List Triple
+statements_triples x all = flat_map (judged_triples x all) all

@@ -1,0 +1,15 @@
+// What holds of the definitions themselves. Each law is the contract of a function that does nothing.
+
+ghost use Rattle.std.specs.Prelude.{◌↔◌, ℕ};
+ghost use Rattle.rising.specs.Rising.{In};
+ghost use Rattle.rdf_term.specs.declared.triple.Triple.{Triple};
+ghost use Rattle.entity_model.specs.declared.id.EntityId.{EntityId};
+ghost use Rattle.entity_model.specs.declared.document.Document.{Document};
+ghost use Rattle.entity_rdf.specs.Dump.{dump};
+ghost use Rattle.entity_rdf.specs.Gives.{Gives};
+
+/// The triples of a document are exactly those that a rule of the dump format gives.
+#[tactic(auto, using(crate::proofs::Given::dump_rules))]
+pub fn dump_triples_are_given()
+    ensures { (x : EntityId) (rev : ℕ) (document : Document) (t : Triple) → In t (dump x rev document) ↔ Gives x rev document t }
+{}
