@@ -20,6 +20,12 @@ HasCause Missing misses misses_now faults faults_now = Rose misses misses_now
 HasCause Failed misses misses_now faults faults_now = Rose faults faults_now
 HasCause OutOfMemory misses misses_now faults faults_now = ⊤
 
+-- the counts that don't show why a fetch gave nothing stay as they were
+abbrev pub IsOtherwiseStill : NoRevision → ℕ → ℕ → ℕ → ℕ → Type 0
+IsOtherwiseStill Missing misses misses_now faults faults_now = faults_now ≡ faults
+IsOtherwiseStill Failed misses misses_now faults faults_now = misses_now ≡ misses
+IsOtherwiseStill OutOfMemory misses misses_now faults faults_now = (misses_now ≡ misses) × (faults_now ≡ faults)
+
 -- a count in 64 bits after one more
 abbrev pub counted : ℕ → ℕ
 counted n = min (n + 1) (2 ^ 64 - 1)

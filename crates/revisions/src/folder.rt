@@ -1,7 +1,7 @@
 // The revisions of a folder.
 
 ghost use Rattle.std.specs.Prelude.{◌≡◌, ◌+◌, ◌-◌, ◌^◌, ◌≤◌, None, min};
-ghost use Rattle.revisions.specs.Revisions.{HasCause, counted};
+ghost use Rattle.revisions.specs.Revisions.{HasCause, IsOtherwiseStill, counted};
 
 use crate::revisions::{NoRevision, Revisions};
 use std::alloc::Global;
@@ -23,7 +23,9 @@ pub struct Folder<R: Files> {
 
 impl<R: Files> Folder<R> {
     /// No call was made yet.
-    pub fn new(runtime: R) -> Folder<R> {
+    pub fn new(runtime: R) -> Folder<R>
+        ensures { (result.calls ≡ 0) × (result.faults ≡ 0) × (result.misses ≡ 0) }
+    {
         Folder {
             runtime,
             calls: 0,
@@ -36,6 +38,7 @@ impl<R: Files> Folder<R> {
     fn count(&mut self, why: NoRevision)
         ensures called { self.new.calls ≡ self.old.calls }
         ensures cause { HasCause why self.old.misses self.new.misses self.old.faults self.new.faults }
+        ensures others { IsOtherwiseStill why self.old.misses self.new.misses self.old.faults self.new.faults }
         ensures more_faults { self.old.faults ≤ self.new.faults }
         ensures more_misses { self.old.misses ≤ self.new.misses }
     {

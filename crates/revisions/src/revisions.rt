@@ -1,7 +1,7 @@
 // The trait of the outside for revisions.
 
 ghost use Rattle.std.specs.Prelude.{◌≡◌, ℕ, ◌≤◌, Option, Some, IfSome, IfErr, MatchResult};
-ghost use Rattle.revisions.specs.Revisions.{Contents, AgreesWith, HasCause, counted};
+ghost use Rattle.revisions.specs.Revisions.{Contents, AgreesWith, HasCause, IsOtherwiseStill, counted};
 ghost use Rattle.revisions.specs.declared.revisions.NoRevision.TheVariants.{OutOfMemory as Refused};
 
 use rdf_term::OutOfMemory;
@@ -50,6 +50,9 @@ pub trait Revisions {
             MatchResult result (λ v. there place.now rev ≡ Some v.items) (λ e. AgreesWith e (there place.now rev))) }
         ensures cause { IfErr result (λ e.
             HasCause e (misses self.old) (misses self.new) (faults self.old) (faults self.new)) }
+        ensures quiet { MatchResult result
+            (λ _. (misses self.new ≡ misses self.old) × (faults self.new ≡ faults self.old))
+            (λ e. IsOtherwiseStill e (misses self.old) (misses self.new) (faults self.old) (faults self.new)) }
         ensures more_faults { faults self.old ≤ faults self.new }
         ensures more_misses { misses self.old ≤ misses self.new };
 }

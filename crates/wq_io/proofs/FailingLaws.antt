@@ -1,7 +1,7 @@
--- A count of the numbers up to a bound never falls as the bound rises, and rises where the next number is listed.
+-- A count of the numbers up to a bound never falls as the bound rises, and rises exactly where the next number is listed.
 use Rattle.std.proofs.Common.{refl, sym, ◌≡◌, ℕ, ◌+◌, ◌≤◌, Bool, true, false, cond, ◌||◌, ◌==◌, nat_le, List, [], ◌∷◌, count_by, arith}
 use Rattle.std.specs.List.{list_any}
-use Rattle.std.specs.Bool.{OnTrue}
+use Rattle.std.specs.Bool.{OnTrue, OnFalse}
 use Rattle.std.proofs.lemmas.Bool.Decides.{nat_tests}
 use Rattle.std.proofs.lemmas.List.Sums.{sum_by-cons}
 
@@ -37,3 +37,23 @@ pub rises_where : (b : Bool) (m n : ℕ) (xs : List ℕ) → n ≡ m + 1 → b �
     OnTrue b (count_by (λ k. nat_le k m) xs + 1 ≤ count_by (λ k. nat_le k n) xs)
 rises_where true m n xs next found = rw next (counts_next m xs (rw next at (sym found)))
 rises_where false m n xs next found = tt
+
+one_still : (m x : ℕ) → (x == m + 1) ≡ false → one_to (m + 1) x ≡ one_to m x
+one_still m x h = grind (arith, nat_tests)
+
+-- where the next number isn't listed, the next bound counts as many
+pub counts_still : (m : ℕ) (xs : List ℕ) → list_any (λ k. k == m + 1) xs ≡ false →
+    count_by (λ k. nat_le k (m + 1)) xs ≡ count_by (λ k. nat_le k m) xs
+counts_still m [] found = refl
+counts_still m (x ∷ xs) found =
+    let P : Bool → Type 0 = λ b. (x == m + 1) ≡ b → (b || list_any (λ k. k == m + 1) xs) ≡ false → count_by (λ k. nat_le k (m + 1)) (x ∷ xs) ≡ count_by (λ k. nat_le k m) (x ∷ xs) in
+    let cases : (b : Bool) → P b = elim [
+      | true ↦ λ _ there. cc
+      | false ↦ λ here there. omega (arith, counts_still m xs there, one_still m x here, sum_by-cons (one_to m) x xs, sum_by-cons (one_to (m + 1)) x xs)
+    ] in cases (x == m + 1) refl found
+
+-- where a test doesn't find the next number, the count stays
+pub still_where : (b : Bool) (m n : ℕ) (xs : List ℕ) → n ≡ m + 1 → b ≡ list_any (λ k. k == n) xs →
+    OnFalse b (count_by (λ k. nat_le k n) xs ≡ count_by (λ k. nat_le k m) xs)
+still_where true m n xs next found = tt
+still_where false m n xs next found = rw next (counts_still m xs (rw next at (sym found)))

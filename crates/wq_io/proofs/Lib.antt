@@ -4,3 +4,4 @@ pub mod LineFeeds
 pub mod Taken
 pub mod NextLine
 pub mod LineLists
+pub mod Refusals

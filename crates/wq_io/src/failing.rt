@@ -1,7 +1,7 @@
 // Calls that are to fail, by their numbers.
 
 ghost use Rattle.std.specs.Prelude.{◌≡◌, ◌+◌, ◌≤◌};
-ghost use Rattle.std.specs.Bool.{OnTrue};
+ghost use Rattle.std.specs.Bool.{OnTrue, OnFalse};
 ghost use Rattle.wq_io.specs.Failing.{after_call, fails_next, failures};
 
 use rdf_term::List;
@@ -42,6 +42,7 @@ impl FailingCalls {
         ensures answer { result ≡ fails_next self.old }
         ensures counted { self.new ≡ after_call self.old }
         ensures later { failures self.old ≤ failures self.new }
+        ensures still { OnFalse result (failures self.new ≡ failures self.old) }
         ensures rises { OnTrue result (failures self.old + 1 ≤ failures self.new) }
     {
         let Some(call) = self.calls.checked_add(1) else {

@@ -127,9 +127,9 @@ impl Sink for MemorySink {
             return Err(NoWrite::Failed);
         }
         let count = self.piece.min(bytes.len());
-        self.bytes
-            .extend_from_slice(&bytes[..count])
-            .map_err(|_| NoWrite::OutOfMemory)?;
-        Ok(count)
+        match self.bytes.extend_from_slice(&bytes[..count]) {
+            Ok(()) => Ok(count),
+            Err(_) => Err(NoWrite::OutOfMemory),
+        }
     }
 }

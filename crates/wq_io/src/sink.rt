@@ -1,6 +1,6 @@
 // What bytes are written to.
 
-ghost use Rattle.std.specs.Prelude.{◌≡◌, ℕ, ◌<◌, ◌≤◌, List, Option, length, IfOk, IfErr};
+ghost use Rattle.std.specs.Prelude.{◌≡◌, ℕ, ◌<◌, ◌≤◌, List, Option, length, IfOk, IfErr, OnOk};
 ghost use Rattle.wq_io.specs.Streams.{WritePuts, Rose};
 ghost use Rattle.wq_io.specs.declared.sink.NoWrite.TheVariants.{Failed as CallFailed, OutOfMemory as Refused};
 
@@ -40,5 +40,7 @@ pub trait Sink {
         ensures bound { IfOk result (λ n. (0 < n) × (n ≤ length bytes.now)) }
         ensures bytes { WritePuts (held self.old) (held self.new) result bytes.now }
         ensures later { faults self.old ≤ faults self.new }
+        ensures quiet { OnOk result (faults self.new ≡ faults self.old) }
+        ensures refused { IfErr result (λ e. e ≡ Refused → faults self.new ≡ faults self.old) }
         ensures cause { IfErr result (λ e. e ≡ CallFailed → Rose (faults self.old) (faults self.new)) };
 }

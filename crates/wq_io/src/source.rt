@@ -1,6 +1,6 @@
 // What bytes are read from.
 
-ghost use Rattle.std.specs.Prelude.{◌≡◌, ℕ, ◌<◌, ◌≤◌, List, Option, length, IfOk, OnErr};
+ghost use Rattle.std.specs.Prelude.{◌≡◌, ℕ, ◌<◌, ◌≤◌, List, Option, length, IfOk, OnOk, OnErr};
 ghost use Rattle.wq_io.specs.Streams.{ReadTakes, Rose};
 
 use thiserror::Error;
@@ -24,5 +24,6 @@ pub trait Source {
         ensures bound { IfOk result (λ n. n ≤ length buf.new) }
         ensures bytes { ReadTakes (left self.old) (left self.new) result buf.new }
         ensures later { faults self.old ≤ faults self.new }
+        ensures quiet { OnOk result (faults self.new ≡ faults self.old) }
         ensures cause { OnErr result (Rose (faults self.old) (faults self.new)) };
 }

@@ -15,7 +15,9 @@ pub struct StdSource<R: Read> {
 
 impl<R: Read> StdSource<R> {
     /// No call failed yet.
-    pub fn new(reader: R) -> StdSource<R> {
+    pub fn new(reader: R) -> StdSource<R>
+        ensures { result.faults ≡ 0 }
+    {
         StdSource { reader, faults: 0 }
     }
 }
@@ -45,12 +47,15 @@ pub struct StdSink<W: Write> {
 
 impl<W: Write> StdSink<W> {
     /// No call failed yet.
-    pub fn new(writer: W) -> StdSink<W> {
+    pub fn new(writer: W) -> StdSink<W>
+        ensures { result.faults ≡ 0 }
+    {
         StdSink { writer, faults: 0 }
     }
 
     // A failure is counted.
     fn fail(&mut self) -> NoWrite
+        ensures failed { result ≡ NoWrite.Failed }
         ensures later { self.old.faults ≤ self.new.faults }
         ensures counted { self.new.faults ≡ min (self.old.faults + 1) (2 ^ 64 - 1) }
     {
