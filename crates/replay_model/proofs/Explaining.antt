@@ -1,16 +1,13 @@
 -- How each step keeps a replay's state explained by a play: the start, an event, a watermark, the end, one due event applied, and none left.
-use Rattle.std.proofs.Common.{◌≡◌, ℕ, ℤ, Bool, true, false, cond, ◌||◌, ⊎_elim, List, [], ◌∷◌, ◌++◌, Option, None, Some, Result, Err, is_eq, refl, sym, ◌∙◌, ap, subst, true≢false, append-nil}
+use Rattle.std.proofs.Common.{◌≡◌, ℕ, ◌+◌, ℤ, length, length-append, arith, Bool, true, false, cond, ◌||◌, ⊎_elim, List, [], ◌∷◌, ◌++◌, Option, None, Some, Result, Err, is_eq, refl, sym, ◌∙◌, ap, subst, true≢false, append-nil}
 use Rattle.std.specs.Ordering.{eq_by_cmp}
 use Rattle.std.proofs.lemmas.Cmp.{tied_itself}
-use Rattle.std.proofs.lemmas.List.Elements.{filter_map-append}
 use Rattle.entity_model.specs.declared.event.Event.{Event}
 use Rattle.entity_model.specs.Event.{event_cmp, event_cmp_total, event_cmp_same}
 use Rattle.side_output.specs.declared.entry.Cause.{Cause}
 use Rattle.side_output.specs.declared.entry.Cause.TheVariants.{Failed}
 use Rattle.event_line.specs.declared.deliveries.Delivery.{Delivery}
 use Rattle.event_line.specs.declared.deliveries.Delivery.TheVariants.{Event as Told, Watermark}
-use Rattle.reorder_buffer.specs.declared.taken.Taken.{Taken}
-use Rattle.reorder_buffer.specs.declared.taken.Taken.TheVariants.{New, Repeat, Late}
 use Rattle.reorder_buffer.specs.Watermarks.{is_due}
 use Rattle.reorder_buffer.specs.Buffered.{answer_to, first_due}
 use Rattle.rising.specs.Rising.{has}
@@ -18,11 +15,12 @@ use Rattle.rising.proofs.Bools.{equal, or_none, or_true}
 use Rattle.rising.proofs.Rising.{has-append}
 use Rattle.rising.proofs.FirstPassing.{has-found}
 use Rattle.replay_model.specs.Records.{Bytes}
-use Rattle.replay_model.specs.Play.{Replies}
-use Rattle.replay_model.specs.Replies.{Judgement, reply_there, source_replies, failed_event, failed_events}
-use Rattle.replay_model.specs.ReplayState.{ReplayState, nothing_delivered, taken_entries, after_event, after_mark, after_end, after_applying, after_due, following, following_to_end}
-use Rattle.replay_model.specs.Explained.{is_applied, AgreeOnApplied, revision_wanted, is_fetching, IsHonest, Explained}
+use Rattle.replay_model.specs.Play.{Replies, Fetch, fetches, fetches_to_end}
+use Rattle.replay_model.specs.Replies.{Judgement, reply_there, source_replies, failed_events}
+use Rattle.replay_model.specs.ReplayState.{ReplayState, nothing_delivered, after_event, after_mark, after_end, after_applying, after_due, following, fetches_for, fetches_due}
+use Rattle.replay_model.specs.Explained.{is_applied, AgreeOnApplied, revision_wanted, is_fetching, IsHonest, Explained, ExplainedAfter, ExplainedToEnd}
 use Rattle.replay_model.proofs.Applied.{Apart, Apart-following, Apart-applying, applied-event, applied-next, waiting_not_applied}
+use Rattle.replay_model.proofs.FetchCounts.{fetches_due-none, fetches_due-some, fetches-delivered, fetches-end}
 use Rattle.replay_model.proofs.Fetching.{apply-same, failed_of, failed_by, failed-applying, failed-taken, has-failed_by, failed_of-there}
 use Rattle.replay_model.proofs.Following.{following-delivered, following-end, following-rests, after_due-none, after_due-some}
 
@@ -31,75 +29,111 @@ contradicts b p q = absurd (true≢false (sym p ∙ q))
 
 module _ (unfit : Judgement) (told : Option (ℕ → Option Bytes)) where
   -- before the first delivery
-  pub Explained-start : Explained unfit told (λ replies. following replies []) nothing_delivered
+  pub Explained-start : ExplainedAfter unfit told [] 0 nothing_delivered
   Explained-start = record {
     replies = λ e r. Err Failed;
     rises = tt;
     within = λ q h. contradicts false h refl;
     not_late = λ q h. contradicts false h refl;
     leads = λ others agree. refl;
+    counts = λ others agree. refl;
     honest = λ contents is q r h. contradicts false h refl;
     failed_applied = λ q h. contradicts false h refl;
   }
 
-  -- where no event is due, the state is the play's
-  pub Explained-rests : (play_of : Replies → ReplayState) (w : ReplayState) (x : Explained unfit told play_of w) → first_due w.buffer ≡ None → (others : Replies) → AgreeOnApplied w x.replies others → w ≡ play_of others
-  Explained-rests play_of w x none others agree = sym (after_due-none others w none) ∙ x.leads others agree
+  module _ (play_of : Replies → ReplayState) (fetches_of : Replies → List Fetch) (made : ℕ) (w : ReplayState) (x : Explained unfit told play_of fetches_of made w) (none : first_due w.buffer ≡ None) where
+    -- where no event is due, the state is the play's, and the fetches are made
+    pub Explained-rests : (others : Replies) → AgreeOnApplied w x.replies others → w ≡ play_of others
+    Explained-rests others agree = sym (after_due-none others w none) ∙ x.leads others agree
 
-  pub Explained-is : (play_of : Replies → ReplayState) (w : ReplayState) (x : Explained unfit told play_of w) → first_due w.buffer ≡ None → w ≡ play_of x.replies
-  Explained-is play_of w x none = Explained-rests play_of w x none x.replies (λ q r h. refl)
+    pub Explained-made : (others : Replies) → AgreeOnApplied w x.replies others → made ≡ length (fetches_of others)
+    Explained-made others agree =
+        let left : length (fetches_due others w) ≡ 0 = ap length (fetches_due-none others w none) in
+        omega (arith, x.counts others agree)
 
-  -- and where the contents are told, it is the play with the source's replies
-  pub Explained-source : (play_of : Replies → ReplayState) (w : ReplayState) → Explained unfit told play_of w → first_due w.buffer ≡ None → (contents : ℕ → Option Bytes) → told ≡ Some contents → w ≡ play_of (source_replies unfit contents (failed_events w.played.side))
-  Explained-source play_of w x none contents is = Explained-rests play_of w x none (source_replies unfit contents (failed_events w.played.side)) (λ q r h. sym (x.honest contents is q r h))
+    -- the play with some replies
+    pub Explained-is : w ≡ play_of x.replies
+    Explained-is = Explained-rests x.replies (λ q r h. refl)
 
-  -- an event is taken
-  pub Explained-event : (ds : List Delivery) (w : ReplayState) (e : Event) → Explained unfit told (λ replies. following replies ds) w → first_due w.buffer ≡ None → Explained unfit told (λ replies. following replies (ds ++ Told e ∷ [])) (after_event w e)
-  Explained-event ds w e x none =
-      let is : after_event w e ≡ following x.replies (ds ++ Told e ∷ []) = ap (λ v. after_event v e) (Explained-is (λ replies. following replies ds) w x none) ∙ sym (following-delivered x.replies ds (Told e)) in
-      let parts : Apart (after_event w e) = subst Apart (sym is) (Apart-following x.replies (ds ++ Told e ∷ [])) in
-      let failed = failed-taken w.played.side (answer_to w.buffer e) e in
-      record {
-        replies = x.replies;
-        rises = parts.rises;
-        within = parts.within;
-        not_late = parts.not_late;
-        leads = λ others agree.
-            let same : after_event w e ≡ following others (ds ++ Told e ∷ []) = ap (λ v. after_event v e) (Explained-rests (λ replies. following replies ds) w x none others (λ q r h. agree q r (applied-event w e q ∙ h))) ∙ sym (following-delivered others ds (Told e)) in
-            ap (after_due others) same ∙ after_due-none others (following others (ds ++ Told e ∷ [])) (following-rests others (ds ++ Told e ∷ []));
-        honest = λ contents known q r h. x.honest contents known q r (sym (applied-event w e q) ∙ h) ∙ ap (λ fs. source_replies unfit contents fs q r) (sym failed);
-        failed_applied = λ q h. applied-event w e q ∙ x.failed_applied q (ap (has event_cmp q) (sym failed) ∙ h);
-      }
+    pub Explained-fetches : made ≡ length (fetches_of x.replies)
+    Explained-fetches = Explained-made x.replies (λ q r h. refl)
 
-  -- and no event is due after it
-  pub Explained-event_rests : (ds : List Delivery) (w : ReplayState) (e : Event) → Explained unfit told (λ replies. following replies ds) w → first_due w.buffer ≡ None → first_due (after_event w e).buffer ≡ None
-  Explained-event_rests ds w e x none =
-      ap (λ (v : ReplayState). first_due v.buffer) (ap (λ v. after_event v e) (Explained-is (λ replies. following replies ds) w x none) ∙ sym (following-delivered x.replies ds (Told e)))
-      ∙ following-rests x.replies (ds ++ Told e ∷ [])
+    -- where the contents are told, the play with the source's replies
+    pub Explained-source : (contents : ℕ → Option Bytes) → told ≡ Some contents → w ≡ play_of (source_replies unfit contents (failed_events w.played.side))
+    Explained-source contents is = Explained-rests (source_replies unfit contents (failed_events w.played.side)) (λ q r h. sym (x.honest contents is q r h))
 
-  -- a watermark is taken
-  pub Explained-mark : (ds : List Delivery) (w : ReplayState) (m : ℤ) → Explained unfit told (λ replies. following replies ds) w → first_due w.buffer ≡ None → Explained unfit told (λ replies. following replies (ds ++ Watermark m ∷ [])) (after_mark w m)
-  Explained-mark ds w m x none = record {
-    replies = x.replies;
-    rises = x.rises;
-    within = x.within;
-    not_late = x.not_late;
-    leads = λ others agree. ap (λ v. after_due others (after_mark v m)) (Explained-rests (λ replies. following replies ds) w x none others agree) ∙ sym (following-delivered others ds (Watermark m));
-    honest = x.honest;
-    failed_applied = x.failed_applied;
-  }
+    pub Explained-source_fetches : (contents : ℕ → Option Bytes) → told ≡ Some contents → made ≡ length (fetches_of (source_replies unfit contents (failed_events w.played.side)))
+    Explained-source_fetches contents is = Explained-made (source_replies unfit contents (failed_events w.played.side)) (λ q r h. sym (x.honest contents is q r h))
 
-  -- the end is taken
-  pub Explained-end : (ds : List Delivery) (w : ReplayState) → Explained unfit told (λ replies. following replies ds) w → first_due w.buffer ≡ None → Explained unfit told (λ replies. following_to_end replies ds) (after_end w)
-  Explained-end ds w x none = record {
-    replies = x.replies;
-    rises = x.rises;
-    within = x.within;
-    not_late = x.not_late;
-    leads = λ others agree. ap (λ v. after_due others (after_end v)) (Explained-rests (λ replies. following replies ds) w x none others agree) ∙ sym (following-end others ds);
-    honest = x.honest;
-    failed_applied = x.failed_applied;
-  }
+  module _ (ds : List Delivery) (made : ℕ) (w : ReplayState) (x : ExplainedAfter unfit told ds made w) (none : first_due w.buffer ≡ None) where
+    following_others : (others : Replies) → AgreeOnApplied w x.replies others → w ≡ following others ds
+    following_others = Explained-rests (λ replies. following replies ds) (λ replies. fetches replies ds) made w x none
+
+    made_before : (others : Replies) → AgreeOnApplied w x.replies others → made ≡ length (fetches others ds)
+    made_before = Explained-made (λ replies. following replies ds) (λ replies. fetches replies ds) made w x none
+
+    following_itself : w ≡ following x.replies ds
+    following_itself = following_others x.replies (λ q r h. refl)
+
+    -- an event is taken
+    pub Explained-event : (e : Event) → ExplainedAfter unfit told (ds ++ Told e ∷ []) made (after_event w e)
+    Explained-event e =
+        let is : after_event w e ≡ following x.replies (ds ++ Told e ∷ []) = ap (λ v. after_event v e) following_itself ∙ sym (following-delivered x.replies ds (Told e)) in
+        let parts : Apart (after_event w e) = subst Apart (sym is) (Apart-following x.replies (ds ++ Told e ∷ [])) in
+        let failed = failed-taken w.played.side (answer_to w.buffer e) e in
+        let before : (others : Replies) → AgreeOnApplied (after_event w e) x.replies others → AgreeOnApplied w x.replies others = λ others agree q r h. agree q r (applied-event w e q ∙ h) in
+        let same : (others : Replies) → AgreeOnApplied (after_event w e) x.replies others → after_event w e ≡ following others (ds ++ Told e ∷ []) = λ others agree. ap (λ v. after_event v e) (following_others others (before others agree)) ∙ sym (following-delivered others ds (Told e)) in
+        record {
+          replies = x.replies;
+          rises = parts.rises;
+          within = parts.within;
+          not_late = parts.not_late;
+          leads = λ others agree. ap (after_due others) (same others agree) ∙ after_due-none others (following others (ds ++ Told e ∷ [])) (following-rests others (ds ++ Told e ∷ []));
+          counts = λ others agree.
+              let left : length (fetches_due others (after_event w e)) ≡ 0 = ap (λ v. length (fetches_due others v)) (same others agree) ∙ ap length (fetches_due-none others (following others (ds ++ Told e ∷ [])) (following-rests others (ds ++ Told e ∷ []))) in
+              let all : length (fetches others (ds ++ Told e ∷ [])) ≡ length (fetches others ds) = ap length (fetches-delivered others ds (Told e) ∙ append-nil (fetches others ds)) in
+              omega (arith, made_before others (before others agree));
+          honest = λ contents known q r h. x.honest contents known q r (sym (applied-event w e q) ∙ h) ∙ ap (λ fs. source_replies unfit contents fs q r) (sym failed);
+          failed_applied = λ q h. applied-event w e q ∙ x.failed_applied q (ap (has event_cmp q) (sym failed) ∙ h);
+        }
+
+    -- and no event is due after it
+    pub Explained-event_rests : (e : Event) → first_due (after_event w e).buffer ≡ None
+    Explained-event_rests e =
+        ap (λ (v : ReplayState). first_due v.buffer) (ap (λ v. after_event v e) following_itself ∙ sym (following-delivered x.replies ds (Told e)))
+        ∙ following-rests x.replies (ds ++ Told e ∷ [])
+
+    -- a watermark is taken
+    pub Explained-mark : (m : ℤ) → ExplainedAfter unfit told (ds ++ Watermark m ∷ []) made (after_mark w m)
+    Explained-mark m = record {
+      replies = x.replies;
+      rises = x.rises;
+      within = x.within;
+      not_late = x.not_late;
+      leads = λ others agree. ap (λ v. after_due others (after_mark v m)) (following_others others agree) ∙ sym (following-delivered others ds (Watermark m));
+      counts = λ others agree.
+          let now : length (fetches_due others (after_mark w m)) ≡ length (fetches_due others (after_mark (following others ds) m)) = ap (λ v. length (fetches_due others (after_mark v m))) (following_others others agree) in
+          let all : length (fetches others (ds ++ Watermark m ∷ [])) ≡ length (fetches others ds) + length (fetches_due others (after_mark (following others ds) m)) = ap length (fetches-delivered others ds (Watermark m)) ∙ length-append (fetches others ds) (fetches_due others (after_mark (following others ds) m)) in
+          omega (arith, made_before others agree);
+      honest = x.honest;
+      failed_applied = x.failed_applied;
+    }
+
+    -- the end is taken
+    pub Explained-end : ExplainedToEnd unfit told ds made (after_end w)
+    Explained-end = record {
+      replies = x.replies;
+      rises = x.rises;
+      within = x.within;
+      not_late = x.not_late;
+      leads = λ others agree. ap (λ v. after_due others (after_end v)) (following_others others agree) ∙ sym (following-end others ds);
+      counts = λ others agree.
+          let now : length (fetches_due others (after_end w)) ≡ length (fetches_due others (after_end (following others ds))) = ap (λ v. length (fetches_due others (after_end v))) (following_others others agree) in
+          let all : length (fetches_to_end others ds) ≡ length (fetches others ds) + length (fetches_due others (after_end (following others ds))) = ap length (fetches-end others ds) ∙ length-append (fetches others ds) (fetches_due others (after_end (following others ds))) in
+          omega (arith, made_before others agree);
+      honest = x.honest;
+      failed_applied = x.failed_applied;
+    }
 
 -- ---- one due event is applied
 
@@ -109,6 +143,23 @@ replied replies e now q r = cond (eq_by_cmp event_cmp q e) (now r) (replies q r)
 
 itself : (e : Event) → eq_by_cmp event_cmp e e ≡ true
 itself e = ap is_eq (tied_itself event_cmp_total e)
+
+-- how many fetches the application of an event makes
+abbrev pub fetches_counted : Bool → ℕ
+fetches_counted fetching = cond fetching 1 0
+
+length-fetches_for : (w : ReplayState) (e : Event) → length (fetches_for w (Some e)) ≡ fetches_counted (is_fetching w e)
+length-fetches_for w e = by (is_fetching w e)
+  where
+    by : (b : Bool) → length {A = Fetch} (cond b (record { event = e; revision = revision_wanted w e } ∷ []) []) ≡ fetches_counted b
+    by true = refl
+    by false = refl
+
+length-fetches_due : (replies : Replies) (w : ReplayState) (e : Event) → first_due w.buffer ≡ Some e → length (fetches_due replies w) ≡ fetches_counted (is_fetching w e) + length (fetches_due replies (after_applying replies w (Some e)))
+length-fetches_due replies w e some =
+    ap length (fetches_due-some replies w e some)
+    ∙ length-append (fetches_for w (Some e)) (fetches_due replies (after_applying replies w (Some e)))
+    ∙ ap (λ n. n + length (fetches_due replies (after_applying replies w (Some e)))) (length-fetches_for w e)
 
 -- the state after the event is applied with this reply
 abbrev pub next_by : ReplayState → Event → Result Bytes Cause → ReplayState
@@ -127,7 +178,7 @@ honest_is unfit contents failed e r reply fresh honest =
     (λ is. ap (λ b. cond b (Err Failed) (reply_there unfit e.entity (contents r))) (ap (λ p. has event_cmp e (failed ++ failed_of e p)) is ∙ ap (λ l. has event_cmp e (failed ++ l)) (failed_of-there unfit e (contents r)) ∙ ap (has event_cmp e) (append-nil failed) ∙ fresh) ∙ sym is)
     honest
 
-module _ (unfit : Judgement) (told : Option (ℕ → Option Bytes)) (play_of : Replies → ReplayState) (w : ReplayState) (e : Event) (reply : Result Bytes Cause) where
+module _ (unfit : Judgement) (told : Option (ℕ → Option Bytes)) (play_of : Replies → ReplayState) (fetches_of : Replies → List Fetch) (made : ℕ) (w : ReplayState) (e : Event) (reply : Result Bytes Cause) where
   fetched : (known : Option (ℕ → Option Bytes)) → has event_cmp e (failed_events w.played.side) ≡ false → (fetching : Bool) → fetching ≡ true
       → ((contents : ℕ → Option Bytes) → known ≡ Some contents → IsHonest unfit contents e (revision_wanted w e) reply)
       → now_replied unfit known (failed_events w.played.side ++ failed_by fetching e reply) e reply (revision_wanted w e) ≡ reply
@@ -143,9 +194,9 @@ module _ (unfit : Judgement) (told : Option (ℕ → Option Bytes)) (play_of : R
   told_now known contents failed r is = ap (λ k. now_replied unfit k failed e reply r) is
 
   -- one due event is applied, with any reply where contents aren't told, and an honest one where they are
-  pub Explained-next : Explained unfit told play_of w → first_due w.buffer ≡ Some e
+  pub Explained-next : Explained unfit told play_of fetches_of made w → first_due w.buffer ≡ Some e
       → ((contents : ℕ → Option Bytes) → told ≡ Some contents → is_fetching w e ≡ true → IsHonest unfit contents e (revision_wanted w e) reply)
-      → Explained unfit told play_of (next_by w e reply)
+      → Explained unfit told play_of fetches_of (made + fetches_counted (is_fetching w e)) (next_by w e reply)
   Explained-next x some honest =
       let parts : Apart w = record { rises = x.rises; within = x.within; not_late = x.not_late } in
       let parts_next : Apart (next_by w e reply) = Apart-applying (λ q r. reply) w e parts some in
@@ -155,21 +206,27 @@ module _ (unfit : Judgement) (told : Option (ℕ → Option Bytes)) (play_of : R
       let failed : failed_events (next_by w e reply).played.side ≡ failed_events w.played.side ++ failed_by (is_fetching w e) e reply = failed-applying (λ q r. reply) w e in
       let applied : (q : Event) → is_applied (next_by w e reply) q ≡ (eq_by_cmp event_cmp q e || is_applied w q) = λ q. applied-next (λ q r. reply) w e q parts some in
       let other : (q : Event) → is_applied w q ≡ true → eq_by_cmp event_cmp q e ≡ false = λ q h. false_unless (eq_by_cmp event_cmp q e) (λ tie. contradicts _ (ap (is_applied w) (sym (event_cmp_same q e (equal _ tie))) ∙ h) not_yet) in
+      let before : (others : Replies) → AgreeOnApplied (next_by w e reply) (replies_next x.replies) others → AgreeOnApplied w x.replies others = λ others agree q r h.
+      agree q r (applied q ∙ or_true (eq_by_cmp event_cmp q e) _ h)
+      ∙ ap (λ b. cond b (now_replied unfit told (failed_events (next_by w e reply).played.side) e reply r) (x.replies q r)) (other q h) in
+      let now : (others : Replies) → AgreeOnApplied (next_by w e reply) (replies_next x.replies) others → is_fetching w e ≡ true → others e (revision_wanted w e) ≡ reply = λ others agree fetching.
+      agree e (revision_wanted w e) (applied e ∙ ap (λ b. b || is_applied w e) (itself e))
+      ∙ ap (λ b. cond b (now_replied unfit told (failed_events (next_by w e reply).played.side) e reply (revision_wanted w e)) (x.replies e (revision_wanted w e))) (itself e)
+      ∙ ap (λ fs. now_replied unfit told fs e reply (revision_wanted w e)) failed
+      ∙ fetched told fresh (is_fetching w e) fetching (λ contents is. honest contents is fetching) in
       record {
         replies = replies_next x.replies;
         rises = parts_next.rises;
         within = parts_next.within;
         not_late = parts_next.not_late;
         leads = λ others agree.
-            let before : AgreeOnApplied w x.replies others = λ q r h. agree q r (applied q ∙ or_true (eq_by_cmp event_cmp q e) _ h) ∙ ap (λ b. cond b (now_replied unfit told (failed_events (next_by w e reply).played.side) e reply r) (x.replies q r)) (other q h) in
-            let now : is_fetching w e ≡ true → others e (revision_wanted w e) ≡ reply = λ fetching.
-            agree e (revision_wanted w e) (applied e ∙ ap (λ b. b || is_applied w e) (itself e))
-            ∙ ap (λ b. cond b (now_replied unfit told (failed_events (next_by w e reply).played.side) e reply (revision_wanted w e)) (x.replies e (revision_wanted w e))) (itself e)
-            ∙ ap (λ fs. now_replied unfit told fs e reply (revision_wanted w e)) failed
-            ∙ fetched told fresh (is_fetching w e) fetching (λ contents is. honest contents is fetching) in
-            ap (after_due others) (apply-same (λ q r. reply) others w e now)
+            ap (after_due others) (apply-same (λ q r. reply) others w e (now others agree))
             ∙ after_due-some others w e some
-            ∙ x.leads others before;
+            ∙ x.leads others (before others agree);
+        counts = λ others agree.
+            let same : length (fetches_due others (next_by w e reply)) ≡ length (fetches_due others (after_applying others w (Some e))) = ap (λ v. length (fetches_due others v)) (apply-same (λ q r. reply) others w e (now others agree)) in
+            let all : length (fetches_due others w) ≡ fetches_counted (is_fetching w e) + length (fetches_due others (after_applying others w (Some e))) = length-fetches_due others w e some in
+            omega (arith, x.counts others (before others agree));
         honest = λ contents is q r h. from_source contents is q r x (applied q) failed (eq_by_cmp event_cmp q e) refl h;
         failed_applied = λ q h. applied q ∙ from_failed q x failed (eq_by_cmp event_cmp q e) refl h;
       }
@@ -178,11 +235,11 @@ module _ (unfit : Judgement) (told : Option (ℕ → Option Bytes)) (play_of : R
       false_unless true h = absurd (h refl)
       false_unless false h = refl
 
-      from_failed : (q : Event) (x : Explained unfit told play_of w) → failed_events (next_by w e reply).played.side ≡ failed_events w.played.side ++ failed_by (is_fetching w e) e reply → (t : Bool) → eq_by_cmp event_cmp q e ≡ t → has event_cmp q (failed_events (next_by w e reply).played.side) ≡ true → (t || is_applied w q) ≡ true
+      from_failed : (q : Event) (x : Explained unfit told play_of fetches_of made w) → failed_events (next_by w e reply).played.side ≡ failed_events w.played.side ++ failed_by (is_fetching w e) e reply → (t : Bool) → eq_by_cmp event_cmp q e ≡ t → has event_cmp q (failed_events (next_by w e reply).played.side) ≡ true → (t || is_applied w q) ≡ true
       from_failed q x failed true tie h = refl
       from_failed q x failed false tie h = x.failed_applied q (sym (ap (has event_cmp q) failed ∙ has-append event_cmp q (failed_events w.played.side) (failed_by (is_fetching w e) e reply) ∙ ap (λ b. has event_cmp q (failed_events w.played.side) || b) (has-failed_by q e (is_fetching w e) reply tie) ∙ or_none _) ∙ h)
 
-      from_source : (contents : ℕ → Option Bytes) → told ≡ Some contents → (q : Event) (r : ℕ) (x : Explained unfit told play_of w) → is_applied (next_by w e reply) q ≡ (eq_by_cmp event_cmp q e || is_applied w q) → failed_events (next_by w e reply).played.side ≡ failed_events w.played.side ++ failed_by (is_fetching w e) e reply → (t : Bool) → eq_by_cmp event_cmp q e ≡ t → is_applied (next_by w e reply) q ≡ true
+      from_source : (contents : ℕ → Option Bytes) → told ≡ Some contents → (q : Event) (r : ℕ) (x : Explained unfit told play_of fetches_of made w) → is_applied (next_by w e reply) q ≡ (eq_by_cmp event_cmp q e || is_applied w q) → failed_events (next_by w e reply).played.side ≡ failed_events w.played.side ++ failed_by (is_fetching w e) e reply → (t : Bool) → eq_by_cmp event_cmp q e ≡ t → is_applied (next_by w e reply) q ≡ true
           → replies_next x.replies q r ≡ source_replies unfit contents (failed_events (next_by w e reply).played.side) q r
       from_source contents is q r x applied failed true tie h =
           ap (λ b. cond b (now_replied unfit told (failed_events (next_by w e reply).played.side) e reply r) (x.replies q r)) tie

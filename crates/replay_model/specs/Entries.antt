@@ -39,6 +39,15 @@ is_open_late due e = not (list_any (settles e) due)
 abbrev pub is_open_by : Record Bytes → Entry → Bool
 is_open_by r entry = is_open entry r.state (held_revision r.held) r.reconciled
 
+-- the entity of an entry's event
+abbrev pub entity_of : Entry → EntityId
+entity_of (Late e) = e.entity
+entity_of (Revision e r cause) = e.entity
+
+-- whether an entry is open, by the record of its entity among these
+abbrev pub is_open_in : Records → Entry → Bool
+is_open_in records entry = is_open_by (record_of records (entity_of entry)) entry
+
 -- whether an entry tells of a revision of the entity x
 abbrev pub is_revision_of : EntityId → Entry → Bool
 is_revision_of x (Late e) = false

@@ -1,5 +1,5 @@
 -- When the state of a replay that fetches from a source is that of a play, and what a play over told contents replies.
-use Rattle.std.specs.Prelude.{◌≡◌, ℕ, Bool, true, false, not, ◌&&◌, ◌⊎◌, Option, Some, Result, Err}
+use Rattle.std.specs.Prelude.{◌≡◌, ℕ, ◌+◌, length, List, Bool, true, false, not, ◌&&◌, ◌⊎◌, Option, Some, Result, Err}
 use Rattle.rising.specs.Rising.{has, IsRising}
 use Rattle.entity_model.specs.declared.event.Event.{Event}
 use Rattle.entity_model.specs.Event.{event_cmp}
@@ -8,10 +8,11 @@ use Rattle.side_output.specs.declared.entry.Cause.TheVariants.{Failed}
 use Rattle.entity_state.specs.State.{state_after}
 use Rattle.entity_state.specs.Record.{held_revision}
 use Rattle.replay_model.specs.Entries.{late_events}
-use Rattle.replay_model.specs.Play.{Replies}
+use Rattle.replay_model.specs.Play.{Replies, Fetch, fetches, fetches_to_end}
 use Rattle.replay_model.specs.Records.{Bytes, record_of, wants}
 use Rattle.replay_model.specs.Replies.{Judgement, reply_there, source_replies, failed_events}
-use Rattle.replay_model.specs.ReplayState.{ReplayState, after_due}
+use Rattle.event_line.specs.declared.deliveries.Delivery.{Delivery}
+use Rattle.replay_model.specs.ReplayState.{ReplayState, after_due, fetches_due, following, following_to_end}
 
 -- whether the event was applied: it was taken, doesn't wait and wasn't late
 abbrev pub is_applied : ReplayState → Event → Bool
@@ -33,8 +34,8 @@ is_fetching w e = wants (state_after (record_of w.played.records e.entity).state
 abbrev pub IsHonest : Judgement → (ℕ → Option Bytes) → Event → ℕ → Result Bytes Cause → Type 0
 IsHonest unfit contents e r reply = (reply ≡ Err Failed) ⊎ (reply ≡ reply_there unfit e.entity (contents r))
 
--- the state leads, when all due events are applied, to that of a play with some replies; where the contents are told, the replies so far are those of the contents and of the failed events that the side output names
-pub record Explained (unfit : Judgement) (told : Option (ℕ → Option Bytes)) (play_of : Replies → ReplayState) (w : ReplayState) : Type 0 where
+-- the state leads, when all due events are applied, to that of a play with some replies, and the fetches made so far with those still to be made are the play's; where the contents are told, the replies so far are those of the contents and of the failed events that the side output names
+pub record Explained (unfit : Judgement) (told : Option (ℕ → Option Bytes)) (play_of : Replies → ReplayState) (fetches_of : Replies → List Fetch) (made : ℕ) (w : ReplayState) : Type 0 where
   -- the replies
   pub replies : Replies
   -- the waiting events are in order, were taken and aren't late
@@ -43,7 +44,16 @@ pub record Explained (unfit : Judgement) (told : Option (ℕ → Option Bytes)) 
   pub not_late : (e : Event) → has event_cmp e w.buffer.waiting ≡ true → has event_cmp e (late_events w.played.side) ≡ false
   -- the state leads to the play's, whatever is replied to events that aren't applied yet
   pub leads : (others : Replies) → AgreeOnApplied w replies others → after_due others w ≡ play_of others
+  pub counts : (others : Replies) → AgreeOnApplied w replies others → made + length (fetches_due others w) ≡ length (fetches_of others)
   -- the replies are the source's
   pub honest : (contents : ℕ → Option Bytes) → told ≡ Some contents → AgreeOnApplied w (source_replies unfit contents (failed_events w.played.side)) replies
   -- fetches failed for applied events alone
   pub failed_applied : (e : Event) → has event_cmp e (failed_events w.played.side) ≡ true → is_applied w e ≡ true
+
+-- explained by the play of a list of deliveries
+abbrev pub ExplainedAfter : Judgement → Option (ℕ → Option Bytes) → List Delivery → ℕ → ReplayState → Type 0
+ExplainedAfter unfit told ds made w = Explained unfit told (λ replies. following replies ds) (λ replies. fetches replies ds) made w
+
+-- explained by the play of a list of deliveries and the end of the input
+abbrev pub ExplainedToEnd : Judgement → Option (ℕ → Option Bytes) → List Delivery → ℕ → ReplayState → Type 0
+ExplainedToEnd unfit told ds made w = Explained unfit told (λ replies. following_to_end replies ds) (λ replies. fetches_to_end replies ds) made w

@@ -1,16 +1,36 @@
 -- What a replay prints: an answer at each delivery that asks, and the closing sections.
-use Rattle.std.specs.Prelude.{ℕ, Bool, cond, List, [], ◌++◌, flat_map, length, decimal, codes}
+use Rattle.std.specs.Prelude.{ℕ, Bool, true, false, cond, List, [], ◌++◌, flat_map, length, decimal, codes}
+use Rattle.std.specs.FinMap as map
+use Rattle.std.specs.Fmt.{signed_decimal}
 use Rattle.rdf_term.specs.declared.triple.Triple.{Triple}
 use Rattle.rdf_term.specs.Order.{triple_cmp}
 use Rattle.rdf_term.specs.Text.{triple_text}
+use Rattle.entity_model.specs.declared.id.EntityId.{EntityId}
+use Rattle.entity_model.specs.declared.event.Event.{Event}
+use Rattle.entity_model.specs.declared.event.Kind.{Kind}
+use Rattle.entity_model.specs.declared.event.Kind.TheVariants.{Edit, Delete, Undelete, ReconcileDeleted, ReconcileKept}
+use Rattle.entity_model.specs.declared.unfit.Unfit.{Unfit}
+use Rattle.entity_model.specs.declared.unfit.Unfit.TheVariants.{Large, Deep, NotJson, Shape, Foreign}
+use Rattle.entity_model.specs.EntityId.{id_text}
+use Rattle.entity_state.specs.declared.state.Mode.{Mode}
+use Rattle.entity_state.specs.declared.state.Mode.TheVariants.{Unknown, Kept, Deleted}
+use Rattle.entity_state.specs.declared.state.State.{State}
+use Rattle.side_output.specs.declared.entry.Cause.{Cause}
+use Rattle.side_output.specs.declared.entry.Cause.TheVariants.{Missing, Failed, Unfit as NoDocument}
+use Rattle.side_output.specs.declared.entry.Entry.{Entry}
+use Rattle.side_output.specs.declared.entry.Entry.TheVariants.{Late, Revision}
 use Rattle.event_line.specs.declared.deliveries.Delivery.{Delivery}
 use Rattle.replay_model.specs.Acceptance.{Arrival, arrivals}
+use Rattle.replay_model.specs.Entries.{entity_of, is_open_in}
 use Rattle.replay_model.specs.Play.{Replies, Played, play_to_end}
+use Rattle.replay_model.specs.Records.{Records}
 use Rattle.replay_model.specs.Union.{Meaning, union}
 
 -- which sections are printed after the end
 pub record Sections : Type 0 where
   pub export : Bool
+  pub state : Bool
+  pub side : Bool
 
 -- the line `# export: <count> triples`
 unfoldable pub export_head : ℕ → List ℕ
@@ -19,6 +39,77 @@ export_head count = codes "# export: " ++ decimal count ++ codes " triples\n"
 -- the section of an export: its head, and the line of each triple
 abbrev pub export_section : List Triple → List ℕ
 export_section triples = export_head (length triples) ++ flat_map triple_text triples
+
+-- the line `# state <id> <word> <revision>`
+unfoldable pub stated_line : EntityId → List ℕ → ℕ → List ℕ
+stated_line x word rev = codes "# state " ++ id_text x ++ codes " " ++ word ++ codes " " ++ decimal rev ++ codes "\n"
+
+-- the line of a state: that of the word `kept` or `deleted`; none where no event says which it is
+unfoldable pub mode_line : EntityId → Mode → ℕ → List ℕ
+mode_line x Unknown rev = []
+mode_line x Kept rev = stated_line x (codes "kept") rev
+mode_line x Deleted rev = stated_line x (codes "deleted") rev
+
+-- the line of an entity's state
+abbrev pub state_line : EntityId → State → List ℕ
+state_line x s = mode_line x s.mode s.rev
+
+-- the section of the states: the line of each entity with a record, in rising order of the ids
+abbrev pub state_section : Records → List ℕ
+state_section records = flat_map (λ entry. state_line entry.0 entry.1.state) (map.entries records)
+
+-- the word for an entry that is open, and for one that isn't
+unfoldable pub open_word : Bool → List ℕ
+open_word true = codes "open"
+open_word false = codes "closed"
+
+-- the word for a kind of event
+unfoldable pub kind_word : Kind → List ℕ
+kind_word Edit = codes "edit"
+kind_word Delete = codes "delete"
+kind_word Undelete = codes "undelete"
+kind_word ReconcileDeleted = codes "reconcile-deleted"
+kind_word ReconcileKept = codes "reconcile-kept"
+
+-- the word for why bytes are no document
+unfoldable pub unfit_word : Unfit → List ℕ
+unfit_word Large = codes "unfit-large"
+unfit_word Deep = codes "unfit-deep"
+unfit_word NotJson = codes "unfit-notjson"
+unfit_word Shape = codes "unfit-shape"
+unfit_word Foreign = codes "unfit-foreign"
+
+-- the word for why a revision isn't held
+unfoldable pub cause_word : Cause → List ℕ
+cause_word Missing = codes "missing"
+cause_word Failed = codes "failed"
+cause_word (NoDocument unfit) = unfit_word unfit
+
+-- the words for an event: `<kind> <revision> <time>`, with the time in microseconds since 1970-01-01T00:00:00Z
+unfoldable pub event_words : Event → List ℕ
+event_words e = kind_word e.kind ++ codes " " ++ decimal e.rev ++ codes " " ++ signed_decimal e.time
+
+-- the word for what an entry tells of: `late`, or why a revision isn't held
+unfoldable pub entry_word : Entry → List ℕ
+entry_word (Late e) = codes "late"
+entry_word (Revision e r cause) = cause_word cause
+
+-- the words for what an entry names: an event, or a revision
+unfoldable pub entry_words : Entry → List ℕ
+entry_words (Late e) = event_words e
+entry_words (Revision e r cause) = decimal r
+
+-- the line `# side <word> <open> <id> <words>`
+unfoldable pub side_line : List ℕ → List ℕ → List ℕ → List ℕ → List ℕ
+side_line word stands id words = codes "# side " ++ word ++ codes " " ++ stands ++ codes " " ++ id ++ codes " " ++ words ++ codes "\n"
+
+-- the line of an entry: `# side late <open> <id> <kind> <revision> <time>` or `# side <cause> <open> <id> <revision>`
+abbrev pub entry_line : Bool → Entry → List ℕ
+entry_line stands entry = side_line (entry_word entry) (open_word stands) (id_text (entity_of entry)) (entry_words entry)
+
+-- the section of the side output: the line of each entry, in the order in which they were made
+abbrev pub side_section : Records → List Entry → List ℕ
+side_section records side = flat_map (λ entry. entry_line (is_open_in records entry) entry) side
 
 module _ (meaning : Meaning Triple) where
   -- what is printed at a delivery: nothing, as no delivery asks yet
@@ -31,7 +122,10 @@ module _ (meaning : Meaning Triple) where
 
   -- what is printed after the end
   abbrev pub closing : Sections → Played → List ℕ
-  closing sections p = cond sections.export (export_section (union triple_cmp meaning p.records)) []
+  closing sections p =
+      cond sections.export (export_section (union triple_cmp meaning p.records)) []
+      ++ cond sections.state (state_section p.records) []
+      ++ cond sections.side (side_section p.records p.side) []
 
   -- all that is printed
   abbrev pub transcript : Sections → Replies → List Delivery → List ℕ

@@ -1,6 +1,6 @@
 // The laws of a replay over a source of revisions.
 
-ghost use Rattle.std.specs.Prelude.{◌≡◌, ℕ, ℤ, Bool, true, Result, [], ◌∷◌, ◌++◌, List, Option, Some, None};
+ghost use Rattle.std.specs.Prelude.{◌≡◌, ℕ, ◌+◌, cond, length, ℤ, Bool, true, Result, [], ◌∷◌, ◌++◌, List, Option, Some, None};
 ghost use Rattle.rising.specs.Rising.{Each};
 ghost use Rattle.entity_model.specs.declared.event.Event.{Event};
 ghost use Rattle.entity_model.specs.declared.id.EntityId.{EntityId};
@@ -8,10 +8,10 @@ ghost use Rattle.side_output.specs.declared.entry.Cause.{Cause};
 ghost use Rattle.event_line.specs.declared.deliveries.Delivery.{Delivery};
 ghost use Rattle.reorder_buffer.specs.Buffered.{first_due};
 ghost use Rattle.replay_model.specs.Records.{Bytes, record_of};
-ghost use Rattle.replay_model.specs.Play.{Replies, played};
+ghost use Rattle.replay_model.specs.Play.{Replies, Fetch, played};
 ghost use Rattle.replay_model.specs.Replies.{Judgement, source_replies, failed_events, HoldsWhatIsThere, TellsWhatIsThere};
 ghost use Rattle.replay_model.specs.ReplayState.{ReplayState, nothing_delivered, after_event, after_mark, after_end, after_applying, following, following_to_end};
-ghost use Rattle.replay_model.specs.Explained.{Explained, IsHonest, is_fetching, revision_wanted};
+ghost use Rattle.replay_model.specs.Explained.{Explained, ExplainedAfter, ExplainedToEnd, IsHonest, is_fetching, revision_wanted};
 
 /// Over a source with told contents, an entity holds what the source has, which is a document of it, and each entry
 /// says of a revision what is so: nothing is there, no document is there, or the fetch failed.
@@ -23,30 +23,33 @@ pub fn told_contents_are_held_and_named()
 {}
 
 /// A replay over a source is a play with some replies; where the contents are told, with those of the contents and of
-/// the failed events that its side output names.
+/// the failed events that its side output names. It makes as many fetches as the play.
 pub fn replay_over_source_is_a_play()
-    ensures some_replies { (unfit : Judgement) (told : Option (ℕ → Option Bytes)) (play_of : Replies → ReplayState) (w : ReplayState) →
-        (explained : Explained unfit told play_of w) → first_due w.buffer ≡ None → w ≡ play_of explained.replies }
-    ensures source { (unfit : Judgement) (told : Option (ℕ → Option Bytes)) (play_of : Replies → ReplayState) (w : ReplayState) →
-        Explained unfit told play_of w → first_due w.buffer ≡ None →
+    ensures some_replies { (unfit : Judgement) (told : Option (ℕ → Option Bytes)) (play_of : Replies → ReplayState) (fetches_of : Replies → List Fetch) (made : ℕ) (w : ReplayState) →
+        (explained : Explained unfit told play_of fetches_of made w) → first_due w.buffer ≡ None →
+        (w ≡ play_of explained.replies) × (made ≡ length (fetches_of explained.replies)) }
+    ensures source { (unfit : Judgement) (told : Option (ℕ → Option Bytes)) (play_of : Replies → ReplayState) (fetches_of : Replies → List Fetch) (made : ℕ) (w : ReplayState) →
+        Explained unfit told play_of fetches_of made w → first_due w.buffer ≡ None →
         (contents : ℕ → Option Bytes) → told ≡ Some contents →
-        w ≡ play_of (source_replies unfit contents (failed_events w.played.side)) }
+        (w ≡ play_of (source_replies unfit contents (failed_events w.played.side)))
+        × (made ≡ length (fetches_of (source_replies unfit contents (failed_events w.played.side)))) }
 
-    ensures start { (unfit : Judgement) (told : Option (ℕ → Option Bytes)) →
-        Explained unfit told (λ replies. following replies []) nothing_delivered }
-    ensures event { (unfit : Judgement) (told : Option (ℕ → Option Bytes)) (ds : List Delivery) (w : ReplayState) (e : Event) →
-        Explained unfit told (λ replies. following replies ds) w → first_due w.buffer ≡ None →
-        Explained unfit told (λ replies. following replies (ds ++ Delivery.Event e ∷ [])) (after_event w e) }
-    ensures watermark { (unfit : Judgement) (told : Option (ℕ → Option Bytes)) (ds : List Delivery) (w : ReplayState) (m : ℤ) →
-        Explained unfit told (λ replies. following replies ds) w → first_due w.buffer ≡ None →
-        Explained unfit told (λ replies. following replies (ds ++ Delivery.Watermark m ∷ [])) (after_mark w m) }
-    ensures the_end { (unfit : Judgement) (told : Option (ℕ → Option Bytes)) (ds : List Delivery) (w : ReplayState) →
-        Explained unfit told (λ replies. following replies ds) w → first_due w.buffer ≡ None →
-        Explained unfit told (λ replies. following_to_end replies ds) (after_end w) }
+    ensures start { (unfit : Judgement) (told : Option (ℕ → Option Bytes)) → ExplainedAfter unfit told [] 0 nothing_delivered }
+    ensures event { (unfit : Judgement) (told : Option (ℕ → Option Bytes)) (ds : List Delivery) (made : ℕ) (w : ReplayState) →
+        ExplainedAfter unfit told ds made w → first_due w.buffer ≡ None →
+        (e : Event) → ExplainedAfter unfit told (ds ++ Delivery.Event e ∷ []) made (after_event w e) }
+    ensures event_rests { (unfit : Judgement) (told : Option (ℕ → Option Bytes)) (ds : List Delivery) (made : ℕ) (w : ReplayState) →
+        ExplainedAfter unfit told ds made w → first_due w.buffer ≡ None →
+        (e : Event) → first_due (after_event w e).buffer ≡ None }
+    ensures watermark { (unfit : Judgement) (told : Option (ℕ → Option Bytes)) (ds : List Delivery) (made : ℕ) (w : ReplayState) →
+        ExplainedAfter unfit told ds made w → first_due w.buffer ≡ None →
+        (m : ℤ) → ExplainedAfter unfit told (ds ++ Delivery.Watermark m ∷ []) made (after_mark w m) }
+    ensures the_end { (unfit : Judgement) (told : Option (ℕ → Option Bytes)) (ds : List Delivery) (made : ℕ) (w : ReplayState) →
+        ExplainedAfter unfit told ds made w → first_due w.buffer ≡ None → ExplainedToEnd unfit told ds made (after_end w) }
 
     // One due event is applied, with any reply where the contents aren't told.
-    ensures next { (unfit : Judgement) (told : Option (ℕ → Option Bytes)) (play_of : Replies → ReplayState) (w : ReplayState) (e : Event) (reply : Result Bytes Cause) →
-        Explained unfit told play_of w → first_due w.buffer ≡ Some e →
+    ensures next { (unfit : Judgement) (told : Option (ℕ → Option Bytes)) (play_of : Replies → ReplayState) (fetches_of : Replies → List Fetch) (made : ℕ) (w : ReplayState) (e : Event) (reply : Result Bytes Cause) →
+        Explained unfit told play_of fetches_of made w → first_due w.buffer ≡ Some e →
         ((contents : ℕ → Option Bytes) → told ≡ Some contents → is_fetching w e ≡ true → IsHonest unfit contents e (revision_wanted w e) reply) →
-        Explained unfit told play_of (after_applying (λ q r. reply) w (Some e)) }
+        Explained unfit told play_of fetches_of (made + cond (is_fetching w e) 1 0) (after_applying (λ q r. reply) w (Some e)) }
 {}

@@ -1,29 +1,43 @@
--- One due event is applied: the world still leads to its play, and fewer events wait.
-use Rattle.std.proofs.Common.{refl, sym, ◌∙◌, ap, inl, inr, ◌≡◌, ◌⊎◌, ℕ, suc, ◌+◌, ◌<◌, Bool, true, false, cond, List, [], ◌∷◌, length, Option, None, Some, Result, Ok, Err, arith}
-use Rattle.std.specs.Option.{option_map}
+-- One due event is applied: the world still leads to its play, the counts rise with its fetch, and fewer events wait.
+use Rattle.std.proofs.Common.{refl, sym, subst, ◌∙◌, ap, inl, inr, ◌≡◌, ◌⊎◌, ℕ, ◌+◌, ◌-◌, ◌^◌, ◌<◌, ◌≤◌, Bool, true, false, cond, List, [], ◌∷◌, length, length-append, Option, None, Some, Result, Ok, Err, arith}
 use Rattle.std.specs.List.{find}
 use Rattle.std.specs.Set.{remove_key}
 use Rattle.entity_model.specs.declared.id.EntityId.{EntityId}
 use Rattle.entity_model.specs.declared.unfit.Unfit.{Unfit}
 use Rattle.entity_model.specs.declared.event.Event.{Event}
-use Rattle.entity_json.specs.Document.{unfit_of}
+use Rattle.entity_state.specs.State.{state_after, is_deleted}
 use Rattle.side_output.specs.declared.entry.Cause.{Cause}
 use Rattle.side_output.specs.declared.entry.Cause.TheVariants.{Missing, Failed, Unfit as NoDocument}
-use Rattle.revisions.specs.Revisions.{Contents}
-use Rattle.replay_model.specs.Records.{Bytes}
-use Rattle.replay_model.specs.Play.{Replies}
-use Rattle.replay_model.specs.Replies.{reply_there}
+use Rattle.revisions.specs.Revisions.{Contents, counted}
+use Rattle.reorder_buffer.specs.Buffered.{first_due}
+use Rattle.replay_model.specs.Records.{Bytes, record_of}
+use Rattle.replay_model.specs.Play.{Fetch, Replies}
+use Rattle.replay_model.specs.Replies.{failed_events, missing_events, reply_there}
 use Rattle.replay_model.specs.ReplayState.{ReplayState}
-use Rattle.replay_model.specs.Explained.{Explained}
+use Rattle.replay_model.specs.Explained.{is_fetching}
 use Rattle.replay_model.proofs.Explaining.{Explained-next}
-use Rattle.world.specs.Applying.{Applies, HasUnfit, IsReply}
+use Rattle.replay_model.proofs.FetchCounts.{risen_by-more}
+use Rattle.replay_model.proofs.Fetching.{failed-applying, failed_by, missing-applying, missing_of}
+use Rattle.world.specs.Applying.{Applies, HasUnfit, IsReply, IsShown, calls_after, outcome_of_reply}
 use Rattle.world.specs.declared.applied.Applied.{Applied}
-use Rattle.session.specs.Running.{judgement, told_at}
+use Rattle.world.specs.declared.applied.Outcome.{Outcome}
+use Rattle.world.specs.declared.applied.Outcome.TheVariants.{Same, Dropped}
+use Rattle.session.specs.Counts.{Counts, HasCounted, RoseBy}
+use Rattle.session.specs.Running.{Leads, judgement, told_at}
+use Rattle.session.specs.Stops.{Settles}
 
 -- events are applied: what is told stays, and the world leads where it led
-pub record Goes (contents_start contents : Option Contents) (place : List ℕ) (start now : ReplayState) : Type 0 where
+pub record Goes (contents_start contents : Option Contents) (place : List ℕ) (before now : Counts) (start world : ReplayState) : Type 0 where
   pub told : contents ≡ contents_start
-  pub leads : (play_of : Replies → ReplayState) → Explained judgement (told_at contents_start place) play_of start → Explained judgement (told_at contents_start place) play_of now
+  pub leads : (play_of : Replies → ReplayState) (fetches_of : Replies → List Fetch) (first : Counts) →
+      Leads (told_at contents_start place) play_of fetches_of first before start → Leads (told_at contents_start place) play_of fetches_of first now world
+
+-- the counts after an application, as its outcome shows
+pub record Rises (outcome : Outcome) (before now : Counts) : Type 0 where
+  pub shown : IsShown outcome before.misses now.misses before.faults now.faults
+  pub calls : now.calls ≡ calls_after outcome before.calls
+  pub more_faults : before.faults ≤ now.faults
+  pub more_misses : before.misses ≤ now.misses
 
 unfit_there : (x : EntityId) (unfit : Unfit) (there : Option Bytes) → HasUnfit x unfit there → ◌≡◌ {A = Result Bytes Cause} (Err (NoDocument unfit)) (reply_there judgement x there)
 unfit_there x unfit None has = absurd has
@@ -47,12 +61,72 @@ reply_is_honest (Some c) place x r (Err (NoDocument unfit)) is there told =
     let same : c place ≡ there = cc in
     inr (unfit_there x unfit (c place r) is ∙ ap (λ (f : ℕ → Option Bytes). reply_there judgement x (f r)) same)
 
+-- what an application leads to, by whether it fetches
+abbrev outcome_by : Bool → Bool → Result Bytes Cause → Outcome
+outcome_by fetching deleting reply = cond fetching (outcome_of_reply reply) (cond deleting Dropped Same)
+
+calls_by : (fetching deleting : Bool) (reply : Result Bytes Cause) (calls : ℕ) → calls_after (outcome_by fetching deleting reply) calls ≡ cond fetching (counted calls) calls
+calls_by true deleting (Ok bytes) calls = refl
+calls_by true deleting (Err cause) calls = refl
+calls_by false true reply calls = refl
+calls_by false false reply calls = refl
+
+failed_shown : (fetching deleting : Bool) (reply : Result Bytes Cause) (e : Event) (misses misses_now faults faults_now : ℕ) →
+    IsShown (outcome_by fetching deleting reply) misses misses_now faults faults_now → faults ≤ faults_now → RoseBy (length (failed_by fetching e reply)) faults faults_now
+failed_shown true deleting (Ok bytes) e misses misses_now faults faults_now shown more = λ below. omega arith
+failed_shown true deleting (Err Missing) e misses misses_now faults faults_now shown more = λ below. omega arith
+failed_shown true deleting (Err Failed) e misses misses_now faults faults_now shown more = λ below. omega arith
+failed_shown true deleting (Err (NoDocument why)) e misses misses_now faults faults_now shown more = λ below. omega arith
+failed_shown false true reply e misses misses_now faults faults_now shown more = λ below. omega arith
+failed_shown false false reply e misses misses_now faults faults_now shown more = λ below. omega arith
+
+missing_shown : (fetching deleting : Bool) (reply : Result Bytes Cause) (e : Event) (misses misses_now faults faults_now : ℕ) →
+    IsShown (outcome_by fetching deleting reply) misses misses_now faults faults_now → misses ≤ misses_now → RoseBy (length (cond fetching (missing_of e reply) [])) misses misses_now
+missing_shown true deleting (Ok bytes) e misses misses_now faults faults_now shown more = λ below. omega arith
+missing_shown true deleting (Err Missing) e misses misses_now faults faults_now shown more = λ below. omega arith
+missing_shown true deleting (Err Failed) e misses misses_now faults faults_now shown more = λ below. omega arith
+missing_shown true deleting (Err (NoDocument why)) e misses misses_now faults faults_now shown more = λ below. omega arith
+missing_shown false true reply e misses misses_now faults faults_now shown more = λ below. omega arith
+missing_shown false false reply e misses misses_now faults faults_now shown more = λ below. omega arith
+
+-- a count that rose twice
+pub rose_twice : (m n first before now : ℕ) → RoseBy m first before → RoseBy n before now → before ≤ now → RoseBy (m + n) first now
+rose_twice m n first before now rose then_rose more = λ below.
+    let earlier : before < 2 ^ 64 - 1 = omega arith in
+    omega (arith, rose earlier, then_rose below)
+
+counted_applying : (contents : Option Contents) (place : List ℕ) (start before now : Counts) (made : ℕ) (old new : ReplayState) (applied : Applied) → Applies contents place old new applied →
+    Rises applied.outcome before now → HasCounted start before made old.played.side → HasCounted start now (made + cond (is_fetching old applied.event) 1 0) new.played.side
+counted_applying contents place start before now made old new applied a rises so_far =
+    let e : Event = applied.event in
+    let fetching : Bool = is_fetching old e in
+    let deleting : Bool = is_deleted (state_after (record_of old.played.records e.entity).state e).mode in
+    let failed_now : length (failed_events new.played.side) ≡ length (failed_events old.played.side) + length (failed_by fetching e a.reply) =
+    ap (λ (w : ReplayState). length (failed_events w.played.side)) a.new_is ∙ ap length (failed-applying (λ q r. a.reply) old e) ∙ length-append (failed_events old.played.side) (failed_by fetching e a.reply) in
+    let missing_now : length (missing_events new.played.side) ≡ length (missing_events old.played.side) + length (cond fetching (missing_of e a.reply) []) =
+    ap (λ (w : ReplayState). length (missing_events w.played.side)) a.new_is ∙ ap length (missing-applying (λ q r. a.reply) old e) ∙ length-append (missing_events old.played.side) (cond fetching (missing_of e a.reply) []) in
+    let Shown : Outcome → Type 0 = λ outcome. IsShown outcome before.misses now.misses before.faults now.faults in
+    let shown : IsShown (outcome_by fetching deleting a.reply) before.misses now.misses before.faults now.faults = subst Shown a.outcome rises.shown in
+    let Failed_by : ℕ → Type 0 = λ n. RoseBy n start.faults now.faults in
+    let Missing_by : ℕ → Type 0 = λ n. RoseBy n start.misses now.misses in
+    record {
+      calls = λ fits.
+          rises.calls ∙ ap (λ outcome. calls_after outcome before.calls) a.outcome ∙ calls_by fetching deleting a.reply before.calls
+          ∙ ap (λ n. cond fetching (counted n) n) (so_far.calls fits) ∙ sym (risen_by-more made start.calls fetching);
+      failed = subst Failed_by (sym failed_now) (rose_twice _ _ start.faults before.faults now.faults so_far.failed (failed_shown fetching deleting a.reply e _ _ _ _ shown rises.more_faults) rises.more_faults);
+      missing = subst Missing_by (sym missing_now) (rose_twice _ _ start.misses before.misses now.misses so_far.missing (missing_shown fetching deleting a.reply e _ _ _ _ shown rises.more_misses) rises.more_misses);
+    }
+
 -- the world still leads to its play
-pub applies-leads : (contents : Option Contents) (place : List ℕ) (old new : ReplayState) (applied : Applied) → Applies contents place old new applied →
-    (play_of : Replies → ReplayState) → Explained judgement (told_at contents place) play_of old → Explained judgement (told_at contents place) play_of new
-applies-leads contents place old new applied a play_of explained =
-    rw a.new_is (Explained-next judgement (told_at contents place) play_of old applied.event a.reply explained a.due
-    (λ there told _. reply_is_honest contents place applied.event.entity _ a.reply a.is_reply there told))
+pub applies-leads : (contents : Option Contents) (place : List ℕ) (before now : Counts) (old new : ReplayState) (applied : Applied) → Applies contents place old new applied → Rises applied.outcome before now →
+    (play_of : Replies → ReplayState) (fetches_of : Replies → List Fetch) (first : Counts) → Leads (told_at contents place) play_of fetches_of first before old → Leads (told_at contents place) play_of fetches_of first now new
+applies-leads contents place before now old new applied a rises play_of fetches_of first leads = record {
+  made = leads.made + cond (is_fetching old applied.event) 1 0;
+  explained =
+      rw a.new_is (Explained-next judgement (told_at contents place) play_of fetches_of leads.made old applied.event a.reply leads.explained a.due
+      (λ there told _. reply_is_honest contents place applied.event.entity _ a.reply a.is_reply there told));
+  counted = counted_applying contents place first before now leads.made old new applied a rises leads.counted;
+}
 
 removed : {K : Type 0} (p : K → Bool) (e : K) (xs : List K) → find p xs ≡ Some e → length (remove_key p xs) < length xs
 removed p e [] found = cc
@@ -68,11 +142,30 @@ applies-fewer contents place old new applied a =
     rw a.new_is (removed _ applied.event old.buffer.waiting a.due)
 
 -- one event more
-pub goes-next : (contents_start contents contents_next : Option Contents) (place : List ℕ) (start now next : ReplayState) (applied : Applied) →
-    Goes contents_start contents place start now → Applies contents place now next applied → contents_next ≡ contents →
-    Goes contents_start contents_next place start next
-goes-next contents_start contents contents_next place start now next applied goes applies same = record {
+pub goes-next : (contents_start contents contents_next : Option Contents) (place : List ℕ) (before now after : Counts) (start world next : ReplayState) (applied : Applied) →
+    Goes contents_start contents place before now start world → Applies contents place world next applied → Rises applied.outcome now after → contents_next ≡ contents →
+    Goes contents_start contents_next place before after start next
+goes-next contents_start contents contents_next place before now after start world next applied goes applies rises same = record {
   told = same ∙ goes.told;
-  leads = λ play_of explained.
-      applies-leads contents_start place now next applied (rw goes.told at applies) play_of (goes.leads play_of explained);
+  leads = λ play_of fetches_of first leads.
+      applies-leads contents_start place now after world next applied (rw goes.told at applies) rises play_of fetches_of first (goes.leads play_of fetches_of first leads);
 }
+
+-- no event is left: the last call has made no fetch
+pub settled : (contents_start contents : Option Contents) (place : List ℕ) (before now last : Counts) (start world world_now : ReplayState) →
+    Goes contents_start contents place before now start world → last.calls ≡ now.calls → now.faults ≤ last.faults → now.misses ≤ last.misses →
+    world_now ≡ world → first_due world.buffer ≡ None → Settles (told_at contents_start place) before last start world_now
+settled contents_start contents place before now last start world world_now goes calls faults misses same none = rw same (record {
+  leads = λ play_of fetches_of first leads.
+      let there = goes.leads play_of fetches_of first leads in
+      record {
+        made = there.made;
+        explained = there.explained;
+        counted = record {
+          calls = λ fits. calls ∙ there.counted.calls fits;
+          failed = λ below. let earlier : now.faults < 2 ^ 64 - 1 = omega arith in omega (arith, there.counted.failed earlier);
+          missing = λ below. let earlier : now.misses < 2 ^ 64 - 1 = omega arith in omega (arith, there.counted.missing earlier);
+        };
+      };
+  rests = none;
+})

@@ -1,4 +1,8 @@
 mod Deliveries
 mod Due
 mod Ends
+mod Items
+mod Numbers
+mod Parts
 mod Reading
+mod States

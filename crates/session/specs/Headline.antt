@@ -1,5 +1,5 @@
 -- What a run that ended leaves: the states, what is held, the side output and what was printed.
-use Rattle.std.specs.Prelude.{◌≡◌, ◌≢◌, ℕ, ◌<◌, Bool, true, false, not, List, Option, None, Some, IfSome, length, ⊤}
+use Rattle.std.specs.Prelude.{◌≡◌, ◌⊎◌, ℕ, true, false, not, List, Option, None, Some, IfSome, length, ⊤}
 use Rattle.std.specs.List.{list_any}
 use Rattle.rising.specs.Rising.{Each}
 use Rattle.wq_io.specs.Streams.{Rose, after_known}
@@ -11,23 +11,36 @@ use Rattle.replay_model.specs.Acceptance.{due, known, late}
 use Rattle.replay_model.specs.Entries.{has_open_revision, is_open_late, late_events}
 use Rattle.replay_model.specs.Fate.{events_of, fate, in_order}
 use Rattle.replay_model.specs.Records.{Bytes, is_settled, record_of}
-use Rattle.replay_model.specs.Play.{Played, Replies, play_to_end}
+use Rattle.replay_model.specs.Play.{Fetch, Replies, fetches, fetches_to_end}
 use Rattle.replay_model.specs.Replies.{HoldsWhatIsThere, TellsWhatIsThere, failed_events, source_replies}
 use Rattle.replay_model.specs.ReplayState.{ReplayState, following, following_to_end}
 use Rattle.replay_model.specs.Transcript.{closing, transcript}
 use Rattle.world.specs.Meaning.{meaning}
-use Rattle.session.specs.declared.words.Plan.{Plan}
+use Rattle.session.specs.Words.{Choices, limit_of}
 use Rattle.session.specs.declared.status.Status.{Status}
 use Rattle.session.specs.declared.status.Status.TheVariants.{Ok as Ended, BadWords, BadLine, ReadFault, WriteFault, TooLong, OutOfMemory}
-use Rattle.session.specs.Running.{AreDeliveries, IsRefusedLine, judgement, most_bytes}
-use Rattle.session.specs.Printing.{sections_of}
+use Rattle.session.specs.Counts.{Counts, HasCounted}
+use Rattle.session.specs.Running.{AreDeliveries, AreFirst, IsPastLimit, IsRefusedLine, judgement}
+use Rattle.session.specs.Printing.{Wrote, sections_of}
 
--- the world is where a play leads, with some replies to its fetches; where the source tells what it has, with the
--- replies of what is there, but for the events whose fetches failed, which the side output names
-pub record IsPlayed (told : Option (ℕ → Option Bytes)) (play_of : Replies → ReplayState) (world : ReplayState) : Type 0 where
+-- the world is where a play leads, with some replies to its fetches, and the counts of the source rose by these
+-- fetches; where the source tells what it has, the replies are those of what is there, but for the events whose fetches
+-- failed, which the side output names
+pub record IsPlayed (told : Option (ℕ → Option Bytes)) (play_of : Replies → ReplayState) (fetches_of : Replies → List Fetch) (start now : Counts) (world : ReplayState) : Type 0 where
   pub replies : Replies
   pub is : world ≡ play_of replies
+  pub counted : HasCounted start now (length (fetches_of replies)) world.played.side
   pub source : (contents : ℕ → Option Bytes) → told ≡ Some contents → world ≡ play_of (source_replies judgement contents (failed_events world.played.side))
+  pub source_counted : (contents : ℕ → Option Bytes) → told ≡ Some contents →
+      HasCounted start now (length (fetches_of (source_replies judgement contents (failed_events world.played.side)))) world.played.side
+
+-- the world has taken these deliveries
+abbrev pub IsPlayedAfter : Option (ℕ → Option Bytes) → List Delivery → Counts → Counts → ReplayState → Type 0
+IsPlayedAfter told ds start now world = IsPlayed told (λ replies. following replies ds) (λ replies. fetches replies ds) start now world
+
+-- the world has taken these deliveries and the end of the input
+abbrev pub IsPlayedToEnd : Option (ℕ → Option Bytes) → List Delivery → Counts → Counts → ReplayState → Type 0
+IsPlayedToEnd told ds start now world = IsPlayed told (λ replies. following_to_end replies ds) (λ replies. fetches_to_end replies ds) start now world
 
 -- the states: each is the fate of the entity's due events in their order; where no late event of the entity is open,
 -- also the fate of all its events, late ones included
@@ -50,45 +63,64 @@ pub record NamesRightly (told : Option (ℕ → Option Bytes)) (ds : List Delive
   pub there : (contents : ℕ → Option Bytes) → told ≡ Some contents → Each (TellsWhatIsThere judgement contents (failed_events world.played.side)) world.played.side
 
 -- the whole input was read, its lines are deliveries, and the world has played them to the end
-pub record Replayed (left : Option (List ℕ)) (told : Option (ℕ → Option Bytes)) (world : ReplayState) : Type 0 where
+pub record Replayed (limit : ℕ) (left : Option (List ℕ)) (told : Option (ℕ → Option Bytes)) (start now : Counts) (world : ReplayState) : Type 0 where
   pub deliveries : List Delivery
-  pub are : AreDeliveries left deliveries
-  pub played : IsPlayed told (λ replies. following_to_end replies deliveries) world
+  pub are : IfSome left (λ bytes. AreDeliveries limit bytes deliveries)
+  pub played : IsPlayedToEnd told deliveries start now world
   pub fates : HasFates deliveries world
   pub holds : HoldsRightly told world
   pub names : NamesRightly told deliveries world
 
 -- all was printed: the sections of the world, and where the source tells what it has the transcript of the play
-pub record HasPrinted (plan : Plan) (told : Option (ℕ → Option Bytes)) (ds : List Delivery) (world : ReplayState) (held held_now : Option (List ℕ)) : Type 0 where
+pub record HasPrinted (plan : Choices) (told : Option (ℕ → Option Bytes)) (ds : List Delivery) (world : ReplayState) (held held_now : Option (List ℕ)) : Type 0 where
   pub sections : held_now ≡ after_known held (closing meaning (sections_of plan) world.played)
   pub all : (contents : ℕ → Option Bytes) → told ≡ Some contents →
       held_now ≡ after_known held (transcript meaning (sections_of plan) (source_replies judgement contents (failed_events world.played.side)) ds)
 
--- the world has taken some deliveries, those of the lines before a stop
-pub record StandsAfter (told : Option (ℕ → Option Bytes)) (world : ReplayState) : Type 0 where
+-- a front of it was printed, and nothing else: of the sections of the world, and where the source tells what it has of
+-- the transcript of the play
+pub record HasBegun (plan : Choices) (told : Option (ℕ → Option Bytes)) (ds : List Delivery) (world : ReplayState) (held held_now : Option (List ℕ)) : Type 0 where
+  pub sections : Wrote held held_now (closing meaning (sections_of plan) world.played)
+  pub all : (contents : ℕ → Option Bytes) → told ≡ Some contents →
+      Wrote held held_now (transcript meaning (sections_of plan) (source_replies judgement contents (failed_events world.played.side)) ds)
+
+-- the world has taken the deliveries of the lines before a read that failed
+pub record StandsAfter (left : Option (List ℕ)) (told : Option (ℕ → Option Bytes)) (start now : Counts) (world : ReplayState) : Type 0 where
   pub deliveries : List Delivery
-  pub played : IsPlayed told (λ replies. following replies deliveries) world
+  pub played : IsPlayedAfter told deliveries start now world
+  pub first : IfSome left (λ bytes. AreFirst bytes deliveries)
+
+-- the world has taken the deliveries before the line in which the input goes past the limit
+pub record StandsAtLimit (limit : ℕ) (left : Option (List ℕ)) (told : Option (ℕ → Option Bytes)) (start now : Counts) (world : ReplayState) : Type 0 where
+  pub deliveries : List Delivery
+  pub played : IsPlayedAfter told deliveries start now world
+  pub past : IfSome left (λ bytes. IsPastLimit limit bytes deliveries)
 
 -- the world has taken the deliveries before the line with this number, which is refused
-pub record StandsBeforeLine (left : Option (List ℕ)) (told : Option (ℕ → Option Bytes)) (number : ℕ) (cause : LineCause) (world : ReplayState) : Type 0 where
+pub record StandsBeforeLine (limit : ℕ) (left : Option (List ℕ)) (told : Option (ℕ → Option Bytes)) (start now : Counts) (number : ℕ) (cause : LineCause) (world : ReplayState) : Type 0 where
   pub deliveries : List Delivery
-  pub played : IsPlayed told (λ replies. following replies deliveries) world
-  pub bad : IfSome left (λ bytes. IsRefusedLine bytes deliveries number cause)
+  pub played : IsPlayedAfter told deliveries start now world
+  pub bad : IfSome left (λ bytes. IsRefusedLine limit bytes deliveries number cause)
 
--- all that a run of these words over this input and source leaves, by how it ended
-pub record Ending (plan : Plan) (left : Option (List ℕ)) (told : Option (ℕ → Option Bytes)) (world : ReplayState) (held held_now : Option (List ℕ)) : Type 0 where
-  pub replayed : Replayed left told world
+-- all that a run of these words over this input and source leaves, where it ended well
+pub record Ending (plan : Choices) (left : Option (List ℕ)) (told : Option (ℕ → Option Bytes)) (start now : Counts) (world : ReplayState) (held held_now : Option (List ℕ)) : Type 0 where
+  pub replayed : Replayed (limit_of plan) left told start now world
   pub printed : HasPrinted plan told replayed.deliveries world held held_now
 
+-- what a run leaves that stopped while it printed
+pub record BrokenOff (plan : Choices) (left : Option (List ℕ)) (told : Option (ℕ → Option Bytes)) (start now : Counts) (world : ReplayState) (held held_now : Option (List ℕ)) : Type 0 where
+  pub replayed : Replayed (limit_of plan) left told start now world
+  pub begun : HasBegun plan told replayed.deliveries world held held_now
+
 -- why a run stopped, and what stands then
-abbrev pub Stopped : Status → Option (List ℕ) → Option (ℕ → Option Bytes) → ReplayState → Option (List ℕ) → Option (List ℕ) → ℕ → ℕ → ℕ → ℕ → Type 0
-Stopped Ended left told world held held_now reads reads_now writes writes_now = ⊥
-Stopped BadWords left told world held held_now reads reads_now writes writes_now = ⊥
-Stopped (BadLine number cause) left told world held held_now reads reads_now writes writes_now = StandsBeforeLine left told number cause world × (held_now ≡ held)
-Stopped ReadFault left told world held held_now reads reads_now writes writes_now = Rose reads reads_now × StandsAfter told world × (held_now ≡ held)
-Stopped WriteFault left told world held held_now reads reads_now writes writes_now = Rose writes writes_now × Replayed left told world
-Stopped TooLong left told world held held_now reads reads_now writes writes_now = IfSome left (λ bytes. most_bytes < length bytes) × StandsAfter told world × (held_now ≡ held)
-Stopped OutOfMemory left told world held held_now reads reads_now writes writes_now = ⊤
+abbrev pub Stopped : Status → Choices → Option (List ℕ) → Option (ℕ → Option Bytes) → Counts → Counts → ReplayState → Option (List ℕ) → Option (List ℕ) → ℕ → ℕ → ℕ → ℕ → Type 0
+Stopped Ended plan left told start now world held held_now reads reads_now writes writes_now = ⊥
+Stopped BadWords plan left told start now world held held_now reads reads_now writes writes_now = ⊥
+Stopped (BadLine number cause) plan left told start now world held held_now reads reads_now writes writes_now = StandsBeforeLine (limit_of plan) left told start now number cause world × (held_now ≡ held)
+Stopped ReadFault plan left told start now world held held_now reads reads_now writes writes_now = Rose reads reads_now × StandsAfter left told start now world × (held_now ≡ held)
+Stopped WriteFault plan left told start now world held held_now reads reads_now writes writes_now = Rose writes writes_now × BrokenOff plan left told start now world held held_now
+Stopped TooLong plan left told start now world held held_now reads reads_now writes writes_now = StandsAtLimit (limit_of plan) left told start now world × (held_now ≡ held)
+Stopped OutOfMemory plan left told start now world held held_now reads reads_now writes writes_now = (held_now ≡ held) ⊎ BrokenOff plan left told start now world held held_now
 
 -- the run was begun and stopped
 abbrev pub IsStop : Status → Type 0

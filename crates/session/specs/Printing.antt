@@ -1,14 +1,14 @@
 -- What is printed after the end, and why it isn't.
-use Rattle.std.specs.Prelude.{ℕ, ⊤}
-use Rattle.wq_io.specs.Streams.{Rose}
+use Rattle.std.specs.Prelude.{◌≡◌, ℕ, List, ◌++◌, Option, ⊤}
+use Rattle.wq_io.specs.Streams.{Rose, after_known}
 use Rattle.replay_model.specs.Transcript.{Sections}
-use Rattle.session.specs.declared.words.Plan.{Plan}
+use Rattle.session.specs.Words.{Choices}
 use Rattle.session.specs.declared.status.Status.{Status}
 use Rattle.session.specs.declared.status.Status.TheVariants.{Ok as Ended, BadWords, BadLine, ReadFault, WriteFault, TooLong, OutOfMemory}
 
 -- the sections that the words ask for
-abbrev pub sections_of : Plan → Sections
-sections_of plan = record { export = plan.export }
+abbrev pub sections_of : Choices → Sections
+sections_of plan = record { export = plan.export; state = plan.state; side = plan.side }
 
 -- why not all was written: the sink failed, or memory was refused
 abbrev pub IsUnwritten : Status → ℕ → ℕ → Type 0
@@ -19,3 +19,10 @@ IsUnwritten ReadFault faults faults_now = ⊥
 IsUnwritten WriteFault faults faults_now = Rose faults faults_now
 IsUnwritten TooLong faults faults_now = ⊥
 IsUnwritten OutOfMemory faults faults_now = ⊤
+
+-- a front of all the bytes was written, and nothing else
+pub record Wrote (old new : Option (List ℕ)) (whole : List ℕ) : Type 0 where
+  pub written : List ℕ
+  pub unwritten : List ℕ
+  pub is : whole ≡ written ++ unwritten
+  pub held : new ≡ after_known old written

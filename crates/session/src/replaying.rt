@@ -2,11 +2,11 @@
 
 ghost use Rattle.std.specs.Prelude.{◌≡◌, ◌↔◌, ◌≤◌, None, Some, map, string_bytes, IfErr, OnOk};
 ghost use Rattle.replay_model.specs.ReplayState.{nothing_delivered};
+ghost use Rattle.session.specs.Counts.{counts};
 ghost use Rattle.session.specs.Headline.{Ending, IsStop, Replayed, Stopped};
-ghost use Rattle.session.specs.Running.{place_text, told_at};
+ghost use Rattle.session.specs.Running.{told_at};
 ghost use Rattle.session.specs.Stops.{Stops};
-ghost use Rattle.session.specs.Words.{plan_of};
-ghost use Rattle.session.specs.declared.words.Plan.{Plan};
+ghost use Rattle.session.specs.Words.{Choices, limit_of, place_of, plan_of};
 
 use crate::printing::print_closing;
 use crate::status::Status;
@@ -16,9 +16,6 @@ use revisions::Revisions;
 use std::alloc::Global;
 use world::World;
 use wq_io::{Sink, Source};
-
-/// Where the revisions are.
-const PLACE: &str = ".";
 
 /// Reads the event lines, applies what is due, and prints what the words ask for.
 ///
@@ -37,12 +34,18 @@ pub fn run<S: Source, R: Revisions, K: Sink>(
         (events.new ≡ events.old) × (revisions.new ≡ revisions.old) × (out.new ≡ out.old) × (world.new ≡ world.old) }
 
     // The input was read to its end, everything was applied, and everything was written.
-    ensures ok { result ≡ Status.Ok → (plan : Plan) → plan_of (map (λ w. string_bytes w) words.now) ≡ Some plan →
-        Ending plan (S.left events.old) (told_at (R.contents revisions.old) place_text) world.new (K.held out.old) (K.held out.new) }
+    ensures ok { result ≡ Status.Ok → (plan : Choices) → plan_of (map (λ w. string_bytes w) words.now) ≡ Some plan →
+        Ending plan (S.left events.old) (told_at (R.contents revisions.old) (place_of plan))
+        (counts (R.calls revisions.old) (R.misses revisions.old) (R.faults revisions.old))
+        (counts (R.calls revisions.new) (R.misses revisions.new) (R.faults revisions.new))
+        world.new (K.held out.old) (K.held out.new) }
 
     // Each other ending has its cause, and leaves the world of the lines before.
-    ensures stopped { IsStop result → Stopped result (S.left events.old) (told_at (R.contents revisions.old) place_text) world.new
-        (K.held out.old) (K.held out.new) (S.faults events.old) (S.faults events.new) (K.faults out.old) (K.faults out.new) }
+    ensures stopped { IsStop result → (plan : Choices) → plan_of (map (λ w. string_bytes w) words.now) ≡ Some plan →
+        Stopped result plan (S.left events.old) (told_at (R.contents revisions.old) (place_of plan))
+        (counts (R.calls revisions.old) (R.misses revisions.old) (R.faults revisions.old))
+        (counts (R.calls revisions.new) (R.misses revisions.new) (R.faults revisions.new))
+        world.new (K.held out.old) (K.held out.new) (S.faults events.old) (S.faults events.new) (K.faults out.old) (K.faults out.new) }
     ensures told { R.contents revisions.new ≡ R.contents revisions.old }
     ensures more_faults { R.faults revisions.old ≤ R.faults revisions.new }
     ensures more_misses { R.misses revisions.old ≤ R.misses revisions.new }
@@ -50,7 +53,7 @@ pub fn run<S: Source, R: Revisions, K: Sink>(
     let Some(plan) = read_plan(words) else {
         return Status::BadWords;
     };
-    match replay(alloc, plan, events, revisions, out, world) {
+    match replay(alloc, &plan, events, revisions, out, world) {
         Ok(()) => Status::Ok,
         Err(status) => status,
     }
@@ -59,41 +62,51 @@ pub fn run<S: Source, R: Revisions, K: Sink>(
 // Takes the lines and the end, and prints.
 fn replay<S: Source, R: Revisions, K: Sink>(
     alloc: Global,
-    plan: Plan,
+    plan: &Plan<'_>,
     events: &mut S,
     revisions: &mut R,
     out: &mut K,
     world: &mut World,
 ) -> Result<(), Status>
     requires { world.old ≡ nothing_delivered }
-    ensures ok { OnOk result (Ending plan (S.left events.old) (told_at (R.contents revisions.old) place_text) world.new
-        (K.held out.old) (K.held out.new)) }
-    ensures err { IfErr result (λ status. Stopped status (S.left events.old) (told_at (R.contents revisions.old) place_text) world.new
-        (K.held out.old) (K.held out.new) (S.faults events.old) (S.faults events.new) (K.faults out.old) (K.faults out.new)) }
+    ensures ok { OnOk result (Ending plan.now (S.left events.old) (told_at (R.contents revisions.old) (place_of plan.now))
+        (counts (R.calls revisions.old) (R.misses revisions.old) (R.faults revisions.old))
+        (counts (R.calls revisions.new) (R.misses revisions.new) (R.faults revisions.new))
+        world.new (K.held out.old) (K.held out.new)) }
+    ensures err { IfErr result (λ status. Stopped status plan.now (S.left events.old) (told_at (R.contents revisions.old) (place_of plan.now))
+        (counts (R.calls revisions.old) (R.misses revisions.old) (R.faults revisions.old))
+        (counts (R.calls revisions.new) (R.misses revisions.new) (R.faults revisions.new))
+        world.new (K.held out.old) (K.held out.new) (S.faults events.old) (S.faults events.new) (K.faults out.old) (K.faults out.new)) }
     ensures told { R.contents revisions.new ≡ R.contents revisions.old }
     ensures more_faults { R.faults revisions.old ≤ R.faults revisions.new }
     ensures more_misses { R.misses revisions.old ≤ R.misses revisions.new }
 {
-    take_all(alloc, events, revisions, world)?;
+    take_all(alloc, plan, events, revisions, world)?;
     print_closing(alloc, plan, world, out)
 }
 
 // Takes the lines and the end.
 fn take_all<S: Source, R: Revisions>(
     alloc: Global,
+    plan: &Plan<'_>,
     events: &mut S,
     revisions: &mut R,
     world: &mut World,
 ) -> Result<(), Status>
     requires { world.old ≡ nothing_delivered }
-    ensures ok { OnOk result (Replayed (S.left events.old) (told_at (R.contents revisions.old) place_text) world.new) }
-    ensures err { IfErr result (λ status. Stops status (S.left events.old) (told_at (R.contents revisions.old) place_text)
+    ensures ok { OnOk result (Replayed (limit_of plan.now) (S.left events.old) (told_at (R.contents revisions.old) (place_of plan.now))
+        (counts (R.calls revisions.old) (R.misses revisions.old) (R.faults revisions.old))
+        (counts (R.calls revisions.new) (R.misses revisions.new) (R.faults revisions.new)) world.new) }
+    ensures err { IfErr result (λ status. Stops status (limit_of plan.now) (S.left events.old) (told_at (R.contents revisions.old) (place_of plan.now))
+        (counts (R.calls revisions.old) (R.misses revisions.old) (R.faults revisions.old))
+        (counts (R.calls revisions.new) (R.misses revisions.new) (R.faults revisions.new))
         world.new (S.faults events.old) (S.faults events.new)) }
     ensures told { R.contents revisions.new ≡ R.contents revisions.old }
     ensures more_faults { R.faults revisions.old ≤ R.faults revisions.new }
     ensures more_misses { R.misses revisions.old ≤ R.misses revisions.new }
 {
-    take_lines(alloc, PLACE, events, revisions, world)?;
-    take_end(PLACE, revisions, world)?;
+    let place = plan.place();
+    take_lines(alloc, plan.limit(), place, events, revisions, world)?;
+    take_end(place, revisions, world)?;
     Ok(())
 }

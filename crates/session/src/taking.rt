@@ -1,10 +1,11 @@
 // The lines of the input are taken one by one, and what is due is applied.
 
-ghost use Rattle.std.specs.Prelude.{◌≡◌, ℕ, ◌≤◌, ◌++◌, ◌∷◌, [], false, List, IfErr, OnOk};
+ghost use Rattle.std.specs.Prelude.{◌≡◌, ℕ, ◌≤◌, ◌^◌, false, List, IfErr, OnOk};
 ghost use Rattle.replay_model.specs.ReplayState.{after_event, after_mark, nothing_delivered};
 ghost use Rattle.event_line.specs.declared.deliveries.Delivery.{Delivery};
+ghost use Rattle.session.specs.Counts.{Counts, counts};
 ghost use Rattle.session.specs.Running.{AtEnd, AtRest, told_at};
-ghost use Rattle.session.specs.Stops.{HasTaken, IsRefused, Settles, Stops, TakesLine};
+ghost use Rattle.session.specs.Stops.{HasTaken, IsRefused, Settles, Stops, TakesDelivery, TakesLine};
 
 use crate::status::Status;
 use entity_model::Event;
@@ -15,26 +16,30 @@ use std::alloc::Global;
 use world::{World, WorldFault};
 use wq_io::{Lines, Source};
 
-/// The most bytes that an input may have.
-const MOST_BYTES: u64 = 1_073_741_824;
-
-/// Takes all lines of the input; after each watermark all due events are applied before the next line is read.
+/// Takes all lines of an input of at most `max_bytes` bytes; after each watermark all due events are applied before the
+/// next line is read.
 pub fn take_lines<S: Source, R: Revisions>(
     alloc: Global,
+    max_bytes: u64,
     place: &str,
     events: &mut S,
     revisions: &mut R,
     world: &mut World,
 ) -> Result<(), Status>
-    requires { world.old ≡ nothing_delivered }
-    ensures ok { OnOk result (HasTaken (S.left events.old) (told_at (R.contents revisions.old) place.now) world.new) }
-    ensures err { IfErr result (λ status. Stops status (S.left events.old) (told_at (R.contents revisions.old) place.now)
+    requires limit { max_bytes ≤ 2 ^ 40 }
+    requires world { world.old ≡ nothing_delivered }
+    ensures ok { OnOk result (HasTaken max_bytes (S.left events.old) (told_at (R.contents revisions.old) place.now)
+        (counts (R.calls revisions.old) (R.misses revisions.old) (R.faults revisions.old))
+        (counts (R.calls revisions.new) (R.misses revisions.new) (R.faults revisions.new)) world.new) }
+    ensures err { IfErr result (λ status. Stops status max_bytes (S.left events.old) (told_at (R.contents revisions.old) place.now)
+        (counts (R.calls revisions.old) (R.misses revisions.old) (R.faults revisions.old))
+        (counts (R.calls revisions.new) (R.misses revisions.new) (R.faults revisions.new))
         world.new (S.faults events.old) (S.faults events.new)) }
     ensures told { R.contents revisions.new ≡ R.contents revisions.old }
     ensures more_faults { R.faults revisions.old ≤ R.faults revisions.new }
     ensures more_misses { R.misses revisions.old ≤ R.misses revisions.new }
 {
-    let mut lines = Lines::new(MOST_BYTES);
+    let mut lines = Lines::new(max_bytes);
     let mut line = Vec::new(alloc);
     while let Some(number) = lines.next(events, &mut line)? {
         take_line(alloc, place, line.as_slice(), number, revisions, world)?;
@@ -48,8 +53,9 @@ pub fn take_end<R: Revisions>(
     revisions: &mut R,
     world: &mut World,
 ) -> Result<(), OutOfMemory>
-    ensures ok { OnOk result ((ds : List Delivery) → AtRest (told_at (R.contents revisions.old) place.now) ds world.old
-        → AtEnd (told_at (R.contents revisions.old) place.now) ds world.new) }
+    ensures ok { OnOk result ((ds : List Delivery) (start : Counts) →
+        AtRest (told_at (R.contents revisions.old) place.now) ds start (counts (R.calls revisions.old) (R.misses revisions.old) (R.faults revisions.old)) world.old →
+        AtEnd (told_at (R.contents revisions.old) place.now) ds start (counts (R.calls revisions.new) (R.misses revisions.new) (R.faults revisions.new)) world.new) }
     ensures told { R.contents revisions.new ≡ R.contents revisions.old }
     ensures more_faults { R.faults revisions.old ≤ R.faults revisions.new }
     ensures more_misses { R.misses revisions.old ≤ R.misses revisions.new }
@@ -68,8 +74,12 @@ fn take_line<R: Revisions>(
     world: &mut World,
 ) -> Result<(), Status>
     requires { world.old.buffer.closed ≡ false }
-    ensures ok { OnOk result (TakesLine (told_at (R.contents revisions.old) place.now) line.now world.old world.new) }
-    ensures err { IfErr result (λ status. IsRefused status line.now number world.old world.new) }
+    ensures ok { OnOk result (TakesLine (told_at (R.contents revisions.old) place.now) line.now
+        (counts (R.calls revisions.old) (R.misses revisions.old) (R.faults revisions.old))
+        (counts (R.calls revisions.new) (R.misses revisions.new) (R.faults revisions.new)) world.old world.new) }
+    ensures err { IfErr result (λ status. IsRefused status line.now number
+        (counts (R.calls revisions.old) (R.misses revisions.old) (R.faults revisions.old))
+        (counts (R.calls revisions.new) (R.misses revisions.new) (R.faults revisions.new)) world.old world.new) }
     ensures told { R.contents revisions.new ≡ R.contents revisions.old }
     ensures more_faults { R.faults revisions.old ≤ R.faults revisions.new }
     ensures more_misses { R.misses revisions.old ≤ R.misses revisions.new }
@@ -89,8 +99,9 @@ fn deliver<R: Revisions>(
     world: &mut World,
 ) -> Result<(), OutOfMemory>
     requires { world.old.buffer.closed ≡ false }
-    ensures ok { OnOk result ((ds : List Delivery) → AtRest (told_at (R.contents revisions.old) place.now) ds world.old
-        → AtRest (told_at (R.contents revisions.old) place.now) (ds ++ delivery.now ∷ []) world.new) }
+    ensures ok { OnOk result (TakesDelivery (told_at (R.contents revisions.old) place.now) delivery.now
+        (counts (R.calls revisions.old) (R.misses revisions.old) (R.faults revisions.old))
+        (counts (R.calls revisions.new) (R.misses revisions.new) (R.faults revisions.new)) world.old world.new) }
     ensures told { R.contents revisions.new ≡ R.contents revisions.old }
     ensures more_faults { R.faults revisions.old ≤ R.faults revisions.new }
     ensures more_misses { R.misses revisions.old ≤ R.misses revisions.new }
@@ -108,7 +119,9 @@ fn take_mark<R: Revisions>(
     revisions: &mut R,
     world: &mut World,
 ) -> Result<(), OutOfMemory>
-    ensures ok { OnOk result (Settles (told_at (R.contents revisions.old) place.now) (after_mark world.old mark.now) world.new) }
+    ensures ok { OnOk result (Settles (told_at (R.contents revisions.old) place.now)
+        (counts (R.calls revisions.old) (R.misses revisions.old) (R.faults revisions.old))
+        (counts (R.calls revisions.new) (R.misses revisions.new) (R.faults revisions.new)) (after_mark world.old mark.now) world.new) }
     ensures told { R.contents revisions.new ≡ R.contents revisions.old }
     ensures more_faults { R.faults revisions.old ≤ R.faults revisions.new }
     ensures more_misses { R.misses revisions.old ≤ R.misses revisions.new }
@@ -132,7 +145,9 @@ fn apply_due<R: Revisions>(
     revisions: &mut R,
     world: &mut World,
 ) -> Result<(), OutOfMemory>
-    ensures ok { OnOk result (Settles (told_at (R.contents revisions.old) place.now) world.old world.new) }
+    ensures ok { OnOk result (Settles (told_at (R.contents revisions.old) place.now)
+        (counts (R.calls revisions.old) (R.misses revisions.old) (R.faults revisions.old))
+        (counts (R.calls revisions.new) (R.misses revisions.new) (R.faults revisions.new)) world.old world.new) }
     ensures told { R.contents revisions.new ≡ R.contents revisions.old }
     ensures more_faults { R.faults revisions.old ≤ R.faults revisions.new }
     ensures more_misses { R.misses revisions.old ≤ R.misses revisions.new }

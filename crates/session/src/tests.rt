@@ -36,11 +36,11 @@ const EXPORT_OF_3_AND_10: &str = "# export: 2 triples
 
 const EMPTY_EXPORT: &str = "# export: 0 triples\n";
 
-// What a run is given: its words and deliveries, what follows these in the input, the most bytes of a read and of a
+// What a run is given: its words with a space between two, its deliveries, what follows these in the input, the most bytes of a read and of a
 // write, and the numbers of the calls that fail.
 #[derive(Clone, Copy)]
 struct Given {
-    words: &'static [&'static str],
+    words: &'static str,
     deliveries: &'static str,
     rest: &'static str,
     piece: usize,
@@ -50,7 +50,7 @@ struct Given {
 }
 
 const EXPORT: Given = Given {
-    words: &["replay", "--export"],
+    words: "replay --export",
     deliveries: "",
     rest: "",
     piece: 4096,
@@ -90,10 +90,13 @@ fn input(alloc: Global, given: &Given) -> Result<Vec<u8>, Fail> {
     Ok(text)
 }
 
-// The words, each with memory of its own.
-fn words(alloc: Global, words: &[&str]) -> Result<Vec<String>, Fail> {
+// The words, each with memory of its own; none where there is no text.
+fn words(alloc: Global, words: &str) -> Result<Vec<String>, Fail> {
     let mut list = Vec::new(alloc);
-    for word in words {
+    if words.is_empty() {
+        return Ok(list);
+    }
+    for word in words.split(' ') {
         list.push(String::from_str(alloc, word)?)?;
     }
     Ok(list)
@@ -295,7 +298,7 @@ fn worlds(rt: HostRuntime) -> Result<(), Fail> {
             "edit Q1 7 1\nedit Q1 8 2",
             &[][..],
             EMPTY_EXPORT,
-            "Q1 Kept 8, holds None\nUnfit(Shape) 1 7\nUnfit(Shape) 1 8\nfetches 2",
+            "Q1 Kept 8, holds None\nUnfit(Shape) 1 7\nUnfit(Foreign) 1 8\nfetches 2",
         ),
     ] {
         let given = Given {
@@ -315,7 +318,7 @@ fn endings(rt: HostRuntime) -> Result<(), Fail> {
         // The end of the input ends the last line; nothing is printed where nothing is asked for.
         (
             Given {
-                words: &["replay"],
+                words: "replay",
                 deliveries: "edit Q1 1 1",
                 rest: r#"{"watermark":"2024-05-01T10:00:05Z"}"#,
                 ..EXPORT
@@ -383,24 +386,132 @@ fn endings(rt: HostRuntime) -> Result<(), Fail> {
     Ok(())
 }
 
+// Words, deliveries with commas between them, and the lines that are printed, with commas between them.
+const PRINTED: &str =
+    "replay --state --side / watermark 0, edit Q1 1 0, edit Q2 8 0.000001, edit Q1 1 0 / # state Q2 kept 8, # side late open Q1 edit 1 1714557600000000
+replay --side --state / edit Q1 1 1, watermark 5, edit Q1 2 3, reconcile Q1 2 6 / # state Q1 kept 2, # side late closed Q1 edit 2 1714557603000000
+replay --state --side / reconcile Q1 1 2, watermark 5, edit Q1 2 3 / # state Q1 kept 1, # side late open Q1 edit 2 1714557603000000
+replay --state --side / edit Q1 1 1, edit Q1 9 2, edit Q10 7 3, delete Q2 8 4 / # state Q1 kept 9, # state Q2 deleted 8, # state Q10 kept 7, # side missing open Q1 9, # side unfit-shape open Q10 7
+replay --from a=b --side --export / edit Q1 1 1 / # export: 0 triples, # side missing open Q1 1
+replay --from=. --state --max-bytes=1099511627776 / edit Q1 1 1 / # state Q1 kept 1
+replay --side --max-bytes 0 --state /  / ";
+
+// The lines of deliveries that commas divide.
+fn lines_of(alloc: Global, deliveries: &str) -> Result<Vec<u8>, Fail> {
+    let mut text = Vec::new(alloc);
+    if deliveries.is_empty() {
+        return Ok(text);
+    }
+    for delivery in deliveries.split(", ") {
+        text.extend_from_slice(line(alloc, delivery)?.as_bytes())?;
+    }
+    Ok(text)
+}
+
+// The lines that commas divide.
+fn expected(alloc: Global, printed: &str) -> Result<String, Fail> {
+    let mut text = String::new(alloc);
+    if printed.is_empty() {
+        return Ok(text);
+    }
+    for line in printed.split(", ") {
+        text.push_str(line)?;
+        text.push_str("\n")?;
+    }
+    Ok(text)
+}
+
+#[test]
+fn printed_sections(rt: HostRuntime) -> Result<(), Fail> {
+    for row in PRINTED.lines() {
+        let (words, rest) = row.split_once(" / ").ok_or("deliveries")?;
+        let (deliveries, printed) = rest.split_once(" / ").ok_or("lines")?;
+        let given = Given { words, ..EXPORT };
+        let left = run_over(&rt, &given, lines_of(rt.alloc(), deliveries)?)?;
+        assert_eq!(rt; left.status, Status::Ok, "of {row}");
+        let expected = expected(rt.alloc(), printed)?;
+        assert_eq!(rt; left.out.bytes(), expected.as_bytes(), "of {row}");
+    }
+    Ok(())
+}
+
+// A watermark's line has 36 bytes and its line feed.
+const LIMITS: &str = "replay --max-bytes 36
+replay --max-bytes=73
+replay --max-bytes 37";
+
+#[test]
+fn limits(rt: HostRuntime) -> Result<(), Fail> {
+    for words in LIMITS.lines() {
+        let given = Given { words, ..EXPORT };
+        let left = run_over(
+            &rt,
+            &given,
+            lines_of(rt.alloc(), "watermark 1, watermark 2")?,
+        )?;
+        assert_eq!(rt; left.status, Status::TooLong, "of {words}");
+    }
+    let given = Given {
+        words: "replay --max-bytes 74",
+        ..EXPORT
+    };
+    let left = run_over(
+        &rt,
+        &given,
+        lines_of(rt.alloc(), "watermark 1, watermark 2")?,
+    )?;
+    assert_eq!(rt; left.status, Status::Ok);
+    Ok(())
+}
+
+// Words that aren't understood, a list each line: no command or another, what isn't in the table, a flag with a value,
+// a value that is missing, empty or begins with `-`, a number that isn't one or is too large, and each item twice.
+const NOT_UNDERSTOOD: &str = "play
+--export
+Replay
+drill --size 10
+replay x
+replay\u{20}
+replay --
+replay --help
+replay -e
+replay --max-terms 5
+replay --export=1
+replay --side=
+replay --from
+replay --max-bytes
+replay --from=
+replay --from --export
+replay --from=-x
+replay --max-bytes 01
+replay --max-bytes +1
+replay --max-bytes 1k
+replay --max-bytes=1099511627777
+replay --max-bytes 18446744073709551616
+replay --export --state --export
+replay --state --side --state
+replay --side --side
+replay --from . --from=.
+replay --max-bytes 1 --max-bytes 1";
+
 #[test]
 fn words_that_are_not_understood(rt: HostRuntime) -> Result<(), Fail> {
-    for words in [
-        &[][..],
-        &["--export"][..],
-        &["Replay"][..],
-        &["replay", "x"][..],
-        &["replay", ""][..],
-        &["replay", "--export=1"][..],
-        &["replay", "--export", "--export"][..],
-    ] {
-        let given = Given {
-            words,
-            deliveries: "edit Q1 1 1",
-            ..EXPORT
-        };
-        check(&rt, &given, Status::BadWords, "", "fetches 0")?;
+    for words in NOT_UNDERSTOOD.lines() {
+        let given = Given { words, ..EXPORT };
+        let left = run_over(&rt, &given, lines_of(rt.alloc(), "edit Q1 1 1")?)?;
+        assert_eq!(rt; left.status, Status::BadWords, "of {words}");
+        assert!(rt; left.out.bytes().is_empty());
+        assert_eq!(rt; left.fetches, 0);
     }
+    let left = run_over(
+        &rt,
+        &Given {
+            words: "",
+            ..EXPORT
+        },
+        Vec::new(rt.alloc()),
+    )?;
+    assert_eq!(rt; left.status, Status::BadWords);
     Ok(())
 }
 

@@ -49,12 +49,16 @@ module _ {K X B : Type 0} {R : K → K → Ordering} (o : IsTotalOrder R) (g : K
   over_keys h [] = refl
   over_keys h (e ∷ es) = ap (λ xs. h e.0 ++ xs) (over_keys h es)
 
--- the triples of all that is held, by the ids of the records
-pub held_over_ids : {Triple : Type 0} (meaning : Meaning Triple) (records : Records) →
-    flat_map (λ x. triples_held meaning x (record_of records x).held) (fin.keys records) ≡ flat_map (triples_at meaning) (fin.entries records)
-held_over_ids {Triple} meaning records =
-    let g : EntityId → Option (Record Bytes) → List Triple = λ x r. triples_held meaning x (unwrap_or r blank).held in
-    let h : EntityId → List Triple = λ x. g x (find entity_cmp x (fin.entries records)) in
+-- what is gathered over the ids of the records, from the record of each, is gathered over their entries
+pub over_ids : {B : Type 0} (g : EntityId → Option (Record Bytes) → List B) (records : Records) →
+    flat_map (λ x. g x (fin.get records x)) (fin.keys records) ≡ flat_map (λ e. g e.0 (Some e.1)) (fin.entries records)
+over_ids {B} g records =
+    let h : EntityId → List B = λ x. g x (find entity_cmp x (fin.entries records)) in
     let asked : flat_map (λ x. g x (fin.get records x)) (fin.keys records) ≡ flat_map h (fin.keys records) =
     λ i. flat_map (λ x. g x (fin.get-entries records x i)) (fin.keys records) in
     asked ∙ over_keys entity_cmp_total g h (fin.entries records) ∙ found entity_cmp_total g (fin.entries records) (fin.entries_sorted records)
+
+-- the triples of all that is held, by the ids of the records
+pub held_over_ids : {Triple : Type 0} (meaning : Meaning Triple) (records : Records) →
+    flat_map (λ x. triples_held meaning x (record_of records x).held) (fin.keys records) ≡ flat_map (triples_at meaning) (fin.entries records)
+held_over_ids {Triple} meaning records = over_ids (λ x r. triples_held meaning x (unwrap_or r blank).held) records

@@ -1,12 +1,13 @@
 // The state of a replay.
 
-ghost use Rattle.std.specs.Prelude.{◌≡◌, ◌↔◌, ◌⊎◌, ◌≤◌, ◌++◌, ℕ, false, None, Some, length, slice_get, is_some, IfSome, MatchOption, if◌then◌else◌, IfOk, IfErr, OnErr, OnOk, IsErrOf};
+ghost use Rattle.std.specs.Prelude.{◌≡◌, ◌↔◌, ◌⊎◌, ◌<◌, ◌≤◌, ◌++◌, ℕ, false, None, Some, length, slice_get, is_some, IfSome, MatchOption, if◌then◌else◌, IfOk, IfErr, OnErr, OnOk, IsErrOf};
 ghost use Rattle.std.specs.Option.{option_copied};
 ghost use Rattle.std.specs.FinMap as map;
 ghost use Rattle.std.specs.List.{flat_map};
 ghost use Rattle.rdf_term.specs.Order.{triple_cmp};
 ghost use Rattle.revisions.specs.Revisions.{counted};
 ghost use Rattle.reorder_buffer.specs.Buffered.{after_taking, answer_to, first_due};
+ghost use Rattle.replay_model.specs.Entries.{entity_of, is_open_in};
 ghost use Rattle.replay_model.specs.Records.{record_of};
 ghost use Rattle.replay_model.specs.ReplayState.{after_end, after_event, after_mark, nothing_delivered, taken_entries};
 ghost use Rattle.replay_model.specs.Union.{triples_at, triples_held, union};
@@ -25,7 +26,7 @@ use entity_state::{State, Table};
 use rdf_term::{List, OutOfMemory, Triple, TripleSet};
 use reorder_buffer::{Buffer, Taken};
 use revisions::Revisions;
-use side_output::{Entry, Side};
+use side_output::{Entry, Side, is_open};
 use std::alloc::Global;
 use std::marker::Model;
 
@@ -168,6 +169,25 @@ impl World {
         self.pages.side.get(place)
     }
 
+    /// Whether the entry of the side output at a place from 0 is open.
+    pub fn side_open(&self, place: usize) -> bool
+        requires { place < length self.now.played.side }
+        ensures { IfSome (slice_get self.now.played.side place) (λ entry. result ≡ is_open_in self.now.played.records entry) }
+    {
+        match self.side(place) {
+            Some(entry) => self.is_open(entry),
+            None => false,
+        }
+    }
+
+    // Whether an entry is open, by the record of its entity.
+    fn is_open(&self, entry: &Entry) -> bool
+        ensures { result ≡ is_open_in self.now.played.records entry.now }
+    {
+        let standing = self.pages.standing(entity_of(entry));
+        is_open(entry, standing.state, standing.held, standing.reconciled)
+    }
+
     // The reply to the fetch that an event wants, if it wants one.
     fn reply<R: Revisions>(
         &self,
@@ -194,6 +214,15 @@ impl World {
         }
         let reply = fetch(self.alloc, revisions, place, event.entity, after.state.rev)?;
         Ok(Some(reply))
+    }
+}
+
+// The entity of an entry's event.
+fn entity_of(entry: &Entry) -> EntityId
+    ensures { result ≡ entity_of entry.now }
+{
+    match entry {
+        Entry::Late(event) | Entry::Revision(event, _, _) => event.entity,
     }
 }
 

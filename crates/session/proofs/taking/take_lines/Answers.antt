@@ -1,28 +1,27 @@
 -- The start, a fault of the reader, a line that is refused, and a line that is taken.
-use Rattle.std.proofs.Common.{refl, sym, ◌≡◌, ◌∙◌, ◌≤◌, ℕ, List, Option, arith, ap}
+use Rattle.std.proofs.Common.{refl, sym, ◌∙◌, ℕ, Option, arith}
 use Rattle.std.proofs.lemmas.Result.{err_from_is_err_and}
 use Rattle.replay_model.specs.Records.{Bytes}
-use Rattle.replay_model.specs.ReplayState.{ReplayState}
-use Rattle.wq_io.specs.Lines.{Reading}
+use Rattle.session.specs.Counts.{Counts, counts}
 use Rattle.session.specs.Running.{told_at}
-use Rattle.session.specs.Stops.{Stops}
 use Rattle.session.proofs.Deliveries.{rest_open}
-use Rattle.session.proofs.Reading.{Progress, end_reached, fault_stops, line_stops, line_taken, start}
+use Rattle.session.proofs.Reading.{before_lines_taken, end_reached, fault_stops, line_stops, line_taken}
 use Rattle.session.proofs.taking.take_lines.Goals as goal
 
 pub loop-line-init : goal.loop-line-init
 loop-line-init g c =
     let told : Option (ℕ → Option Bytes) = told_at (g.R.Revisions.contents c.args.revisions.now) c.args.place.now in
-    (rw (c.new-lines.ensures, c.requires) (start (g.S.Source.left c.args.events.now) told), omega arith, refl, omega arith, omega arith)
+    let now : Counts = counts (g.R.Revisions.calls c.args.revisions.now) (g.R.Revisions.misses c.args.revisions.now) (g.R.Revisions.faults c.args.revisions.now) in
+    (rw (c.new-lines.ensures, c.requires.world) (before_lines_taken c.args.max_bytes (g.S.Source.left c.args.events.now) told now), omega arith, refl, omega arith, omega arith)
 
 pub returns-in_err-number-clause-err : goal.returns-in_err-number-clause-err
 returns-in_err-number-clause-err g c =
     let told : Option (ℕ → Option Bytes) = told_at (g.R.Revisions.contents c.args.revisions.now) c.args.place.now in
     let p = err_from_is_err_and c.from_residual.result c.from_residual.ensures.1 in
-    rw (p.1, p.2) (fault_stops told _ _ c.loop-line.lines _ c.loop-line.world _ _ _ c.loop-line.invariant.0 c.loop-line.invariant.1 c.in_err-number.ensures.cause)
+    rw (p.1, p.2) (fault_stops c.args.max_bytes told _ _ _ _ c.loop-line.lines _ c.loop-line.world _ _ _ c.loop-line.invariant.0 c.loop-line.invariant.1 c.in_err-number.ensures.cause)
 
 pub take_line-requires : goal.take_line-requires
-take_line-requires g c = rest_open _ _ c.loop-line.world c.loop-line.invariant.0.at_rest
+take_line-requires g c = rest_open _ _ _ _ c.loop-line.world c.loop-line.invariant.0.at_rest
 
 pub loop-line-preserved : goal.loop-line-preserved
 loop-line-preserved g c =
@@ -32,7 +31,7 @@ loop-line-preserved g c =
     let line = rw c.in-Some.is at c.in_ok-number.ensures.line in
     let number = rw c.in-Some.is at c.in_ok-number.ensures.number in
     let takes = rw (c.as_slice.ensures.value, before.2) at c.in_ok-take_line.ensures.ok in (
-      line_taken told _ c.loop-line.lines c.next.new.self _ _ c.loop-line.world c.take_line.new.world c.next.new.line.items before.0 line
+      line_taken c.args.max_bytes told _ _ _ c.loop-line.lines c.next.new.self _ _ _ c.loop-line.world c.take_line.new.world c.next.new.line.items before.0 line
           c.in_ok-number.ensures.length (sym number.1 ∙ number.0) goes.limit goes.sound goes.going c.in_ok-number.ensures.ended takes,
       omega (arith, before.1, c.in_ok-number.ensures.later),
       c.in_ok-take_line.ensures.told ∙ before.2,
@@ -44,13 +43,15 @@ pub returns-in_err-take_line-clause-err : goal.returns-in_err-take_line-clause-e
 returns-in_err-take_line-clause-err g c =
     let told : Option (ℕ → Option Bytes) = told_at (g.R.Revisions.contents c.args.revisions.now) c.args.place.now in
     let p = err_from_is_err_and c.from_residual-in_err-take_line.result c.from_residual-in_err-take_line.ensures.1 in
+    let goes = c.in_ok-number.ensures.goes_on in
     let line = rw c.in-Some.is at c.in_ok-number.ensures.line in
     let number = rw c.in-Some.is at c.in_ok-number.ensures.number in
     let refused = rw c.as_slice.ensures.value at c.in_err-take_line.ensures.err in
-    rw (p.1, p.2) (line_stops told _ _ c.loop-line.lines _ _ c.loop-line.world c.take_line.new.world c.next.new.line.items c.in-Some.number _ _ c.loop-line.invariant.0 line number.0 refused)
+    rw (p.1, p.2) (line_stops c.args.max_bytes told _ _ _ _ c.loop-line.lines c.next.new.self _ _ _ c.loop-line.world c.take_line.new.world c.next.new.line.items c.in-Some.number _ _ c.loop-line.invariant.0 line
+    c.in_ok-number.ensures.length goes.limit goes.sound number.0 refused)
 
 pub returns-clause-ok : goal.returns-clause-ok
 returns-clause-ok g c =
     let told : Option (ℕ → Option Bytes) = told_at (g.R.Revisions.contents c.args.revisions.now) c.args.place.now in
     let line = rw c.in_default.is at c.in_ok-number.ensures.line in
-    end_reached told _ c.loop-line.lines _ c.loop-line.world c.loop-line.invariant.0 line.0
+    end_reached c.args.max_bytes told _ _ _ c.loop-line.lines _ c.loop-line.world c.loop-line.invariant.0 line.0

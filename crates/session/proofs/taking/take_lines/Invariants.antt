@@ -1,12 +1,16 @@
 -- The lines so far were read, and the world has taken them.
 use Rattle.std.proofs.Common.{◌≡◌, ◌≤◌, ◌-◌}
+use Rattle.session.specs.Counts.{counts}
 use Rattle.session.specs.Running.{told_at}
 use Rattle.session.proofs.Reading.{Progress}
 use Rattle.session.proofs.taking.take_lines.Given as goal
 
 abbrev pub invariant-loop-line : goal.invariant-loop-line
 invariant-loop-line g l =
-    Progress (g.S.Source.left l.fn.events) (told_at (g.R.Revisions.contents l.fn.revisions) l.place) l.lines (g.S.Source.left l.events) l.world
+    Progress l.max_bytes (g.S.Source.left l.fn.events) (told_at (g.R.Revisions.contents l.fn.revisions) l.place)
+    (counts (g.R.Revisions.calls l.fn.revisions) (g.R.Revisions.misses l.fn.revisions) (g.R.Revisions.faults l.fn.revisions))
+    (counts (g.R.Revisions.calls l.revisions) (g.R.Revisions.misses l.revisions) (g.R.Revisions.faults l.revisions))
+    l.lines (g.S.Source.left l.events) l.world
     × (g.S.Source.faults l.fn.events ≤ g.S.Source.faults l.events)
     × (g.R.Revisions.contents l.revisions ≡ g.R.Revisions.contents l.fn.revisions)
     × (g.R.Revisions.faults l.fn.revisions ≤ g.R.Revisions.faults l.revisions)

@@ -1,0 +1,26 @@
+-- The counts of a source of revisions, and how they rise with a replay.
+use Rattle.std.specs.Prelude.{◌≡◌, ℕ, ◌+◌, ◌-◌, ◌^◌, ◌<◌, ◌≤◌, List, length}
+use Rattle.side_output.specs.declared.entry.Entry.{Entry}
+use Rattle.replay_model.specs.Play.{risen_by}
+use Rattle.replay_model.specs.Replies.{failed_events, missing_events}
+
+-- how many calls a source of revisions had, how many of them found nothing, and how many failed
+pub record Counts : Type 0 where
+  pub calls : ℕ
+  pub misses : ℕ
+  pub faults : ℕ
+
+-- these counts
+abbrev pub counts : ℕ → ℕ → ℕ → Counts
+counts calls misses faults = record { calls = calls; misses = misses; faults = faults }
+
+-- a count of 64 bits rose by at least n; at its last value it says nothing
+abbrev pub RoseBy : ℕ → ℕ → ℕ → Type 0
+RoseBy n before now = now < 2 ^ 64 - 1 → before + n ≤ now
+
+-- the calls rose by the fetches that were made, as far as 64 bits count them; the faults rose at least by the failed
+-- fetches that the side output names, and the misses by the missing revisions
+pub record HasCounted (start now : Counts) (made : ℕ) (side : List Entry) : Type 0 where
+  pub calls : start.calls < 2 ^ 64 → now.calls ≡ risen_by made start.calls
+  pub failed : RoseBy (length (failed_events side)) start.faults now.faults
+  pub missing : RoseBy (length (missing_events side)) start.misses now.misses
