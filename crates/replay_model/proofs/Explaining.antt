@@ -17,7 +17,7 @@ use Rattle.rising.proofs.FirstPassing.{has-found}
 use Rattle.replay_model.specs.Records.{Bytes}
 use Rattle.replay_model.specs.Play.{Replies, Fetch, fetches, fetches_to_end}
 use Rattle.replay_model.specs.Replies.{Judgement, reply_there, source_replies, failed_events}
-use Rattle.replay_model.specs.ReplayState.{ReplayState, nothing_delivered, after_event, after_mark, after_end, after_applying, after_due, following, fetches_for, fetches_due}
+use Rattle.replay_model.specs.ReplayState.{ReplayState, nothing_delivered, after_event, after_mark, after_end, after_applying, after_due, after_next, following, fetches_for, fetches_due}
 use Rattle.replay_model.specs.Explained.{is_applied, AgreeOnApplied, revision_wanted, is_fetching, IsHonest, Explained, ExplainedAfter, ExplainedToEnd}
 use Rattle.replay_model.proofs.Applied.{Apart, Apart-following, Apart-applying, applied-event, applied-next, waiting_not_applied}
 use Rattle.replay_model.proofs.FetchCounts.{fetches_due-none, fetches_due-some, fetches-delivered, fetches-end}
@@ -119,6 +119,11 @@ module _ (unfit : Judgement) (told : Option (ℕ → Option Bytes)) where
       failed_applied = x.failed_applied;
     }
 
+    -- the replies stay
+    pub mark_replies : (m : ℤ) → (Explained-mark m).replies ≡ x.replies
+    unfolding Explained-mark
+    mark_replies m = refl
+
     -- the end is taken
     pub Explained-end : ExplainedToEnd unfit told ds made (after_end w)
     Explained-end = record {
@@ -134,6 +139,11 @@ module _ (unfit : Judgement) (told : Option (ℕ → Option Bytes)) where
       honest = x.honest;
       failed_applied = x.failed_applied;
     }
+
+    -- the replies stay
+    pub end_replies : Explained-end.replies ≡ x.replies
+    unfolding Explained-end
+    end_replies = refl
 
 -- ---- one due event is applied
 
@@ -193,10 +203,16 @@ module _ (unfit : Judgement) (told : Option (ℕ → Option Bytes)) (play_of : R
   told_now : (known : Option (ℕ → Option Bytes)) (contents : ℕ → Option Bytes) (failed : List Event) (r : ℕ) → known ≡ Some contents → now_replied unfit known failed e reply r ≡ source_replies unfit contents failed e r
   told_now known contents failed r is = ap (λ k. now_replied unfit k failed e reply r) is
 
+  -- the state after the event is explained too; replies that agree with its replies agree with those before, and lead to it
+  pub record Next (x : Explained unfit told play_of fetches_of made w) : Type 0 where
+    pub explained : Explained unfit told play_of fetches_of (made + fetches_counted (is_fetching w e)) (next_by w e reply)
+    pub agree_before : (others : Replies) → AgreeOnApplied (next_by w e reply) explained.replies others → AgreeOnApplied w x.replies others
+    pub is_next : (others : Replies) → AgreeOnApplied (next_by w e reply) explained.replies others → next_by w e reply ≡ after_next others w
+
   -- one due event is applied, with any reply where contents aren't told, and an honest one where they are
-  pub Explained-next : Explained unfit told play_of fetches_of made w → first_due w.buffer ≡ Some e
+  pub Explained-next : (x : Explained unfit told play_of fetches_of made w) → first_due w.buffer ≡ Some e
       → ((contents : ℕ → Option Bytes) → told ≡ Some contents → is_fetching w e ≡ true → IsHonest unfit contents e (revision_wanted w e) reply)
-      → Explained unfit told play_of fetches_of (made + fetches_counted (is_fetching w e)) (next_by w e reply)
+      → Next x
   Explained-next x some honest =
       let parts : Apart w = record { rises = x.rises; within = x.within; not_late = x.not_late } in
       let parts_next : Apart (next_by w e reply) = Apart-applying (λ q r. reply) w e parts some in
@@ -214,7 +230,7 @@ module _ (unfit : Judgement) (told : Option (ℕ → Option Bytes)) (play_of : R
       ∙ ap (λ b. cond b (now_replied unfit told (failed_events (next_by w e reply).played.side) e reply (revision_wanted w e)) (x.replies e (revision_wanted w e))) (itself e)
       ∙ ap (λ fs. now_replied unfit told fs e reply (revision_wanted w e)) failed
       ∙ fetched told fresh (is_fetching w e) fetching (λ contents is. honest contents is fetching) in
-      record {
+      let explained : Explained unfit told play_of fetches_of (made + fetches_counted (is_fetching w e)) (next_by w e reply) = record {
         replies = replies_next x.replies;
         rises = parts_next.rises;
         within = parts_next.within;
@@ -229,6 +245,11 @@ module _ (unfit : Judgement) (told : Option (ℕ → Option Bytes)) (play_of : R
             omega (arith, x.counts others (before others agree));
         honest = λ contents is q r h. from_source contents is q r x (applied q) failed (eq_by_cmp event_cmp q e) refl h;
         failed_applied = λ q h. applied q ∙ from_failed q x failed (eq_by_cmp event_cmp q e) refl h;
+      } in
+      record {
+        explained = explained;
+        agree_before = before;
+        is_next = λ others agree. apply-same (λ q r. reply) others w e (now others agree) ∙ ap (after_applying others w) (sym some);
       }
     where
       false_unless : (b : Bool) → (b ≡ true → ⊥) → b ≡ false

@@ -2,6 +2,7 @@ pub mod Applied
 pub mod Arrivals
 pub mod Confluence
 pub mod Deliveries
+pub mod Documents
 pub mod DueParts
 pub mod Examples
 pub mod Explaining

@@ -25,7 +25,7 @@ use Rattle.replay_model.proofs.Arrivals.{play-push}
 use Rattle.replay_model.proofs.PlayedRecords.{records-played}
 use Rattle.replay_model.proofs.RecordOf.{entity_of, applied_to, record-records_of}
 
-Each-append : {A : Type 0} (P : A → Type 0) (xs ys : List A) → Each P xs → Each P ys → Each P (xs ++ ys)
+pub Each-append : {A : Type 0} (P : A → Type 0) (xs ys : List A) → Each P xs → Each P ys → Each P (xs ++ ys)
 Each-append P [] ys hx hy = hy
 Each-append P (x ∷ xs) ys hx hy = (hx.0, Each-append P xs ys hx.1 hy)
 

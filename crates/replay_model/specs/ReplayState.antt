@@ -1,5 +1,5 @@
 -- A world as a value: the buffer and what was played, and what each delivery makes of them.
-use Rattle.std.specs.Prelude.{ℤ, true, false, not, List, [], ◌∷◌, ◌++◌, Option, None, Some, filter}
+use Rattle.std.specs.Prelude.{ℤ, ℕ, zero, suc, true, false, not, List, [], ◌∷◌, ◌++◌, Option, None, Some, filter}
 use Rattle.entity_model.specs.declared.event.Event.{Event}
 use Rattle.side_output.specs.declared.entry.Entry.{Entry}
 use Rattle.side_output.specs.declared.entry.Entry.TheVariants.{Late as LateEntry}
@@ -53,6 +53,11 @@ after_applying replies w (Some e) = record { buffer = after_dropping w.buffer; p
 abbrev pub after_next : Replies → ReplayState → ReplayState
 after_next replies w = after_applying replies w (first_due w.buffer)
 
+-- after this many of the due events are applied, the least first
+abbrev pub after_some : Replies → ℕ → ReplayState → ReplayState
+after_some replies zero w = w
+after_some replies (suc n) w = after_next replies (after_some replies n w)
+
 -- the waiting events that are due, in their order
 abbrev pub due_now : Buffered → List Event
 due_now b = filter (is_due b.closed b.mark) b.waiting
@@ -64,6 +69,11 @@ not_due b = filter (λ e. not (is_due b.closed b.mark e)) b.waiting
 -- after all due events are applied
 abbrev pub after_due : Replies → ReplayState → ReplayState
 after_due replies w = record { buffer = record w.buffer { waiting = not_due w.buffer }; played = apply_all replies w.played (due_now w.buffer) }
+
+-- right after a delivery is taken, before what it makes due is applied
+abbrev pub entered : ReplayState → Delivery → ReplayState
+entered w (Told e) = after_event w e
+entered w (Watermark m) = after_mark w m
 
 -- after a delivery: an event is taken, and after a watermark what is due is applied
 abbrev pub delivered : Replies → ReplayState → Delivery → ReplayState

@@ -49,6 +49,16 @@ missing_event _ = None
 abbrev pub missing_events : List Entry → List Event
 missing_events side = filter_map missing_event side
 
+-- what is held is a document of the entity
+abbrev pub HoldsDocument : Judgement → EntityId → Option (Held Bytes) → Type 0
+HoldsDocument unfit x None = Unit {0}
+HoldsDocument unfit x (Some h) = unfit x h.content ≡ None
+
+-- a reply that gives bytes gives a document of the entity
+abbrev pub GivesDocument : Judgement → EntityId → Result Bytes Cause → Type 0
+GivesDocument unfit x (Ok bytes) = unfit x bytes ≡ None
+GivesDocument unfit x (Err cause) = Unit {0}
+
 -- what is held is a document of the entity, and what the source has at its revision
 abbrev pub HoldsWhatIsThere : Judgement → (ℕ → Option Bytes) → EntityId → Option (Held Bytes) → Type 0
 HoldsWhatIsThere unfit contents x None = Unit {0}

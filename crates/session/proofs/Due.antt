@@ -1,5 +1,5 @@
 -- One due event is applied: the world still leads to its play, the counts rise with its fetch, and fewer events wait.
-use Rattle.std.proofs.Common.{refl, sym, subst, ◌∙◌, ap, inl, inr, ◌≡◌, ◌⊎◌, ℕ, ◌+◌, ◌-◌, ◌^◌, ◌<◌, ◌≤◌, Bool, true, false, cond, List, [], ◌∷◌, length, length-append, Option, None, Some, Result, Ok, Err, arith}
+use Rattle.std.proofs.Common.{refl, sym, subst, ◌∙◌, ap, inl, inr, ◌≡◌, ◌⊎◌, ℕ, suc, ◌+◌, ◌-◌, ◌^◌, ◌<◌, ◌≤◌, Bool, true, false, cond, List, [], ◌∷◌, length, length-append, Option, None, Some, Result, Ok, Err, arith}
 use Rattle.std.specs.List.{find}
 use Rattle.std.specs.Set.{remove_key}
 use Rattle.entity_model.specs.declared.id.EntityId.{EntityId}
@@ -12,10 +12,11 @@ use Rattle.revisions.specs.Revisions.{Contents, counted}
 use Rattle.reorder_buffer.specs.Buffered.{first_due}
 use Rattle.replay_model.specs.Records.{Bytes, record_of}
 use Rattle.replay_model.specs.Play.{Fetch, Replies}
-use Rattle.replay_model.specs.Replies.{failed_events, missing_events, reply_there}
-use Rattle.replay_model.specs.ReplayState.{ReplayState}
+use Rattle.replay_model.specs.Replies.{GivesDocument, failed_events, missing_events, reply_there, source_replies}
+use Rattle.replay_model.specs.ReplayState.{ReplayState, after_next}
 use Rattle.replay_model.specs.Explained.{is_fetching}
-use Rattle.replay_model.proofs.Explaining.{Explained-next}
+use Rattle.replay_model.proofs.Documents.{documents-apply}
+use Rattle.replay_model.proofs.Explaining.{Explained-next, Next, next_by}
 use Rattle.replay_model.proofs.FetchCounts.{risen_by-more}
 use Rattle.replay_model.proofs.Fetching.{failed-applying, failed_by, missing-applying, missing_of}
 use Rattle.world.specs.Applying.{Applies, HasUnfit, IsReply, IsShown, calls_after, outcome_of_reply}
@@ -23,14 +24,14 @@ use Rattle.world.specs.declared.applied.Applied.{Applied}
 use Rattle.world.specs.declared.applied.Outcome.{Outcome}
 use Rattle.world.specs.declared.applied.Outcome.TheVariants.{Same, Dropped}
 use Rattle.session.specs.Counts.{Counts, HasCounted, RoseBy}
-use Rattle.session.specs.Running.{Leads, judgement, told_at}
-use Rattle.session.specs.Stops.{Settles}
+use Rattle.session.specs.Running.{IsUnderWay, IsWithin, Leads, judgement, told_at}
+use Rattle.session.specs.Stops.{Settles, StillLeads}
 
 -- events are applied: what is told stays, and the world leads where it led
 pub record Goes (contents_start contents : Option Contents) (place : List ℕ) (before now : Counts) (start world : ReplayState) : Type 0 where
   pub told : contents ≡ contents_start
-  pub leads : (play_of : Replies → ReplayState) (fetches_of : Replies → List Fetch) (first : Counts) →
-      Leads (told_at contents_start place) play_of fetches_of first before start → Leads (told_at contents_start place) play_of fetches_of first now world
+  pub leads : (play_of : Replies → ReplayState) (fetches_of : Replies → List Fetch) (begun_of : Replies → ReplayState) (first : Counts) →
+      IsUnderWay (told_at contents_start place) play_of fetches_of begun_of first before start → IsUnderWay (told_at contents_start place) play_of fetches_of begun_of first now world
 
 -- the counts after an application, as its outcome shows
 pub record Rises (outcome : Outcome) (before now : Counts) : Type 0 where
@@ -117,16 +118,36 @@ counted_applying contents place start before now made old new applied a rises so
       missing = subst Missing_by (sym missing_now) (rose_twice _ _ start.misses before.misses now.misses so_far.missing (missing_shown fetching deleting a.reply e _ _ _ _ shown rises.more_misses) rises.more_misses);
     }
 
--- the world still leads to its play
+-- a reply that gives bytes gives a document
+reply_gives : (contents : Option Contents) (place : List ℕ) (x : EntityId) (r : ℕ) (reply : Result Bytes Cause) → IsReply contents place x r reply → GivesDocument judgement x reply
+reply_gives contents place x r (Ok bytes) is = is.0
+reply_gives contents place x r (Err cause) is = tt
+
+-- the world still leads to its play, one application further
 pub applies-leads : (contents : Option Contents) (place : List ℕ) (before now : Counts) (old new : ReplayState) (applied : Applied) → Applies contents place old new applied → Rises applied.outcome before now →
-    (play_of : Replies → ReplayState) (fetches_of : Replies → List Fetch) (first : Counts) → Leads (told_at contents place) play_of fetches_of first before old → Leads (told_at contents place) play_of fetches_of first now new
-applies-leads contents place before now old new applied a rises play_of fetches_of first leads = record {
-  made = leads.made + cond (is_fetching old applied.event) 1 0;
-  explained =
-      rw a.new_is (Explained-next judgement (told_at contents place) play_of fetches_of leads.made old applied.event a.reply leads.explained a.due
-      (λ there told _. reply_is_honest contents place applied.event.entity _ a.reply a.is_reply there told));
-  counted = counted_applying contents place first before now leads.made old new applied a rises leads.counted;
-}
+    (play_of : Replies → ReplayState) (fetches_of : Replies → List Fetch) (begun_of : Replies → ReplayState) (first : Counts) →
+    IsUnderWay (told_at contents place) play_of fetches_of begun_of first before old → IsUnderWay (told_at contents place) play_of fetches_of begun_of first now new
+applies-leads contents place before now old new applied a rises play_of fetches_of begun_of first under_way =
+    let told : Option (ℕ → Option Bytes) = told_at contents place in
+    let e : Event = applied.event in
+    let leads : Leads told play_of fetches_of first before old = under_way.leads in
+    let made : ℕ = leads.made + cond (is_fetching old e) 1 0 in
+    let next : Next judgement told play_of fetches_of leads.made old e a.reply leads.explained =
+    Explained-next judgement told play_of fetches_of leads.made old e a.reply leads.explained a.due
+    (λ there known _. reply_is_honest contents place e.entity _ a.reply a.is_reply there known) in
+    let Counted : ReplayState → Type 0 = λ w. HasCounted first now made w.played.side in
+    let There : ReplayState → Type 0 = λ w. IsUnderWay told play_of fetches_of begun_of first now w in
+    let there : There (next_by old e a.reply) = record {
+      leads = record {
+        made = made;
+        explained = next.explained;
+        counted = subst Counted a.new_is (counted_applying contents place first before now leads.made old new applied a rises leads.counted);
+        documents = documents-apply judgement e a.reply (reply_gives contents place e.entity _ a.reply a.is_reply) old.played leads.documents;
+      };
+      steps = suc under_way.steps;
+      is = λ others agree. next.is_next others agree ∙ ap (after_next others) (under_way.is others (next.agree_before others agree));
+    } in
+    subst There (sym a.new_is) there
 
 removed : {K : Type 0} (p : K → Bool) (e : K) (xs : List K) → find p xs ≡ Some e → length (remove_key p xs) < length xs
 removed p e [] found = cc
@@ -147,8 +168,8 @@ pub goes-next : (contents_start contents contents_next : Option Contents) (place
     Goes contents_start contents_next place before after start next
 goes-next contents_start contents contents_next place before now after start world next applied goes applies rises same = record {
   told = same ∙ goes.told;
-  leads = λ play_of fetches_of first leads.
-      applies-leads contents_start place now after world next applied (rw goes.told at applies) rises play_of fetches_of first (goes.leads play_of fetches_of first leads);
+  leads = λ play_of fetches_of begun_of first under_way.
+      applies-leads contents_start place now after world next applied (rw goes.told at applies) rises play_of fetches_of begun_of first (goes.leads play_of fetches_of begun_of first under_way);
 }
 
 -- no event is left: the last call has made no fetch
@@ -157,7 +178,7 @@ pub settled : (contents_start contents : Option Contents) (place : List ℕ) (be
     world_now ≡ world → first_due world.buffer ≡ None → Settles (told_at contents_start place) before last start world_now
 settled contents_start contents place before now last start world world_now goes calls faults misses same none = rw same (record {
   leads = λ play_of fetches_of first leads.
-      let there = goes.leads play_of fetches_of first leads in
+      let there = (goes.leads play_of fetches_of (λ replies. start) first (record { leads = leads; steps = 0; is = λ others agree. refl })).leads in
       record {
         made = there.made;
         explained = there.explained;
@@ -166,6 +187,24 @@ settled contents_start contents place before now last start world world_now goes
           failed = λ below. let earlier : now.faults < 2 ^ 64 - 1 = omega arith in omega (arith, there.counted.failed earlier);
           missing = λ below. let earlier : now.misses < 2 ^ 64 - 1 = omega arith in omega (arith, there.counted.missing earlier);
         };
+        documents = there.documents;
       };
   rests = none;
 })
+
+-- a world that is under way in a play is where some of its due events were applied
+pub within : (told : Option (ℕ → Option Bytes)) (play_of : Replies → ReplayState) (fetches_of : Replies → List Fetch) (begun_of : Replies → ReplayState) (start now : Counts) (world : ReplayState) →
+    IsUnderWay told play_of fetches_of begun_of start now world → IsWithin told begun_of world
+within told play_of fetches_of begun_of start now world under_way = record {
+  steps = under_way.steps;
+  replies = under_way.leads.explained.replies;
+  is = under_way.is under_way.leads.explained.replies (λ q r h. refl);
+  source = λ contents known. under_way.is (source_replies judgement contents (failed_events world.played.side)) (λ q r h. sym (under_way.leads.explained.honest contents known q r h));
+  documents = under_way.leads.documents;
+}
+
+-- memory was refused: the world is that before
+pub starved : (contents_start contents : Option Contents) (place : List ℕ) (before now : Counts) (start world world_now : ReplayState) →
+    Goes contents_start contents place before now start world → world_now ≡ world → StillLeads (told_at contents_start place) before start world_now
+starved contents_start contents place before now start world world_now goes same = rw same (λ play_of fetches_of begun_of first under_way.
+    within (told_at contents_start place) play_of fetches_of begun_of first now world (goes.leads play_of fetches_of begun_of first under_way))

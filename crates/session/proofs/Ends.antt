@@ -1,8 +1,9 @@
 -- What a world at rest and at the end shows.
-use Rattle.std.proofs.Common.{refl, sym, subst, ◌∙◌, ap, ◌≡◌, ℕ, true, false, not, List, [], ◌∷◌, ◌++◌, Option, None, Some, IfSome, Result, Ok, Err, IfErr, OnErr, inl, inr}
+use Rattle.std.proofs.Common.{refl, sym, subst, ◌∙◌, ap, ◌≡◌, ℕ, ◌-◌, ◌^◌, ◌<◌, length, arith, true, false, not, List, [], ◌∷◌, ◌++◌, Option, None, Some, IfSome, Result, Ok, Err, IfErr, OnErr, inl, inr}
 use Rattle.std.specs.List.{flat_map}
 use Rattle.rising.specs.Rising.{Each}
 use Rattle.wq_io.specs.Streams.{after_known}
+use Rattle.entity_model.specs.declared.event.Event.{Event}
 use Rattle.event_line.specs.declared.deliveries.Delivery.{Delivery}
 use Rattle.replay_model.specs.Acceptance.{Arrival, arrivals}
 use Rattle.replay_model.specs.Records.{Bytes}
@@ -27,11 +28,11 @@ use Rattle.replay_model.proofs.ToldContents.{entries-told, held-told}
 use Rattle.session.specs.declared.status.Status.{Status}
 use Rattle.session.specs.declared.status.Status.TheVariants.{Ok as Ended, BadWords, BadLine, ReadFault, WriteFault, TooLong, OutOfMemory}
 use Rattle.session.specs.Stops.{Stops}
-use Rattle.session.specs.Counts.{Counts, HasCounted}
-use Rattle.session.specs.Headline.{BrokenOff, HasFates, HasPrinted, HoldsRightly, IsPlayed, IsPlayedAfter, IsPlayedToEnd, NamesRightly, Replayed, Stopped}
+use Rattle.session.specs.Counts.{Counts, HasCounted, RoseBy}
+use Rattle.session.specs.Headline.{BrokenOff, HasFates, HasPrinted, HoldsRightly, IsFunction, IsPlayed, IsPlayedAfter, IsPlayedToEnd, NamesRightly, Replayed, Stopped}
 use Rattle.session.specs.Printing.{IsUnwritten, Wrote, sections_of}
 use Rattle.session.proofs.Parts.{wrote_same}
-use Rattle.session.specs.Running.{AreDeliveries, AtEnd, AtRest, Leads, judgement}
+use Rattle.session.specs.Running.{AreDeliveries, AtEnd, AtRest, HoldsDocuments, Leads, judgement}
 
 -- where no event is due, a world that leads to a play is played
 pub is_played : (told : Option (ℕ → Option Bytes)) (play_of : Replies → ReplayState) (fetches_of : Replies → List Fetch) (start now : Counts) (world : ReplayState) →
@@ -74,6 +75,22 @@ printed plan told ds start now world held held_now play is = record {
   all = λ contents known. is ∙ ap (after_known held) (transcribed plan told ds start now world play contents known);
 }
 
+-- no fetch failed where the count of faults stands still below its last value
+none_failed : (failed : List Event) (before now : ℕ) → RoseBy (length failed) before now → now ≡ before → now < 2 ^ 64 - 1 → failed ≡ []
+none_failed [] before now rose same below = refl
+none_failed (e ∷ es) before now rose same below = absurd (omega (arith, rose below))
+
+-- where no fetch failed, world and output are functions of the words, the lines and the contents
+pub is_function : (plan : Choices) (told : Option (ℕ → Option Bytes)) (ds : List Delivery) (start now : Counts) (world : ReplayState) (held held_now : Option (List ℕ)) →
+    IsPlayedToEnd told ds start now world → HasPrinted plan told ds world held held_now → IsFunction plan told ds start now world held held_now
+is_function plan told ds start now world held held_now play prints = record {
+  world_is = λ contents known same below.
+      play.source contents known ∙ ap (λ failed. following_to_end (source_replies judgement contents failed) ds) (none_failed (failed_events world.played.side) start.faults now.faults play.counted.failed same below);
+  output_is = λ contents known same below.
+      prints.all contents known
+      ∙ ap (λ failed. after_known held (transcript meaning (sections_of plan) (source_replies judgement contents failed) ds)) (none_failed (failed_events world.played.side) start.faults now.faults play.counted.failed same below);
+}
+
 -- what was printed is a front of the transcript
 pub broken_off : (plan : Choices) (left : Option (List ℕ)) (told : Option (ℕ → Option Bytes)) (start now : Counts) (world : ReplayState) (held held_now : Option (List ℕ)) →
     Replayed (limit_of plan) left told start now world → Wrote held held_now (closing meaning (sections_of plan) world.played) → BrokenOff plan left told start now world held held_now
@@ -97,9 +114,10 @@ fates ds world replies whole = record {
 }
 
 holds : (told : Option (ℕ → Option Bytes)) (ds : List Delivery) (world : ReplayState) (replies : Replies) → played true replies ds ≡ world.played →
-    ((contents : ℕ → Option Bytes) → told ≡ Some contents → played true (source_replies judgement contents (failed_events world.played.side)) ds ≡ world.played) → HoldsRightly told world
-holds told ds world replies whole source = record {
+    ((contents : ℕ → Option Bytes) → told ≡ Some contents → played true (source_replies judgement contents (failed_events world.played.side)) ds ≡ world.played) → HoldsDocuments world → HoldsRightly told world
+holds told ds world replies whole source documents = record {
   settled = λ x. let P : Played → Type 0 = λ p. is_settled (record_of p.records x) ≡ not (has_open_revision p.records p.side x) in subst P whole (settled-played true replies ds x);
+  documents = documents;
   empty = λ x.
       let P : Played → Type 0 = λ p. is_kept (record_of p.records x).state.mode ≡ false → (record_of p.records x).held ≡ None in
       subst P whole (Tells-played true replies ds x).empty_unless_kept;
@@ -130,39 +148,39 @@ replayed limit left told ds start now world are at_end =
       are = are;
       played = play;
       fates = fates ds world play.replies whole;
-      holds = holds told ds world play.replies whole source;
+      holds = holds told ds world play.replies whole source at_end.leads.documents;
       names = names told ds world play.replies whole source;
     }
 
 -- a stop of the taking, with nothing printed
-pub stopped : (status : Status) (plan : Choices) (left : Option (List ℕ)) (told : Option (ℕ → Option Bytes)) (start now : Counts) (world : ReplayState) (held held_now : Option (List ℕ)) (reads reads_now writes writes_now : ℕ) →
-    Stops status (limit_of plan) left told start now world reads reads_now → held_now ≡ held → Stopped status plan left told start now world held held_now reads reads_now writes writes_now
-stopped Ended plan left told start now world held held_now reads reads_now writes writes_now stops same = absurd stops
-stopped BadWords plan left told start now world held held_now reads reads_now writes writes_now stops same = absurd stops
-stopped (BadLine number cause) plan left told start now world held held_now reads reads_now writes writes_now stops same =
+pub stopped : (status : Status) (plan : Choices) (left left_now : Option (List ℕ)) (told : Option (ℕ → Option Bytes)) (start now : Counts) (world : ReplayState) (held held_now : Option (List ℕ)) (reads reads_now writes writes_now : ℕ) →
+    Stops status (limit_of plan) left left_now told start now world reads reads_now → held_now ≡ held → Stopped status plan left left_now told start now world held held_now reads reads_now writes writes_now
+stopped Ended plan left left_now told start now world held held_now reads reads_now writes writes_now stops same = absurd stops
+stopped BadWords plan left left_now told start now world held held_now reads reads_now writes writes_now stops same = absurd stops
+stopped (BadLine number cause) plan left left_now told start now world held held_now reads reads_now writes writes_now stops same =
     (record { deliveries = stops.deliveries; played = is_played_after told stops.deliveries start now world stops.at_rest; bad = stops.bad }, same)
-stopped ReadFault plan left told start now world held held_now reads reads_now writes writes_now stops same =
-    (stops.0, record { deliveries = stops.1.deliveries; played = is_played_after told stops.1.deliveries start now world stops.1.at_rest; first = stops.1.first }, same)
-stopped WriteFault plan left told start now world held held_now reads reads_now writes writes_now stops same = absurd stops
-stopped TooLong plan left told start now world held held_now reads reads_now writes writes_now stops same =
+stopped ReadFault plan left left_now told start now world held held_now reads reads_now writes writes_now stops same =
+    (stops.0, record { deliveries = stops.1.deliveries; played = is_played_after told stops.1.deliveries start now world stops.1.at_rest; whole = stops.1.whole }, same)
+stopped WriteFault plan left left_now told start now world held held_now reads reads_now writes writes_now stops same = absurd stops
+stopped TooLong plan left left_now told start now world held held_now reads reads_now writes writes_now stops same =
     (record { deliveries = stops.deliveries; played = is_played_after told stops.deliveries start now world stops.at_rest; past = stops.past }, same)
-stopped OutOfMemory plan left told start now world held held_now reads reads_now writes writes_now stops same = inl same
+stopped OutOfMemory plan left left_now told start now world held held_now reads reads_now writes writes_now stops same = inl (stops, same)
 
 -- a fault of the sink, with the world at its end
-pub unwritten : (status : Status) (plan : Choices) (left : Option (List ℕ)) (told : Option (ℕ → Option Bytes)) (start now : Counts) (world : ReplayState) (held held_now : Option (List ℕ)) (reads reads_now writes writes_now : ℕ) →
-    IsUnwritten status writes writes_now → BrokenOff plan left told start now world held held_now → Stopped status plan left told start now world held held_now reads reads_now writes writes_now
-unwritten Ended plan left told start now world held held_now reads reads_now writes writes_now why ends = absurd why
-unwritten BadWords plan left told start now world held held_now reads reads_now writes writes_now why ends = absurd why
-unwritten (BadLine number cause) plan left told start now world held held_now reads reads_now writes writes_now why ends = absurd why
-unwritten ReadFault plan left told start now world held held_now reads reads_now writes writes_now why ends = absurd why
-unwritten WriteFault plan left told start now world held held_now reads reads_now writes writes_now why ends = (why, ends)
-unwritten TooLong plan left told start now world held held_now reads reads_now writes writes_now why ends = absurd why
-unwritten OutOfMemory plan left told start now world held held_now reads reads_now writes writes_now why ends = inr ends
+pub unwritten : (status : Status) (plan : Choices) (left left_now : Option (List ℕ)) (told : Option (ℕ → Option Bytes)) (start now : Counts) (world : ReplayState) (held held_now : Option (List ℕ)) (reads reads_now writes writes_now : ℕ) →
+    IsUnwritten status writes writes_now → BrokenOff plan left told start now world held held_now → Stopped status plan left left_now told start now world held held_now reads reads_now writes writes_now
+unwritten Ended plan left left_now told start now world held held_now reads reads_now writes writes_now why ends = absurd why
+unwritten BadWords plan left left_now told start now world held held_now reads reads_now writes writes_now why ends = absurd why
+unwritten (BadLine number cause) plan left left_now told start now world held held_now reads reads_now writes writes_now why ends = absurd why
+unwritten ReadFault plan left left_now told start now world held held_now reads reads_now writes writes_now why ends = absurd why
+unwritten WriteFault plan left left_now told start now world held held_now reads reads_now writes writes_now why ends = (why, ends)
+unwritten TooLong plan left left_now told start now world held held_now reads reads_now writes writes_now why ends = absurd why
+unwritten OutOfMemory plan left left_now told start now world held held_now reads reads_now writes writes_now why ends = inr ends
 
 -- the same, of what was answered
-pub unwritten_answer : {T : Type 0} (answer : Result T Status) (plan : Choices) (left : Option (List ℕ)) (told : Option (ℕ → Option Bytes)) (start now : Counts) (world : ReplayState) (held held_now : Option (List ℕ)) (reads reads_now writes writes_now : ℕ) →
+pub unwritten_answer : {T : Type 0} (answer : Result T Status) (plan : Choices) (left left_now : Option (List ℕ)) (told : Option (ℕ → Option Bytes)) (start now : Counts) (world : ReplayState) (held held_now : Option (List ℕ)) (reads reads_now writes writes_now : ℕ) →
     IfErr answer (λ status. IsUnwritten status writes writes_now) → OnErr answer (Wrote held held_now (closing meaning (sections_of plan) world.played)) → Replayed (limit_of plan) left told start now world →
-    IfErr answer (λ status. Stopped status plan left told start now world held held_now reads reads_now writes writes_now)
-unwritten_answer (Ok x) plan left told start now world held held_now reads reads_now writes writes_now why front ends = tt
-unwritten_answer (Err status) plan left told start now world held held_now reads reads_now writes writes_now why front ends =
-    unwritten status plan left told start now world held held_now reads reads_now writes writes_now why (broken_off plan left told start now world held held_now ends front)
+    IfErr answer (λ status. Stopped status plan left left_now told start now world held held_now reads reads_now writes writes_now)
+unwritten_answer (Ok x) plan left left_now told start now world held held_now reads reads_now writes writes_now why front ends = tt
+unwritten_answer (Err status) plan left left_now told start now world held held_now reads reads_now writes writes_now why front ends =
+    unwritten status plan left left_now told start now world held held_now reads reads_now writes writes_now why (broken_off plan left told start now world held held_now ends front)

@@ -1,22 +1,29 @@
 -- How far the reading of lines has come, and what follows where it goes on or ends.
-use Rattle.std.proofs.Common.{refl, sym, subst, ◌∙◌, ap, inl, inr, ◌≡◌, ℕ, ◌+◌, ◌-◌, ◌<◌, ◌≤◌, true, false, List, [], ◌∷◌, ◌++◌, length, Option, None, Some, IfSome, Result, Ok, Err, arith, append_assoc, append-nil, length-append}
+use Rattle.std.proofs.Common.{refl, sym, subst, ◌∙◌, ap, inl, inr, ⊎_elim, ◌≡◌, ℕ, ◌+◌, ◌-◌, ◌<◌, ◌≤◌, Bool, true, false, List, [], ◌∷◌, ◌++◌, length, Option, None, Some, IfSome, Result, Ok, Err, arith, append_assoc, append-nil, length-append}
+use Rattle.std.proofs.lemmas.Grind.{flat_map-append}
 use Rattle.std.specs.Option.{option_map}
-use Rattle.wq_io.specs.Streams.{IsAtEnd, Rose}
-use Rattle.wq_io.specs.Lines.{HasCause, IsLineLong, IsSound, IsTooLong, Reading, before_lines, fresh, input_length, lines, lines_of, room, unread}
+use Rattle.wq_io.specs.Streams.{IsAtEnd, Rose, before_known}
+use Rattle.wq_io.specs.Lines.{GoesOn, HasCause, IsLineLong, IsOneLine, IsSound, IsTooLong, Leaves, Reading, StopsInLine, TakesBytes, before_lines, ended_lines, fresh, input_length, line_feed, lines, lines_of, room, unread, whole_lines}
+use Rattle.wq_io.proofs.LineLists.{whole_lines-ended}
 use Rattle.wq_io.specs.declared.lines.LineFault.{LineFault}
 use Rattle.wq_io.specs.declared.lines.LineFault.TheVariants.{ReadFault as NotRead, TooLong as PastLimit, LineLong as OverLong, OutOfMemory as Refused}
 use Rattle.event_line.specs.declared.deliveries.Delivery.{Delivery}
 use Rattle.event_line.specs.declared.deliveries.LineCause.{LineCause}
 use Rattle.event_line.specs.declared.deliveries.LineCause.TheVariants.{LineLong}
 use Rattle.event_line.specs.Line.{delivery_of}
+use Rattle.entity_state.specs.declared.record.Record.{Record}
 use Rattle.replay_model.specs.Records.{Bytes}
+use Rattle.replay_model.specs.Replies.{HoldsDocument}
 use Rattle.replay_model.specs.ReplayState.{ReplayState, nothing_delivered}
 use Rattle.replay_model.proofs.Explaining.{Explained-start}
 use Rattle.replay_model.proofs.FetchCounts.{risen_by-none}
+use Rattle.replay_model.proofs.RecordOf.{record_of-empty}
+use Rattle.replay_model.proofs.ToldContents.{Each-append}
 use Rattle.session.specs.Counts.{Counts}
 use Rattle.session.specs.Faults.{fault_status}
-use Rattle.session.specs.Running.{AreDeliveries, AreFirst, AtRest, HasRead, IsPastLimit, IsRefusedLine, deliveries_of, judgement, onto_deliveries}
-use Rattle.session.specs.Stops.{HasTaken, IsRefused, Stops, TakesLine}
+use Rattle.session.specs.Running.{AreDeliveries, AreFirst, AreWhole, AtRest, HasRead, IsPastLimit, IsRefusedLine, deliveries_of, judgement, onto_deliveries}
+use Rattle.session.specs.Stops.{HasTaken, IsRefused, Stops, StopsWithin, TakesLine}
+use Rattle.session.proofs.Deliveries.{rest_within}
 use Rattle.session.specs.declared.status.Status.{Status}
 use Rattle.session.specs.declared.status.Status.TheVariants.{Ok as Ended, BadWords, BadLine, ReadFault, WriteFault, TooLong, OutOfMemory}
 
@@ -55,16 +62,31 @@ same_length : (limit : ℕ) (left : Option (List ℕ)) → input_length (fresh l
 same_length limit None = refl
 same_length limit (Some bytes) = ap Some (let n : 0 + length bytes ≡ length bytes = omega arith in n)
 
+same_bytes : (limit : ℕ) (left : Option (List ℕ)) → left ≡ before_known [] (unread (fresh limit) left)
+same_bytes limit None = refl
+same_bytes limit (Some bytes) = refl
+
 -- before the first line
 pub before_lines_taken : (limit : ℕ) (left : Option (List ℕ)) (told : Option (ℕ → Option Bytes)) (now : Counts) → Progress limit left told now now (fresh limit) left nothing_delivered
 before_lines_taken limit left told now = record {
   deliveries = [];
-  read = record { done = []; front = same_lines limit left; delivered = refl; counted = refl; total = same_length limit left };
+  read = record {
+    done = [];
+    front = same_lines limit left;
+    delivered = refl;
+    counted = refl;
+    total = same_length limit left;
+    read = [];
+    bytes = same_bytes limit left;
+    whole = λ _. refl;
+    are_lines = tt;
+  };
   at_rest = record {
     leads = record {
       made = 0;
       explained = Explained-start judgement told;
       counted = record { calls = λ fits. sym (risen_by-none now.calls fits); failed = λ below. omega arith; missing = λ below. omega arith };
+      documents = λ x. subst (λ (r : Record Bytes). HoldsDocument judgement x r.held) (sym (record_of-empty x)) tt;
     };
     rests = refl;
   };
@@ -74,45 +96,84 @@ before_lines_taken limit left told now = record {
   ended = λ never. cc;
 }
 
--- where the input is told, what is unread is
-told_parts : (bytes : List ℕ) (done : List (List ℕ)) (consumed : ℕ) (known : Option (List ℕ)) →
+-- bytes behind others
+before_both : (xs ys : List ℕ) (known : Option (List ℕ)) → before_known xs (before_known ys known) ≡ before_known (xs ++ ys) known
+before_both xs ys None = refl
+before_both xs ys (Some zs) = ap Some (sym (append_assoc xs ys zs))
+
+read_length : (bytes read u : List ℕ) (consumed : ℕ) → bytes ≡ read ++ u → consumed + length u ≡ length bytes → length read ≡ consumed
+read_length bytes read u consumed all total =
+    let both : length bytes ≡ length read + length u = ap length all ∙ length-append read u in
+    omega arith
+
+-- where the input is told: what is unread, the lines before it, and the bytes before it
+record Told (bytes : List ℕ) (done : List (List ℕ)) (read : List ℕ) (consumed : ℕ) (known : Option (List ℕ)) : Type 0 where
+  u : List ℕ
+  is : known ≡ Some u
+  are_lines : lines bytes ≡ done ++ lines u
+  total : consumed + length u ≡ length bytes
+  all : bytes ≡ read ++ u
+  read_is : length read ≡ consumed
+
+told_parts : (bytes : List ℕ) (done : List (List ℕ)) (read : List ℕ) (consumed : ℕ) (known : Option (List ℕ)) →
     Some (lines bytes) ≡ option_map (λ (ls : List (List ℕ)). done ++ ls) (lines_of known) → option_map (λ (u : List ℕ). consumed + length u) known ≡ Some (length bytes) →
-    (u : List ℕ) × ((known ≡ Some u) × (lines bytes ≡ done ++ lines u) × (consumed + length u ≡ length bytes))
-told_parts bytes done consumed None front total = cc
-told_parts bytes done consumed (Some u) front total = (u, (refl, cc, cc))
+    Some bytes ≡ before_known read known → Told bytes done read consumed known
+told_parts bytes done read consumed None front total all = cc
+told_parts bytes done read consumed (Some u) front total all =
+    let sum : consumed + length u ≡ length bytes = cc in
+    let whole : bytes ≡ read ++ u = cc in
+    record { u = u; is = refl; are_lines = cc; total = sum; all = whole; read_is = read_length bytes read u consumed whole sum }
 
 at_told : (known : Option (List ℕ)) (u : List ℕ) (P : List ℕ → Type 0) → known ≡ Some u → IfSome known P → P u
 at_told None u P is holds = cc
 at_told (Some x) u P is holds = let same : x ≡ u = cc in subst P same holds
 
+same_room : (limit : ℕ) (reader : Reading) (read : List ℕ) → reader.max_bytes ≡ limit → length read ≡ reader.consumed → room reader ≡ limit - length read
+same_room limit reader read max is = ap (λ n. n - reader.consumed) max ∙ ap (λ n. limit - n) (sym is)
+
+-- what was read and a part of a line are the bytes that were read
+whole_read : (left_start left left_now : Option (List ℕ)) (reader : Reading) (ds : List Delivery) (read : HasRead left_start reader left ds) → StopsInLine reader left left_now → AreWhole left_start left_now ds
+whole_read left_start left left_now reader ds read stops = record {
+  read = read.read ++ stops.part;
+  is = read.bytes ∙ ap (λ (o : Option (List ℕ)). before_known read.read o) stops.front ∙ before_both read.read stops.part left_now;
+  delivered =
+      ap (λ xs. deliveries_of (whole_lines (xs ++ stops.part))) (read.whole stops.going)
+      ∙ ap deliveries_of (whole_lines-ended read.done stops.part read.are_lines stops.in_line) ∙ read.delivered;
+}
+
 too_long : (bytes : List ℕ) (u : List ℕ) (max consumed : ℕ) → IsTooLong (max - consumed) u → consumed ≤ max → consumed + length u ≡ length bytes → max < length bytes
 too_long bytes u max consumed over within total = omega (arith, over.more)
 
 module _ (limit : ℕ) (told : Option (ℕ → Option Bytes)) (start now : Counts) where
+  told_progress : (bytes : List ℕ) (reader : Reading) (left : Option (List ℕ)) (world : ReplayState) (so_far : Progress limit (Some bytes) told start now reader left world) →
+      Told bytes so_far.read.done so_far.read.read reader.consumed (unread reader left)
+  told_progress bytes reader left world so_far =
+      told_parts bytes so_far.read.done so_far.read.read reader.consumed (unread reader left) so_far.read.front so_far.read.total so_far.read.bytes
+
   first_lines : (left_start : Option (List ℕ)) (reader : Reading) (left : Option (List ℕ)) (world : ReplayState) (so_far : Progress limit left_start told start now reader left world) →
       IfSome left_start (λ bytes. AreFirst bytes so_far.deliveries)
   first_lines None reader left world so_far = tt
   first_lines (Some bytes) reader left world so_far =
-      let parts = told_parts bytes so_far.read.done reader.consumed (unread reader left) so_far.read.front so_far.read.total in
-      record { before = so_far.read.done; after = lines parts.0; are_lines = parts.1.1; delivered = so_far.read.delivered }
+      let parts = told_progress bytes reader left world so_far in
+      record { before = so_far.read.done; after = lines parts.u; are_lines = parts.are_lines; delivered = so_far.read.delivered }
 
   past_limit : (left_start : Option (List ℕ)) (reader : Reading) (left : Option (List ℕ)) (world : ReplayState) (so_far : Progress limit left_start told start now reader left world) →
       IfSome (unread reader left) (IsTooLong (room reader)) → IfSome left_start (λ bytes. IsPastLimit limit bytes so_far.deliveries)
   past_limit None reader left world so_far over = tt
   past_limit (Some bytes) reader left world so_far over =
-      let parts = told_parts bytes so_far.read.done reader.consumed (unread reader left) so_far.read.front so_far.read.total in
-      let here : IsTooLong (room reader) parts.0 = at_told (unread reader left) parts.0 (IsTooLong (room reader)) parts.1.0 over in
-      let above : reader.max_bytes < length bytes = too_long bytes parts.0 reader.max_bytes reader.consumed here so_far.sound.within parts.1.2 in
+      let parts = told_progress bytes reader left world so_far in
+      let here : IsTooLong (room reader) parts.u = at_told (unread reader left) parts.u (IsTooLong (room reader)) parts.is over in
+      let above : reader.max_bytes < length bytes = too_long bytes parts.u reader.max_bytes reader.consumed here so_far.sound.within parts.total in
       record {
         more = omega (arith, so_far.max);
         before = so_far.read.done;
-        consumed = reader.consumed;
-        unread_bytes = parts.0;
-        are_lines = parts.1.1;
-        all = sym parts.1.2;
+        read_bytes = so_far.read.read;
+        unread_bytes = parts.u;
+        all = parts.all;
+        are_lines = parts.are_lines;
         delivered = so_far.read.delivered;
-        within = omega (arith, so_far.max, so_far.sound.within);
-        past = rw so_far.max at here;
+        within = omega (arith, so_far.max, so_far.sound.within, parts.read_is);
+        past = subst (λ n. IsTooLong n parts.u) (same_room limit reader so_far.read.read so_far.max parts.read_is) here;
       }
 
   stops_long_line : (left_start : Option (List ℕ)) (reader : Reading) (left : Option (List ℕ)) (world : ReplayState) (number : ℕ) (so_far : Progress limit left_start told start now reader left world) →
@@ -120,45 +181,61 @@ module _ (limit : ℕ) (told : Option (ℕ → Option Bytes)) (start now : Count
       IfSome left_start (λ bytes. IsRefusedLine limit bytes so_far.deliveries number LineLong)
   stops_long_line None reader left world number so_far next over = tt
   stops_long_line (Some bytes) reader left world number so_far next over =
-      let parts = told_parts bytes so_far.read.done reader.consumed (unread reader left) so_far.read.front so_far.read.total in
-      let here : IsLineLong (room reader) parts.0 = at_told (unread reader left) parts.0 (IsLineLong (room reader)) parts.1.0 over in
+      let parts = told_progress bytes reader left world so_far in
+      let here : IsLineLong (room reader) parts.u = at_told (unread reader left) parts.u (IsLineLong (room reader)) parts.is over in
       inr (
         refl,
         record {
           before = so_far.read.done;
-          consumed = reader.consumed;
-          unread_bytes = parts.0;
-          are_lines = parts.1.1;
-          all = sym parts.1.2;
+          read_bytes = so_far.read.read;
+          unread_bytes = parts.u;
+          all = parts.all;
+          are_lines = parts.are_lines;
           delivered = so_far.read.delivered;
           counted = next ∙ ap (λ n. n + 1) so_far.read.counted;
-          over = rw so_far.max at here;
+          over = subst (λ n. IsLineLong n parts.u) (same_room limit reader so_far.read.read so_far.max parts.read_is) here;
         },
       )
 
   rose_since : (before between after : ℕ) → before ≤ between → Rose between after → Rose before after
   rose_since before between after earlier rose = omega arith
 
+  -- the world is as it was after the lines so far
+  stands : (left_start : Option (List ℕ)) (reader : Reading) (left : Option (List ℕ)) (world : ReplayState) → Progress limit left_start told start now reader left world → StopsWithin left_start told world
+  stands left_start reader left world so_far = record {
+    deliveries = so_far.deliveries;
+    last = None;
+    within = rest_within told so_far.deliveries start now world so_far.at_rest;
+    first = first_none left_start reader left world so_far;
+  }
+    where
+      first_none : (left_start : Option (List ℕ)) (reader : Reading) (left : Option (List ℕ)) (world : ReplayState) (so_far : Progress limit left_start told start now reader left world) →
+          IfSome left_start (λ bytes. AreFirst bytes (so_far.deliveries ++ []))
+      first_none left_start reader left world so_far = rw (append-nil so_far.deliveries) (first_lines left_start reader left world so_far)
+
   -- a fault of the reader stops the taking
-  pub fault_stops : (fault : LineFault) (left_start : Option (List ℕ)) (reader : Reading) (left : Option (List ℕ)) (world : ReplayState) (before between after : ℕ) →
-      Progress limit left_start told start now reader left world → before ≤ between → HasCause fault reader left between after → Stops (fault_status fault) limit left_start told start now world before after
-  fault_stops NotRead left_start reader left world before between after so_far earlier cause =
-      (rose_since before between after earlier cause, record { deliveries = so_far.deliveries; at_rest = so_far.at_rest; first = first_lines left_start reader left world so_far })
-  fault_stops PastLimit left_start reader left world before between after so_far earlier cause =
+  pub fault_stops : (fault : LineFault) (left_start : Option (List ℕ)) (reader : Reading) (left left_now : Option (List ℕ)) (world : ReplayState) (before between after : ℕ) →
+      Progress limit left_start told start now reader left world → before ≤ between → HasCause fault reader left between after → Leaves fault reader left left_now →
+      Stops (fault_status fault) limit left_start left_now told start now world before after
+  fault_stops NotRead left_start reader left left_now world before between after so_far earlier cause leaves = (
+    rose_since before between after earlier cause,
+    record { deliveries = so_far.deliveries; at_rest = so_far.at_rest; whole = whole_read left_start left left_now reader so_far.deliveries so_far.read leaves },
+  )
+  fault_stops PastLimit left_start reader left left_now world before between after so_far earlier cause leaves =
       record { deliveries = so_far.deliveries; at_rest = so_far.at_rest; past = past_limit left_start reader left world so_far cause }
-  fault_stops (OverLong number) left_start reader left world before between after so_far earlier cause =
+  fault_stops (OverLong number) left_start reader left left_now world before between after so_far earlier cause leaves =
       record { deliveries = so_far.deliveries; at_rest = so_far.at_rest; bad = stops_long_line left_start reader left world number so_far cause.0 cause.1 }
-  fault_stops Refused left_start reader left world before between after so_far earlier cause = tt
+  fault_stops Refused left_start reader left left_now world before between after so_far earlier cause leaves = inl (stands left_start reader left world so_far)
 
   taken_all : (left_start : Option (List ℕ)) (reader : Reading) (left : Option (List ℕ)) (world : ReplayState) (so_far : Progress limit left_start told start now reader left world) →
       IsAtEnd (unread reader left) → IfSome left_start (λ bytes. AreDeliveries limit bytes so_far.deliveries)
   taken_all None reader left world so_far at_end = tt
   taken_all (Some bytes) reader left world so_far at_end =
-      let parts = told_parts bytes so_far.read.done reader.consumed (unread reader left) so_far.read.front so_far.read.total in
-      let none : parts.0 ≡ [] = at_told (unread reader left) parts.0 (λ u. u ≡ []) parts.1.0 at_end in
-      let all : lines bytes ≡ so_far.read.done = parts.1.1 ∙ ap (λ u. so_far.read.done ++ lines u) none ∙ append-nil so_far.read.done in
-      let nothing : length parts.0 ≡ 0 = ap length none in
-      record { within = omega (arith, parts.1.2, so_far.max, so_far.sound.within); delivered = rw all so_far.read.delivered }
+      let parts = told_progress bytes reader left world so_far in
+      let none : parts.u ≡ [] = at_told (unread reader left) parts.u (λ u. u ≡ []) parts.is at_end in
+      let all : lines bytes ≡ so_far.read.done = parts.are_lines ∙ ap (λ u. so_far.read.done ++ lines u) none ∙ append-nil so_far.read.done in
+      let nothing : length parts.u ≡ 0 = ap length none in
+      record { within = omega (arith, parts.total, so_far.max, so_far.sound.within); delivered = rw all so_far.read.delivered }
 
   -- at the end of the input all lines were taken
   pub end_reached : (left_start : Option (List ℕ)) (reader : Reading) (left : Option (List ℕ)) (world : ReplayState) →
@@ -169,20 +246,51 @@ module _ (limit : ℕ) (told : Option (ℕ → Option Bytes)) (start now : Count
     at_rest = so_far.at_rest;
   }
 
-  bad_line : (left_start : Option (List ℕ)) (reader : Reading) (left known : Option (List ℕ)) (world : ReplayState) (line : List ℕ) (consumed number : ℕ) (cause : LineCause) (so_far : Progress limit left_start told start now reader left world) →
-      lines_of (unread reader left) ≡ before_lines line (lines_of known) → option_map (λ (u : List ℕ). consumed + length u) known ≡ input_length reader left → consumed ≤ limit →
+  front_grows : (left_start : Option (List (List ℕ))) (known next : Option (List (List ℕ))) (done : List (List ℕ)) (line : List ℕ) →
+      left_start ≡ option_map (λ (ls : List (List ℕ)). done ++ ls) known → known ≡ before_lines line next →
+      left_start ≡ option_map (λ (ls : List (List ℕ)). (done ++ line ∷ []) ++ ls) next
+  front_grows left_start known None done line front first = rw (front, first) refl
+  front_grows left_start known (Some ls) done line front first = rw (front, first) (ap Some (sym (append_assoc done (line ∷ []) ls)))
+
+  first_with : (left_start : Option (List ℕ)) (reader : Reading) (left known : Option (List ℕ)) (world : ReplayState) (line : List ℕ) (d : Delivery) (so_far : Progress limit left_start told start now reader left world) →
+      lines_of (unread reader left) ≡ before_lines line (lines_of known) → delivery_of line ≡ Ok d → IfSome left_start (λ bytes. AreFirst bytes (so_far.deliveries ++ d ∷ []))
+  first_with None reader left known world line d so_far first is = tt
+  first_with (Some bytes) reader left None world line d so_far first is =
+      let none : Some (lines bytes) ≡ None = front_grows (Some (lines bytes)) (lines_of (unread reader left)) None so_far.read.done line so_far.read.front first in cc
+  first_with (Some bytes) reader left (Some u) world line d so_far first is =
+      let whole : Some (lines bytes) ≡ Some ((so_far.read.done ++ line ∷ []) ++ lines u) = front_grows (Some (lines bytes)) (lines_of (unread reader left)) (Some (lines u)) so_far.read.done line so_far.read.front first in
+      record {
+        before = so_far.read.done ++ line ∷ [];
+        after = lines u;
+        are_lines = cc;
+        delivered = deliveries-push so_far.read.done line so_far.deliveries d so_far.read.delivered is;
+      }
+
+  -- the bytes of one line more
+  bytes_grow : (left_start : Option (List ℕ)) (reader : Reading) (left known : Option (List ℕ)) (world : ReplayState) (line : List ℕ) (ended : Bool) (so_far : Progress limit left_start told start now reader left world) →
+      (takes : TakesBytes ended (unread reader left) known line) → left_start ≡ before_known (so_far.read.read ++ takes.moved) known
+  bytes_grow left_start reader left known world line ended so_far takes =
+      so_far.read.bytes ∙ ap (λ (o : Option (List ℕ)). before_known so_far.read.read o) takes.front ∙ before_both so_far.read.read takes.moved known
+
+  bad_line : (left_start : Option (List ℕ)) (reader : Reading) (left known : Option (List ℕ)) (world : ReplayState) (line : List ℕ) (consumed number : ℕ) (cause : LineCause) (ended : Bool) (so_far : Progress limit left_start told start now reader left world) →
+      lines_of (unread reader left) ≡ before_lines line (lines_of known) → option_map (λ (u : List ℕ). consumed + length u) known ≡ input_length reader left → TakesBytes ended (unread reader left) known line → consumed ≤ limit →
       number ≡ reader.given + 1 → delivery_of line ≡ Err cause → IfSome left_start (λ bytes. IsRefusedLine limit bytes so_far.deliveries number cause)
-  bad_line None reader left known world line consumed number cause so_far first total within next refused = tt
-  bad_line (Some bytes) reader left None world line consumed number cause so_far first total within next refused =
+  bad_line None reader left known world line consumed number cause ended so_far first total takes within next refused = tt
+  bad_line (Some bytes) reader left None world line consumed number cause ended so_far first total takes within next refused =
       let none : Some (lines bytes) ≡ None = so_far.read.front ∙ ap (λ (o : Option (List (List ℕ))). option_map (λ ls. so_far.read.done ++ ls) o) first in cc
-  bad_line (Some bytes) reader left (Some u) world line consumed number cause so_far first total within next refused =
+  bad_line (Some bytes) reader left (Some u) world line consumed number cause ended so_far first total takes within next refused =
       let whole : Some (lines bytes) ≡ Some (so_far.read.done ++ line ∷ lines u) = so_far.read.front ∙ ap (λ (o : Option (List (List ℕ))). option_map (λ ls. so_far.read.done ++ ls) o) first in
       let counts_all : Some (consumed + length u) ≡ Some (length bytes) = total ∙ so_far.read.total in
       let all : consumed + length u ≡ length bytes = cc in
+      let grown : Some bytes ≡ Some ((so_far.read.read ++ takes.moved) ++ u) = bytes_grow (Some bytes) reader left (Some u) world line ended so_far takes in
+      let read : bytes ≡ (so_far.read.read ++ takes.moved) ++ u = cc in
+      let read_is : length (so_far.read.read ++ takes.moved) ≡ consumed = read_length bytes (so_far.read.read ++ takes.moved) u consumed read all in
       inl (record {
         before = so_far.read.done;
         line = line;
+        read_bytes = so_far.read.read ++ takes.moved;
         unread_bytes = u;
+        all = read;
         are_lines = cc;
         within = omega arith;
         delivered = so_far.read.delivered;
@@ -193,33 +301,44 @@ module _ (limit : ℕ) (told : Option (ℕ → Option Bytes)) (start now : Count
   -- a line that is refused stops the taking
   pub line_stops : (status : Status) (left_start : Option (List ℕ)) (reader next : Reading) (left left_next : Option (List ℕ)) (now_then : Counts) (world world_now : ReplayState) (line : List ℕ) (number before after : ℕ) →
       Progress limit left_start told start now reader left world → lines_of (unread reader left) ≡ before_lines line (lines_of (unread next left_next)) →
-      input_length next left_next ≡ input_length reader left → next.max_bytes ≡ reader.max_bytes → IsSound next → number ≡ reader.given + 1 →
-      IsRefused status line number now now_then world world_now → Stops status limit left_start told start now_then world_now before after
-  line_stops Ended left_start reader next left left_next now_then world world_now line number before after so_far first total same_limit sound counted refused = absurd refused
-  line_stops BadWords left_start reader next left left_next now_then world world_now line number before after so_far first total same_limit sound counted refused = absurd refused
-  line_stops (BadLine n cause) left_start reader next left left_next now_then world world_now line number before after so_far first total same_limit sound counted refused =
+      input_length next left_next ≡ input_length reader left → TakesBytes next.ended (unread reader left) (unread next left_next) line → next.max_bytes ≡ reader.max_bytes → IsSound next → number ≡ reader.given + 1 →
+      IsRefused told status line number now now_then world world_now → Stops status limit left_start left_next told start now_then world_now before after
+  line_stops Ended left_start reader next left left_next now_then world world_now line number before after so_far first total takes same_limit sound counted refused = absurd refused
+  line_stops BadWords left_start reader next left left_next now_then world world_now line number before after so_far first total takes same_limit sound counted refused = absurd refused
+  line_stops (BadLine n cause) left_start reader next left left_next now_then world world_now line number before after so_far first total takes same_limit sound counted refused =
       rw (refused.2, refused.3) (record {
         deliveries = so_far.deliveries;
         at_rest = so_far.at_rest;
-        bad = bad_line left_start reader left (unread next left_next) world line next.consumed n cause so_far first total (omega (arith, sound.within, same_limit, so_far.max)) (refused.0 ∙ counted) refused.1;
+        bad = bad_line left_start reader left (unread next left_next) world line next.consumed n cause next.ended so_far first total takes (omega (arith, sound.within, same_limit, so_far.max)) (refused.0 ∙ counted) refused.1;
       })
-  line_stops ReadFault left_start reader next left left_next now_then world world_now line number before after so_far first total same_limit sound counted refused = absurd refused
-  line_stops WriteFault left_start reader next left left_next now_then world world_now line number before after so_far first total same_limit sound counted refused = absurd refused
-  line_stops TooLong left_start reader next left left_next now_then world world_now line number before after so_far first total same_limit sound counted refused = absurd refused
-  line_stops OutOfMemory left_start reader next left left_next now_then world world_now line number before after so_far first total same_limit sound counted refused = tt
+  line_stops ReadFault left_start reader next left left_next now_then world world_now line number before after so_far first total takes same_limit sound counted refused = absurd refused
+  line_stops WriteFault left_start reader next left left_next now_then world world_now line number before after so_far first total takes same_limit sound counted refused = absurd refused
+  line_stops TooLong left_start reader next left left_next now_then world world_now line number before after so_far first total takes same_limit sound counted refused = absurd refused
+  line_stops OutOfMemory left_start reader next left left_next now_then world world_now line number before after so_far first total takes same_limit sound counted refused =
+      ⊎_elim
+      (λ same. inl (subst (λ w. StopsWithin left_start told w) (sym same) (stands left_start reader left world so_far)))
+      (λ begun. inl (record {
+        deliveries = so_far.deliveries;
+        last = Some begun.delivery;
+        within = begun.within;
+        first = first_with left_start reader left (unread next left_next) world line begun.delivery so_far first begun.is;
+      }))
+      (refused so_far.deliveries start so_far.at_rest)
 
-  front_grows : (left_start : Option (List (List ℕ))) (known next : Option (List (List ℕ))) (done : List (List ℕ)) (line : List ℕ) →
-      left_start ≡ option_map (λ (ls : List (List ℕ)). done ++ ls) known → known ≡ before_lines line next →
-      left_start ≡ option_map (λ (ls : List (List ℕ)). (done ++ line ∷ []) ++ ls) next
-  front_grows left_start known None done line front first = rw (front, first) refl
-  front_grows left_start known (Some ls) done line front first = rw (front, first) (ap Some (sym (append_assoc done (line ∷ []) ls)))
+  whole_grows : (done : List (List ℕ)) (line read moved : List ℕ) → read ≡ ended_lines done → moved ≡ line ++ line_feed ∷ [] → read ++ moved ≡ ended_lines (done ++ line ∷ [])
+  whole_grows done line read moved is ends =
+      rw (is, ends) (sym (flat_map-append (λ l. l ++ line_feed ∷ []) done (line ∷ []) ∙ ap (λ xs. ended_lines done ++ xs) (append-nil (line ++ line_feed ∷ []))))
+
+  not_ended : (before now : Bool) → (before ≡ true → now ≡ true) → now ≡ false → before ≡ false
+  not_ended true now still is = sym (still refl) ∙ is
+  not_ended false now still is = refl
 
   -- a line that is taken
   pub line_taken : (left_start : Option (List ℕ)) (reader next : Reading) (left left_next : Option (List ℕ)) (now_then : Counts) (world world_now : ReplayState) (line : List ℕ) →
       Progress limit left_start told start now reader left world → lines_of (unread reader left) ≡ before_lines line (lines_of (unread next left_next)) →
-      input_length next left_next ≡ input_length reader left → next.given ≡ reader.given + 1 → next.max_bytes ≡ reader.max_bytes → IsSound next → next.failed ≡ false →
+      input_length next left_next ≡ input_length reader left → TakesBytes next.ended (unread reader left) (unread next left_next) line → next.given ≡ reader.given + 1 → GoesOn reader next line →
       (next.ended ≡ true → IsAtEnd left_next) → TakesLine told line now now_then world world_now → Progress limit left_start told start now_then next left_next world_now
-  line_taken left_start reader next left left_next now_then world world_now line so_far first total given same_limit sound going ended takes = record {
+  line_taken left_start reader next left left_next now_then world world_now line so_far first total bytes given goes ended takes = record {
     deliveries = so_far.deliveries ++ takes.delivery ∷ [];
     read = record {
       done = so_far.read.done ++ line ∷ [];
@@ -227,10 +346,20 @@ module _ (limit : ℕ) (told : Option (ℕ → Option Bytes)) (start now : Count
       delivered = deliveries-push so_far.read.done line so_far.deliveries takes.delivery so_far.read.delivered takes.is;
       counted = given ∙ omega (arith, so_far.read.counted, length-append so_far.read.done (line ∷ []));
       total = total ∙ so_far.read.total;
+      read = so_far.read.read ++ bytes.moved;
+      bytes = bytes_grow left_start reader left (unread next left_next) world line next.ended so_far bytes;
+      whole = λ going. whole_grows so_far.read.done line so_far.read.read bytes.moved (so_far.read.whole (not_ended reader.ended next.ended goes.still going)) (bytes.whole going);
+      are_lines = Each-append IsOneLine so_far.read.done (line ∷ []) so_far.read.are_lines (bytes.in_line, tt);
     };
     at_rest = takes.then_rests so_far.deliveries start so_far.at_rest;
-    max = same_limit ∙ so_far.max;
-    sound = sound;
-    going = going;
+    max = goes.limit ∙ so_far.max;
+    sound = goes.sound;
+    going = goes.going;
     ended = ended;
   }
+
+-- at the end nothing is left of the source
+pub nothing_left : (held : List ℕ) (left : Option (List ℕ)) → IsAtEnd (before_known held left) → IsAtEnd left
+nothing_left held None at_end = tt
+nothing_left [] (Some xs) at_end = at_end
+nothing_left (b ∷ bs) (Some xs) at_end = cc

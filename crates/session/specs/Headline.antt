@@ -1,5 +1,5 @@
 -- What a run that ended leaves: the states, what is held, the side output and what was printed.
-use Rattle.std.specs.Prelude.{◌≡◌, ◌⊎◌, ℕ, true, false, not, List, Option, None, Some, IfSome, length, ⊤}
+use Rattle.std.specs.Prelude.{◌≡◌, ◌⊎◌, ℕ, ◌-◌, ◌^◌, ◌<◌, true, false, not, List, [], Option, None, Some, IfSome, length, ⊤}
 use Rattle.std.specs.List.{list_any}
 use Rattle.rising.specs.Rising.{Each}
 use Rattle.wq_io.specs.Streams.{Rose, after_known}
@@ -20,7 +20,8 @@ use Rattle.session.specs.Words.{Choices, limit_of}
 use Rattle.session.specs.declared.status.Status.{Status}
 use Rattle.session.specs.declared.status.Status.TheVariants.{Ok as Ended, BadWords, BadLine, ReadFault, WriteFault, TooLong, OutOfMemory}
 use Rattle.session.specs.Counts.{Counts, HasCounted}
-use Rattle.session.specs.Running.{AreDeliveries, AreFirst, IsPastLimit, IsRefusedLine, judgement}
+use Rattle.session.specs.Running.{AreDeliveries, AreWhole, HoldsDocuments, IsPastLimit, IsRefusedLine, judgement}
+use Rattle.session.specs.Stops.{StopsStarved}
 use Rattle.session.specs.Printing.{Wrote, sections_of}
 
 -- the world is where a play leads, with some replies to its fetches, and the counts of the source rose by these
@@ -50,10 +51,11 @@ pub record HasFates (ds : List Delivery) (world : ReplayState) : Type 0 where
       (record_of world.played.records x).state ≡ fate (in_order (events_of x (known true ds)))
 
 -- what is held: what the state wants, exactly where no revision entry of the entity is open; nothing of a page that
--- isn't kept; and what the source tells
+-- isn't kept; a document of the entity; and what the source tells
 pub record HoldsRightly (told : Option (ℕ → Option Bytes)) (world : ReplayState) : Type 0 where
   pub settled : (x : EntityId) → is_settled (record_of world.played.records x) ≡ not (has_open_revision world.played.records world.played.side x)
   pub empty : (x : EntityId) → is_kept (record_of world.played.records x).state.mode ≡ false → (record_of world.played.records x).held ≡ None
+  pub documents : HoldsDocuments world
   pub there : (contents : ℕ → Option Bytes) → told ≡ Some contents → (x : EntityId) → HoldsWhatIsThere judgement contents x (record_of world.played.records x).held
 
 -- the side output: each late event once, in the order of their first deliveries, and revision entries that say what the
@@ -84,11 +86,11 @@ pub record HasBegun (plan : Choices) (told : Option (ℕ → Option Bytes)) (ds 
   pub all : (contents : ℕ → Option Bytes) → told ≡ Some contents →
       Wrote held held_now (transcript meaning (sections_of plan) (source_replies judgement contents (failed_events world.played.side)) ds)
 
--- the world has taken the deliveries of the lines before a read that failed
-pub record StandsAfter (left : Option (List ℕ)) (told : Option (ℕ → Option Bytes)) (start now : Counts) (world : ReplayState) : Type 0 where
+-- the world has taken the deliveries of all whole lines of the bytes that were read before a read failed
+pub record StandsAfter (left left_now : Option (List ℕ)) (told : Option (ℕ → Option Bytes)) (start now : Counts) (world : ReplayState) : Type 0 where
   pub deliveries : List Delivery
   pub played : IsPlayedAfter told deliveries start now world
-  pub first : IfSome left (λ bytes. AreFirst bytes deliveries)
+  pub whole : AreWhole left left_now deliveries
 
 -- the world has taken the deliveries before the line in which the input goes past the limit
 pub record StandsAtLimit (limit : ℕ) (left : Option (List ℕ)) (told : Option (ℕ → Option Bytes)) (start now : Counts) (world : ReplayState) : Type 0 where
@@ -102,10 +104,18 @@ pub record StandsBeforeLine (limit : ℕ) (left : Option (List ℕ)) (told : Opt
   pub played : IsPlayedAfter told deliveries start now world
   pub bad : IfSome left (λ bytes. IsRefusedLine limit bytes deliveries number cause)
 
+-- where no fetch failed, the world and what was printed are functions of the words, the lines and the contents
+pub record IsFunction (plan : Choices) (told : Option (ℕ → Option Bytes)) (ds : List Delivery) (start now : Counts) (world : ReplayState) (held held_now : Option (List ℕ)) : Type 0 where
+  pub world_is : (contents : ℕ → Option Bytes) → told ≡ Some contents → now.faults ≡ start.faults → now.faults < 2 ^ 64 - 1 →
+      world ≡ following_to_end (source_replies judgement contents []) ds
+  pub output_is : (contents : ℕ → Option Bytes) → told ≡ Some contents → now.faults ≡ start.faults → now.faults < 2 ^ 64 - 1 →
+      held_now ≡ after_known held (transcript meaning (sections_of plan) (source_replies judgement contents []) ds)
+
 -- all that a run of these words over this input and source leaves, where it ended well
 pub record Ending (plan : Choices) (left : Option (List ℕ)) (told : Option (ℕ → Option Bytes)) (start now : Counts) (world : ReplayState) (held held_now : Option (List ℕ)) : Type 0 where
   pub replayed : Replayed (limit_of plan) left told start now world
   pub printed : HasPrinted plan told replayed.deliveries world held held_now
+  pub function : IsFunction plan told replayed.deliveries start now world held held_now
 
 -- what a run leaves that stopped while it printed
 pub record BrokenOff (plan : Choices) (left : Option (List ℕ)) (told : Option (ℕ → Option Bytes)) (start now : Counts) (world : ReplayState) (held held_now : Option (List ℕ)) : Type 0 where
@@ -113,14 +123,15 @@ pub record BrokenOff (plan : Choices) (left : Option (List ℕ)) (told : Option 
   pub begun : HasBegun plan told replayed.deliveries world held held_now
 
 -- why a run stopped, and what stands then
-abbrev pub Stopped : Status → Choices → Option (List ℕ) → Option (ℕ → Option Bytes) → Counts → Counts → ReplayState → Option (List ℕ) → Option (List ℕ) → ℕ → ℕ → ℕ → ℕ → Type 0
-Stopped Ended plan left told start now world held held_now reads reads_now writes writes_now = ⊥
-Stopped BadWords plan left told start now world held held_now reads reads_now writes writes_now = ⊥
-Stopped (BadLine number cause) plan left told start now world held held_now reads reads_now writes writes_now = StandsBeforeLine (limit_of plan) left told start now number cause world × (held_now ≡ held)
-Stopped ReadFault plan left told start now world held held_now reads reads_now writes writes_now = Rose reads reads_now × StandsAfter left told start now world × (held_now ≡ held)
-Stopped WriteFault plan left told start now world held held_now reads reads_now writes writes_now = Rose writes writes_now × BrokenOff plan left told start now world held held_now
-Stopped TooLong plan left told start now world held held_now reads reads_now writes writes_now = StandsAtLimit (limit_of plan) left told start now world × (held_now ≡ held)
-Stopped OutOfMemory plan left told start now world held held_now reads reads_now writes writes_now = (held_now ≡ held) ⊎ BrokenOff plan left told start now world held held_now
+abbrev pub Stopped : Status → Choices → Option (List ℕ) → Option (List ℕ) → Option (ℕ → Option Bytes) → Counts → Counts → ReplayState → Option (List ℕ) → Option (List ℕ) → ℕ → ℕ → ℕ → ℕ → Type 0
+Stopped Ended plan left left_now told start now world held held_now reads reads_now writes writes_now = ⊥
+Stopped BadWords plan left left_now told start now world held held_now reads reads_now writes writes_now = ⊥
+Stopped (BadLine number cause) plan left left_now told start now world held held_now reads reads_now writes writes_now = StandsBeforeLine (limit_of plan) left told start now number cause world × (held_now ≡ held)
+Stopped ReadFault plan left left_now told start now world held held_now reads reads_now writes writes_now = Rose reads reads_now × StandsAfter left left_now told start now world × (held_now ≡ held)
+Stopped WriteFault plan left left_now told start now world held held_now reads reads_now writes writes_now = Rose writes writes_now × BrokenOff plan left told start now world held held_now
+Stopped TooLong plan left left_now told start now world held held_now reads reads_now writes writes_now = StandsAtLimit (limit_of plan) left told start now world × (held_now ≡ held)
+Stopped OutOfMemory plan left left_now told start now world held held_now reads reads_now writes writes_now =
+    (StopsStarved (limit_of plan) left told world × (held_now ≡ held)) ⊎ BrokenOff plan left told start now world held held_now
 
 -- the run was begun and stopped
 abbrev pub IsStop : Status → Type 0

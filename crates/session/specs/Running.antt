@@ -1,19 +1,22 @@
 -- The lines of an input as deliveries, and how far a run has come.
-use Rattle.std.specs.Prelude.{◌≡◌, ◌⊎◌, ℕ, ◌+◌, ◌-◌, ◌<◌, ◌≤◌, List, [], ◌∷◌, ◌++◌, length, Option, None, Some, Result, Ok, Err}
+use Rattle.std.specs.Prelude.{◌≡◌, ◌⊎◌, ℕ, ◌+◌, ◌-◌, ◌<◌, ◌≤◌, false, List, [], ◌∷◌, ◌++◌, length, Option, None, Some, Result, Ok, Err}
 use Rattle.std.specs.Option.{option_map}
-use Rattle.wq_io.specs.Lines.{Reading, IsLineLong, IsTooLong, lines, lines_of, unread, input_length}
+use Rattle.rising.specs.Rising.{Each}
+use Rattle.wq_io.specs.Streams.{before_known}
+use Rattle.wq_io.specs.Lines.{Reading, IsLineLong, IsOneLine, IsTooLong, ended_lines, input_length, lines, lines_of, unread, whole_lines}
 use Rattle.revisions.specs.Revisions.{Contents}
+use Rattle.entity_model.specs.declared.id.EntityId.{EntityId}
 use Rattle.entity_json.specs.Document.{unfit_of}
 use Rattle.event_line.specs.declared.deliveries.Delivery.{Delivery}
 use Rattle.event_line.specs.declared.deliveries.LineCause.{LineCause}
 use Rattle.event_line.specs.declared.deliveries.LineCause.TheVariants.{LineLong}
 use Rattle.event_line.specs.Line.{delivery_of}
 use Rattle.reorder_buffer.specs.Buffered.{first_due}
-use Rattle.replay_model.specs.Records.{Bytes}
+use Rattle.replay_model.specs.Records.{Bytes, record_of}
 use Rattle.replay_model.specs.Play.{Fetch, Replies, fetches, fetches_to_end}
-use Rattle.replay_model.specs.Replies.{Judgement}
-use Rattle.replay_model.specs.ReplayState.{ReplayState, following, following_to_end}
-use Rattle.replay_model.specs.Explained.{Explained}
+use Rattle.replay_model.specs.Replies.{HoldsDocument, Judgement, failed_events, source_replies}
+use Rattle.replay_model.specs.ReplayState.{ReplayState, after_some, entered, following, following_to_end}
+use Rattle.replay_model.specs.Explained.{AgreeOnApplied, Explained}
 use Rattle.session.specs.Counts.{Counts, HasCounted}
 
 -- why bytes are no document of an entity
@@ -35,11 +38,39 @@ abbrev pub deliveries_of : List (List ℕ) → Option (List Delivery)
 deliveries_of [] = Some []
 deliveries_of (line ∷ others) = onto_deliveries (delivery_of line) (deliveries_of others)
 
--- the world leads to a play with some replies, and the counts rose with what was fetched for it so far
+-- every entity holds a document of itself, or nothing
+abbrev pub HoldsDocuments : ReplayState → Type 0
+HoldsDocuments world = (x : EntityId) → HoldsDocument judgement x (record_of world.played.records x).held
+
+-- the world leads to a play with some replies, the counts rose with what was fetched for it so far, and what is held are
+-- documents
 pub record Leads (told : Option (ℕ → Option Bytes)) (play_of : Replies → ReplayState) (fetches_of : Replies → List Fetch) (start now : Counts) (world : ReplayState) : Type 0 where
   pub made : ℕ
   pub explained : Explained judgement told play_of fetches_of made world
   pub counted : HasCounted start now made world.played.side
+  pub documents : HoldsDocuments world
+
+-- the world leads to a play with some replies, and is so many applications of due events after where the play begins them,
+-- the least first
+pub record IsUnderWay (told : Option (ℕ → Option Bytes)) (play_of : Replies → ReplayState) (fetches_of : Replies → List Fetch) (begun_of : Replies → ReplayState) (start now : Counts) (world : ReplayState) : Type 0 where
+  pub leads : Leads told play_of fetches_of start now world
+  pub steps : ℕ
+  pub is : (others : Replies) → AgreeOnApplied world leads.explained.replies others → world ≡ after_some others steps (begun_of others)
+
+-- the world is so many applications of due events after where a play begins them, the least first, with some replies; where
+-- the source tells what it has, with those of what is there and of the events whose fetches failed
+pub record IsWithin (told : Option (ℕ → Option Bytes)) (begun_of : Replies → ReplayState) (world : ReplayState) : Type 0 where
+  pub steps : ℕ
+  pub replies : Replies
+  pub is : world ≡ after_some replies steps (begun_of replies)
+  pub source : (contents : ℕ → Option Bytes) → told ≡ Some contents →
+      world ≡ after_some (source_replies judgement contents (failed_events world.played.side)) steps (begun_of (source_replies judgement contents (failed_events world.played.side)))
+  pub documents : HoldsDocuments world
+
+-- right after a delivery, if there is one, is taken, before what it makes due is applied
+abbrev pub entered_perhaps : ReplayState → Option Delivery → ReplayState
+entered_perhaps w None = w
+entered_perhaps w (Some d) = entered w d
 
 -- the world has taken these deliveries, and no event is due: with some replies, it is where a replay of them leads
 pub record AtRest (told : Option (ℕ → Option Bytes)) (ds : List Delivery) (start now : Counts) (world : ReplayState) : Type 0 where
@@ -51,13 +82,17 @@ pub record AtEnd (told : Option (ℕ → Option Bytes)) (ds : List Delivery) (st
   pub leads : Leads told (λ replies. following_to_end replies ds) (λ replies. fetches_to_end replies ds) start now world
   pub rests : first_due world.buffer ≡ None
 
--- the lines so far were read, and are these deliveries
+-- the lines so far were read, and are these deliveries; the bytes that went into them stand before those that are unread
 pub record HasRead (left_start : Option (List ℕ)) (reader : Reading) (left : Option (List ℕ)) (ds : List Delivery) : Type 0 where
   pub done : List (List ℕ)
   pub front : lines_of left_start ≡ option_map (λ (ls : List (List ℕ)). done ++ ls) (lines_of (unread reader left))
   pub delivered : deliveries_of done ≡ Some ds
   pub counted : reader.given ≡ length done
   pub total : input_length reader left ≡ option_map length left_start
+  pub read : List ℕ
+  pub bytes : left_start ≡ before_known read (unread reader left)
+  pub whole : reader.ended ≡ false → read ≡ ended_lines done
+  pub are_lines : Each IsOneLine done
 
 -- the whole input was read, is within the limit, and its lines are these deliveries
 pub record AreDeliveries (limit : ℕ) (bytes : List ℕ) (ds : List Delivery) : Type 0 where
@@ -71,14 +106,22 @@ pub record AreFirst (bytes : List ℕ) (ds : List Delivery) : Type 0 where
   pub are_lines : lines bytes ≡ before ++ after
   pub delivered : deliveries_of before ≡ Some ds
 
+-- all whole lines of the bytes that were read are these deliveries; the bytes behind them are left
+pub record AreWhole (left left_now : Option (List ℕ)) (ds : List Delivery) : Type 0 where
+  pub read : List ℕ
+  pub is : left ≡ before_known read left_now
+  pub delivered : deliveries_of (whole_lines read) ≡ Some ds
+
 -- the line with this number is no delivery, for this reason, and those before it are these deliveries; it ends within
 -- the limit
 pub record IsBadLine (limit : ℕ) (bytes : List ℕ) (ds : List Delivery) (number : ℕ) (cause : LineCause) : Type 0 where
   pub before : List (List ℕ)
   pub line : List ℕ
+  pub read_bytes : List ℕ
   pub unread_bytes : List ℕ
+  pub all : bytes ≡ read_bytes ++ unread_bytes
   pub are_lines : lines bytes ≡ before ++ line ∷ lines unread_bytes
-  pub within : length bytes ≤ limit + length unread_bytes
+  pub within : length read_bytes ≤ limit
   pub delivered : deliveries_of before ≡ Some ds
   pub counted : number ≡ length before + 1
   pub refused : delivery_of line ≡ Err cause
@@ -87,13 +130,13 @@ pub record IsBadLine (limit : ℕ) (bytes : List ℕ) (ds : List Delivery) (numb
 -- these deliveries
 pub record IsOverLongLine (limit : ℕ) (bytes : List ℕ) (ds : List Delivery) (number : ℕ) : Type 0 where
   pub before : List (List ℕ)
-  pub consumed : ℕ
+  pub read_bytes : List ℕ
   pub unread_bytes : List ℕ
+  pub all : bytes ≡ read_bytes ++ unread_bytes
   pub are_lines : lines bytes ≡ before ++ lines unread_bytes
-  pub all : length bytes ≡ consumed + length unread_bytes
   pub delivered : deliveries_of before ≡ Some ds
   pub counted : number ≡ length before + 1
-  pub over : IsLineLong (limit - consumed) unread_bytes
+  pub over : IsLineLong (limit - length read_bytes) unread_bytes
 
 -- why a line is refused: it is no delivery, or it is over-long
 abbrev pub IsRefusedLine : ℕ → List ℕ → List Delivery → ℕ → LineCause → Type 0
@@ -104,10 +147,10 @@ IsRefusedLine limit bytes ds number cause = IsBadLine limit bytes ds number caus
 pub record IsPastLimit (limit : ℕ) (bytes : List ℕ) (ds : List Delivery) : Type 0 where
   pub more : limit < length bytes
   pub before : List (List ℕ)
-  pub consumed : ℕ
+  pub read_bytes : List ℕ
   pub unread_bytes : List ℕ
+  pub all : bytes ≡ read_bytes ++ unread_bytes
   pub are_lines : lines bytes ≡ before ++ lines unread_bytes
-  pub all : length bytes ≡ consumed + length unread_bytes
   pub delivered : deliveries_of before ≡ Some ds
-  pub within : consumed ≤ limit
-  pub past : IsTooLong (limit - consumed) unread_bytes
+  pub within : length read_bytes ≤ limit
+  pub past : IsTooLong (limit - length read_bytes) unread_bytes

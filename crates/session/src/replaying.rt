@@ -1,6 +1,7 @@
 // The top call.
 
 ghost use Rattle.std.specs.Prelude.{◌≡◌, ◌↔◌, ◌≤◌, None, Some, map, string_bytes, IfErr, OnOk};
+ghost use Rattle.wq_io.specs.Streams.{IsAtEnd};
 ghost use Rattle.replay_model.specs.ReplayState.{nothing_delivered};
 ghost use Rattle.session.specs.Counts.{counts};
 ghost use Rattle.session.specs.Headline.{Ending, IsStop, Replayed, Stopped};
@@ -40,9 +41,11 @@ pub fn run<S: Source, R: Revisions, K: Sink>(
         (counts (R.calls revisions.new) (R.misses revisions.new) (R.faults revisions.new))
         world.new (K.held out.old) (K.held out.new) }
 
+    ensures read { result ≡ Status.Ok → IsAtEnd (S.left events.new) }
+
     // Each other ending has its cause, and leaves the world of the lines before.
     ensures stopped { IsStop result → (plan : Choices) → plan_of (map (λ w. string_bytes w) words.now) ≡ Some plan →
-        Stopped result plan (S.left events.old) (told_at (R.contents revisions.old) (place_of plan))
+        Stopped result plan (S.left events.old) (S.left events.new) (told_at (R.contents revisions.old) (place_of plan))
         (counts (R.calls revisions.old) (R.misses revisions.old) (R.faults revisions.old))
         (counts (R.calls revisions.new) (R.misses revisions.new) (R.faults revisions.new))
         world.new (K.held out.old) (K.held out.new) (S.faults events.old) (S.faults events.new) (K.faults out.old) (K.faults out.new) }
@@ -73,7 +76,8 @@ fn replay<S: Source, R: Revisions, K: Sink>(
         (counts (R.calls revisions.old) (R.misses revisions.old) (R.faults revisions.old))
         (counts (R.calls revisions.new) (R.misses revisions.new) (R.faults revisions.new))
         world.new (K.held out.old) (K.held out.new)) }
-    ensures err { IfErr result (λ status. Stopped status plan.now (S.left events.old) (told_at (R.contents revisions.old) (place_of plan.now))
+    ensures read { OnOk result (IsAtEnd (S.left events.new)) }
+    ensures err { IfErr result (λ status. Stopped status plan.now (S.left events.old) (S.left events.new) (told_at (R.contents revisions.old) (place_of plan.now))
         (counts (R.calls revisions.old) (R.misses revisions.old) (R.faults revisions.old))
         (counts (R.calls revisions.new) (R.misses revisions.new) (R.faults revisions.new))
         world.new (K.held out.old) (K.held out.new) (S.faults events.old) (S.faults events.new) (K.faults out.old) (K.faults out.new)) }
@@ -97,7 +101,8 @@ fn take_all<S: Source, R: Revisions>(
     ensures ok { OnOk result (Replayed (limit_of plan.now) (S.left events.old) (told_at (R.contents revisions.old) (place_of plan.now))
         (counts (R.calls revisions.old) (R.misses revisions.old) (R.faults revisions.old))
         (counts (R.calls revisions.new) (R.misses revisions.new) (R.faults revisions.new)) world.new) }
-    ensures err { IfErr result (λ status. Stops status (limit_of plan.now) (S.left events.old) (told_at (R.contents revisions.old) (place_of plan.now))
+    ensures read { OnOk result (IsAtEnd (S.left events.new)) }
+    ensures err { IfErr result (λ status. Stops status (limit_of plan.now) (S.left events.old) (S.left events.new) (told_at (R.contents revisions.old) (place_of plan.now))
         (counts (R.calls revisions.old) (R.misses revisions.old) (R.faults revisions.old))
         (counts (R.calls revisions.new) (R.misses revisions.new) (R.faults revisions.new))
         world.new (S.faults events.old) (S.faults events.new)) }

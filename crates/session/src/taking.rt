@@ -1,11 +1,12 @@
 // The lines of the input are taken one by one, and what is due is applied.
 
-ghost use Rattle.std.specs.Prelude.{◌≡◌, ℕ, ◌≤◌, ◌^◌, false, List, IfErr, OnOk};
-ghost use Rattle.replay_model.specs.ReplayState.{after_event, after_mark, nothing_delivered};
+ghost use Rattle.std.specs.Prelude.{◌≡◌, ℕ, ◌≤◌, ◌^◌, false, List, IfErr, OnErr, OnOk};
+ghost use Rattle.wq_io.specs.Streams.{IsAtEnd};
+ghost use Rattle.replay_model.specs.ReplayState.{after_end, after_event, after_mark, following, nothing_delivered};
 ghost use Rattle.event_line.specs.declared.deliveries.Delivery.{Delivery};
 ghost use Rattle.session.specs.Counts.{Counts, counts};
-ghost use Rattle.session.specs.Running.{AtEnd, AtRest, told_at};
-ghost use Rattle.session.specs.Stops.{HasTaken, IsRefused, Settles, Stops, TakesDelivery, TakesLine};
+ghost use Rattle.session.specs.Running.{AtEnd, AtRest, IsWithin, told_at};
+ghost use Rattle.session.specs.Stops.{HasTaken, IsRefused, MayTake, Settles, StillLeads, Stops, TakesDelivery, TakesLine};
 
 use crate::status::Status;
 use entity_model::Event;
@@ -31,7 +32,8 @@ pub fn take_lines<S: Source, R: Revisions>(
     ensures ok { OnOk result (HasTaken max_bytes (S.left events.old) (told_at (R.contents revisions.old) place.now)
         (counts (R.calls revisions.old) (R.misses revisions.old) (R.faults revisions.old))
         (counts (R.calls revisions.new) (R.misses revisions.new) (R.faults revisions.new)) world.new) }
-    ensures err { IfErr result (λ status. Stops status max_bytes (S.left events.old) (told_at (R.contents revisions.old) place.now)
+    ensures read { OnOk result (IsAtEnd (S.left events.new)) }
+    ensures err { IfErr result (λ status. Stops status max_bytes (S.left events.old) (S.left events.new) (told_at (R.contents revisions.old) place.now)
         (counts (R.calls revisions.old) (R.misses revisions.old) (R.faults revisions.old))
         (counts (R.calls revisions.new) (R.misses revisions.new) (R.faults revisions.new))
         world.new (S.faults events.old) (S.faults events.new)) }
@@ -56,6 +58,9 @@ pub fn take_end<R: Revisions>(
     ensures ok { OnOk result ((ds : List Delivery) (start : Counts) →
         AtRest (told_at (R.contents revisions.old) place.now) ds start (counts (R.calls revisions.old) (R.misses revisions.old) (R.faults revisions.old)) world.old →
         AtEnd (told_at (R.contents revisions.old) place.now) ds start (counts (R.calls revisions.new) (R.misses revisions.new) (R.faults revisions.new)) world.new) }
+    ensures err { OnErr result ((ds : List Delivery) (start : Counts) →
+        AtRest (told_at (R.contents revisions.old) place.now) ds start (counts (R.calls revisions.old) (R.misses revisions.old) (R.faults revisions.old)) world.old →
+        IsWithin (told_at (R.contents revisions.old) place.now) (λ replies. after_end (following replies ds)) world.new) }
     ensures told { R.contents revisions.new ≡ R.contents revisions.old }
     ensures more_faults { R.faults revisions.old ≤ R.faults revisions.new }
     ensures more_misses { R.misses revisions.old ≤ R.misses revisions.new }
@@ -77,7 +82,7 @@ fn take_line<R: Revisions>(
     ensures ok { OnOk result (TakesLine (told_at (R.contents revisions.old) place.now) line.now
         (counts (R.calls revisions.old) (R.misses revisions.old) (R.faults revisions.old))
         (counts (R.calls revisions.new) (R.misses revisions.new) (R.faults revisions.new)) world.old world.new) }
-    ensures err { IfErr result (λ status. IsRefused status line.now number
+    ensures err { IfErr result (λ status. IsRefused (told_at (R.contents revisions.old) place.now) status line.now number
         (counts (R.calls revisions.old) (R.misses revisions.old) (R.faults revisions.old))
         (counts (R.calls revisions.new) (R.misses revisions.new) (R.faults revisions.new)) world.old world.new) }
     ensures told { R.contents revisions.new ≡ R.contents revisions.old }
@@ -102,6 +107,8 @@ fn deliver<R: Revisions>(
     ensures ok { OnOk result (TakesDelivery (told_at (R.contents revisions.old) place.now) delivery.now
         (counts (R.calls revisions.old) (R.misses revisions.old) (R.faults revisions.old))
         (counts (R.calls revisions.new) (R.misses revisions.new) (R.faults revisions.new)) world.old world.new) }
+    ensures err { OnErr result (MayTake (told_at (R.contents revisions.old) place.now) delivery.now
+        (counts (R.calls revisions.old) (R.misses revisions.old) (R.faults revisions.old)) world.old world.new) }
     ensures told { R.contents revisions.new ≡ R.contents revisions.old }
     ensures more_faults { R.faults revisions.old ≤ R.faults revisions.new }
     ensures more_misses { R.misses revisions.old ≤ R.misses revisions.new }
@@ -122,18 +129,28 @@ fn take_mark<R: Revisions>(
     ensures ok { OnOk result (Settles (told_at (R.contents revisions.old) place.now)
         (counts (R.calls revisions.old) (R.misses revisions.old) (R.faults revisions.old))
         (counts (R.calls revisions.new) (R.misses revisions.new) (R.faults revisions.new)) (after_mark world.old mark.now) world.new) }
+    ensures err { OnErr result (StillLeads (told_at (R.contents revisions.old) place.now)
+        (counts (R.calls revisions.old) (R.misses revisions.old) (R.faults revisions.old)) (after_mark world.old mark.now) world.new) }
     ensures told { R.contents revisions.new ≡ R.contents revisions.old }
     ensures more_faults { R.faults revisions.old ≤ R.faults revisions.new }
     ensures more_misses { R.misses revisions.old ≤ R.misses revisions.new }
 {
-    world.raise(*mark);
+    raise(mark, world);
     apply_due(place, revisions, world)
+}
+
+// Takes a watermark.
+fn raise(mark: &i64, world: &mut World)
+    ensures { world.new ≡ after_mark world.old mark.now }
+{
+    world.raise(*mark);
 }
 
 // Takes one event.
 fn take_event(event: Event, world: &mut World) -> Result<(), OutOfMemory>
     requires { world.old.buffer.closed ≡ false }
-    ensures { OnOk result (world.new ≡ after_event world.old event) }
+    ensures ok { OnOk result (world.new ≡ after_event world.old event) }
+    ensures err { OnErr result (world.new ≡ world.old) }
 {
     world.take(event)?;
     Ok(())
@@ -148,6 +165,8 @@ fn apply_due<R: Revisions>(
     ensures ok { OnOk result (Settles (told_at (R.contents revisions.old) place.now)
         (counts (R.calls revisions.old) (R.misses revisions.old) (R.faults revisions.old))
         (counts (R.calls revisions.new) (R.misses revisions.new) (R.faults revisions.new)) world.old world.new) }
+    ensures err { OnErr result (StillLeads (told_at (R.contents revisions.old) place.now)
+        (counts (R.calls revisions.old) (R.misses revisions.old) (R.faults revisions.old)) world.old world.new) }
     ensures told { R.contents revisions.new ≡ R.contents revisions.old }
     ensures more_faults { R.faults revisions.old ≤ R.faults revisions.new }
     ensures more_misses { R.misses revisions.old ≤ R.misses revisions.new }

@@ -1,9 +1,9 @@
 -- The search for the next line: what stands between its start and each read, and what follows at its ends.
-use Rattle.std.proofs.Common.{refl, sym, ◌∙◌, ap, ◌≡◌, ◌↔◌, ℕ, ◌+◌, ◌<◌, ◌≤◌, true, List, [], ◌∷◌, Option, Some, None, IfSome, IsNone, ◌++◌, length, arith, append_assoc, length-append}
+use Rattle.std.proofs.Common.{refl, sym, ◌∙◌, ap, ◌≡◌, ◌↔◌, ℕ, ◌+◌, ◌<◌, ◌≤◌, Bool, true, false, List, [], ◌∷◌, Option, Some, None, IfSome, IsNone, ◌++◌, length, arith, append_assoc, length-append}
 use Rattle.std.proofs.lemmas.List.{take-append-le, append-nil}
 use Rattle.wq_io.specs.Streams.{before_known, IsAtEnd}
-use Rattle.wq_io.specs.Lines.{Reading, IsSound, IsOneLine, IsLineLong, GivesLine, HasCause, line_feed, lines, lines_of, before_lines, longest_line, unread, room}
-use Rattle.wq_io.specs.Taking.{IsOverLong, IsRefusedLine}
+use Rattle.wq_io.specs.Lines.{Reading, IsSound, IsOneLine, IsLineLong, GivesLine, HasCause, Leaves, StopsInLine, TakesBytes, line_feed, lines, lines_of, before_lines, longest_line, unread, room}
+use Rattle.wq_io.specs.Taking.{IsOverLong, IsRefusedLine, IsUnreadable}
 use Rattle.wq_io.specs.declared.lines.LineFault.{LineFault}
 use Rattle.wq_io.specs.declared.lines.LineFault.TheVariants.{ReadFault, TooLong, LineLong, OutOfMemory}
 use Rattle.wq_io.proofs.LineLists.{lines-line, lines-last, one_line-append, one_line-take}
@@ -17,7 +17,16 @@ pub record Going (start now : Reading) (left_start left : Option (List ℕ)) (li
   pub sound : IsSound now
   pub counted : start.given ≤ start.consumed
   pub ended : now.ended ≡ true → IsAtEnd left
+  pub still : start.ended ≡ true → now.ended ≡ true
   pub later : faults_start ≤ faults
+
+nothing_before : (line : List ℕ) (left : Option (List ℕ)) → before_known line (before_known [] left) ≡ before_known line left
+nothing_before line None = refl
+nothing_before line (Some xs) = refl
+
+not_true : (old new : Bool) → (old ≡ true → new ≡ true) → new ≡ false → old ≡ false
+not_true true new still is = sym (still refl) ∙ is
+not_true false new still is = refl
 
 last_line : (u left line : List ℕ) (n : ℕ) → u ≡ line ++ left → left ≡ [] → IsOneLine line → (line ≡ [] → IsNone {T = ℕ} (Some n)) →
     lines u ≡ line ∷ lines left
@@ -49,6 +58,45 @@ line_ended unread_start (Some xs) line moved held held_now front is in_line in_m
     let grouped : line ++ ((moved ++ line_feed ∷ held_now) ++ xs) ≡ (line ++ moved) ++ line_feed ∷ (held_now ++ xs) =
     ap (λ ys. line ++ ys) (append_assoc moved (line_feed ∷ held_now) xs) ∙ sym (append_assoc line moved (line_feed ∷ (held_now ++ xs))) in
     rw (front, is) (ap Some (ap lines grouped ∙ lines-line (line ++ moved) (held_now ++ xs) (one_line-append line moved in_line in_moved)))
+
+-- the line ended: it and its line feed are the next bytes
+pub line_bytes : (ended : Bool) (unread_start left : Option (List ℕ)) (line moved held held_now : List ℕ) →
+    unread_start ≡ before_known line (before_known held left) → held ≡ moved ++ line_feed ∷ held_now → IsOneLine line → IsOneLine moved →
+    TakesBytes ended unread_start (before_known held_now left) (line ++ moved)
+line_bytes ended unread_start None line moved held held_now front is in_line in_moved =
+    record { moved = (line ++ moved) ++ line_feed ∷ []; front = front; whole = λ _. refl; in_line = one_line-append line moved in_line in_moved }
+line_bytes ended unread_start (Some xs) line moved held held_now front is in_line in_moved =
+    let grouped : line ++ ((moved ++ line_feed ∷ held_now) ++ xs) ≡ ((line ++ moved) ++ line_feed ∷ []) ++ (held_now ++ xs) =
+    ap (λ ys. line ++ ys) (append_assoc moved (line_feed ∷ held_now) xs) ∙ sym (append_assoc line moved (line_feed ∷ (held_now ++ xs)))
+    ∙ sym (append_assoc (line ++ moved) (line_feed ∷ []) (held_now ++ xs)) in
+    record { moved = (line ++ moved) ++ line_feed ∷ []; front = rw (front, is) (ap Some grouped); whole = λ _. refl; in_line = one_line-append line moved in_line in_moved }
+
+-- the last line of the input: it is all that was left
+pub last_bytes : (ended : Bool) (unread_start left : Option (List ℕ)) (line : List ℕ) (number : Option ℕ) →
+    unread_start ≡ before_known line (before_known [] left) → IsOneLine line → ended ≡ true → IfSome number (λ _. TakesBytes ended unread_start (before_known [] left) line)
+last_bytes ended unread_start left line None front in_line is = tt
+last_bytes ended unread_start left line (Some n) front in_line is = record { moved = line; front = front; whole = λ never. cc; in_line = in_line }
+
+-- a read failed: the line so far is what was taken of the line
+pub read_failed : (fault : LineFault) (start now : Reading) (left_start left left_now : Option (List ℕ)) (line : List ℕ) →
+    unread start left_start ≡ before_known line (unread now left) → IsOneLine line → (start.ended ≡ true → now.ended ≡ true) →
+    IsUnreadable now left left_now → Leaves fault start left_start left_now
+read_failed ReadFault start now left_start left left_now line front in_line still stops = record {
+  part = line;
+  front = front ∙ ap (λ (h : List ℕ). before_known line (before_known h left)) stops.empty ∙ nothing_before line left ∙ ap (λ (l : Option (List ℕ)). before_known line l) (sym stops.same);
+  in_line = in_line;
+  going = not_true start.ended now.ended still stops.going;
+}
+read_failed TooLong start now left_start left left_now line front in_line still stops = tt
+read_failed (LineLong number) start now left_start left left_now line front in_line still stops = tt
+read_failed OutOfMemory start now left_start left left_now line front in_line still stops = tt
+
+-- held bytes that were refused: no read failed
+pub not_read : (fault : LineFault) (start now : Reading) (left_start left_now : Option (List ℕ)) (line : List ℕ) → IsRefusedLine fault now line → Leaves fault start left_start left_now
+not_read ReadFault start now left_start left_now line refused = absurd refused
+not_read TooLong start now left_start left_now line refused = tt
+not_read (LineLong number) start now left_start left_now line refused = tt
+not_read OutOfMemory start now left_start left_now line refused = tt
 
 -- bytes moved: they stand behind the line so far
 pub moved_behind : (unread_start left : Option (List ℕ)) (line moved held held_now : List ℕ) →

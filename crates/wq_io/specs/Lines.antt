@@ -1,5 +1,5 @@
 -- The lines of an input, and what it is that a reader of lines gives the next one.
-use Rattle.std.specs.Prelude.{◌≡◌, ℕ, ◌+◌, ◌-◌, ◌<◌, ◌≤◌, ◌==◌, Bool, false, List, [], ◌∷◌, length, take, Option, cond, MatchOption, IfSome, ⊤}
+use Rattle.std.specs.Prelude.{◌≡◌, ℕ, ◌+◌, ◌-◌, ◌<◌, ◌≤◌, ◌==◌, Bool, true, false, List, [], ◌∷◌, ◌++◌, length, take, Option, cond, flat_map, MatchOption, IfSome, ⊤}
 use Rattle.std.specs.Option.{option_map}
 use Rattle.std.specs.List.{list_any}
 use Rattle.wq_io.specs.Streams.{before_known, IsAtEnd, Rose}
@@ -28,6 +28,20 @@ onto_first_line b (line ∷ lines) = (b ∷ line) ∷ lines
 abbrev pub lines : List ℕ → List (List ℕ)
 lines [] = []
 lines (b ∷ bs) = cond (b == line_feed) ([] ∷ lines bs) (onto_first_line b (lines bs))
+
+-- the byte stands before the first line, if there is one
+abbrev pub onto_whole_line : ℕ → List (List ℕ) → List (List ℕ)
+onto_whole_line b [] = []
+onto_whole_line b (line ∷ lines) = (b ∷ line) ∷ lines
+
+-- the lines of the bytes that a line feed ends; what follows the last line feed is no whole line
+abbrev pub whole_lines : List ℕ → List (List ℕ)
+whole_lines [] = []
+whole_lines (b ∷ bs) = cond (b == line_feed) ([] ∷ whole_lines bs) (onto_whole_line b (whole_lines bs))
+
+-- the lines, each with a line feed that ends it
+abbrev pub ended_lines : List (List ℕ) → List ℕ
+ended_lines done = flat_map (λ line. line ++ line_feed ∷ []) done
 
 -- the lines of an input that is told
 abbrev pub lines_of : Option (List ℕ) → Option (List (List ℕ))
@@ -80,6 +94,14 @@ abbrev pub GivesLine : Option (List ℕ) → Option (List ℕ) → Option ℕ �
 GivesLine old new number line =
     MatchOption number (IsAtEnd old × (new ≡ old)) (λ _. lines_of old ≡ before_lines line (lines_of new))
 
+-- the bytes that went into a line were the next ones: the line, and the line feed that ends it where the end of the source
+-- wasn't seen yet
+pub record TakesBytes (ended : Bool) (old new : Option (List ℕ)) (line : List ℕ) : Type 0 where
+  pub moved : List ℕ
+  pub front : old ≡ before_known moved new
+  pub whole : ended ≡ false → moved ≡ line ++ line_feed ∷ []
+  pub in_line : IsOneLine line
+
 -- the byte that is needed next is the first one past the most that the input may have: neither a line's end nor a
 -- line that is too long comes before it
 pub record IsTooLong (room : ℕ) (bytes : List ℕ) : Type 0 where
@@ -101,9 +123,24 @@ HasCause TooLong old left before now = IfSome (unread old left) (IsTooLong (room
 HasCause (LineLong number) old left before now = (number ≡ old.given + 1) × IfSome (unread old left) (IsLineLong (room old))
 HasCause OutOfMemory old left before now = ⊤
 
+-- a read failed within a line: what was taken of it has no line feed, and the rest is left
+pub record StopsInLine (old : Reading) (left left_now : Option (List ℕ)) : Type 0 where
+  pub part : List ℕ
+  pub front : unread old left ≡ before_known part left_now
+  pub in_line : IsOneLine part
+  pub going : old.ended ≡ false
+
+-- what a fault leaves of the source: a read that failed stands before the first byte that wasn't taken
+abbrev pub Leaves : LineFault → Reading → Option (List ℕ) → Option (List ℕ) → Type 0
+Leaves ReadFault old left left_now = StopsInLine old left left_now
+Leaves TooLong old left left_now = ⊤
+Leaves (LineLong number) old left left_now = ⊤
+Leaves OutOfMemory old left left_now = ⊤
+
 -- the reader after a line or the end
 pub record GoesOn (old new : Reading) (line : List ℕ) : Type 0 where
   pub limit : new.max_bytes ≡ old.max_bytes
   pub short : length line ≤ longest_line
   pub sound : IsSound new
   pub going : new.failed ≡ false
+  pub still : old.ended ≡ true → new.ended ≡ true

@@ -1,5 +1,5 @@
 -- One step of a reader of lines: a read, and the move of held bytes into a line.
-use Rattle.std.specs.Prelude.{◌≡◌, ℕ, suc, ◌+◌, ◌<◌, ◌≤◌, Bool, true, List, [], ◌∷◌, ◌++◌, length, take, drop, Option, MatchBool, cond, ⊤}
+use Rattle.std.specs.Prelude.{◌≡◌, ℕ, suc, ◌+◌, ◌<◌, ◌≤◌, Bool, true, false, List, [], ◌∷◌, ◌++◌, length, take, drop, Option, MatchBool, cond, ⊤}
 use Rattle.wq_io.specs.Streams.{IsAtEnd}
 use Rattle.wq_io.specs.Lines.{Reading, IsSound, IsOneLine, line_feed, longest_line, room, unread}
 use Rattle.wq_io.specs.declared.lines.LineFault.{LineFault}
@@ -18,6 +18,7 @@ pub record HasByte (old new : Reading) (left_old left_new : Option (List ℕ)) :
   pub same : unread new left_new ≡ unread old left_old
   pub others : new ≡ record old { held = new.held; ended = new.ended }
   pub ended : new.ended ≡ true → IsAtEnd left_new
+  pub still : old.ended ≡ true → new.ended ≡ true
   pub sound : IsSound new
 
 -- the source is at its end
@@ -27,6 +28,12 @@ pub record IsEnded (old new : Reading) (left_old left_new : Option (List ℕ)) :
   pub told : left_new ≡ left_old
   pub others : new ≡ record old { ended = true }
   pub sound : IsSound new
+
+-- nothing is held, and a read took nothing of what is left
+pub record IsUnreadable (old : Reading) (left_old left_new : Option (List ℕ)) : Type 0 where
+  pub empty : old.held ≡ []
+  pub same : left_new ≡ left_old
+  pub going : old.ended ≡ false
 
 -- bytes of one line moved from what is held into the line; where it ended, its line feed went too
 pub record Takes (old new : Reading) (before after : List ℕ) (ended : Bool) : Type 0 where

@@ -1,9 +1,9 @@
 // The lines of a source, one by one.
 
-ghost use Rattle.std.specs.Prelude.{◌≡◌, ◌+◌, ◌<◌, ◌≤◌, ◌^◌, ◌↔◌, true, false, [], ◌∷◌, ◌++◌, length, take, drop, IsTrue, IfOk, IfErr, OnOk, IsErr, is_err, MatchOption, MatchBool, vec_len, position, ◌==◌, ◌≢◌, IsNone, ◌⊎◌};
+ghost use Rattle.std.specs.Prelude.{◌≡◌, ◌+◌, ◌<◌, ◌≤◌, ◌^◌, ◌↔◌, true, false, [], ◌∷◌, ◌++◌, length, take, drop, IsTrue, IfOk, IfErr, IfSome, OnOk, IsErr, is_err, MatchOption, MatchBool, vec_len, position, ◌==◌, ◌≢◌, IsNone, ◌⊎◌};
 ghost use Rattle.wq_io.specs.Streams.{before_known, IsAtEnd, Rose};
-ghost use Rattle.wq_io.specs.Lines.{fresh, taken, room, unread, input_length, GivesLine, GoesOn, HasCause, IsOneLine, IsSound, line_feed, longest_line};
-ghost use Rattle.wq_io.specs.Taking.{EndsAt, HasByte, IsEnded, IsRefusedLine, Takes};
+ghost use Rattle.wq_io.specs.Lines.{fresh, taken, room, unread, input_length, GivesLine, GoesOn, HasCause, IsOneLine, IsSound, Leaves, TakesBytes, line_feed, longest_line};
+ghost use Rattle.wq_io.specs.Taking.{EndsAt, HasByte, IsEnded, IsRefusedLine, IsUnreadable, Takes};
 ghost use Rattle.wq_io.specs.declared.lines.LineFault.TheVariants.{ReadFault as NotRead, LineLong as OverLong, OutOfMemory as Refused};
 
 use crate::source::Source;
@@ -103,6 +103,8 @@ impl Lines {
         requires ended { self.old.ended ≡ true → IsAtEnd (S.left source.old) }
         ensures line { IfOk result (λ number.
             GivesLine (unread self.old (S.left source.old)) (unread self.new (S.left source.new)) number line.new.items) }
+        ensures bytes { IfOk result (λ number. IfSome number (λ _.
+            TakesBytes self.new.ended (unread self.old (S.left source.old)) (unread self.new (S.left source.new)) line.new.items)) }
         ensures number { IfOk result (λ number. MatchOption number (self.new.given ≡ self.old.given)
             (λ n. (n ≡ self.old.given + 1) × (n ≡ self.new.given))) }
         ensures length { OnOk result
@@ -112,6 +114,7 @@ impl Lines {
         ensures later { S.faults source.old ≤ S.faults source.new }
         ensures cause { IfErr result (λ fault.
             HasCause fault self.old (S.left source.old) (S.faults source.old) (S.faults source.new)) }
+        ensures leaves { IfErr result (λ fault. Leaves fault self.old (S.left source.old) (S.left source.new)) }
         ensures refused { IsErr result → self.new.failed ≡ true }
     {
         let outcome = self.next_line(source, line);
@@ -136,6 +139,8 @@ impl Lines {
         requires ended { self.old.ended ≡ true → IsAtEnd (S.left source.old) }
         ensures line { IfOk result (λ number.
             GivesLine (unread self.old (S.left source.old)) (unread self.new (S.left source.new)) number line.new.items) }
+        ensures bytes { IfOk result (λ number. IfSome number (λ _.
+            TakesBytes self.new.ended (unread self.old (S.left source.old)) (unread self.new (S.left source.new)) line.new.items)) }
         ensures number { IfOk result (λ number. MatchOption number (self.new.given ≡ self.old.given)
             (λ n. (n ≡ self.old.given + 1) × (n ≡ self.new.given))) }
         ensures length { OnOk result
@@ -145,6 +150,7 @@ impl Lines {
         ensures later { S.faults source.old ≤ S.faults source.new }
         ensures cause { IfErr result (λ fault.
             HasCause fault self.old (S.left source.old) (S.faults source.old) (S.faults source.new)) }
+        ensures leaves { IfErr result (λ fault. Leaves fault self.old (S.left source.old) (S.left source.new)) }
     {
         let _ = &self.given;
         line.clear();
@@ -184,6 +190,7 @@ impl Lines {
             (IsEnded self.old self.new (S.left source.old) (S.left source.new))) }
         ensures later { S.faults source.old ≤ S.faults source.new }
         ensures cause { IfErr result (λ fault. (fault ≡ NotRead) × Rose (S.faults source.old) (S.faults source.new)) }
+        ensures leaves { IsErr result → IsUnreadable self.old (S.left source.old) (S.left source.new) }
     {
         if self.is_empty() {
             return self.has_more(source);
@@ -200,6 +207,7 @@ impl Lines {
             (IsEnded self.old self.new (S.left source.old) (S.left source.new))) }
         ensures later { S.faults source.old ≤ S.faults source.new }
         ensures cause { IfErr result (λ fault. (fault ≡ NotRead) × Rose (S.faults source.old) (S.faults source.new)) }
+        ensures leaves { IsErr result → IsUnreadable self.old (S.left source.old) (S.left source.new) }
     {
         if self.ended {
             return Ok(false);
@@ -210,11 +218,13 @@ impl Lines {
     // Reads once.
     fn refill<S: Source>(&mut self, source: &mut S) -> Result<bool, LineFault>
         requires empty { self.old.held ≡ [] }
+        requires going { self.old.ended ≡ false }
         ensures reads { IfOk result (λ more. MatchBool more
             (HasByte self.old self.new (S.left source.old) (S.left source.new))
             (IsEnded self.old self.new (S.left source.old) (S.left source.new))) }
         ensures later { S.faults source.old ≤ S.faults source.new }
         ensures cause { IfErr result (λ fault. (fault ≡ NotRead) × Rose (S.faults source.old) (S.faults source.new)) }
+        ensures leaves { IsErr result → IsUnreadable self.old (S.left source.old) (S.left source.new) }
     {
         let allowed = self.max_bytes + 1 - self.consumed;
         let count = allowed.min(BUFFER as u64) as usize;

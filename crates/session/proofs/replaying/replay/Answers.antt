@@ -7,16 +7,16 @@ use Rattle.wq_io.specs.Streams.{after_known}
 use Rattle.world.specs.Meaning.{meaning}
 use Rattle.session.specs.Counts.{Counts, counts}
 use Rattle.session.specs.Printing.{sections_of}
-use Rattle.session.specs.Headline.{Replayed}
+use Rattle.session.specs.Headline.{HasPrinted, Replayed}
 use Rattle.session.specs.Running.{told_at}
 use Rattle.session.specs.Words.{limit_of, place_of}
-use Rattle.session.proofs.Ends.{printed, stopped, unwritten_answer}
+use Rattle.session.proofs.Ends.{is_function, printed, stopped, unwritten_answer}
 use Rattle.session.proofs.replaying.replay.Goals as goal
 
 pub returns-in_err-take_all-clause-err : goal.returns-in_err-take_all-clause-err
 returns-in_err-take_all-clause-err g c =
     let p = err_from_is_err_and c.from_residual.result c.from_residual.ensures.1 in
-    rw (p.1, p.2) (stopped _ _ _ _ _ _ _ _ _ _ _ _ _ c.in_err-take_all.ensures.err refl)
+    rw (p.1, p.2) (stopped _ _ _ _ _ _ _ _ _ _ _ _ _ _ c.in_err-take_all.ensures.err refl)
 
 pub returns-clause-ok : goal.returns-clause-ok
 returns-clause-ok g c =
@@ -28,7 +28,8 @@ returns-clause-ok g c =
     let ends : Replayed (limit_of c.args.plan.now) (g.S.Source.left c.args.events.now) told start now c.take_all.new.world = c.in_ok-take_all.ensures.ok in
     on_ok_weaker c.print_closing.result
     (λ (is : held_now ≡ after_known held (closing meaning (sections_of c.args.plan.now) c.take_all.new.world.played)).
-    record { replayed = ends; printed = printed c.args.plan.now told ends.deliveries start now c.take_all.new.world held held_now ends.played is })
+    let prints : HasPrinted c.args.plan.now told ends.deliveries c.take_all.new.world held held_now = printed c.args.plan.now told ends.deliveries start now c.take_all.new.world held held_now ends.played is in
+    record { replayed = ends; printed = prints; function = is_function c.args.plan.now told ends.deliveries start now c.take_all.new.world held held_now ends.played prints })
     c.print_closing.ensures.ok
 
 pub returns-clause-err : goal.returns-clause-err
@@ -36,5 +37,5 @@ returns-clause-err g c =
     let told : Option (ℕ → Option Bytes) = told_at (g.R.Revisions.contents c.args.revisions.now) (place_of c.args.plan.now) in
     let start : Counts = counts (g.R.Revisions.calls c.args.revisions.now) (g.R.Revisions.misses c.args.revisions.now) (g.R.Revisions.faults c.args.revisions.now) in
     let now : Counts = counts (g.R.Revisions.calls c.take_all.new.revisions) (g.R.Revisions.misses c.take_all.new.revisions) (g.R.Revisions.faults c.take_all.new.revisions) in
-    unwritten_answer c.print_closing.result c.args.plan.now (g.S.Source.left c.args.events.now) told start now c.take_all.new.world (g.K.Sink.held c.args.out.now) (g.K.Sink.held c.print_closing.new.out)
+    unwritten_answer c.print_closing.result c.args.plan.now (g.S.Source.left c.args.events.now) _ told start now c.take_all.new.world (g.K.Sink.held c.args.out.now) (g.K.Sink.held c.print_closing.new.out)
     _ _ _ _ c.print_closing.ensures.err c.print_closing.ensures.front c.in_ok-take_all.ensures.ok

@@ -5,7 +5,7 @@ use Rattle.replay_model.specs.Records.{Bytes}
 use Rattle.session.specs.Counts.{Counts, counts}
 use Rattle.session.specs.Running.{told_at}
 use Rattle.session.proofs.Deliveries.{rest_open}
-use Rattle.session.proofs.Reading.{before_lines_taken, end_reached, fault_stops, line_stops, line_taken}
+use Rattle.session.proofs.Reading.{before_lines_taken, end_reached, fault_stops, line_stops, line_taken, nothing_left}
 use Rattle.session.proofs.taking.take_lines.Goals as goal
 
 pub loop-line-init : goal.loop-line-init
@@ -18,7 +18,7 @@ pub returns-in_err-number-clause-err : goal.returns-in_err-number-clause-err
 returns-in_err-number-clause-err g c =
     let told : Option (ℕ → Option Bytes) = told_at (g.R.Revisions.contents c.args.revisions.now) c.args.place.now in
     let p = err_from_is_err_and c.from_residual.result c.from_residual.ensures.1 in
-    rw (p.1, p.2) (fault_stops c.args.max_bytes told _ _ _ _ c.loop-line.lines _ c.loop-line.world _ _ _ c.loop-line.invariant.0 c.loop-line.invariant.1 c.in_err-number.ensures.cause)
+    rw (p.1, p.2) (fault_stops c.args.max_bytes told _ _ _ _ c.loop-line.lines _ _ c.loop-line.world _ _ _ c.loop-line.invariant.0 c.loop-line.invariant.1 c.in_err-number.ensures.cause c.in_err-number.ensures.leaves)
 
 pub take_line-requires : goal.take_line-requires
 take_line-requires g c = rest_open _ _ _ _ c.loop-line.world c.loop-line.invariant.0.at_rest
@@ -30,9 +30,10 @@ loop-line-preserved g c =
     let goes = c.in_ok-number.ensures.goes_on in
     let line = rw c.in-Some.is at c.in_ok-number.ensures.line in
     let number = rw c.in-Some.is at c.in_ok-number.ensures.number in
+    let bytes = rw c.in-Some.is at c.in_ok-number.ensures.bytes in
     let takes = rw (c.as_slice.ensures.value, before.2) at c.in_ok-take_line.ensures.ok in (
       line_taken c.args.max_bytes told _ _ _ c.loop-line.lines c.next.new.self _ _ _ c.loop-line.world c.take_line.new.world c.next.new.line.items before.0 line
-          c.in_ok-number.ensures.length (sym number.1 ∙ number.0) goes.limit goes.sound goes.going c.in_ok-number.ensures.ended takes,
+          c.in_ok-number.ensures.length bytes (sym number.1 ∙ number.0) goes c.in_ok-number.ensures.ended takes,
       omega (arith, before.1, c.in_ok-number.ensures.later),
       c.in_ok-take_line.ensures.told ∙ before.2,
       omega (arith, before.3, c.in_ok-take_line.ensures.more_faults),
@@ -46,12 +47,18 @@ returns-in_err-take_line-clause-err g c =
     let goes = c.in_ok-number.ensures.goes_on in
     let line = rw c.in-Some.is at c.in_ok-number.ensures.line in
     let number = rw c.in-Some.is at c.in_ok-number.ensures.number in
-    let refused = rw c.as_slice.ensures.value at c.in_err-take_line.ensures.err in
+    let bytes = rw c.in-Some.is at c.in_ok-number.ensures.bytes in
+    let refused = rw (c.as_slice.ensures.value, c.loop-line.invariant.2) at c.in_err-take_line.ensures.err in
     rw (p.1, p.2) (line_stops c.args.max_bytes told _ _ _ _ c.loop-line.lines c.next.new.self _ _ _ c.loop-line.world c.take_line.new.world c.next.new.line.items c.in-Some.number _ _ c.loop-line.invariant.0 line
-    c.in_ok-number.ensures.length goes.limit goes.sound number.0 refused)
+    c.in_ok-number.ensures.length bytes goes.limit goes.sound number.0 refused)
 
 pub returns-clause-ok : goal.returns-clause-ok
 returns-clause-ok g c =
     let told : Option (ℕ → Option Bytes) = told_at (g.R.Revisions.contents c.args.revisions.now) c.args.place.now in
     let line = rw c.in_default.is at c.in_ok-number.ensures.line in
     end_reached c.args.max_bytes told _ _ _ c.loop-line.lines _ c.loop-line.world c.loop-line.invariant.0 line.0
+
+pub returns-clause-read : goal.returns-clause-read
+returns-clause-read g c =
+    let line = rw c.in_default.is at c.in_ok-number.ensures.line in
+    nothing_left c.next.new.self.held _ (rw line.1 line.0)

@@ -4,7 +4,7 @@ use Rattle.std.proofs.lemmas.Result.{err_from_is_err_and}
 use Rattle.wq_io.specs.Streams.{before_known, IsAtEnd}
 use Rattle.wq_io.specs.Lines.{Reading}
 use Rattle.wq_io.specs.Taking.{HasByte, IsEnded, Takes}
-use Rattle.wq_io.proofs.NextLine.{at_end, cause_of, line_ended}
+use Rattle.wq_io.proofs.NextLine.{at_end, cause_of, last_bytes, line_bytes, line_ended, not_read, read_failed}
 use Rattle.std.proofs.Common.{true}
 use Rattle.wq_io.proofs.lines.Lines.next_line.Goals as goal
 
@@ -42,3 +42,13 @@ returns-then-branch-clause-line g c =
     let takes : Takes c.has_byte.new.self c.take_held.new.self line c.take_held.new.line.items true = rw c.if-branch.true at c.in_ok-take_held.ensures.takes in
     let front = going.front ∙ ap (λ (u : Option (List ℕ)). before_known line u) (sym has.same) in
     rw (takes.line, c.count_line.ensures.counted) (line_ended _ left line takes.moved c.has_byte.new.self.held c.take_held.new.self.held front takes.held going.in_line takes.in_line)
+
+pub returns-then-branch-clause-bytes : goal.returns-then-branch-clause-bytes
+returns-then-branch-clause-bytes g c =
+    let left : Option (List ℕ) = g.S.Source.left c.has_byte.new.source in
+    let going = c.loop-self.invariant in
+    let line : List ℕ = c.loop-self.line.items in
+    let has : HasByte c.loop-self.self c.has_byte.new.self (g.S.Source.left c.loop-self.source) left = rw c.if-not-branch.false at c.in_ok-has_byte.ensures.reads in
+    let takes : Takes c.has_byte.new.self c.take_held.new.self line c.take_held.new.line.items true = rw c.if-branch.true at c.in_ok-take_held.ensures.takes in
+    let front = going.front ∙ ap (λ (u : Option (List ℕ)). before_known line u) (sym has.same) in
+    rw (takes.line, c.count_line.ensures.counted) (line_bytes _ _ left line takes.moved c.has_byte.new.self.held c.take_held.new.self.held front takes.held going.in_line takes.in_line)
