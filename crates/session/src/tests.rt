@@ -22,7 +22,22 @@ const PAGES: &[(u64, &str)] = &[
     (7, r#"{"type":"item"}"#),
     (8, r#"{"entity":"Q2","redirect":"Q1"}"#),
     (10, r#"{"entity":"Q10","redirect":"Q1"}"#),
+    (
+        12,
+        "[[[[[[[[[[[[[[[[[[[[[[[[[[[[[[[[[[[[[[[[[[[[[[[[[[[[[[[[[[[[[[[[",
+    ),
+    (
+        13,
+        "[[[[[[[[[[[[[[[[[[[[[[[[[[[[[[[[[[[[[[[[[[[[[[[[[[[[[[[[[[[[[[[[[",
+    ),
+    (14, r#"{"type":"item","id":"Q1""#),
+    (74, UNKNOWN_PAGE),
+    (75, UNKNOWN_PAGE),
 ];
+
+// A page with an unknown value in a statement and in a qualifier, and with no values beside them.
+const UNKNOWN_PAGE: &str =
+    r#"{"type":"item","id":"Q1","claims":{"P1":[{"mainsnak":{"snaktype":"novalue","property":"P1","datatype":"string"},"id":"Q1$n","rank":"normal"}],"P2":[{"mainsnak":{"snaktype":"somevalue","property":"P2","datatype":"string"},"id":"Q1$s","rank":"normal","qualifiers":{"P3":[{"snaktype":"somevalue","property":"P3","datatype":"string"}],"P4":[{"snaktype":"novalue","property":"P4","datatype":"string"}]}}]}}"#;
 
 // The triples of the revisions 1, 3 and 10, as an export has them.
 const EXPORT_OF_1: &str = "# export: 1 triples
@@ -33,6 +48,45 @@ const EXPORT_OF_3_AND_10: &str = "# export: 2 triples
 <http://www.wikidata.org/entity/Q10> <http://www.w3.org/2002/07/owl#sameAs> <http://www.wikidata.org/entity/Q1> .
 <http://www.wikidata.org/entity/Q1> <http://www.w3.org/2002/07/owl#sameAs> <http://www.wikidata.org/entity/P31> .
 ";
+
+// What two revisions of the page with unknown values mean.
+const EXPORT_OF_74: &str = r#"# export: 16 triples
+<http://www.wikidata.org/entity/Q1> <http://schema.org/version> "74"^^<http://www.w3.org/2001/XMLSchema#integer> .
+<http://www.wikidata.org/entity/Q1> <http://wikiba.se/ontology#identifiers> "0"^^<http://www.w3.org/2001/XMLSchema#integer> .
+<http://www.wikidata.org/entity/Q1> <http://wikiba.se/ontology#sitelinks> "0"^^<http://www.w3.org/2001/XMLSchema#integer> .
+<http://www.wikidata.org/entity/Q1> <http://wikiba.se/ontology#statements> "2"^^<http://www.w3.org/2001/XMLSchema#integer> .
+<http://www.wikidata.org/entity/Q1> <http://www.w3.org/1999/02/22-rdf-syntax-ns#type> <http://www.wikidata.org/prop/novalue/P1> .
+<http://www.wikidata.org/entity/Q1> <http://www.wikidata.org/prop/P1> <http://www.wikidata.org/entity/statement/Q1-n> .
+<http://www.wikidata.org/entity/Q1> <http://www.wikidata.org/prop/P2> <http://www.wikidata.org/entity/statement/Q1-s> .
+<http://www.wikidata.org/entity/Q1> <http://www.wikidata.org/prop/direct/P2> <http://www.wikidata.org/.well-known/genid/e7da04dde39fb58a935222064f43dbf1> .
+<http://www.wikidata.org/entity/statement/Q1-n> <http://wikiba.se/ontology#rank> <http://wikiba.se/ontology#NormalRank> .
+<http://www.wikidata.org/entity/statement/Q1-n> <http://www.w3.org/1999/02/22-rdf-syntax-ns#type> <http://wikiba.se/ontology#BestRank> .
+<http://www.wikidata.org/entity/statement/Q1-n> <http://www.w3.org/1999/02/22-rdf-syntax-ns#type> <http://www.wikidata.org/prop/novalue/P1> .
+<http://www.wikidata.org/entity/statement/Q1-s> <http://wikiba.se/ontology#rank> <http://wikiba.se/ontology#NormalRank> .
+<http://www.wikidata.org/entity/statement/Q1-s> <http://www.w3.org/1999/02/22-rdf-syntax-ns#type> <http://wikiba.se/ontology#BestRank> .
+<http://www.wikidata.org/entity/statement/Q1-s> <http://www.w3.org/1999/02/22-rdf-syntax-ns#type> <http://www.wikidata.org/prop/novalue/P4> .
+<http://www.wikidata.org/entity/statement/Q1-s> <http://www.wikidata.org/prop/qualifier/P3> <http://www.wikidata.org/.well-known/genid/49596ab58d21701903d6f0e621fbe26a> .
+<http://www.wikidata.org/entity/statement/Q1-s> <http://www.wikidata.org/prop/statement/P2> <http://www.wikidata.org/.well-known/genid/e7da04dde39fb58a935222064f43dbf1> .
+"#;
+
+const EXPORT_OF_75: &str = r#"# export: 16 triples
+<http://www.wikidata.org/entity/Q1> <http://schema.org/version> "75"^^<http://www.w3.org/2001/XMLSchema#integer> .
+<http://www.wikidata.org/entity/Q1> <http://wikiba.se/ontology#identifiers> "0"^^<http://www.w3.org/2001/XMLSchema#integer> .
+<http://www.wikidata.org/entity/Q1> <http://wikiba.se/ontology#sitelinks> "0"^^<http://www.w3.org/2001/XMLSchema#integer> .
+<http://www.wikidata.org/entity/Q1> <http://wikiba.se/ontology#statements> "2"^^<http://www.w3.org/2001/XMLSchema#integer> .
+<http://www.wikidata.org/entity/Q1> <http://www.w3.org/1999/02/22-rdf-syntax-ns#type> <http://www.wikidata.org/prop/novalue/P1> .
+<http://www.wikidata.org/entity/Q1> <http://www.wikidata.org/prop/P1> <http://www.wikidata.org/entity/statement/Q1-n> .
+<http://www.wikidata.org/entity/Q1> <http://www.wikidata.org/prop/P2> <http://www.wikidata.org/entity/statement/Q1-s> .
+<http://www.wikidata.org/entity/Q1> <http://www.wikidata.org/prop/direct/P2> <http://www.wikidata.org/.well-known/genid/e7da04dde39fb58a935222064f43dbf1> .
+<http://www.wikidata.org/entity/statement/Q1-n> <http://wikiba.se/ontology#rank> <http://wikiba.se/ontology#NormalRank> .
+<http://www.wikidata.org/entity/statement/Q1-n> <http://www.w3.org/1999/02/22-rdf-syntax-ns#type> <http://wikiba.se/ontology#BestRank> .
+<http://www.wikidata.org/entity/statement/Q1-n> <http://www.w3.org/1999/02/22-rdf-syntax-ns#type> <http://www.wikidata.org/prop/novalue/P1> .
+<http://www.wikidata.org/entity/statement/Q1-s> <http://wikiba.se/ontology#rank> <http://wikiba.se/ontology#NormalRank> .
+<http://www.wikidata.org/entity/statement/Q1-s> <http://www.w3.org/1999/02/22-rdf-syntax-ns#type> <http://wikiba.se/ontology#BestRank> .
+<http://www.wikidata.org/entity/statement/Q1-s> <http://www.w3.org/1999/02/22-rdf-syntax-ns#type> <http://www.wikidata.org/prop/novalue/P4> .
+<http://www.wikidata.org/entity/statement/Q1-s> <http://www.wikidata.org/prop/qualifier/P3> <http://www.wikidata.org/.well-known/genid/49596ab58d21701903d6f0e621fbe26a> .
+<http://www.wikidata.org/entity/statement/Q1-s> <http://www.wikidata.org/prop/statement/P2> <http://www.wikidata.org/.well-known/genid/e7da04dde39fb58a935222064f43dbf1> .
+"#;
 
 const EMPTY_EXPORT: &str = "# export: 0 triples\n";
 
@@ -120,17 +174,27 @@ fn numbers(alloc: Global, numbers: &[u64]) -> Result<List<u64>, Fail> {
     Ok(List::from_vec(Vec::from_slice(alloc, numbers)?))
 }
 
-// Runs the program over an input.
+// Runs the program over an input and the revisions that are there.
 fn run_over(
     rt: &(impl Abort + Alloc<A = Global>),
     given: &Given,
     input: Vec<u8>,
 ) -> Result<Left, Fail> {
+    run_over_pages(rt, given, input, pages(rt.alloc())?)
+}
+
+// Runs the program over an input and revisions.
+fn run_over_pages(
+    rt: &(impl Abort + Alloc<A = Global>),
+    given: &Given,
+    input: Vec<u8>,
+    entries: List<RevisionBytes>,
+) -> Result<Left, Fail> {
     let alloc = rt.alloc();
     assert!(rt; 1 <= given.piece);
     let words = words(alloc, given.words)?;
     let mut events = MemorySource::new(input, given.piece, numbers(alloc, given.failing_reads)?);
-    let mut revisions = MemoryRevisions::new(pages(alloc)?, numbers(alloc, given.failing_fetches)?);
+    let mut revisions = MemoryRevisions::new(entries, numbers(alloc, given.failing_fetches)?);
     let mut out = MemorySink::new(alloc, given.piece, numbers(alloc, given.failing_writes)?);
     let mut world = World::new(alloc)?;
     let status = run(
@@ -300,6 +364,26 @@ fn worlds(rt: HostRuntime) -> Result<(), Fail> {
             EMPTY_EXPORT,
             "Q1 Kept 8, holds None\nUnfit(Shape) 1 7\nUnfit(Foreign) 1 8\nfetches 2",
         ),
+        // What is held stays where a revision is no document.
+        (
+            "edit Q1 1 1\nedit Q1 12 2\nedit Q1 13 3\nedit Q1 14 4",
+            &[][..],
+            EXPORT_OF_1,
+            "Q1 Kept 14, holds Some(1)\nUnfit(NotJson) 1 12\nUnfit(Deep) 1 13\nUnfit(NotJson) 1 14\nfetches 4",
+        ),
+        // An unknown value keeps its node from revision to revision: the two exports differ in the version alone.
+        (
+            "edit Q1 74 1",
+            &[][..],
+            EXPORT_OF_74,
+            "Q1 Kept 74, holds Some(74)\nfetches 1",
+        ),
+        (
+            "edit Q1 74 1\nedit Q1 75 2",
+            &[][..],
+            EXPORT_OF_75,
+            "Q1 Kept 75, holds Some(75)\nfetches 2",
+        ),
     ] {
         let given = Given {
             deliveries,
@@ -392,6 +476,9 @@ const PRINTED: &str =
 replay --side --state / edit Q1 1 1, watermark 5, edit Q1 2 3, reconcile Q1 2 6 / # state Q1 kept 2, # side late closed Q1 edit 2 1714557603000000
 replay --state --side / reconcile Q1 1 2, watermark 5, edit Q1 2 3 / # state Q1 kept 1, # side late open Q1 edit 2 1714557603000000
 replay --state --side / edit Q1 1 1, edit Q1 9 2, edit Q10 7 3, delete Q2 8 4 / # state Q1 kept 9, # state Q2 deleted 8, # state Q10 kept 7, # side missing open Q1 9, # side unfit-shape open Q10 7
+replay --state --side / edit Q1 1 1, watermark 5, edit Q1 2 3, reconcile Q2 8 6 / # state Q1 kept 1, # state Q2 kept 8, # side late open Q1 edit 2 1714557603000000
+replay --state --side / reconcile Q1 2 3, watermark 5, edit Q1 2 3 / # state Q1 kept 2, # side late closed Q1 edit 2 1714557603000000
+replay --side / watermark 5, delete Q1 1 3, undelete Q1 1 4, reconcile Q1 1 5, reconcile Q1 1 6 / # side late closed Q1 delete 1 1714557603000000, # side late closed Q1 undelete 1 1714557604000000, # side late closed Q1 reconcile-kept 1 1714557605000000
 replay --from a=b --side --export / edit Q1 1 1 / # export: 0 triples, # side missing open Q1 1
 replay --from=. --state --max-bytes=1099511627776 / edit Q1 1 1 / # state Q1 kept 1
 replay --side --max-bytes 0 --state /  / ";
@@ -421,17 +508,99 @@ fn expected(alloc: Global, printed: &str) -> Result<String, Fail> {
     Ok(text)
 }
 
+// Checks what a row's words print of its deliveries, where these fetches fail.
+fn check_printed(
+    rt: &(impl Abort + Alloc<A = Global>),
+    row: &'static str,
+    failing_fetches: &'static [u64],
+) -> Result<(), Fail> {
+    let (words, rest) = row.split_once(" / ").ok_or("deliveries")?;
+    let (deliveries, printed) = rest.split_once(" / ").ok_or("lines")?;
+    let given = Given {
+        words,
+        failing_fetches,
+        ..EXPORT
+    };
+    let left = run_over(rt, &given, lines_of(rt.alloc(), deliveries)?)?;
+    assert_eq!(rt; left.status, Status::Ok, "of {row}");
+    let expected = expected(rt.alloc(), printed)?;
+    assert_eq!(rt; left.out.bytes(), expected.as_bytes(), "of {row}");
+    Ok(())
+}
+
 #[test]
 fn printed_sections(rt: HostRuntime) -> Result<(), Fail> {
     for row in PRINTED.lines() {
-        let (words, rest) = row.split_once(" / ").ok_or("deliveries")?;
-        let (deliveries, printed) = rest.split_once(" / ").ok_or("lines")?;
-        let given = Given { words, ..EXPORT };
-        let left = run_over(&rt, &given, lines_of(rt.alloc(), deliveries)?)?;
-        assert_eq!(rt; left.status, Status::Ok, "of {row}");
-        let expected = expected(rt.alloc(), printed)?;
-        assert_eq!(rt; left.out.bytes(), expected.as_bytes(), "of {row}");
+        check_printed(&rt, row, &[])?;
     }
+    Ok(())
+}
+
+// The same, where the second fetch fails.
+const PRINTED_AFTER_A_FAULT: &str =
+    "replay --state --side / edit Q1 1 1, edit Q1 2 2, edit Q1 3 3 / # state Q1 kept 3, # side failed closed Q1 2
+replay --state --side / edit Q1 1 1, edit Q1 2 2 / # state Q1 kept 2, # side failed open Q1 2";
+
+#[test]
+fn printed_sections_after_a_fault(rt: HostRuntime) -> Result<(), Fail> {
+    for row in PRINTED_AFTER_A_FAULT.lines() {
+        check_printed(&rt, row, &[2])?;
+    }
+    Ok(())
+}
+
+// All lines of an output.
+const LINES: &str = "# export: 2 triples
+<http://www.wikidata.org/entity/Q10> <http://www.w3.org/2002/07/owl#sameAs> <http://www.wikidata.org/entity/Q1> .
+<http://www.wikidata.org/entity/Q1> <http://www.w3.org/2002/07/owl#sameAs> <http://www.wikidata.org/entity/Q2> .
+# state Q1 kept 1
+# state Q2 kept 9
+# state Q10 kept 10
+# side missing open Q2 9
+";
+
+// The numbers of the calls of a sink, one for each of these lines.
+const CALLS: [&[u64]; 7] = [&[1], &[2], &[3], &[4], &[5], &[6], &[7]];
+
+// Each line is one call of the sink: where a call fails, the lines of the calls before it stand.
+#[test]
+fn lines_are_written_one_by_one(rt: HostRuntime) -> Result<(), Fail> {
+    let mut written = String::new(rt.alloc());
+    for (line, failing_writes) in LINES.lines().zip(CALLS) {
+        let given = Given {
+            words: "replay --export --state --side",
+            failing_writes,
+            ..EXPORT
+        };
+        let input = lines_of(rt.alloc(), "edit Q1 1 1, edit Q2 9 2, edit Q10 10 3")?;
+        let left = run_over(&rt, &given, input)?;
+        assert_eq!(rt; left.status, Status::WriteFault, "of {line}");
+        assert_eq!(rt; left.out.bytes(), written.as_bytes(), "of {line}");
+        written.push_str(line)?;
+        written.push_str("\n")?;
+    }
+    Ok(())
+}
+
+// A page that is one byte too large.
+#[test]
+fn large_page(rt: HostRuntime) -> Result<(), Fail> {
+    let alloc = rt.alloc();
+    let mut entries = List::new(alloc);
+    entries.push(RevisionBytes {
+        place: Text::new(alloc, ".")?,
+        rev: 1,
+        bytes: List::from_vec(vec![in alloc; b' '; 8_388_609]?),
+    })?;
+    let given = Given {
+        words: "replay --side",
+        ..EXPORT
+    };
+    let left = run_over_pages(&rt, &given, lines_of(alloc, "edit Q1 1 1")?, entries)?;
+    assert_eq!(rt;
+        left.out.bytes(),
+        b"# side unfit-large open Q1 1\n".as_slice()
+    );
     Ok(())
 }
 
