@@ -2,10 +2,12 @@
 use Rattle.std.proofs.Common.{◌≡◌, ℕ, ◌+◌, ◌≤◌, Bool, true, false, cond, List, [], ◌∷◌, ◌++◌, length, decimal, Option, Some, None, refl, arith}
 use Rattle.std.specs.List.{All, AllByRecursion, flat_map}
 use Rattle.std.proofs.lemmas.List.Elements.{recursion_from_All}
+use Rattle.rising.specs.Rising.{sorted}
 use Rattle.rdf_term.specs.declared.term.Term.{Term}
 use Rattle.rdf_term.specs.declared.triple.Triple.{Triple}
 use Rattle.rdf_term.specs.Fit.{IsFitAndShort, HasFitAndShortTerms}
 use Rattle.rdf_term.specs.Grammar.{is_word}
+use Rattle.rdf_term.specs.Order.{triple_cmp}
 use Rattle.entity_model.specs.declared.id.EntityId.{EntityId}
 use Rattle.entity_model.specs.declared.id.IdKind.{IdKind}
 use Rattle.entity_model.specs.declared.id.IdKind.TheVariants as Letter
@@ -37,6 +39,7 @@ use Rattle.entity_rdf.specs.Statements.{judged_triples, statements_triples}
 use Rattle.entity_rdf.specs.Dump.{dump, entity_triples, redirect_triples, spoken_triples, text_triples}
 use Rattle.sitelinks.specs.Article.{article_triples}
 use Rattle.sitelinks.proofs.Fit.{article_triples_fit}
+use Rattle.munger.proofs.Fit.{sorted_each}
 use Rattle.entity_rdf.proofs.TypeNames.{type_name_iri, type_name_short}
 
 -- all terms of the triples are fit and short
@@ -177,11 +180,15 @@ spoken_fit x rev e small =
     (property_fit x.kind x e.datatype small.datatype)
 
 -- the triples of a small document
-pub dump_fit : (x : EntityId) (rev : ℕ) (document : Document) → IsSmall document → AreFit (dump x rev document)
-dump_fit x rev (AnEntity e) small =
+list_fit : (x : EntityId) (rev : ℕ) (document : Document) → IsSmall document → AreFit (dump x rev document)
+list_fit x rev (AnEntity e) small =
     let spoken = spoken_triples x rev e in
     let articles = flat_map (article_triples x) e.links in
     join (spoken ++ articles) (statements_triples x e.statements)
     (join spoken articles (spoken_fit x rev e small) (articles_fit x e small))
     (statements_fit x e small)
-dump_fit x rev (Redirect y) small = (about_fit (entity_term x) Say.SameAs _ (entity_fit x) (entity_fit y), tt)
+list_fit x rev (Redirect y) small = (about_fit (entity_term x) Say.SameAs _ (entity_fit x) (entity_fit y), tt)
+
+-- the set of a small document's triples
+pub dump_fit : (x : EntityId) (rev : ℕ) (document : Document) → IsSmall document → AreFit (sorted triple_cmp (dump x rev document))
+dump_fit x rev document small = sorted_each HasFitAndShortTerms triple_cmp (dump x rev document) (list_fit x rev document small)

@@ -2,3 +2,4 @@ pub mod Capitals
 pub mod Given
 pub mod TypeNames
 pub mod Fit
+pub mod Labels

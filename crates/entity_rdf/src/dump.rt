@@ -7,6 +7,7 @@ ghost use Rattle.rising.specs.Rising.{sorted};
 ghost use Rattle.rdf_term.specs.Order.{triple_cmp};
 ghost use Rattle.entity_model.specs.Document.{IsSmall};
 ghost use Rattle.sitelinks.specs.Article.{article_triples};
+ghost use Rattle.munger.specs.Short.{HasShortLabels};
 ghost use Rattle.entity_rdf.specs.Dump.{dump, entity_triples, redirect_triples, spoken_triples, text_triples};
 
 use crate::about::{
@@ -21,6 +22,7 @@ use sitelinks::article_triples;
 use std::alloc::Global;
 
 /// The set of triples that the rules of the dump give for the document of a revision of `id`.
+#[tactic(auto, using(crate::proofs::Fit::dump_fit, crate::proofs::Labels::dump_labels))]
 pub fn dump_triples(
     alloc: Global,
     id: EntityId,
@@ -28,7 +30,10 @@ pub fn dump_triples(
     document: &Document,
 ) -> Result<TripleSet, OutOfMemory>
     ensures value { IfOk result (λ set. set ≡ sorted triple_cmp (dump id rev document.now)) }
-    ensures fit { IsSmall document.now → AllByRecursion HasFitAndShortTerms (dump id rev document.now) }
+
+    // The terms are fit and short where the document is small, and the labels of blank nodes are always short.
+    ensures fit { IsSmall document.now → IfOk result (AllByRecursion HasFitAndShortTerms) }
+    ensures labels { IfOk result (AllByRecursion HasShortLabels) }
 {
     let triples = dump_list(alloc, id, rev, document)?;
     TripleSet::from_list(triples)
