@@ -91,10 +91,10 @@ fn standing_in(table: &Table<List<u8>>, id: EntityId) -> Standing
 }
 
 // The number of the revision that a record holds.
-fn held_revision(record: &Record<List<u8>>) -> Option<u64>
-    ensures { result ≡ (standing_of record.now).held }
+fn held_revision(entity: &Record<List<u8>>) -> Option<u64>
+    ensures { result ≡ (standing_of entity.now).held }
 {
-    record.held.as_ref().map(|held| held.revision)
+    entity.held.as_ref().map(|held| held.revision)
 }
 
 // Makes room for a record and for an entry.
