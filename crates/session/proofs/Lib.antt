@@ -2,6 +2,7 @@ mod Deliveries
 mod Due
 mod Ends
 mod Items
+mod Matched
 mod Numbers
 mod Parts
 mod Reading

@@ -34,7 +34,8 @@ chosen : (b : Bool) (x y : ℕ) → cond b (Some x) None ≡ Some y → (b ≡ t
 chosen true x y is = (refl, cc)
 chosen false x y is = cc
 
-number_of-decimal : (n : ℕ) → n ≤ greatest_limit → number_of (decimal n) ≡ Some n
+-- the number that is written so is read again
+pub number_of-decimal : (n : ℕ) → n ≤ greatest_limit → number_of (decimal n) ≡ Some n
 number_of-decimal n low =
     let value : digits_value 10 (decimal n) ≡ n = (decimal_is_IsNumeral n (omega arith)).1 in
     let small : nat_le n greatest_limit ≡ true = grind (arith, nat_tests) in

@@ -358,6 +358,10 @@ module _ (limit : ℕ) (told : Option (ℕ → Option Bytes)) (start now : Count
     ended = ended;
   }
 
+-- before the first line the world is that of no delivery
+pub nothing_begun : (limit : ℕ) (left : Option (List ℕ)) (told : Option (ℕ → Option Bytes)) (now : Counts) → StopsWithin left told nothing_delivered
+nothing_begun limit left told now = stands limit told now now left (fresh limit) left nothing_delivered (before_lines_taken limit left told now)
+
 -- at the end nothing is left of the source
 pub nothing_left : (held : List ℕ) (left : Option (List ℕ)) → IsAtEnd (before_known held left) → IsAtEnd left
 nothing_left held None at_end = tt

@@ -1,5 +1,5 @@
 -- The words after the program's name, and what they ask for.
-use Rattle.std.specs.Prelude.{◌≡◌, ℕ, ◌&&◌, ◌||◌, ◌==◌, not, nat_le, nat_lt, true, false, Bool, cond, List, [], ◌∷◌, length, Option, None, Some, unwrap_or, is_none, codes, MatchBool}
+use Rattle.std.specs.Prelude.{◌≡◌, ℕ, ◌≤◌, ◌&&◌, ◌||◌, ◌==◌, not, nat_le, nat_lt, true, false, Bool, cond, List, [], ◌∷◌, length, Option, None, Some, unwrap_or, is_none, codes, MatchBool}
 use Rattle.std.specs.Fmt.{decimal}
 use Rattle.std.specs.List.{after_first, before_first, position_or_len}
 use Rattle.std.specs.Option.{option_and_then}
@@ -30,6 +30,10 @@ greatest_limit = 1099511627776
 -- the most bytes of the input: without `--max-bytes` 1,073,741,824
 abbrev pub limit_of : Choices → ℕ
 limit_of c = unwrap_or c.limit 1073741824
+
+-- the most bytes are within what an input may be allowed
+abbrev pub IsWithin : Choices → Type 0
+IsWithin c = unwrap_or c.limit 0 ≤ greatest_limit
 
 -- an item: its name, perhaps with a value
 pub record Item : Type 0 where

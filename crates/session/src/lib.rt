@@ -1,9 +1,11 @@
 // The top call: the words are judged, the lines are taken one by one, and what was asked for is printed.
 //
-// `run` is the whole program but for the process around it. `words` reads what the person asked for; `taking` takes the
-// lines and applies what is due; `printing` writes the sections, with the lines of `lines`; `status` is how it ended.
+// `run` is the whole program but for the process around it. `words` judges the words, and `arguments` takes their values
+// through clap; `taking` takes the lines and applies what is due; `printing` writes the sections, with the lines of
+// `lines`; `status` is how it ended.
 #![tactic(auto)]
 
+mod arguments;
 mod lines;
 mod printing;
 mod replaying;

@@ -11,9 +11,9 @@ ghost use Rattle.replay_model.specs.Union.{union};
 ghost use Rattle.world.specs.Meaning.{meaning};
 ghost use Rattle.session.specs.Printing.{IsUnwritten, Wrote, sections_of};
 
+use crate::arguments::Arguments;
 use crate::lines::{entry_line, state_line};
 use crate::status::Status;
-use crate::words::Plan;
 use entity_model::EntityId;
 use rdf_term::{Triple, write_triple};
 use std::alloc::Global;
@@ -23,7 +23,7 @@ use wq_io::{NoWrite, Sink};
 /// Prints the sections that were asked for: the export, the states and the side output.
 pub fn print_closing<K: Sink>(
     alloc: Global,
-    plan: &Plan<'_>,
+    plan: &Arguments,
     world: &World,
     out: &mut K,
 ) -> Result<(), Status>

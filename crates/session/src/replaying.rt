@@ -9,6 +9,7 @@ ghost use Rattle.session.specs.Running.{told_at};
 ghost use Rattle.session.specs.Stops.{Stops};
 ghost use Rattle.session.specs.Words.{Choices, limit_of, place_of, plan_of};
 
+use crate::arguments::{Arguments, take_arguments};
 use crate::printing::print_closing;
 use crate::status::Status;
 use crate::taking::{take_end, take_lines};
@@ -62,7 +63,7 @@ pub fn run<S: Source, R: Revisions, K: Sink>(
     }
 }
 
-// Takes the lines and the end, and prints.
+// Takes the values of the plan, the lines and the end, and prints.
 fn replay<S: Source, R: Revisions, K: Sink>(
     alloc: Global,
     plan: &Plan<'_>,
@@ -85,14 +86,15 @@ fn replay<S: Source, R: Revisions, K: Sink>(
     ensures more_faults { R.faults revisions.old ≤ R.faults revisions.new }
     ensures more_misses { R.misses revisions.old ≤ R.misses revisions.new }
 {
-    take_all(alloc, plan, events, revisions, world)?;
-    print_closing(alloc, plan, world, out)
+    let arguments = take_arguments(alloc, plan)?;
+    take_all(alloc, &arguments, events, revisions, world)?;
+    print_closing(alloc, &arguments, world, out)
 }
 
 // Takes the lines and the end.
 fn take_all<S: Source, R: Revisions>(
     alloc: Global,
-    plan: &Plan<'_>,
+    plan: &Arguments,
     events: &mut S,
     revisions: &mut R,
     world: &mut World,

@@ -1,18 +1,12 @@
 // The words after the program's name.
 
-ghost use Rattle.std.specs.Prelude.{◌≡◌, ◌↔◌, ℕ, ◌<◌, ◌≤◌, ◌^◌, ◌∷◌, Some, not, true, length, map, slice_index, string_bytes, IfSome, IsTrue};
+ghost use Rattle.std.specs.Prelude.{◌≡◌, ◌↔◌, ℕ, ◌<◌, ◌≤◌, ◌∷◌, Some, not, true, length, map, slice_index, string_bytes, IfSome, IsTrue};
 ghost use Rattle.std.specs.Fmt.{decimal};
 ghost use Rattle.std.specs.Option.{option_map};
-ghost use Rattle.session.specs.Words.{IsAdded, greatest_limit, is_value, item, item_of_word, items_of, limit_of, nothing_chosen, number_of, place_of, plan_of, takes_value, with_flag, with_item, with_items, with_limit, with_place, with_value, within_limit};
+ghost use Rattle.session.specs.Words.{IsAdded, IsWithin, greatest_limit, is_value, item, item_of_word, items_of, nothing_chosen, number_of, plan_of, takes_value, with_flag, with_item, with_items, with_limit, with_place, with_value, within_limit};
 
 use std::marker::Model;
 use std::mem;
-
-/// The place of the revisions where the words don't say one.
-const PLACE: &str = ".";
-
-/// The most bytes of the input where the words don't say how many.
-const LIMIT: u64 = 1_073_741_824;
 
 /// The most bytes that the words may allow.
 const GREATEST_LIMIT: u64 = 1_099_511_627_776;
@@ -59,19 +53,19 @@ impl<'a> Plan<'a> {
         }
     }
 
-    /// The place of the revisions.
-    pub fn place(&self) -> &'a str
-        ensures { result.now ≡ place_of self.now }
+    /// The place of the revisions, if the words say one.
+    pub fn place(&self) -> Option<&'a str>
+        ensures { option_map (λ p. p.now) result ≡ self.now.place }
     {
-        self.place.unwrap_or(PLACE)
+        self.place
     }
 
-    /// The most bytes of the input.
-    pub fn limit(&self) -> u64
-        ensures value { result ≡ limit_of self.now }
-        ensures bounded { result ≤ 2 ^ 40 }
+    /// The most bytes of the input, if the words say how many.
+    pub fn limit(&self) -> Option<u64>
+        ensures value { result ≡ self.now.limit }
+        ensures within { IsWithin self.now }
     {
-        self.limit.unwrap_or(LIMIT)
+        self.limit
     }
 
     /// Whether all triples are printed at the end.
@@ -233,8 +227,8 @@ fn set_once(flag: &mut bool) -> bool
     !mem::replace(flag, true)
 }
 
-// The number that the text is.
-fn read_number(digits: &str) -> Option<u64>
+/// The number that the text is.
+pub fn read_number(digits: &str) -> Option<u64>
     ensures { result ≡ number_of digits.now }
 {
     written_number(digits)

@@ -1,5 +1,5 @@
--- A stop of the taking, a fault of the sink, and the end.
-use Rattle.std.proofs.Common.{refl, ◌≡◌, ℕ, List, Option}
+-- Values that are not taken, a stop of the taking, a fault of the sink, and the end.
+use Rattle.std.proofs.Common.{refl, inl, ◌≡◌, ℕ, List, Option}
 use Rattle.std.proofs.lemmas.Result.{err_from_is_err_and, on_ok_weaker}
 use Rattle.replay_model.specs.Records.{Bytes}
 use Rattle.replay_model.specs.Transcript.{closing}
@@ -11,12 +11,22 @@ use Rattle.session.specs.Headline.{HasPrinted, Replayed}
 use Rattle.session.specs.Running.{told_at}
 use Rattle.session.specs.Words.{limit_of, place_of}
 use Rattle.session.proofs.Ends.{is_function, printed, stopped, unwritten_answer}
+use Rattle.session.proofs.Reading.{nothing_begun}
 use Rattle.session.proofs.replaying.replay.Goals as goal
+
+pub returns-in_err-arguments-clause-err : goal.returns-in_err-arguments-clause-err
+returns-in_err-arguments-clause-err g c =
+    let p = err_from_is_err_and c.from_residual.result c.from_residual.ensures.1 in
+    let told : Option (ℕ → Option Bytes) = told_at (g.R.Revisions.contents c.args.revisions.now) (place_of c.args.plan.now) in
+    let now : Counts = counts (g.R.Revisions.calls c.args.revisions.now) (g.R.Revisions.misses c.args.revisions.now) (g.R.Revisions.faults c.args.revisions.now) in
+    let left : Option (List ℕ) = g.S.Source.left c.args.events.now in
+    rw (p.1, p.2, c.requires) (inl (inl (nothing_begun (limit_of c.args.plan.now) left told now), refl))
 
 pub returns-in_err-take_all-clause-err : goal.returns-in_err-take_all-clause-err
 returns-in_err-take_all-clause-err g c =
-    let p = err_from_is_err_and c.from_residual.result c.from_residual.ensures.1 in
-    rw (p.1, p.2) (stopped _ _ _ _ _ _ _ _ _ _ _ _ _ _ c.in_err-take_all.ensures.err refl)
+    let p = err_from_is_err_and c.from_residual-in_err-take_all.result c.from_residual-in_err-take_all.ensures.1 in
+    let stops = rw c.in_ok-arguments.ensures at c.in_err-take_all.ensures.err in
+    rw (p.1, p.2) (stopped _ _ _ _ _ _ _ _ _ _ _ _ _ _ stops refl)
 
 pub returns-clause-ok : goal.returns-clause-ok
 returns-clause-ok g c =
@@ -25,12 +35,12 @@ returns-clause-ok g c =
     let now : Counts = counts (g.R.Revisions.calls c.take_all.new.revisions) (g.R.Revisions.misses c.take_all.new.revisions) (g.R.Revisions.faults c.take_all.new.revisions) in
     let held : Option (List ℕ) = g.K.Sink.held c.args.out.now in
     let held_now : Option (List ℕ) = g.K.Sink.held c.print_closing.new.out in
-    let ends : Replayed (limit_of c.args.plan.now) (g.S.Source.left c.args.events.now) told start now c.take_all.new.world = c.in_ok-take_all.ensures.ok in
+    let ends : Replayed (limit_of c.args.plan.now) (g.S.Source.left c.args.events.now) told start now c.take_all.new.world = rw c.in_ok-arguments.ensures at c.in_ok-take_all.ensures.ok in
     on_ok_weaker c.print_closing.result
     (λ (is : held_now ≡ after_known held (closing meaning (sections_of c.args.plan.now) c.take_all.new.world.played)).
     let prints : HasPrinted c.args.plan.now told ends.deliveries c.take_all.new.world held held_now = printed c.args.plan.now told ends.deliveries start now c.take_all.new.world held held_now ends.played is in
     record { replayed = ends; printed = prints; function = is_function c.args.plan.now told ends.deliveries start now c.take_all.new.world held held_now ends.played prints })
-    c.print_closing.ensures.ok
+    (rw c.in_ok-arguments.ensures at c.print_closing.ensures.ok)
 
 pub returns-clause-err : goal.returns-clause-err
 returns-clause-err g c =
@@ -38,4 +48,4 @@ returns-clause-err g c =
     let start : Counts = counts (g.R.Revisions.calls c.args.revisions.now) (g.R.Revisions.misses c.args.revisions.now) (g.R.Revisions.faults c.args.revisions.now) in
     let now : Counts = counts (g.R.Revisions.calls c.take_all.new.revisions) (g.R.Revisions.misses c.take_all.new.revisions) (g.R.Revisions.faults c.take_all.new.revisions) in
     unwritten_answer c.print_closing.result c.args.plan.now (g.S.Source.left c.args.events.now) _ told start now c.take_all.new.world (g.K.Sink.held c.args.out.now) (g.K.Sink.held c.print_closing.new.out)
-    _ _ _ _ c.print_closing.ensures.err c.print_closing.ensures.front c.in_ok-take_all.ensures.ok
+    _ _ _ _ c.print_closing.ensures.err (rw c.in_ok-arguments.ensures at c.print_closing.ensures.front) (rw c.in_ok-arguments.ensures at c.in_ok-take_all.ensures.ok)
