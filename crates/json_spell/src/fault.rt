@@ -10,10 +10,11 @@ use thiserror::Error;
 /// Why bytes were not read.
 #[derive(Clone, Copy, Debug, PartialEq, Eq, Error)]
 pub enum JsonFault {
-    /// Outside of strings, the opening brackets exceed the closing ones by more than 64 at some byte.
+    /// Outside of strings, the opening brackets exceed the closing ones by more than 64 at some byte: a limit on the depth
+    /// of nesting, which RFC 8259, section 9, allows.
     #[error("brackets open deeper than 64")]
     Deep,
-    /// The bytes are no JSON text of RFC 8259.
+    /// The bytes are no JSON text of RFC 8259 in UTF-8 without a byte order mark, or a string escapes a surrogate alone.
     #[error("not a JSON text")]
     NotJson,
     /// A request for memory was refused.

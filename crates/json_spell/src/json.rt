@@ -50,7 +50,8 @@ impl Json {
     ghost use Rattle.json_spell.specs.Tree.{member_of};
     ghost use Rattle.json_spell.specs.View.{json_view};
 
-    /// The value of the last member with the name; none where there is no such member or the value is no object.
+    /// The value of the last member with the name; none where there is no such member or the value is no object. Of
+    /// members that repeat a name many readers take the last one: RFC 8259, section 4.
     pub fn get(&self, key: &str) -> Option<&Json>
         ensures { option_map (λ value. json_view value.now) result ≡ member_of key.now (json_view self.now) }
     {

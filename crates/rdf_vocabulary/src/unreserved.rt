@@ -1,6 +1,6 @@
 // Names in the paths of IRIs.
 
-ghost use Rattle.std.specs.Prelude.{◌≡◌, ◌++◌, OnOk, string_bytes};
+ghost use Rattle.std.specs.Prelude.{◌≡◌, ◌++◌, OnOk, OnErr, string_bytes};
 ghost use Rattle.rdf_vocabulary.specs.Unreserved.{escaped_name};
 
 use percent_encoding::{AsciiSet, NON_ALPHANUMERIC, ascii_set, utf8_percent_encode};
@@ -16,9 +16,10 @@ const RESERVED: AsciiSet = ascii_set!(
 );
 
 /// Appends a name with each byte percent-encoded, by upper-case digits, that is no ASCII letter, no
-/// digit and none of `-._~`.
+/// digit and none of `-._~`. After `OutOfMemory` the text is as it was.
 pub fn push_escaped_name(name: &str, iri: &mut String) -> Result<(), OutOfMemory>
-    ensures { OnOk result (string_bytes iri.new ≡ string_bytes iri.old ++ escaped_name name.now) }
+    ensures ok { OnOk result (string_bytes iri.new ≡ string_bytes iri.old ++ escaped_name name.now) }
+    ensures err { OnErr result (string_bytes iri.new ≡ string_bytes iri.old) }
 {
     utf8_percent_encode(name, RESERVED).append_to(iri)?;
     Ok(())

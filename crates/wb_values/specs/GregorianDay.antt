@@ -47,7 +47,7 @@ pub record IsDated (written : CalendarDate) : Type 0 where
   pub month : written.month ≤ 12
   pub day : written.day ≤ 31
 
--- a written date means this day of the Gregorian calendar: years of more than four digits have no month and no day;
+-- a written date means this day of the Gregorian calendar: years above 9999 or below -9999 have no month and no day;
 -- a date that is converted is the same day in the Julian calendar; and every other date is a Gregorian one already
 pub data MeansDay (written : CalendarDate) (precision : ℕ) (julian : Bool) (day : CalendarDate) : Type 0 where
   long_year : IsDated written → 9999 < unsigned_abs written.year → day ≡ january_first written → MeansDay written precision julian day

@@ -1,5 +1,6 @@
 // The texts that Wikibase's data values become in RDF: the literal of a time, the test for a decimal
-// amount and the point of a coordinate.
+// amount and the point of a coordinate. The sources are Wikibase RDF Dump Format, value representation;
+// XML Schema 1.1, part 2, for times and decimal numbers; and OGC GeoSPARQL for the texts of points.
 //
 // `written` reads the text of a time, `calendar` counts the days of the Julian and the Gregorian
 // calendar, `gregorian_day` finds the day that a written date means, and `literal` writes it;

@@ -21,8 +21,8 @@ pub enum TimeText {
 /// The literal of a time as Wikibase writes it: `+2001-12-31T00:00:00Z` and the like.
 ///
 /// `precision` is Wikibase's: 9 for a year, 10 for a month, 11 for a day and more for parts of one.
-/// `julian` says that the text is a date of the Julian calendar; to the day, such a date becomes the
-/// Gregorian date of the same day.
+/// `julian` says that the text is a date of the Julian calendar; with a precision of 11 or more and a
+/// year from -9998 to 9998, such a date becomes the Gregorian date of the same day.
 pub fn time_literal(
     alloc: Global,
     text: &str,
