@@ -1,5 +1,6 @@
 -- What a page means has fit and short terms.
-use Rattle.std.proofs.Common.{◌≡◌, ℕ, List, Option, Some, None, refl}
+use Rattle.std.proofs.Common.{◌≡◌, ℕ, List, [], ◌∷◌, Option, Some, None, refl, flat_map}
+use Rattle.std.specs.FinMap as map
 use Rattle.std.specs.List.{AllByRecursion}
 use Rattle.rising.specs.Rising.{sorted}
 use Rattle.rdf_term.specs.Fit.{HasFitAndShortTerms}
@@ -12,7 +13,11 @@ use Rattle.entity_json.proofs.Fitness.{document_small}
 use Rattle.entity_rdf.specs.Dump.{dump}
 use Rattle.entity_rdf.proofs.Fit.{dump_fit}
 use Rattle.entity_rdf.proofs.Labels.{dump_labels}
-use Rattle.munger.proofs.Fit.{munge_fit}
+use Rattle.entity_state.specs.declared.record.Held.{Held}
+use Rattle.entity_state.specs.declared.record.Record.{Record}
+use Rattle.munger.proofs.Fit.{flat_map_each, munge_fit, sorted_each}
+use Rattle.replay_model.specs.Records.{Bytes, Records}
+use Rattle.replay_model.specs.Union.{triples_at, triples_held, union}
 use Rattle.world.specs.Meaning.{document_triples, meaning, triples_if}
 
 -- the triples of a small document
@@ -27,3 +32,17 @@ found_fit x rev bytes (Some document) is = document_fit x rev document (document
 -- the triples of any bytes, since a document is small
 pub meaning_fit : (x : EntityId) (rev : ℕ) (bytes : List ℕ) → AllByRecursion HasFitAndShortTerms (meaning x rev bytes)
 meaning_fit x rev bytes = found_fit x rev bytes (document_of x bytes) refl
+
+held_fit : (x : EntityId) (held : Option (Held Bytes)) → AllByRecursion HasFitAndShortTerms (triples_held meaning x held)
+held_fit x None = tt
+held_fit x (Some h) = meaning_fit x h.revision h.content
+
+anything : {A : Type 0} (xs : List A) → AllByRecursion (λ (x : A). Unit {0}) xs
+anything [] = tt
+anything (x ∷ xs) = (tt, anything xs)
+
+-- the triples of all that is held
+pub union_fit : (records : Records) → AllByRecursion HasFitAndShortTerms (union triple_cmp meaning records)
+union_fit records =
+    sorted_each HasFitAndShortTerms triple_cmp (flat_map (triples_at meaning) (map.entries records))
+    (flat_map_each (λ (entry : EntityId × Record Bytes). Unit {0}) HasFitAndShortTerms (triples_at meaning) (λ entry _. held_fit entry.0 entry.1.held) (map.entries records) (anything (map.entries records)))

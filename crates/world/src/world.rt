@@ -4,6 +4,8 @@ ghost use Rattle.std.specs.Prelude.{◌≡◌, ◌↔◌, ◌⊎◌, ◌<◌, �
 ghost use Rattle.std.specs.Option.{option_copied};
 ghost use Rattle.std.specs.FinMap as map;
 ghost use Rattle.std.specs.List.{flat_map};
+ghost use Rattle.std.specs.List.{AllByRecursion};
+ghost use Rattle.rdf_term.specs.Fit.{HasFitAndShortTerms};
 ghost use Rattle.rdf_term.specs.Order.{triple_cmp};
 ghost use Rattle.revisions.specs.Revisions.{counted};
 ghost use Rattle.reorder_buffer.specs.Buffered.{after_taking, answer_to, first_due};
@@ -125,9 +127,11 @@ impl World {
         Ok(Applied { event, outcome })
     }
 
-    /// The triples of all that is held.
+    /// The triples of all that is held. Their terms are fit and short.
+    #[tactic(auto, using(crate::proofs::Fit::union_fit))]
     pub fn export(&self) -> Result<TripleSet, OutOfMemory>
-        ensures { IfOk result (λ set. set ≡ union triple_cmp meaning self.now.played.records) }
+        ensures value { IfOk result (λ set. set ≡ union triple_cmp meaning self.now.played.records) }
+        ensures fit { IfOk result (AllByRecursion HasFitAndShortTerms) }
     {
         union_of(self.alloc, &self.pages.table)
     }
