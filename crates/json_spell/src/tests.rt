@@ -74,6 +74,12 @@ fn reads_texts(rt: HostRuntime) -> Result<(), Fail> {
             "\"\u{7f}\u{e9}\u{2028}\u{ffff}\u{1d11e}\"",
             "'\u{7f}\u{e9}\u{2028}\u{ffff}\u{1d11e}'",
         ),
+        ("[1e5,1E05,-1.5e10]", "[#1e5 #1E05 #-1.5e10 ]"),
+        ("{ \"a\" : 1 , \"b\" :\n2 }", "{a=#1 b=#2 }"),
+        ("{\"\\u0061\":null}", "{a=null }"),
+        ("\"\\uD800\\uDC00\u{feff}\"", "'\u{10000}\u{feff}'"),
+        ("\"Hello world!\"", "'Hello world!'"),
+        ("42", "#42"),
     ] {
         assert_eq!(rt;
             shown(rt.alloc(), text.as_bytes())?.as_str(),
@@ -84,76 +90,92 @@ fn reads_texts(rt: HostRuntime) -> Result<(), Fail> {
     Ok(())
 }
 
+// Texts that are no JSON text.
+const NOT_JSON: &[&str] = &[
+    "",
+    " ",
+    "[01]",
+    "-01",
+    "-",
+    "- 1",
+    "1.",
+    ".5",
+    "1e",
+    "1e+",
+    "+1",
+    "0x1",
+    "1.5.2",
+    "NaN",
+    "nul",
+    "nulll",
+    "True",
+    "\"",
+    "\"a",
+    "\"\\\"",
+    "\"\\x\"",
+    "\"\\U0041\"",
+    "\"\\u12\"",
+    "\"\\u12G4\"",
+    "\"\\ud800\"",
+    "\"\\udc00\"",
+    "\"\\ud800\\u0041\"",
+    "\"\\ud800x\"",
+    "\"\\ud800\\ud800\"",
+    "\"\\udc00\\ud800\"",
+    "\"\t\"",
+    "\"\n\"",
+    "\"\0\"",
+    "\"\u{1f}\"",
+    "[1,]",
+    "[,1]",
+    "[1 2]",
+    "[",
+    "]",
+    "{",
+    "{\"a\"}",
+    "{\"a\":}",
+    "{\"a\":1,}",
+    "{a:1}",
+    "{1:1}",
+    "{\"a\" 1}",
+    "{\"a\":1 \"b\":2}",
+    "1 2",
+    "[][]",
+    "'a'",
+    "/**/1",
+    "\u{feff}1",
+    "\u{c}1",
+    "\u{a0}1",
+    "\u{e9}",
+    "[1]]",
+    "[1}",
+    "{\"a\":1]",
+];
+
+// Bytes that are no UTF-8, in quotation marks.
+const NOT_UTF8: &[&[u8]] = &[
+    b"\"\xc0\x80\"",
+    b"\"\xe2\x82\"",
+    b"\"\xed\xa0\x80\"",
+    b"\"\xf4\x90\x80\x80\"",
+    b"\"\x80\"",
+    b"\"\xc3\\u0041\"",
+    b"\"\xe0\x80\xaf\"",
+    b"\"\xf0\x80\x80\xaf\"",
+    b"\"\xf0\x9f\x98\"",
+];
+
 #[test]
 fn refuses_what_is_no_text(rt: HostRuntime) {
-    for text in [
-        "",
-        " ",
-        "[01]",
-        "-01",
-        "-",
-        "1.",
-        ".5",
-        "1e",
-        "1e+",
-        "+1",
-        "0x1",
-        "1.5.2",
-        "NaN",
-        "nul",
-        "nulll",
-        "True",
-        "\"",
-        "\"a",
-        "\"\\\"",
-        "\"\\x\"",
-        "\"\\U0041\"",
-        "\"\\u12\"",
-        "\"\\u12G4\"",
-        "\"\\ud800\"",
-        "\"\\udc00\"",
-        "\"\\ud800\\u0041\"",
-        "\"\\ud800x\"",
-        "\"\\ud800\\ud800\"",
-        "\"\t\"",
-        "\"\n\"",
-        "\"\0\"",
-        "[1,]",
-        "[,1]",
-        "[1 2]",
-        "[",
-        "]",
-        "{",
-        "{\"a\"}",
-        "{\"a\":}",
-        "{\"a\":1,}",
-        "{a:1}",
-        "{1:1}",
-        "{\"a\" 1}",
-        "{\"a\":1 \"b\":2}",
-        "1 2",
-        "[][]",
-        "'a'",
-        "/**/1",
-        "\u{feff}1",
-        "\u{c}1",
-        "\u{a0}1",
-        "[1]]",
-        "[1}",
-        "{\"a\":1]",
-    ] {
+    for text in NOT_JSON {
         let answer = read(rt.alloc(), text.as_bytes());
         assert!(rt; matches!(&answer, Err(JsonFault::NotJson)), "at {text}");
     }
-    for bytes in [
-        b"\"\xc0\x80\"".as_slice(),
-        b"\"\xe2\x82\"".as_slice(),
-        b"\"\xed\xa0\x80\"".as_slice(),
-        b"\"\xf4\x90\x80\x80\"".as_slice(),
-        b"\"\x80\"".as_slice(),
-        b"\"\xc3\\u0041\"".as_slice(),
-        b"\xc3\xa9".as_slice(),
-    ] {
+}
+
+#[test]
+fn refuses_what_is_no_utf8(rt: HostRuntime) {
+    for bytes in NOT_UTF8 {
         let answer = read(rt.alloc(), bytes);
         assert!(rt; matches!(&answer, Err(JsonFault::NotJson)), "at {bytes:?}");
     }
@@ -200,18 +222,50 @@ fn counts_brackets(rt: HostRuntime) -> Result<(), Fail> {
         };
         assert_eq!(rt; fault, Some(want), "at {closing} {opening} {end}");
     }
-    let mut nested = brackets(alloc, 0, 64, "")?;
-    for _ in 0..64 {
-        nested.push_str("]")?;
+    Ok(())
+}
+
+// So many levels, each from `open` to `close`, round a text.
+fn levels(
+    alloc: Global,
+    count: usize,
+    open: &str,
+    inside: &str,
+    close: &str,
+) -> Result<String, AllocError> {
+    let mut text = String::new(alloc);
+    for _ in 0..count {
+        text.push_str(open)?;
     }
-    assert!(rt; read(alloc, nested.as_bytes()).is_ok());
+    text.push_str(inside)?;
+    for _ in 0..count {
+        text.push_str(close)?;
+    }
+    Ok(text)
+}
+
+#[test]
+fn reads_64_levels(rt: HostRuntime) -> Result<(), Fail> {
+    let alloc = rt.alloc();
+    for (open, inside, close) in [("[", "", "]"), ("{\"\":", "1", "}")] {
+        for (count, want) in [(64, None), (65, Some(JsonFault::Deep))] {
+            let text = levels(alloc, count, open, inside, close)?;
+            let fault = read(alloc, text.as_bytes()).err();
+            assert_eq!(rt; fault, want, "at {count} times {open}");
+        }
+    }
     Ok(())
 }
 
 #[test]
 fn finds_members(rt: HostRuntime) -> Result<(), Fail> {
-    let json = read(rt.alloc(), b"{\"a\":1,\"b\":2,\"a\":3}")?;
-    for (key, want) in [("a", Some("#3")), ("b", Some("#2")), ("c", None)] {
+    let json = read(rt.alloc(), b"{\"\":0,\"a\":1,\"b\":2,\"a\":3,\"\":4}")?;
+    for (key, want) in [
+        ("a", Some("#3")),
+        ("b", Some("#2")),
+        ("c", None),
+        ("", Some("#4")),
+    ] {
         let mut out = String::new(rt.alloc());
         if let Some(value) = json.get(key) {
             show(value, &mut out)?;

@@ -13,6 +13,10 @@ const READINGS: &str = "<http://a/\\u00e9> => <http://a/é>
 \"x\"^^<http://www.w3.org/2001/XMLSchem\\u0061#string> => \"x\"
 \"\\t\\b\\n\\r\\f\\\"\\'\\\\\\U0001F600\" => \"\t\u{8}\\n\\r\u{c}\\\"'\\\\😀\"
 _:0Zz9 => _:0Zz9
+\"x\"^^<http://www.w3.org/2001/XMLSchema#string> => \"x\"
+\"1\"^^<http://a/b> => \"1\"^^<http://a/b>
+\"\\u00e9\\u00C9\\U0010ffff\" => \"éÉ\u{10ffff}\"
+<\\U000000e9> => <é>
  => none
 ? => none
 <a b> => none
@@ -25,7 +29,16 @@ _:0Zz9 => _:0Zz9
 \"x\"^<a> => none
 \"\\ud800\" => none
 \"\\U00110000\" => none
-_:a-b => none";
+_:a-b => none
+_: => none
+<\\u003e> => none
+\"\\U0000dfff\" => none
+\"\\u12\" => none
+\"\\x\" => none
+ <a> => none
+\"x\"@en- => none
+\"x\"@en--a => none
+\"x\"^^<a b> => none";
 
 // The IRI of each text, as it is written (RFC 3986, section 2.1).
 const IRIS: &str = "a b => <a%20b>
@@ -36,22 +49,27 @@ const IRIS: &str = "a b => <a%20b>
 const TAGS: &str = "en_us => \"x\"
 zh-min-nan => \"x\"@zh-min-nan
  => \"x\"
-a- => \"x\"";
+a- => \"x\"
+en-GB => \"x\"@en-GB";
 
 // Objects out of order.
 const UNSORTED: &str = "_:a
 \"a\\\\\"
 \"a b\"
 <a/b>
+\"a\"^^<a>
 \"a\"@en
 \"a\"
 \"a\\n\"
+\"a\"^^<a/b>
 <a>";
 
 // The lines of their set, by the bytes of the objects' texts: a space comes before the quote, and `/` before `>`.
 const LINES: &str = "<s> <p> \"a b\" .
 <s> <p> \"a\" .
 <s> <p> \"a\"@en .
+<s> <p> \"a\"^^<a/b> .
+<s> <p> \"a\"^^<a> .
 <s> <p> \"a\\\\\" .
 <s> <p> \"a\\n\" .
 <s> <p> <a/b> .
@@ -147,6 +165,8 @@ fn sets_are_sorted(rt: HostRuntime) -> Result<(), Fail> {
     let first = list.get(0).ok_or("an item")?.copy(rt.alloc())?;
     let set = TripleSet::from_list(list)?;
     assert!(rt; set.contains(&first));
+    let strangers = list_of(&rt, "\"a\"^^<a/c>")?;
+    assert!(rt; !set.contains(strangers.get(0).ok_or("an item")?));
     assert_eq!(rt; lines_of(&rt, &set)?.as_slice(), LINES.as_bytes());
     Ok(())
 }

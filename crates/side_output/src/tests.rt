@@ -17,25 +17,35 @@ fn event(time: i64, kind: Kind) -> Event {
     }
 }
 
+// Each kind of a late event at time 50, and whether it is open after a reconciliation at this time, with this revision:
+// after one that says deleted, and after one that says kept.
 #[test]
 fn a_later_reconciliation_closes_a_late_event(rt: HostRuntime) {
-    let late = Entry::Late(event(50, Kind::Delete));
     let state = State::unknown();
-    let reconciliations = [
-        (None, true),
-        (Some(event(49, Kind::ReconcileKept)), true),
-        (Some(event(50, Kind::ReconcileDeleted)), false),
-        (Some(event(51, Kind::ReconcileKept)), false),
-    ];
-    for (reconciled, open) in reconciliations {
-        assert_eq!(rt;
-            is_open(&late, state, None, reconciled),
-            open,
-            "{reconciled:?}"
-        );
+    for (kind, open_after_deleted, open_after_kept) in [
+        (Kind::Edit, false, false),
+        (Kind::Delete, false, false),
+        (Kind::Undelete, false, false),
+        (Kind::ReconcileDeleted, true, false),
+        (Kind::ReconcileKept, true, true),
+    ] {
+        let late = Entry::Late(event(50, kind));
+        for (reconciled, open) in [
+            (None, true),
+            (Some(event(49, Kind::ReconcileDeleted)), true),
+            (Some(event(49, Kind::ReconcileKept)), true),
+            (Some(event(50, Kind::ReconcileDeleted)), open_after_deleted),
+            (Some(event(50, Kind::ReconcileKept)), open_after_kept),
+            (Some(event(51, Kind::ReconcileDeleted)), false),
+            (Some(event(51, Kind::ReconcileKept)), false),
+        ] {
+            assert_eq!(rt;
+                is_open(&late, state, None, reconciled),
+                open,
+                "{kind:?}, {reconciled:?}"
+            );
+        }
     }
-    let itself = event(50, Kind::ReconcileKept);
-    assert!(rt; is_open(&Entry::Late(itself), state, None, Some(itself)));
 }
 
 #[test]

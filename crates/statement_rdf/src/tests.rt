@@ -211,6 +211,20 @@ fn ranks(rt: HostRuntime) -> Result<(), Fail> {
     Ok(())
 }
 
+// To compare each statement with all others would take 90 billion steps.
+#[test]
+fn many_statements(rt: HostRuntime) -> Result<(), Fail> {
+    let alloc = rt.alloc();
+    let mut statements = List::new(alloc);
+    for _ in 0..300_000 {
+        statements.push(ranked(alloc, "P1 normal")?)?;
+    }
+    let answers = best(alloc, &statements)?;
+    assert_eq!(rt; answers.len(), 300_000);
+    assert!(rt; answers.as_slice().iter().all(|answer| *answer));
+    Ok(())
+}
+
 // Checks the name of a statement's node.
 fn check_id(rt: &(impl Abort + Alloc<A = Global>), row: &str) -> Result<(), Fail> {
     let alloc = rt.alloc();
