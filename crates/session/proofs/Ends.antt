@@ -92,14 +92,14 @@ is_function plan told ds start now world held held_now play prints = record {
 }
 
 -- what was printed is a front of the transcript
-pub broken_off : (plan : Choices) (left : Option (List ℕ)) (told : Option (ℕ → Option Bytes)) (start now : Counts) (world : ReplayState) (held held_now : Option (List ℕ)) →
-    Replayed (limit_of plan) left told start now world → Wrote held held_now (closing meaning (sections_of plan) world.played) → BrokenOff plan left told start now world held held_now
-broken_off plan left told start now world held held_now ends front = record {
+pub broken_off : (status : Status) (plan : Choices) (left : Option (List ℕ)) (told : Option (ℕ → Option Bytes)) (start now : Counts) (world : ReplayState) (held held_now : Option (List ℕ)) →
+    Replayed (limit_of plan) left told start now world → Wrote status held held_now (closing meaning (sections_of plan) world.played) → BrokenOff status plan left told start now world held held_now
+broken_off status plan left told start now world held held_now ends front = record {
   replayed = ends;
   begun = record {
     sections = front;
     all = λ contents known.
-        wrote_same held held_now (closing meaning (sections_of plan) world.played)
+        wrote_same status held held_now (closing meaning (sections_of plan) world.played)
         (transcript meaning (sections_of plan) (source_replies judgement contents (failed_events world.played.side)) ends.deliveries)
         (sym (transcribed plan told ends.deliveries start now world ends.played contents known)) front;
   };
@@ -168,7 +168,7 @@ stopped OutOfMemory plan left left_now told start now world held held_now reads 
 
 -- a fault of the sink, with the world at its end
 pub unwritten : (status : Status) (plan : Choices) (left left_now : Option (List ℕ)) (told : Option (ℕ → Option Bytes)) (start now : Counts) (world : ReplayState) (held held_now : Option (List ℕ)) (reads reads_now writes writes_now : ℕ) →
-    IsUnwritten status writes writes_now → BrokenOff plan left told start now world held held_now → Stopped status plan left left_now told start now world held held_now reads reads_now writes writes_now
+    IsUnwritten status writes writes_now → BrokenOff status plan left told start now world held held_now → Stopped status plan left left_now told start now world held held_now reads reads_now writes writes_now
 unwritten Ended plan left left_now told start now world held held_now reads reads_now writes writes_now why ends = absurd why
 unwritten BadWords plan left left_now told start now world held held_now reads reads_now writes writes_now why ends = absurd why
 unwritten (BadLine number cause) plan left left_now told start now world held held_now reads reads_now writes writes_now why ends = absurd why
@@ -179,8 +179,8 @@ unwritten OutOfMemory plan left left_now told start now world held held_now read
 
 -- the same, of what was answered
 pub unwritten_answer : {T : Type 0} (answer : Result T Status) (plan : Choices) (left left_now : Option (List ℕ)) (told : Option (ℕ → Option Bytes)) (start now : Counts) (world : ReplayState) (held held_now : Option (List ℕ)) (reads reads_now writes writes_now : ℕ) →
-    IfErr answer (λ status. IsUnwritten status writes writes_now) → OnErr answer (Wrote held held_now (closing meaning (sections_of plan) world.played)) → Replayed (limit_of plan) left told start now world →
+    IfErr answer (λ status. IsUnwritten status writes writes_now) → IfErr answer (λ status. Wrote status held held_now (closing meaning (sections_of plan) world.played)) → Replayed (limit_of plan) left told start now world →
     IfErr answer (λ status. Stopped status plan left left_now told start now world held held_now reads reads_now writes writes_now)
 unwritten_answer (Ok x) plan left left_now told start now world held held_now reads reads_now writes writes_now why front ends = tt
 unwritten_answer (Err status) plan left left_now told start now world held held_now reads reads_now writes writes_now why front ends =
-    unwritten status plan left left_now told start now world held held_now reads reads_now writes writes_now why (broken_off plan left told start now world held held_now ends front)
+    unwritten status plan left left_now told start now world held held_now reads reads_now writes writes_now why (broken_off status plan left told start now world held held_now ends front)

@@ -1,5 +1,5 @@
 -- What is written in parts is written as a whole.
-use Rattle.std.proofs.Common.{refl, sym, ◌∙◌, ap, ◌≡◌, ℕ, ◌+◌, ◌-◌, ◌<◌, ◌≤◌, ⊎_elim, List, [], ◌∷◌, ◌++◌, length, take, drop, get_or, flat_map, Option, None, Some, Result, Ok, Err, OnErr, IfSome, append_assoc, append-nil, add-one, arith}
+use Rattle.std.proofs.Common.{refl, sym, ◌∙◌, ap, ◌≡◌, ℕ, ◌+◌, ◌-◌, ◌<◌, ◌≤◌, ⊎_elim, List, [], ◌∷◌, ◌++◌, length, take, drop, get_or, flat_map, Option, None, Some, Result, Ok, Err, IfErr, IfSome, append_assoc, append-nil, add-one, arith, length-append}
 use Rattle.std.specs.List.{slice_get}
 use Rattle.std.proofs.Math.Seq.{take-length, take-suc}
 use Rattle.std.proofs.lemmas.List.Concat.{flat_map-append}
@@ -7,6 +7,8 @@ use Rattle.std.proofs.lemmas.Option.{get_or_from_slice_get, slice_get_cases}
 use Rattle.std.proofs.lemmas.List.{length-drop, take-append-drop}
 use Rattle.wq_io.specs.Streams.{after_known}
 use Rattle.session.specs.Printing.{Wrote}
+use Rattle.session.specs.declared.status.Status.{Status}
+use Rattle.session.specs.declared.status.Status.TheVariants.{OutOfMemory, WriteFault}
 
 -- two parts, one after the other
 pub after_twice : (held : Option (List ℕ)) (first second : List ℕ) → after_known (after_known held first) second ≡ after_known held (first ++ second)
@@ -17,10 +19,10 @@ after_twice (Some bytes) first second = ap Some (append_assoc bytes first second
 pub after_thrice : (held : Option (List ℕ)) (first second third : List ℕ) → after_known (after_known (after_known held first) second) third ≡ after_known held (first ++ second ++ third)
 after_thrice held first second third = ap (λ h. after_known h third) (after_twice held first second) ∙ after_twice held (first ++ second) third
 
--- a fact that holds anyway holds where there is an error
-pub on_err_anyway : {T E P : Type 0} (r : Result T E) → P → OnErr r P
-on_err_anyway (Ok x) p = tt
-on_err_anyway (Err e) p = p
+-- what follows from an error for each status
+pub at_err : {T : Type 0} (P Q : Status → Type 0) (r : Result T Status) → ((status : Status) → P status → Q status) → IfErr r P → IfErr r Q
+at_err P Q (Ok x) step p = tt
+at_err P Q (Err status) step p = step status p
 
 -- a front was written, and this is the rest
 pub record Writing (old new : Option (List ℕ)) (whole rest : List ℕ) : Type 0 where
@@ -33,30 +35,32 @@ pub after_nothing : (held : Option (List ℕ)) → after_known held [] ≡ held
 after_nothing None = refl
 after_nothing (Some bytes) = ap Some (append-nil bytes)
 
-pub wrote_nothing : (old new : Option (List ℕ)) (whole : List ℕ) → new ≡ old → Wrote old new whole
-wrote_nothing old new whole same = record { written = []; unwritten = whole; is = refl; held = same ∙ sym (after_nothing old) }
+pub wrote_nothing : (old new : Option (List ℕ)) (whole : List ℕ) → new ≡ old → Wrote OutOfMemory old new whole
+wrote_nothing old new whole same = record { written = []; unwritten = whole; is = refl; held = same ∙ sym (after_nothing old); proper = λ never. cc }
 
 -- a front of the first part is a front of both
-pub wrote_first : (old new : Option (List ℕ)) (first second : List ℕ) → Wrote old new first → Wrote old new (first ++ second)
-wrote_first old new first second x = record {
+pub wrote_first : (status : Status) (old new : Option (List ℕ)) (first second : List ℕ) → Wrote status old new first → Wrote status old new (first ++ second)
+wrote_first status old new first second x = record {
   written = x.written;
   unwritten = x.unwritten ++ second;
   is = ap (λ l. l ++ second) x.is ∙ append_assoc x.written x.unwritten second;
   held = x.held;
+  proper = λ failed. omega (arith, x.proper failed, length-append x.unwritten second);
 }
 
 -- the first part and a front of the second are a front of both
-pub wrote_second : (old between new : Option (List ℕ)) (first second : List ℕ) → between ≡ after_known old first → Wrote between new second → Wrote old new (first ++ second)
-wrote_second old between new first second before x = record {
+pub wrote_second : (status : Status) (old between new : Option (List ℕ)) (first second : List ℕ) → between ≡ after_known old first → Wrote status between new second → Wrote status old new (first ++ second)
+wrote_second status old between new first second before x = record {
   written = first ++ x.written;
   unwritten = x.unwritten;
   is = ap (λ l. first ++ l) x.is ∙ sym (append_assoc first x.written x.unwritten);
   held = x.held ∙ ap (λ h. after_known h x.written) before ∙ after_twice old first x.written;
+  proper = x.proper;
 }
 
 -- the same bytes by another name
-pub wrote_same : (old new : Option (List ℕ)) (whole other : List ℕ) → other ≡ whole → Wrote old new whole → Wrote old new other
-wrote_same old new whole other same x = record { written = x.written; unwritten = x.unwritten; is = same ∙ x.is; held = x.held }
+pub wrote_same : (status : Status) (old new : Option (List ℕ)) (whole other : List ℕ) → other ≡ whole → Wrote status old new whole → Wrote status old new other
+wrote_same status old new whole other same x = record { written = x.written; unwritten = x.unwritten; is = same ∙ x.is; held = x.held; proper = x.proper }
 
 -- before the first write
 pub writing_nothing : (old : Option (List ℕ)) (whole : List ℕ) → Writing old old whole whole
@@ -81,8 +85,8 @@ pub writing_rest : (old new : Option (List ℕ)) (whole rest : List ℕ) → Wri
 writing_rest old new whole rest x = ap (λ h. after_known h rest) x.held ∙ after_twice old x.written rest ∙ ap (after_known old) (sym x.is)
 
 -- a write that failed
-pub wrote_so_far : (old between new : Option (List ℕ)) (whole rest : List ℕ) → Writing old between whole rest → new ≡ between → Wrote old new whole
-wrote_so_far old between new whole rest x same = record { written = x.written; unwritten = rest; is = x.is; held = same ∙ x.held }
+pub wrote_so_far : (status : Status) (old between new : Option (List ℕ)) (whole rest : List ℕ) → Writing old between whole rest → new ≡ between → 0 < length rest → Wrote status old new whole
+wrote_so_far status old between new whole rest x same more = record { written = x.written; unwritten = rest; is = x.is; held = same ∙ x.held; proper = λ failed. more }
 
 module _ {X : Type 0} (f : X → List ℕ) (xs : List X) (place : ℕ) where
   one_more_at : (x : X) → place < length xs → flat_map f (take (place + 1) xs) ≡ flat_map f (take place xs) ++ f (get_or xs place x)
@@ -112,26 +116,26 @@ module _ {X : Type 0} (f : X → List ℕ) (xs : List X) (place : ℕ) where
   cut n = ap (flat_map f) (sym (take-append-drop n xs)) ∙ flat_map-append f (take n xs) (drop n xs)
 
   -- where the next text isn't begun
-  pub wrote_before : (start held now : Option (List ℕ)) → held ≡ after_known start (flat_map f (take place xs)) → now ≡ held → Wrote start now (flat_map f xs)
-  wrote_before start held now before same = record { written = flat_map f (take place xs); unwritten = flat_map f (drop place xs); is = cut place; held = same ∙ before }
+  pub wrote_before : (start held now : Option (List ℕ)) → held ≡ after_known start (flat_map f (take place xs)) → now ≡ held → Wrote OutOfMemory start now (flat_map f xs)
+  wrote_before start held now before same = record { written = flat_map f (take place xs); unwritten = flat_map f (drop place xs); is = cut place; held = same ∙ before; proper = λ never. cc }
 
-  wrote_next : (start held now : Option (List ℕ)) (line : List ℕ) → held ≡ after_known start (flat_map f (take place xs)) →
-      flat_map f (take (place + 1) xs) ≡ flat_map f (take place xs) ++ line → Wrote held now line → Wrote start now (flat_map f xs)
-  wrote_next start held now line before more is =
+  wrote_next : (status : Status) (start held now : Option (List ℕ)) (line : List ℕ) → held ≡ after_known start (flat_map f (take place xs)) →
+      flat_map f (take (place + 1) xs) ≡ flat_map f (take place xs) ++ line → Wrote status held now line → Wrote status start now (flat_map f xs)
+  wrote_next status start held now line before more is =
       let lines : flat_map f xs ≡ (flat_map f (take place xs) ++ line) ++ flat_map f (drop (place + 1) xs) =
       cut (place + 1) ∙ ap (λ l. l ++ flat_map f (drop (place + 1) xs)) more in
-      wrote_same start now _ _ lines (wrote_first start now (flat_map f (take place xs) ++ line) (flat_map f (drop (place + 1) xs))
-      (wrote_second start held now (flat_map f (take place xs)) line before is))
+      wrote_same status start now _ _ lines (wrote_first status start now (flat_map f (take place xs) ++ line) (flat_map f (drop (place + 1) xs))
+      (wrote_second status start held now (flat_map f (take place xs)) line before is))
 
   -- where the next text was begun
-  pub wrote_within : (start held now : Option (List ℕ)) → place < length xs → held ≡ after_known start (flat_map f (take place xs)) →
-      IfSome (slice_get xs place) (λ x. Wrote held now (f x)) → Wrote start now (flat_map f xs)
-  wrote_within start held now within before after = by (slice_get xs place) refl after
+  pub wrote_within : (status : Status) (start held now : Option (List ℕ)) → place < length xs → held ≡ after_known start (flat_map f (take place xs)) →
+      IfSome (slice_get xs place) (λ x. Wrote status held now (f x)) → Wrote status start now (flat_map f xs)
+  wrote_within status start held now within before after = by (slice_get xs place) refl after
     where
-      by : (o : Option X) → slice_get xs place ≡ o → IfSome o (λ x. Wrote held now (f x)) → Wrote start now (flat_map f xs)
+      by : (o : Option X) → slice_get xs place ≡ o → IfSome o (λ x. Wrote status held now (f x)) → Wrote status start now (flat_map f xs)
       by None none is =
           ⊎_elim (λ w. let never : Some w.0 ≡ None = sym w.2 ∙ none in cc) (λ w. let past : length xs ≤ place = w.0 in absurd (omega arith)) (slice_get_cases xs place).1
-      by (Some x) some is = wrote_next start held now (f x) before (one_more x within some) is
+      by (Some x) some is = wrote_next status start held now (f x) before (one_more x within some) is
 
   -- the text of the element at a place, in a loop over the elements
   pub line_more : (start held now : Option (List ℕ)) (x : X) (line : List ℕ) → place < length xs → held ≡ after_known start (flat_map f (take place xs)) →
@@ -141,7 +145,7 @@ module _ {X : Type 0} (f : X → List ℕ) (xs : List X) (place : ℕ) where
       ∙ ap (after_known start) (ap (λ l. flat_map f (take place xs) ++ l) same ∙ sym (one_more_at x within))
 
   -- where it was begun
-  pub wrote_line : (start held now : Option (List ℕ)) (x : X) (line : List ℕ) → place < length xs → held ≡ after_known start (flat_map f (take place xs)) →
-      line ≡ f (get_or xs place x) → Wrote held now line → Wrote start now (flat_map f xs)
-  wrote_line start held now x line within before same is =
-      wrote_next start held now line before (one_more_at x within ∙ ap (λ l. flat_map f (take place xs) ++ l) (sym same)) is
+  pub wrote_line : (status : Status) (start held now : Option (List ℕ)) (x : X) (line : List ℕ) → place < length xs → held ≡ after_known start (flat_map f (take place xs)) →
+      line ≡ f (get_or xs place x) → Wrote status held now line → Wrote status start now (flat_map f xs)
+  wrote_line status start held now x line within before same is =
+      wrote_next status start held now line before (one_more_at x within ∙ ap (λ l. flat_map f (take place xs) ++ l) (sym same)) is

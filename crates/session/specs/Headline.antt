@@ -80,11 +80,11 @@ pub record HasPrinted (plan : Choices) (told : Option (ℕ → Option Bytes)) (d
       held_now ≡ after_known held (transcript meaning (sections_of plan) (source_replies judgement contents (failed_events world.played.side)) ds)
 
 -- a front of it was printed, and nothing else: of the sections of the world, and where the source tells what it has of
--- the transcript of the play
-pub record HasBegun (plan : Choices) (told : Option (ℕ → Option Bytes)) (ds : List Delivery) (world : ReplayState) (held held_now : Option (List ℕ)) : Type 0 where
-  pub sections : Wrote held held_now (closing meaning (sections_of plan) world.played)
+-- the transcript of the play; where the sink failed, not all of it
+pub record HasBegun (status : Status) (plan : Choices) (told : Option (ℕ → Option Bytes)) (ds : List Delivery) (world : ReplayState) (held held_now : Option (List ℕ)) : Type 0 where
+  pub sections : Wrote status held held_now (closing meaning (sections_of plan) world.played)
   pub all : (contents : ℕ → Option Bytes) → told ≡ Some contents →
-      Wrote held held_now (transcript meaning (sections_of plan) (source_replies judgement contents (failed_events world.played.side)) ds)
+      Wrote status held held_now (transcript meaning (sections_of plan) (source_replies judgement contents (failed_events world.played.side)) ds)
 
 -- the world has taken the deliveries of all whole lines of the bytes that were read before a read failed
 pub record StandsAfter (left left_now : Option (List ℕ)) (told : Option (ℕ → Option Bytes)) (start now : Counts) (world : ReplayState) : Type 0 where
@@ -118,9 +118,9 @@ pub record Ending (plan : Choices) (left : Option (List ℕ)) (told : Option (�
   pub function : IsFunction plan told replayed.deliveries start now world held held_now
 
 -- what a run leaves that stopped while it printed
-pub record BrokenOff (plan : Choices) (left : Option (List ℕ)) (told : Option (ℕ → Option Bytes)) (start now : Counts) (world : ReplayState) (held held_now : Option (List ℕ)) : Type 0 where
+pub record BrokenOff (status : Status) (plan : Choices) (left : Option (List ℕ)) (told : Option (ℕ → Option Bytes)) (start now : Counts) (world : ReplayState) (held held_now : Option (List ℕ)) : Type 0 where
   pub replayed : Replayed (limit_of plan) left told start now world
-  pub begun : HasBegun plan told replayed.deliveries world held held_now
+  pub begun : HasBegun status plan told replayed.deliveries world held held_now
 
 -- why a run stopped, and what stands then
 abbrev pub Stopped : Status → Choices → Option (List ℕ) → Option (List ℕ) → Option (ℕ → Option Bytes) → Counts → Counts → ReplayState → Option (List ℕ) → Option (List ℕ) → ℕ → ℕ → ℕ → ℕ → Type 0
@@ -128,10 +128,10 @@ Stopped Ended plan left left_now told start now world held held_now reads reads_
 Stopped BadWords plan left left_now told start now world held held_now reads reads_now writes writes_now = ⊥
 Stopped (BadLine number cause) plan left left_now told start now world held held_now reads reads_now writes writes_now = StandsBeforeLine (limit_of plan) left told start now number cause world × (held_now ≡ held)
 Stopped ReadFault plan left left_now told start now world held held_now reads reads_now writes writes_now = Rose reads reads_now × StandsAfter left left_now told start now world × (held_now ≡ held)
-Stopped WriteFault plan left left_now told start now world held held_now reads reads_now writes writes_now = Rose writes writes_now × BrokenOff plan left told start now world held held_now
+Stopped WriteFault plan left left_now told start now world held held_now reads reads_now writes writes_now = Rose writes writes_now × BrokenOff WriteFault plan left told start now world held held_now
 Stopped TooLong plan left left_now told start now world held held_now reads reads_now writes writes_now = StandsAtLimit (limit_of plan) left told start now world × (held_now ≡ held)
 Stopped OutOfMemory plan left left_now told start now world held held_now reads reads_now writes writes_now =
-    (StopsStarved (limit_of plan) left told world × (held_now ≡ held)) ⊎ BrokenOff plan left told start now world held held_now
+    (StopsStarved (limit_of plan) left told world × (held_now ≡ held)) ⊎ BrokenOff OutOfMemory plan left told start now world held held_now
 
 -- the run was begun and stopped
 abbrev pub IsStop : Status → Type 0

@@ -1,5 +1,5 @@
 -- What is printed after the end, and why it isn't.
-use Rattle.std.specs.Prelude.{◌≡◌, ℕ, List, ◌++◌, Option, ⊤}
+use Rattle.std.specs.Prelude.{◌≡◌, ℕ, ◌<◌, List, ◌++◌, length, Option, ⊤}
 use Rattle.wq_io.specs.Streams.{Rose, after_known}
 use Rattle.replay_model.specs.Transcript.{Sections}
 use Rattle.session.specs.Words.{Choices}
@@ -20,9 +20,10 @@ IsUnwritten WriteFault faults faults_now = Rose faults faults_now
 IsUnwritten TooLong faults faults_now = ⊥
 IsUnwritten OutOfMemory faults faults_now = ⊤
 
--- a front of all the bytes was written, and nothing else
-pub record Wrote (old new : Option (List ℕ)) (whole : List ℕ) : Type 0 where
+-- a front of all the bytes was written, and nothing else; where the sink failed, not all of them
+pub record Wrote (status : Status) (old new : Option (List ℕ)) (whole : List ℕ) : Type 0 where
   pub written : List ℕ
   pub unwritten : List ℕ
   pub is : whole ≡ written ++ unwritten
   pub held : new ≡ after_known old written
+  pub proper : status ≡ WriteFault → 0 < length unwritten

@@ -29,7 +29,7 @@ pub fn print_closing<K: Sink>(
 ) -> Result<(), Status>
     ensures ok { OnOk result (K.held out.new ≡ after_known (K.held out.old) (closing meaning (sections_of plan.now) world.now.played)) }
     ensures err { IfErr result (λ status. IsUnwritten status (K.faults out.old) (K.faults out.new)) }
-    ensures front { OnErr result (Wrote (K.held out.old) (K.held out.new) (closing meaning (sections_of plan.now) world.now.played)) }
+    ensures front { IfErr result (λ status. Wrote status (K.held out.old) (K.held out.new) (closing meaning (sections_of plan.now) world.now.played)) }
     ensures later { K.faults out.old ≤ K.faults out.new }
 {
     print_export(alloc, plan.export(), world, out)?;
@@ -48,7 +48,7 @@ fn print_export<K: Sink>(
     ensures ok { OnOk result (K.held out.new ≡ after_known (K.held out.old)
         (cond wanted (export_section (union triple_cmp meaning world.now.played.records)) [])) }
     ensures err { IfErr result (λ status. IsUnwritten status (K.faults out.old) (K.faults out.new)) }
-    ensures front { OnErr result (Wrote (K.held out.old) (K.held out.new)
+    ensures front { IfErr result (λ status. Wrote status (K.held out.old) (K.held out.new)
         (cond wanted (export_section (union triple_cmp meaning world.now.played.records)) [])) }
     ensures later { K.faults out.old ≤ K.faults out.new }
 {
@@ -68,7 +68,7 @@ fn print_states<K: Sink>(
 ) -> Result<(), Status>
     ensures ok { OnOk result (K.held out.new ≡ after_known (K.held out.old) (cond wanted (state_section world.now.played.records) [])) }
     ensures err { IfErr result (λ status. IsUnwritten status (K.faults out.old) (K.faults out.new)) }
-    ensures front { OnErr result (Wrote (K.held out.old) (K.held out.new) (cond wanted (state_section world.now.played.records) [])) }
+    ensures front { IfErr result (λ status. Wrote status (K.held out.old) (K.held out.new) (cond wanted (state_section world.now.played.records) [])) }
     ensures later { K.faults out.old ≤ K.faults out.new }
 {
     if !wanted {
@@ -88,7 +88,7 @@ fn print_side<K: Sink>(
     ensures ok { OnOk result (K.held out.new ≡ after_known (K.held out.old)
         (cond wanted (side_section world.now.played.records world.now.played.side) [])) }
     ensures err { IfErr result (λ status. IsUnwritten status (K.faults out.old) (K.faults out.new)) }
-    ensures front { OnErr result (Wrote (K.held out.old) (K.held out.new)
+    ensures front { IfErr result (λ status. Wrote status (K.held out.old) (K.held out.new)
         (cond wanted (side_section world.now.played.records world.now.played.side) [])) }
     ensures later { K.faults out.old ≤ K.faults out.new }
 {
@@ -102,7 +102,7 @@ fn print_side<K: Sink>(
 fn print_all<K: Sink>(alloc: Global, triples: &[Triple], out: &mut K) -> Result<(), Status>
     ensures ok { OnOk result (K.held out.new ≡ after_known (K.held out.old) (export_section triples.now)) }
     ensures err { IfErr result (λ status. IsUnwritten status (K.faults out.old) (K.faults out.new)) }
-    ensures front { OnErr result (Wrote (K.held out.old) (K.held out.new) (export_section triples.now)) }
+    ensures front { IfErr result (λ status. Wrote status (K.held out.old) (K.held out.new) (export_section triples.now)) }
     ensures later { K.faults out.old ≤ K.faults out.new }
 {
     let head = export_line(alloc, triples.len())?;
@@ -126,7 +126,7 @@ fn export_line(alloc: Global, count: usize) -> Result<String, Status>
 fn print_triples<K: Sink>(alloc: Global, triples: &[Triple], out: &mut K) -> Result<(), Status>
     ensures ok { OnOk result (K.held out.new ≡ after_known (K.held out.old) (flat_map triple_text triples.now)) }
     ensures err { IfErr result (λ status. IsUnwritten status (K.faults out.old) (K.faults out.new)) }
-    ensures front { OnErr result (Wrote (K.held out.old) (K.held out.new) (flat_map triple_text triples.now)) }
+    ensures front { IfErr result (λ status. Wrote status (K.held out.old) (K.held out.new) (flat_map triple_text triples.now)) }
     ensures later { K.faults out.old ≤ K.faults out.new }
 {
     let mut line = Vec::new(alloc);
@@ -148,7 +148,7 @@ fn print_state_lines<K: Sink>(
     ensures ok { OnOk result (K.held out.new ≡ after_known (K.held out.old)
         (flat_map (λ x. state_line x (record_of world.now.played.records x).state) ids.now)) }
     ensures err { IfErr result (λ status. IsUnwritten status (K.faults out.old) (K.faults out.new)) }
-    ensures front { OnErr result (Wrote (K.held out.old) (K.held out.new)
+    ensures front { IfErr result (λ status. Wrote status (K.held out.old) (K.held out.new)
         (flat_map (λ x. state_line x (record_of world.now.played.records x).state) ids.now)) }
     ensures later { K.faults out.old ≤ K.faults out.new }
 {
@@ -164,7 +164,7 @@ fn print_entries<K: Sink>(alloc: Global, world: &World, out: &mut K) -> Result<(
     ensures ok { OnOk result (K.held out.new ≡ after_known (K.held out.old)
         (side_section world.now.played.records world.now.played.side)) }
     ensures err { IfErr result (λ status. IsUnwritten status (K.faults out.old) (K.faults out.new)) }
-    ensures front { OnErr result (Wrote (K.held out.old) (K.held out.new)
+    ensures front { IfErr result (λ status. Wrote status (K.held out.old) (K.held out.new)
         (side_section world.now.played.records world.now.played.side)) }
     ensures later { K.faults out.old ≤ K.faults out.new }
 {
@@ -185,7 +185,7 @@ fn print_entry<K: Sink>(
     ensures ok { OnOk result (IfSome (slice_get world.now.played.side place) (λ entry. K.held out.new
         ≡ after_known (K.held out.old) (entry_line (is_open_in world.now.played.records entry) entry))) }
     ensures err { IfErr result (λ status. IsUnwritten status (K.faults out.old) (K.faults out.new)) }
-    ensures front { OnErr result (IfSome (slice_get world.now.played.side place) (λ entry. Wrote (K.held out.old) (K.held out.new)
+    ensures front { IfErr result (λ status. IfSome (slice_get world.now.played.side place) (λ entry. Wrote status (K.held out.old) (K.held out.new)
         (entry_line (is_open_in world.now.played.records entry) entry))) }
     ensures later { K.faults out.old ≤ K.faults out.new }
 {
@@ -201,7 +201,7 @@ fn print_entry<K: Sink>(
 fn write_all<K: Sink>(bytes: &[u8], out: &mut K) -> Result<(), Status>
     ensures ok { OnOk result (K.held out.new ≡ after_known (K.held out.old) bytes.now) }
     ensures err { IfErr result (λ status. IsUnwritten status (K.faults out.old) (K.faults out.new)) }
-    ensures front { OnErr result (Wrote (K.held out.old) (K.held out.new) bytes.now) }
+    ensures front { IfErr result (λ status. Wrote status (K.held out.old) (K.held out.new) bytes.now) }
     ensures later { K.faults out.old ≤ K.faults out.new }
 {
     let mut rest = bytes;

@@ -5,7 +5,8 @@ use Rattle.rdf_term.specs.Order.{triple_cmp}
 use Rattle.replay_model.specs.Transcript.{export_section, side_section, state_section}
 use Rattle.replay_model.specs.Union.{union}
 use Rattle.world.specs.Meaning.{meaning}
-use Rattle.session.proofs.Parts.{after_thrice, after_twice, on_err_anyway, wrote_first, wrote_second}
+use Rattle.std.proofs.lemmas.Result.{err_from_is_err_and}
+use Rattle.session.proofs.Parts.{after_thrice, after_twice, wrote_first, wrote_second}
 use Rattle.session.proofs.printing.print_closing.Goals as goal
 
 pub returns-clause-ok : goal.returns-clause-ok
@@ -27,8 +28,9 @@ returns-in_err-print_export-clause-front g c =
     let exported : List ℕ = cond plan.export (export_section (union triple_cmp meaning world.records)) [] in
     let stated : List ℕ = cond plan.state (state_section world.records) [] in
     let named : List ℕ = cond plan.side (side_section world.records world.side) [] in
-    on_err_anyway _ (wrote_first (g.K.Sink.held c.args.out.now) (g.K.Sink.held c.print_export.new.out) (exported ++ stated) named
-    (wrote_first (g.K.Sink.held c.args.out.now) (g.K.Sink.held c.print_export.new.out) exported stated
+    let p = err_from_is_err_and c.from_residual.result c.from_residual.ensures.1 in
+    rw (p.1, p.2) (wrote_first _ (g.K.Sink.held c.args.out.now) (g.K.Sink.held c.print_export.new.out) (exported ++ stated) named
+    (wrote_first _ (g.K.Sink.held c.args.out.now) (g.K.Sink.held c.print_export.new.out) exported stated
     (rw c.export.ensures at c.in_err-print_export.ensures.front)))
 
 pub returns-in_err-print_states-clause-front : goal.returns-in_err-print_states-clause-front
@@ -38,8 +40,9 @@ returns-in_err-print_states-clause-front g c =
     let exported : List ℕ = cond plan.export (export_section (union triple_cmp meaning world.records)) [] in
     let stated : List ℕ = cond plan.state (state_section world.records) [] in
     let named : List ℕ = cond plan.side (side_section world.records world.side) [] in
-    on_err_anyway _ (wrote_first (g.K.Sink.held c.args.out.now) (g.K.Sink.held c.print_states.new.out) (exported ++ stated) named
-    (wrote_second (g.K.Sink.held c.args.out.now) (g.K.Sink.held c.print_export.new.out) (g.K.Sink.held c.print_states.new.out) exported stated
+    let p = err_from_is_err_and c.from_residual-in_err-print_states.result c.from_residual-in_err-print_states.ensures.1 in
+    rw (p.1, p.2) (wrote_first _ (g.K.Sink.held c.args.out.now) (g.K.Sink.held c.print_states.new.out) (exported ++ stated) named
+    (wrote_second _ (g.K.Sink.held c.args.out.now) (g.K.Sink.held c.print_export.new.out) (g.K.Sink.held c.print_states.new.out) exported stated
     (rw c.export.ensures at c.in_ok-print_export.ensures.ok)
     (rw c.state.ensures at c.in_err-print_states.ensures.front)))
 
@@ -54,5 +57,6 @@ returns-in_err-print_side-clause-front g c =
     (rw c.state.ensures at c.in_ok-print_states.ensures.ok)
     ∙ ap (λ h. after_known h stated) (rw c.export.ensures at c.in_ok-print_export.ensures.ok)
     ∙ after_twice (g.K.Sink.held c.args.out.now) exported stated in
-    on_err_anyway _ (wrote_second (g.K.Sink.held c.args.out.now) (g.K.Sink.held c.print_states.new.out) (g.K.Sink.held c.print_side.new.out) (exported ++ stated) named both
+    let p = err_from_is_err_and c.from_residual-in_err-print_side.result c.from_residual-in_err-print_side.ensures.1 in
+    rw (p.1, p.2) (wrote_second _ (g.K.Sink.held c.args.out.now) (g.K.Sink.held c.print_states.new.out) (g.K.Sink.held c.print_side.new.out) (exported ++ stated) named both
     (rw c.side.ensures at c.in_err-print_side.ensures.front))

@@ -1,12 +1,12 @@
 -- Over the ids of the records as over their entries.
 use Rattle.std.proofs.Common.{◌≡◌, ℕ, List, Option, flat_map, [], cond, true, sym, ap, ◌∙◌, arith}
 use Rattle.std.specs.FinMap as map
-use Rattle.std.proofs.lemmas.Result.{on_err_weaker, on_ok_weaker}
+use Rattle.std.proofs.lemmas.Result.{on_ok_weaker}
 use Rattle.wq_io.specs.Streams.{after_known}
 use Rattle.entity_model.specs.declared.id.EntityId.{EntityId}
 use Rattle.replay_model.specs.Records.{Records, record_of}
 use Rattle.replay_model.specs.Transcript.{state_line, state_section}
-use Rattle.session.proofs.Parts.{wrote_same}
+use Rattle.session.proofs.Parts.{at_err, wrote_same}
 use Rattle.session.proofs.States.{states_over_ids}
 use Rattle.session.proofs.printing.print_states.Goals as goal
 
@@ -29,6 +29,6 @@ returns-clause-front g c =
     let ids : c.as_slice.result.now ≡ map.keys records = c.as_slice.ensures ∙ c.in_ok-ids.ensures in
     let wanted : c.args.wanted ≡ true = grind arith in
     let same : cond c.args.wanted (state_section records) [] ≡ all c.as_slice.result.now = rw wanted (sym (ap all ids ∙ states_over_ids records)) in
-    on_err_weaker c.print_state_lines.result
-    (wrote_same (g.K.Sink.held c.args.out.now) (g.K.Sink.held c.print_state_lines.new.out) (all c.as_slice.result.now) (cond c.args.wanted (state_section records) []) same)
+    at_err _ _ c.print_state_lines.result
+    (λ status front. wrote_same status (g.K.Sink.held c.args.out.now) (g.K.Sink.held c.print_state_lines.new.out) (all c.as_slice.result.now) (cond c.args.wanted (state_section records) []) same front)
     c.print_state_lines.ensures.front

@@ -5,11 +5,11 @@ use Rattle.session.proofs.printing.write_all.Goals as goal
 
 pub returns-in-Err-Failed-clause-front : goal.returns-in-Err-Failed-clause-front
 returns-in-Err-Failed-clause-front g c =
-    wrote_so_far (g.K.Sink.held c.args.out.now) (g.K.Sink.held c.loop-rest.out) (g.K.Sink.held c.write.new.self) c.args.bytes.now c.loop-rest.rest.now c.loop-rest.invariant.2 c.in-Err-Failed.ensures.bytes
+    wrote_so_far _ (g.K.Sink.held c.args.out.now) (g.K.Sink.held c.loop-rest.out) (g.K.Sink.held c.write.new.self) c.args.bytes.now c.loop-rest.rest.now c.loop-rest.invariant.2 c.in-Err-Failed.ensures.bytes (grind arith)
 
 pub returns-in-Err-OutOfMemory-clause-front : goal.returns-in-Err-OutOfMemory-clause-front
 returns-in-Err-OutOfMemory-clause-front g c =
-    wrote_so_far (g.K.Sink.held c.args.out.now) (g.K.Sink.held c.loop-rest.out) (g.K.Sink.held c.write.new.self) c.args.bytes.now c.loop-rest.rest.now c.loop-rest.invariant.2 c.in-Err-OutOfMemory.ensures.bytes
+    wrote_so_far _ (g.K.Sink.held c.args.out.now) (g.K.Sink.held c.loop-rest.out) (g.K.Sink.held c.write.new.self) c.args.bytes.now c.loop-rest.rest.now c.loop-rest.invariant.2 c.in-Err-OutOfMemory.ensures.bytes (grind arith)
 
 pub loop-rest-init : goal.loop-rest-init
 loop-rest-init g c = (refl, omega arith, writing_nothing (g.K.Sink.held c.args.out.now) c.args.bytes.now)
