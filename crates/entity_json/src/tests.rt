@@ -66,6 +66,7 @@ Q1 ok {"entity":"Q1","redirect":"Q2"}
 Q1 ok {"type":7,"redirect":"Q0","redirect":"P4294967295","entity":"Q1"}
 Q1 Foreign {"entity":"Q2","redirect":"Q1"}
 Q1 Shape {"redirect":"Q2"}
+Q1 Shape {"entity":null,"redirect":"Q2"}
 Q1 Shape {"entity":"Q1","redirect":null,"type":"item","id":"Q1"}
 Q1 Shape {"entity":"Q1","redirect":"Q0"}
 Q1 Shape {"entity":"Q1","redirect":"Q02"}
@@ -79,6 +80,7 @@ Q1 Shape {"type":"item"}
 Q1 Shape {"type":"item","id":null}
 Q1 Shape {"type":"item","id":"Q01"}
 Q1 Shape {"id":"Q1"}
+Q1 Shape {"type":null,"id":"Q1"}
 Q1 Shape {"type":"Item","id":"Q1"}
 Q1 Shape {"type":"lexeme","id":"Q1"}
 P1 Shape {"type":"item","id":"P1"}
@@ -109,6 +111,8 @@ Q1 ok "labels":{"en":0,"en":{"language":"en","value":"a"}}
 Q1 Shape "labels":{"en":{"language":"en","value":"a"},"en":0}
 Q1 Shape "descriptions":null
 Q1 Shape "descriptions":{"en":[]}
+Q1 ok "descriptions":{"en":0,"en":{"language":"en","value":"a"}}
+Q1 Shape "descriptions":{"en":{"language":"en","value":"a"},"en":0}
 Q1 ok "aliases":{"en":[]}
 Q1 ok "aliases":{"en":[{"language":"en","value":"a"},{"language":"en","value":"a"}]}
 Q1 Shape "aliases":{"en":[{"language":"en","value":"a"},{"language":"en"}]}
@@ -123,6 +127,9 @@ Q1 Shape "claims":{"Q1":[]}
 Q1 Shape "claims":{"P01":[]}
 Q1 Shape "claims":{"P1":{}}
 Q1 ok "claims":{"P1":{},"P1":[]}
+Q1 ok "claims":{"P1":[{"rank":"normal","id":"x","mainsnak":{"snaktype":"novalue","property":"P1"}}]}
+Q1 Shape "claims":{"P1":[{"rank":"normal","id":"x"}]}
+Q1 Shape "claims":{"P1":["x"]}
 Q1 Shape "sitelinks":null
 Q1 ok "sitelinks":{"x":{"site":"enwiki","title":"A"}}
 Q1 ok "sitelinks":{"x":null,"x":{"site":"enwiki","title":"A","badges":[]}}
@@ -132,7 +139,8 @@ Q1 Shape "sitelinks":{"x":{"site":"enwiki","title":"A","badges":[1]}}
 Q1 Shape "sitelinks":{"x":{"site":"enwiki","title":"A","badges":null}}
 Q1 Shape "sitelinks":{"x":{"site":"enwiki","title":"A","badges":{}}}
 Q1 Shape "sitelinks":{"x":{"site":"enwiki"}}
-Q1 Shape "sitelinks":{"x":{"title":"A"}}"#;
+Q1 Shape "sitelinks":{"x":{"title":"A"}}
+Q1 Shape "sitelinks":{"x":{"site":null,"title":"A"}}"#;
 
 #[test]
 fn members(rt: HostRuntime) -> Result<(), Fail> {
@@ -143,6 +151,7 @@ const STATEMENTS: &str = r#"Q1 ok "rank":"normal","id":"Q1$a"
 Q1 ok "rank":"preferred","id":"x","qualifiers":[]
 Q1 ok "rank":"deprecated","id":"x","references":[],"qualifiers":{}
 Q1 Shape "id":"x"
+Q1 Shape "rank":null,"id":"x"
 Q1 Shape "rank":"best","id":"x"
 Q1 Shape "rank":"normal"
 Q1 Shape "rank":"normal","id":""
@@ -158,6 +167,8 @@ Q1 ok "rank":"normal","id":"x","qualifiers":{"P2":0,"P2":[]}
 Q1 Shape "rank":"normal","id":"x","references":null
 Q1 Shape "rank":"normal","id":"x","references":{}
 Q1 ok "rank":"normal","id":"x","references":[{"hash":"a"}]
+Q1 Shape "rank":"normal","id":"x","references":[{"hash":null}]
+Q1 Shape "rank":"normal","id":"x","references":["a"]
 Q1 ok "rank":"normal","id":"x","references":[{"hash":"0123456789abcdefghijklmnopqrstuvwxyzABCDEFGHIJKLMNOPQRSTUVWXYZ01","snaks":[]}]
 Q1 Shape "rank":"normal","id":"x","references":[{"hash":"0123456789abcdefghijklmnopqrstuvwxyzABCDEFGHIJKLMNOPQRSTUVWXYZ012"}]
 Q1 Shape "rank":"normal","id":"x","references":[{"hash":""}]
@@ -181,7 +192,9 @@ Q1 ok "snaktype":"novalue","property":"P1","datavalue":7
 Q1 Shape "snaktype":"value","property":"P1"
 Q1 Shape "snaktype":"Novalue","property":"P1"
 Q1 Shape "property":"P1"
+Q1 Shape "snaktype":null,"property":"P1"
 Q1 Shape "snaktype":"novalue"
+Q1 Shape "snaktype":"novalue","property":null
 Q1 Shape "snaktype":"novalue","property":"Q1"
 Q1 Shape "snaktype":"novalue","property":"P01"
 Q1 ok "snaktype":"novalue","property":"P1","datatype":""
@@ -263,6 +276,20 @@ fn large(rt: HostRuntime) -> Result<(), Fail> {
         page.resize(size, b' ')?;
         assert_eq!(rt; outcome(rt.alloc(), id, page.as_slice()), want, "at {size}");
     }
+    Ok(())
+}
+
+// To look each key up among all others would take 20 billion steps.
+#[test]
+fn many_keys(rt: HostRuntime) -> Result<(), Fail> {
+    let id = EntityId::read("Q1").ok_or("an id")?;
+    let mut page = String::from_str(rt.alloc(), "{\"type\":\"item\",\"id\":\"Q1\",\"aliases\":{")?;
+    for key in 0u32..200_000 {
+        let member = format!(in rt.alloc(); "\"k{key}\":[],")?;
+        page.push_str(member.as_str())?;
+    }
+    page.push_str("\"k\":[]}}")?;
+    assert_eq!(rt; outcome(rt.alloc(), id, page.as_bytes()), "ok");
     Ok(())
 }
 

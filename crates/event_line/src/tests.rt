@@ -78,8 +78,17 @@ fn causes(rt: HostRuntime) {
                 Some(LineCause::NotJson),
             ),
             (r#"{"kind":"\ud800"}"#, Some(LineCause::NotJson)),
+            (
+                r#"{"watermark":"2024-05-01T10:00:05Z","x":"\ud83d"}"#,
+                Some(LineCause::NotJson),
+            ),
+            (
+                r#"{"watermark":"2024-05-01T10:00:05Z","x":"\ud83d\ude00"}"#,
+                None,
+            ),
             (r#"{"kind":"edit","rev":01}"#, Some(LineCause::NotJson)),
             (r#"{"watermark":"","x":1e999}"#, Some(LineCause::NotJson)),
+            (r#"{"watermark":"2024-05-01T10:00:05Z","x":1e308}"#, None),
             ("7", Some(LineCause::NoForm)),
             (r#"["kind"]"#, Some(LineCause::NoForm)),
             ("{}", Some(LineCause::NoForm)),
@@ -126,6 +135,10 @@ fn causes(rt: HostRuntime) {
                 Some(LineCause::Mode),
             ),
             (
+                r#"{"kind":"reconcile","entity":"Q1","rev":5,"time":"2024-05-01T10:00:05Z","mode":7}"#,
+                Some(LineCause::Mode),
+            ),
+            (
                 r#"{"kind":"reconcile","entity":"Q1","rev":5,"time":"2024-05-01T10:00:05Z","mode":"kept"}"#,
                 None,
             ),
@@ -143,12 +156,19 @@ fn causes(rt: HostRuntime) {
             (r#"{"ask":null}"#, Some(LineCause::Pattern)),
         ],
     );
-    for line in [
-        &b"\xff"[..],
-        &b"{\"watermark\":\"2024-05-01T10:00:05Z\",\"x\":\"\xc3\"}"[..],
+    for (line, cause) in [
+        (&b"\xff"[..], Some(LineCause::NotJson)),
+        (
+            &b"{\"watermark\":\"2024-05-01T10:00:05Z\",\"x\":\"\xc3\"}"[..],
+            Some(LineCause::NotJson),
+        ),
+        (
+            &b"{\"watermark\":\"2024-05-01T10:00:05Z\",\"x\":\"\xc3\xa9\"}"[..],
+            None,
+        ),
     ] {
         let found = delivery(rt.alloc(), line).err();
-        assert_eq!(rt; found, Some(DeliveryFault::Bad(LineCause::NotJson)));
+        assert_eq!(rt; found, cause.map(DeliveryFault::Bad), "of {line:?}");
     }
 }
 
