@@ -19,8 +19,8 @@ struct BothWays {
     removes: List<Triple>,
 }
 
-/// The patch that leads from `old` to `new`. It compares each triple at most once with those of the other
-/// set around it, and copies those of the patch into memory of their own.
+/// The patch that leads from `old` to `new`, by one merge: it makes at most as many comparisons as the two have
+/// triples. The triples of the patch are in memory of their own.
 pub fn patch(alloc: Global, old: &TripleSet, new: &TripleSet) -> Result<Patch, OutOfMemory>
     ensures { IfOk result (λ patch. patch ≡ patch_between old.now new.now) }
 {

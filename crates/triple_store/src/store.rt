@@ -48,8 +48,8 @@ impl Store {
     }
 
     /// Raises the count of each triple that comes by one and lowers that of each triple that goes by one; a
-    /// triple whose count becomes 0 is no longer stored. After `OutOfMemory` nothing has changed. What goes
-    /// takes no memory.
+    /// triple whose count becomes 0 is no longer stored. After `OutOfMemory` nothing has changed. What goes takes
+    /// no memory. Each triple of the patch costs a few searches in the ordered triples.
     pub fn apply(&mut self, patch: &Patch) -> Result<(), OutOfMemory>
         // No triple both comes and goes.
         requires disjoint { (t : Triple) → has triple_cmp t patch.now.adds ≡ true → has triple_cmp t patch.now.removes ≡ false }
@@ -70,7 +70,7 @@ impl Store {
         Ok(())
     }
 
-    /// How many entities own the triple. It takes no memory and a search in the sorted triples.
+    /// How many entities own the triple: one search in the ordered triples, which takes no memory.
     pub fn count(&self, triple: &Triple) -> u64
         ensures count { result ≡ count_of self.now triple.now }
         ensures owned { HaveOwners self.now }
