@@ -1,0 +1,12 @@
+// The triples that come and those that go.
+
+use rdf_term::TripleSet;
+
+/// What changes from one set of triples to another.
+#[derive(Debug, Drop)]
+pub struct Patch {
+    /// The triples that come.
+    pub adds: TripleSet,
+    /// The triples that go.
+    pub removes: TripleSet,
+}
