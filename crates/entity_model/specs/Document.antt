@@ -1,5 +1,5 @@
 -- Which documents are small: those that a page of the allowed size can have.
-use Rattle.std.specs.Prelude.{ℕ, ◌+◌, ◌≤◌, length}
+use Rattle.std.specs.Prelude.{◌+◌, ◌≤◌, length}
 use Rattle.std.specs.List.{All}
 use Rattle.entity_model.specs.declared.value.Tagged.{Tagged}
 use Rattle.entity_model.specs.declared.entity.Link.{Link}

@@ -1,5 +1,5 @@
 -- Which snaks are small: those that a page of the allowed size can have.
-use Rattle.std.specs.Prelude.{ℕ, ◌≤◌, length}
+use Rattle.std.specs.Prelude.{◌≤◌, length}
 use Rattle.entity_model.specs.declared.snak.Content.{Content}
 use Rattle.entity_model.specs.declared.snak.Content.TheVariants.{Value, NoValue, SomeValue}
 use Rattle.entity_model.specs.declared.snak.Snak.{Snak}

@@ -1,5 +1,5 @@
 -- Which statements are small: those that a page of the allowed size can have.
-use Rattle.std.specs.Prelude.{◌≡◌, ℕ, ◌≤◌, true, length}
+use Rattle.std.specs.Prelude.{◌≡◌, ◌≤◌, true, length}
 use Rattle.std.specs.List.{All}
 use Rattle.entity_model.specs.declared.statement.Reference.{Reference}
 use Rattle.entity_model.specs.declared.statement.Statement.{Statement}

@@ -1,6 +1,6 @@
 -- The triples of a small document have fit and short terms.
 use Rattle.std.proofs.Common.{◌≡◌, ℕ, ◌+◌, ◌≤◌, Bool, true, false, cond, List, [], ◌∷◌, ◌++◌, length, decimal, Option, Some, None, refl, arith}
-use Rattle.std.specs.List.{All, AllByRecursion, flat_map}
+use Rattle.std.specs.List.{AllByRecursion, flat_map}
 use Rattle.std.proofs.lemmas.List.Elements.{recursion_from_All}
 use Rattle.rising.specs.Rising.{sorted}
 use Rattle.rdf_term.specs.declared.term.Term.{Term}
@@ -34,9 +34,9 @@ use Rattle.statement_rdf.specs.Ranking.{is_best}
 use Rattle.statement_rdf.proofs.NamesFit.{id_term_fit, decimal_short}
 use Rattle.statement_rdf.proofs.Fit.{statement_triples_fit}
 use Rattle.entity_rdf.specs.About.{alias_triples, change_triples, class_of, class_triples, dataset_term, dataset_triples, description_triples, entity_term, format_version, identifiers, label_triples, link_count, number_term, number_triples, page_triples, text_term}
-use Rattle.entity_rdf.specs.Property.{datatype_triples, is_datatype_char, other_predicates, predicate_triple, property_triples, property_triples_of, type_name, type_triples, value_predicates}
+use Rattle.entity_rdf.specs.Property.{datatype_triples, is_datatype_char, other_predicates, predicate_triple, property_triples, property_triples_of, type_name, value_predicates}
 use Rattle.entity_rdf.specs.Statements.{judged_triples, statements_triples}
-use Rattle.entity_rdf.specs.Dump.{dump, entity_triples, redirect_triples, spoken_triples, text_triples}
+use Rattle.entity_rdf.specs.Dump.{dump, spoken_triples, text_triples}
 use Rattle.sitelinks.specs.Article.{article_triples}
 use Rattle.sitelinks.proofs.Fit.{article_triples_fit}
 use Rattle.munger.proofs.Fit.{sorted_each}

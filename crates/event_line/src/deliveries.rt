@@ -4,17 +4,19 @@ ghost use Rattle.std.specs.Prelude.{◌≡◌};
 ghost use Rattle.event_line.specs.declared.deliveries.DeliveryFault.TheVariants.{Bad as Refused, OutOfMemory as NoMemory};
 
 use entity_model::Event;
-use rdf_term::OutOfMemory;
+use rdf_term::{OutOfMemory, Pattern};
 use thiserror::Error;
 
 /// What one line of an event file delivers.
-#[derive(Clone, Copy, PartialEq, Eq, Debug)]
+#[derive(Debug, Drop)]
 pub enum Delivery {
     /// An event of an entity's page.
     Event(Event),
     /// From here on, events up to this time are not expected any more. The time is in microseconds
     /// since 1970-01-01T00:00:00Z.
     Watermark(i64),
+    /// A question: which of the triples at this point agree with the pattern?
+    Ask(Pattern),
 }
 
 /// Why a line delivers nothing. The causes after the first are in the order in which they are looked for.

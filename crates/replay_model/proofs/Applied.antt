@@ -7,7 +7,7 @@ use Rattle.entity_model.specs.declared.event.Event.{Event}
 use Rattle.entity_model.specs.Event.{event_cmp, event_cmp_total, event_cmp_same}
 use Rattle.side_output.specs.declared.entry.Entry.TheVariants.{Late as LateEntry}
 use Rattle.event_line.specs.declared.deliveries.Delivery.{Delivery}
-use Rattle.event_line.specs.declared.deliveries.Delivery.TheVariants.{Event as Told, Watermark}
+use Rattle.event_line.specs.declared.deliveries.Delivery.TheVariants.{Event as Told, Watermark, Ask}
 use Rattle.reorder_buffer.specs.declared.taken.Taken.TheVariants.{New, Repeat, Late}
 use Rattle.reorder_buffer.specs.Watermarks.{reached, is_due}
 use Rattle.reorder_buffer.specs.Buffered.{first_due}
@@ -61,6 +61,9 @@ accepted_not_late q = by_pushes (λ ds. has event_cmp q (accepted ds) ≡ true �
     step ds (Watermark w) before h =
         ap (has event_cmp q) (events_passing-kept is_late ds (Watermark w) refl)
         ∙ before (sym (ap (has event_cmp q) (events_passing-kept is_accepted ds (Watermark w) refl)) ∙ h)
+    step ds (Ask a) before h =
+        ap (has event_cmp q) (events_passing-kept is_late ds (Ask a) refl)
+        ∙ before (sym (ap (has event_cmp q) (events_passing-kept is_accepted ds (Ask a) refl)) ∙ h)
 
 -- ---- the state after a list of deliveries
 

@@ -51,3 +51,7 @@ due-told ds e =
 -- the mark after a watermark
 pub mark-watermark : (ds : List Delivery) (w : ℤ) → mark (ds ++ Watermark w ∷ []) ≡ greater (mark ds) w
 mark-watermark ds w = mark-push ds (Watermark w)
+
+-- a delivery that is neither an event nor a watermark leaves what is due
+pub due-kept : (closed : Bool) (ds : List Delivery) (d : Delivery) → event_of d ≡ None → watermark_of d ≡ None → due closed (ds ++ d ∷ []) ≡ due closed ds
+due-kept closed ds d no_event no_watermark = λ i. filter (is_due closed (mark-kept ds d no_watermark i)) (events_passing-kept is_accepted ds d no_event i)

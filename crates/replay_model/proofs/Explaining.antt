@@ -6,8 +6,9 @@ use Rattle.entity_model.specs.declared.event.Event.{Event}
 use Rattle.entity_model.specs.Event.{event_cmp, event_cmp_total, event_cmp_same}
 use Rattle.side_output.specs.declared.entry.Cause.{Cause}
 use Rattle.side_output.specs.declared.entry.Cause.TheVariants.{Failed}
+use Rattle.rdf_term.specs.declared.triple.Pattern.{Pattern}
 use Rattle.event_line.specs.declared.deliveries.Delivery.{Delivery}
-use Rattle.event_line.specs.declared.deliveries.Delivery.TheVariants.{Event as Told, Watermark}
+use Rattle.event_line.specs.declared.deliveries.Delivery.TheVariants.{Event as Told, Watermark, Ask}
 use Rattle.reorder_buffer.specs.Watermarks.{is_due}
 use Rattle.reorder_buffer.specs.Buffered.{answer_to, first_due}
 use Rattle.rising.specs.Rising.{has}
@@ -123,6 +124,21 @@ module _ (unfit : Judgement) (told : Option (ℕ → Option Bytes)) where
     pub mark_replies : (m : ℤ) → (Explained-mark m).replies ≡ x.replies
     unfolding Explained-mark
     mark_replies m = refl
+
+    -- a question is asked, which changes nothing
+    pub Explained-ask : (q : Pattern) → ExplainedAfter unfit told (ds ++ Ask q ∷ []) made w
+    Explained-ask q = record {
+      replies = x.replies;
+      rises = x.rises;
+      within = x.within;
+      not_late = x.not_late;
+      leads = λ others agree. x.leads others agree ∙ sym (following-delivered others ds (Ask q));
+      counts = λ others agree.
+          let all : length (fetches others (ds ++ Ask q ∷ [])) ≡ length (fetches others ds) = ap length (fetches-delivered others ds (Ask q) ∙ append-nil (fetches others ds)) in
+          omega (arith, x.counts others agree);
+      honest = x.honest;
+      failed_applied = x.failed_applied;
+    }
 
     -- the end is taken
     pub Explained-end : ExplainedToEnd unfit told ds made (after_end w)

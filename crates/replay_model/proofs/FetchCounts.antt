@@ -2,7 +2,7 @@
 use Rattle.std.proofs.Common.{◌≡◌, ℕ, ◌<◌, Bool, true, false, cond, min, ◌^◌, ◌-◌, ◌+◌, List, [], ◌∷◌, ◌++◌, None, Some, refl, ◌∙◌, ap, arith}
 use Rattle.entity_model.specs.declared.event.Event.{Event}
 use Rattle.event_line.specs.declared.deliveries.Delivery.{Delivery}
-use Rattle.event_line.specs.declared.deliveries.Delivery.TheVariants.{Event as Told, Watermark}
+use Rattle.event_line.specs.declared.deliveries.Delivery.TheVariants.{Event as Told, Watermark, Ask}
 use Rattle.reorder_buffer.specs.Watermarks.{is_due}
 use Rattle.reorder_buffer.specs.Buffered.{first_due}
 use Rattle.rising.proofs.FirstPassing.{filter-first, filter-none}
@@ -28,6 +28,7 @@ fetches_due-none replies w none = ap (fetches_of_all replies w.played) (filter-n
 -- after one more delivery
 pub fetches-delivered : (replies : Replies) (ds : List Delivery) (d : Delivery) → fetches replies (ds ++ d ∷ []) ≡ fetches replies ds ++ fetches_delivered replies (following replies ds) d
 fetches-delivered replies ds (Told e) = fetches-push replies ds (Told e)
+fetches-delivered replies ds (Ask q) = fetches-push replies ds (Ask q)
 fetches-delivered replies ds (Watermark w) = fetches-push replies ds (Watermark w) ∙ ap (λ es. fetches replies ds ++ fetches_of_all replies (play replies ds) es) (newly_due-watermark ds w)
 
 -- after the end

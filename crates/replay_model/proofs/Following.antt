@@ -5,7 +5,7 @@ use Rattle.entity_model.specs.declared.event.Event.{Event}
 use Rattle.entity_model.specs.Event.{event_cmp_total, event_cmp_same}
 use Rattle.side_output.specs.declared.entry.Entry.TheVariants.{Late as LateEntry}
 use Rattle.event_line.specs.declared.deliveries.Delivery.{Delivery}
-use Rattle.event_line.specs.declared.deliveries.Delivery.TheVariants.{Event as Told, Watermark}
+use Rattle.event_line.specs.declared.deliveries.Delivery.TheVariants.{Event as Told, Watermark, Ask}
 use Rattle.reorder_buffer.specs.declared.taken.Taken.{Taken}
 use Rattle.reorder_buffer.specs.declared.taken.Taken.TheVariants.{New, Repeat, Late}
 use Rattle.reorder_buffer.specs.Watermarks.{greater, reached, is_due}
@@ -132,6 +132,12 @@ following-end replies ds =
 pub following-delivered : (replies : Replies) (ds : List Delivery) (d : Delivery) → following replies (ds ++ d ∷ []) ≡ delivered replies (following replies ds) d
 following-delivered replies ds (Told e) = following-told replies ds e
 following-delivered replies ds (Watermark w) = following-watermark replies ds w
+following-delivered replies ds (Ask q) =
+    same_parts false
+    (ap in_order (events-kept ds (Ask q) refl))
+    (λ i. in_order (filter (waits (mark-kept ds (Ask q) refl i)) (events_passing-kept is_accepted ds (Ask q) refl i)))
+    (mark-kept ds (Ask q) refl)
+    (play-push replies ds (Ask q))
 
 -- ---- one due event after the other
 

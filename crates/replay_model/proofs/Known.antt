@@ -13,7 +13,7 @@ use Rattle.entity_model.specs.Event.{event_cmp, event_cmp_total, event_cmp_same}
 use Rattle.entity_state.specs.declared.state.State.{State}
 use Rattle.entity_state.specs.State.{state_after, after_kind, unknown}
 use Rattle.event_line.specs.declared.deliveries.Delivery.{Delivery}
-use Rattle.event_line.specs.declared.deliveries.Delivery.TheVariants.{Event as Told, Watermark}
+use Rattle.event_line.specs.declared.deliveries.Delivery.TheVariants.{Event as Told, Watermark, Ask}
 use Rattle.reorder_buffer.specs.Watermarks.{reached, is_due}
 use Rattle.rising.specs.Rising.{has}
 use Rattle.rising.proofs.Bools.{equal, or_none, or_true, or_false_left, or_false_right}
@@ -140,6 +140,11 @@ has-events q = by_pushes (λ ds. has event_cmp q (events ds) ≡ (has event_cmp 
         ∙ before
         ∙ sym (ap (λ b. b || has event_cmp q (accepted (ds ++ Watermark w ∷ []))) (ap (has event_cmp q) (events_passing-kept is_late ds (Watermark w) refl))
         ∙ ap (λ b. has event_cmp q (late ds) || b) (ap (has event_cmp q) (events_passing-kept is_accepted ds (Watermark w) refl)))
+    step ds (Ask a) before =
+        ap (has event_cmp q) (events-kept ds (Ask a) refl)
+        ∙ before
+        ∙ sym (ap (λ b. b || has event_cmp q (accepted (ds ++ Ask a ∷ []))) (ap (has event_cmp q) (events_passing-kept is_late ds (Ask a) refl))
+        ∙ ap (λ b. has event_cmp q (late ds) || b) (ap (has event_cmp q) (events_passing-kept is_accepted ds (Ask a) refl)))
 
 -- the mark has reached each late event
 late_reached : (q : Event) (ds : List Delivery) → has event_cmp q (late ds) ≡ true → reached (mark ds) q.time ≡ true
@@ -163,6 +168,9 @@ late_reached q = by_pushes (λ ds. has event_cmp q (late ds) ≡ true → reache
     step ds (Watermark w) before h =
         ap (λ m. reached m q.time) (mark-watermark ds w)
         ∙ reached-greater (mark ds) w q.time (before (sym (ap (has event_cmp q) (events_passing-kept is_late ds (Watermark w) refl)) ∙ h))
+    step ds (Ask a) before h =
+        ap (λ m. reached m q.time) (mark-kept ds (Ask a) refl)
+        ∙ before (sym (ap (has event_cmp q) (events_passing-kept is_late ds (Ask a) refl)) ∙ h)
 
 distributed : (p a b : Bool) → (a ≡ true → p ≡ true) → (p && (a || b)) ≡ (a || (p && b))
 distributed true a b h = refl

@@ -9,7 +9,7 @@ use Rattle.side_output.specs.declared.entry.Cause.{Cause}
 use Rattle.side_output.specs.declared.entry.Entry.{Entry}
 use Rattle.side_output.specs.declared.entry.Entry.TheVariants.{Late}
 use Rattle.event_line.specs.declared.deliveries.Delivery.{Delivery}
-use Rattle.event_line.specs.declared.deliveries.Delivery.TheVariants.{Event as Told, Watermark}
+use Rattle.event_line.specs.declared.deliveries.Delivery.TheVariants.{Event as Told, Watermark, Ask}
 use Rattle.rising.proofs.Pushes.{by_pushes}
 use Rattle.replay_model.specs.Acceptance.{is_late, late}
 use Rattle.replay_model.specs.Records.{Bytes, record_of, wants}
@@ -49,6 +49,7 @@ late-happens replies ds (Told e) p before =
     one : (b : Bool) → late_events (cond b (Late e ∷ []) []) ≡ cond b (e ∷ []) []
     one true = refl
     one false = refl
+late-happens replies ds (Ask q) p before = before ∙ sym (events_passing-kept is_late ds (Ask q) refl)
 late-happens replies ds (Watermark w) p before = late-apply_all replies p (newly_due ds false (ds ++ Watermark w ∷ [])) ∙ before ∙ sym (events_passing-kept is_late ds (Watermark w) refl)
 
 late-play : (replies : Replies) (ds : List Delivery) → late_events (play replies ds).side ≡ late ds

@@ -4,14 +4,14 @@ use Rattle.std.specs.FinMap as map
 use Rattle.std.proofs.lemmas.List.Sums.{fold-append}
 use Rattle.entity_model.specs.declared.event.Event.{Event}
 use Rattle.event_line.specs.declared.deliveries.Delivery.{Delivery}
-use Rattle.event_line.specs.declared.deliveries.Delivery.TheVariants.{Event as Told, Watermark}
+use Rattle.event_line.specs.declared.deliveries.Delivery.TheVariants.{Event as Told, Watermark, Ask}
 use Rattle.rising.proofs.Pushes.{by_pushes}
 use Rattle.replay_model.specs.Acceptance.{due}
 use Rattle.replay_model.specs.Fate.{in_order}
 use Rattle.replay_model.specs.Records.{Records}
 use Rattle.replay_model.specs.Play.{Replies, Played, records_after, apply, apply_all, newly_due, happens, play, played}
 use Rattle.replay_model.proofs.Arrivals.{play-push}
-use Rattle.replay_model.proofs.Deliveries.{due-told}
+use Rattle.replay_model.proofs.Deliveries.{due-told, due-kept}
 use Rattle.replay_model.proofs.DueParts.{due-watermark, due-end}
 
 pub records-apply_all : (replies : Replies) (p : Played) (es : List Event) → (apply_all replies p es).records ≡ fold (records_after replies) p.records es
@@ -31,6 +31,7 @@ records-more replies p es fs gs before parts =
 
 records-delivery : (replies : Replies) (ds : List Delivery) (d : Delivery) → (play replies ds).records ≡ records_of replies (in_order (due false ds)) → (happens replies ds d (play replies ds)).records ≡ records_of replies (in_order (due false (ds ++ d ∷ [])))
 records-delivery replies ds (Told e) before = before ∙ ap (λ l. records_of replies (in_order l)) (sym (due-told ds e))
+records-delivery replies ds (Ask q) before = before ∙ ap (λ l. records_of replies (in_order l)) (sym (due-kept false ds (Ask q) refl refl))
 records-delivery replies ds (Watermark w) before = records-more replies (play replies ds) (in_order (due false ds)) (newly_due ds false (ds ++ Watermark w ∷ [])) _ before (due-watermark ds w)
 
 records-play : (replies : Replies) (ds : List Delivery) → (play replies ds).records ≡ records_of replies (in_order (due false ds))

@@ -13,7 +13,7 @@ use Rattle.side_output.specs.declared.entry.Cause.TheVariants.{Failed}
 use Rattle.side_output.specs.declared.entry.Entry.{Entry}
 use Rattle.side_output.specs.declared.entry.Entry.TheVariants.{Late}
 use Rattle.event_line.specs.declared.deliveries.Delivery.{Delivery}
-use Rattle.event_line.specs.declared.deliveries.Delivery.TheVariants.{Event as Told, Watermark}
+use Rattle.event_line.specs.declared.deliveries.Delivery.TheVariants.{Event as Told, Watermark, Ask}
 use Rattle.rising.specs.Rising.{has, Each}
 use Rattle.rising.proofs.Pushes.{by_pushes}
 use Rattle.replay_model.specs.Acceptance.{is_late, due}
@@ -98,6 +98,7 @@ module _ (unfit : Judgement) (contents : ℕ → Option Bytes) (failed : List Ev
 
   told-happens : (ds : List Delivery) (d : Delivery) (p : Played) → AllTold p.side → AllTold (happens (source_replies unfit contents failed) ds d p).side
   told-happens ds (Told e) p before = Each-append (TellsWhatIsThere unfit contents failed) p.side (cond (is_late ds e) (Late e ∷ []) []) before (elim (is_late ds e) as (λ b. AllTold (cond b (Late e ∷ []) [])) [ true ↦ (tt, tt) | false ↦ tt ])
+  told-happens ds (Ask q) p before = before
   told-happens ds (Watermark w) p before = told-apply_all p (newly_due ds false (ds ++ Watermark w ∷ [])) before
 
   told-play : (ds : List Delivery) → AllTold (play (source_replies unfit contents failed) ds).side

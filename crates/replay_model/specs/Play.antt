@@ -15,7 +15,7 @@ use Rattle.side_output.specs.declared.entry.Cause.{Cause}
 use Rattle.side_output.specs.declared.entry.Entry.{Entry}
 use Rattle.side_output.specs.declared.entry.Entry.TheVariants.{Late, Revision}
 use Rattle.event_line.specs.declared.deliveries.Delivery.{Delivery}
-use Rattle.event_line.specs.declared.deliveries.Delivery.TheVariants.{Event as Told, Watermark}
+use Rattle.event_line.specs.declared.deliveries.Delivery.TheVariants.{Event as Told, Watermark, Ask}
 use Rattle.reorder_buffer.specs.Watermarks.{is_due}
 use Rattle.replay_model.specs.Acceptance.{Arrival, arrivals, mark, is_late, due}
 use Rattle.replay_model.specs.Fate.{in_order}
@@ -96,6 +96,7 @@ newly_due before closed after = in_order (filter (λ e. not (is_due false (mark 
 abbrev pub happens : Replies → List Delivery → Delivery → Played → Played
 happens replies before (Told e) p = record { records = p.records; side = p.side ++ cond (is_late before e) (Late e ∷ []) [] }
 happens replies before (Watermark w) p = apply_all replies p (newly_due before false (before ++ Watermark w ∷ []))
+happens replies before (Ask q) p = p
 
 -- the replay of the deliveries
 abbrev pub play : Replies → List Delivery → Played

@@ -4,7 +4,7 @@ use Rattle.entity_model.specs.declared.event.Event.{Event}
 use Rattle.side_output.specs.declared.entry.Entry.{Entry}
 use Rattle.side_output.specs.declared.entry.Entry.TheVariants.{Late as LateEntry}
 use Rattle.event_line.specs.declared.deliveries.Delivery.{Delivery}
-use Rattle.event_line.specs.declared.deliveries.Delivery.TheVariants.{Event as Told, Watermark}
+use Rattle.event_line.specs.declared.deliveries.Delivery.TheVariants.{Event as Told, Watermark, Ask}
 use Rattle.reorder_buffer.specs.declared.taken.Taken.{Taken}
 use Rattle.reorder_buffer.specs.declared.taken.Taken.TheVariants.{New, Repeat, Late}
 use Rattle.reorder_buffer.specs.Watermarks.{is_due}
@@ -74,11 +74,13 @@ after_due replies w = record { buffer = record w.buffer { waiting = not_due w.bu
 abbrev pub entered : ReplayState → Delivery → ReplayState
 entered w (Told e) = after_event w e
 entered w (Watermark m) = after_mark w m
+entered w (Ask q) = w
 
 -- after a delivery: an event is taken, and after a watermark what is due is applied
 abbrev pub delivered : Replies → ReplayState → Delivery → ReplayState
 delivered replies w (Told e) = after_event w e
 delivered replies w (Watermark m) = after_due replies (after_mark w m)
+delivered replies w (Ask q) = w
 
 -- after the end of the input, which makes every event due
 abbrev pub ended : Replies → ReplayState → ReplayState
@@ -120,3 +122,4 @@ fetches_due replies w = fetches_of_all replies w.played (due_now w.buffer)
 abbrev pub fetches_delivered : Replies → ReplayState → Delivery → List Fetch
 fetches_delivered replies w (Told e) = []
 fetches_delivered replies w (Watermark m) = fetches_due replies (after_mark w m)
+fetches_delivered replies w (Ask q) = []

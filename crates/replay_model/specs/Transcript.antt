@@ -1,9 +1,12 @@
 -- What a replay prints: an answer at each delivery that asks, and the closing sections.
-use Rattle.std.specs.Prelude.{ℕ, Bool, true, false, cond, List, [], ◌++◌, flat_map, length, decimal, codes}
+use Rattle.std.specs.Prelude.{ℕ, ◌+◌, Bool, true, false, ◌&&◌, cond, List, [], ◌++◌, Option, None, Some, filter, filter_map, flat_map, length, decimal, codes}
+use Rattle.std.specs.Ordering.{eq_by_cmp}
+use Rattle.rdf_term.specs.declared.term.Term.{Term}
+use Rattle.rdf_term.specs.declared.triple.Pattern.{Pattern}
 use Rattle.std.specs.FinMap as map
 use Rattle.std.specs.Fmt.{signed_decimal}
 use Rattle.rdf_term.specs.declared.triple.Triple.{Triple}
-use Rattle.rdf_term.specs.Order.{triple_cmp}
+use Rattle.rdf_term.specs.Order.{term_cmp, triple_cmp}
 use Rattle.rdf_term.specs.Text.{triple_text}
 use Rattle.entity_model.specs.declared.id.EntityId.{EntityId}
 use Rattle.entity_model.specs.declared.event.Event.{Event}
@@ -20,9 +23,10 @@ use Rattle.side_output.specs.declared.entry.Cause.TheVariants.{Missing, Failed, 
 use Rattle.side_output.specs.declared.entry.Entry.{Entry}
 use Rattle.side_output.specs.declared.entry.Entry.TheVariants.{Late, Revision}
 use Rattle.event_line.specs.declared.deliveries.Delivery.{Delivery}
+use Rattle.event_line.specs.declared.deliveries.Delivery.TheVariants.{Ask}
 use Rattle.replay_model.specs.Acceptance.{Arrival, arrivals}
 use Rattle.replay_model.specs.Entries.{entity_of, is_open_in}
-use Rattle.replay_model.specs.Play.{Replies, Played, play_to_end}
+use Rattle.replay_model.specs.Play.{Replies, Played, play, play_to_end}
 use Rattle.replay_model.specs.Records.{Records}
 use Rattle.replay_model.specs.Union.{Meaning, union}
 
@@ -39,6 +43,36 @@ export_head count = codes "# export: " ++ decimal count ++ codes " triples\n"
 -- the section of an export: its head, and the line of each triple
 abbrev pub export_section : List Triple → List ℕ
 export_section triples = export_head (length triples) ++ flat_map triple_text triples
+
+-- the line `# ask <n>: <count> triples`
+unfoldable pub ask_head : ℕ → ℕ → List ℕ
+ask_head n count = codes "# ask " ++ decimal n ++ codes ": " ++ decimal count ++ codes " triples\n"
+
+-- the answer to the n-th ask: its head, and the line of each triple
+abbrev pub ask_section : ℕ → List Triple → List ℕ
+ask_section n triples = ask_head n (length triples) ++ flat_map triple_text triples
+
+-- whether a term is the one that is asked for, if one is
+abbrev pub agrees_with : Option Term → Term → Bool
+agrees_with None term = true
+agrees_with (Some asked) term = eq_by_cmp term_cmp asked term
+
+-- whether the triple agrees with the pattern in each place
+abbrev pub agrees : Pattern → Triple → Bool
+agrees pattern triple = agrees_with pattern.subject triple.subject && (agrees_with pattern.predicate triple.predicate && agrees_with pattern.object triple.object)
+
+-- the triples that agree with the pattern, in their order
+abbrev pub rows : List Triple → Pattern → List Triple
+rows triples pattern = filter (agrees pattern) triples
+
+-- the pattern that a delivery asks for
+abbrev pub pattern_of : Delivery → Option Pattern
+pattern_of (Ask pattern) = Some pattern
+pattern_of _ = None
+
+-- how many asks were delivered
+abbrev pub asks : List Delivery → ℕ
+asks ds = length (filter_map pattern_of ds)
 
 -- the line `# state <id> <word> <revision>`
 unfoldable pub stated_line : EntityId → List ℕ → ℕ → List ℕ
@@ -112,9 +146,14 @@ abbrev pub side_section : Records → List Entry → List ℕ
 side_section records side = flat_map (λ entry. entry_line (is_open_in records entry) entry) side
 
 module _ (meaning : Meaning Triple) where
-  -- what is printed at a delivery: nothing, as no delivery asks yet
+  -- the answer to an ask, after the deliveries before it
+  abbrev pub answer_said : Replies → List Delivery → Option Pattern → List ℕ
+  answer_said replies before None = []
+  answer_said replies before (Some pattern) = ask_section (asks before + 1) (rows (union triple_cmp meaning (play replies before).records) pattern)
+
+  -- what is printed at a delivery: the answer, if it asks
   abbrev pub said_at : Replies → Arrival → List ℕ
-  said_at replies a = []
+  said_at replies a = answer_said replies a.before (pattern_of a.delivery)
 
   -- what is printed at the deliveries
   abbrev pub said : Replies → List Delivery → List ℕ

@@ -5,6 +5,7 @@ ghost use Rattle.rising.specs.Rising.{Each};
 ghost use Rattle.entity_model.specs.declared.event.Event.{Event};
 ghost use Rattle.entity_model.specs.declared.id.EntityId.{EntityId};
 ghost use Rattle.side_output.specs.declared.entry.Cause.{Cause};
+ghost use Rattle.rdf_term.specs.declared.triple.Pattern.{Pattern};
 ghost use Rattle.event_line.specs.declared.deliveries.Delivery.{Delivery};
 ghost use Rattle.reorder_buffer.specs.Buffered.{first_due};
 ghost use Rattle.replay_model.specs.Records.{Bytes, record_of};
@@ -44,6 +45,9 @@ pub fn replay_over_source_is_a_play()
     ensures watermark { (unfit : Judgement) (told : Option (ℕ → Option Bytes)) (ds : List Delivery) (made : ℕ) (w : ReplayState) →
         ExplainedAfter unfit told ds made w → first_due w.buffer ≡ None →
         (m : ℤ) → ExplainedAfter unfit told (ds ++ Delivery.Watermark m ∷ []) made (after_mark w m) }
+    ensures ask { (unfit : Judgement) (told : Option (ℕ → Option Bytes)) (ds : List Delivery) (made : ℕ) (w : ReplayState) →
+        ExplainedAfter unfit told ds made w → first_due w.buffer ≡ None →
+        (q : Pattern) → ExplainedAfter unfit told (ds ++ Delivery.Ask q ∷ []) made w }
     ensures the_end { (unfit : Judgement) (told : Option (ℕ → Option Bytes)) (ds : List Delivery) (made : ℕ) (w : ReplayState) →
         ExplainedAfter unfit told ds made w → first_due w.buffer ≡ None → ExplainedToEnd unfit told ds made (after_end w) }
 

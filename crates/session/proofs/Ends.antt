@@ -1,5 +1,5 @@
 -- What a world at rest and at the end shows.
-use Rattle.std.proofs.Common.{refl, sym, subst, ◌∙◌, ap, ◌≡◌, ℕ, ◌-◌, ◌^◌, ◌<◌, length, arith, true, false, not, List, [], ◌∷◌, ◌++◌, Option, None, Some, IfSome, Result, Ok, Err, IfErr, OnErr, inl, inr}
+use Rattle.std.proofs.Common.{refl, sym, subst, ◌∙◌, ap, ◌≡◌, ℕ, ◌-◌, ◌^◌, ◌<◌, length, arith, true, false, not, List, [], ◌∷◌, ◌++◌, Option, None, Some, IfSome, Result, Ok, Err, IfErr, inl, inr}
 use Rattle.std.specs.List.{flat_map}
 use Rattle.rising.specs.Rising.{Each}
 use Rattle.wq_io.specs.Streams.{after_known}

@@ -8,7 +8,7 @@ use Rattle.std.proofs.lemmas.List.{length-drop, take-append-drop}
 use Rattle.wq_io.specs.Streams.{after_known}
 use Rattle.session.specs.Printing.{Wrote}
 use Rattle.session.specs.declared.status.Status.{Status}
-use Rattle.session.specs.declared.status.Status.TheVariants.{OutOfMemory, WriteFault}
+use Rattle.session.specs.declared.status.Status.TheVariants.{OutOfMemory}
 
 -- two parts, one after the other
 pub after_twice : (held : Option (List ℕ)) (first second : List ℕ) → after_known (after_known held first) second ≡ after_known held (first ++ second)

@@ -2,8 +2,8 @@
 use Rattle.std.proofs.Common.{refl, sym, ◌∙◌, ap, ◌≡◌, ◌↔◌, ℕ, ◌+◌, ◌<◌, ◌≤◌, Bool, true, false, List, [], ◌∷◌, Option, Some, None, IfSome, IsNone, ◌++◌, length, arith, append_assoc, length-append}
 use Rattle.std.proofs.lemmas.List.{take-append-le, append-nil}
 use Rattle.wq_io.specs.Streams.{before_known, IsAtEnd}
-use Rattle.wq_io.specs.Lines.{Reading, IsSound, IsOneLine, IsLineLong, GivesLine, HasCause, Leaves, StopsInLine, TakesBytes, line_feed, lines, lines_of, before_lines, longest_line, unread, room}
-use Rattle.wq_io.specs.Taking.{IsOverLong, IsRefusedLine, IsUnreadable}
+use Rattle.wq_io.specs.Lines.{Reading, IsSound, IsOneLine, IsLineLong, GivesLine, HasCause, TakesBytes, line_feed, lines, lines_of, before_lines, longest_line, unread, room}
+use Rattle.wq_io.specs.Taking.{IsOverLong, IsRefusedLine}
 use Rattle.wq_io.specs.declared.lines.LineFault.{LineFault}
 use Rattle.wq_io.specs.declared.lines.LineFault.TheVariants.{ReadFault, TooLong, LineLong, OutOfMemory}
 use Rattle.wq_io.proofs.LineLists.{lines-line, lines-last, one_line-append, one_line-take}
@@ -70,33 +70,6 @@ line_bytes ended unread_start (Some xs) line moved held held_now front is in_lin
     ap (λ ys. line ++ ys) (append_assoc moved (line_feed ∷ held_now) xs) ∙ sym (append_assoc line moved (line_feed ∷ (held_now ++ xs)))
     ∙ sym (append_assoc (line ++ moved) (line_feed ∷ []) (held_now ++ xs)) in
     record { moved = (line ++ moved) ++ line_feed ∷ []; front = rw (front, is) (ap Some grouped); whole = λ _. refl; in_line = one_line-append line moved in_line in_moved }
-
--- the last line of the input: it is all that was left
-pub last_bytes : (ended : Bool) (unread_start left : Option (List ℕ)) (line : List ℕ) (number : Option ℕ) →
-    unread_start ≡ before_known line (before_known [] left) → IsOneLine line → ended ≡ true → IfSome number (λ _. TakesBytes ended unread_start (before_known [] left) line)
-last_bytes ended unread_start left line None front in_line is = tt
-last_bytes ended unread_start left line (Some n) front in_line is = record { moved = line; front = front; whole = λ never. cc; in_line = in_line }
-
--- a read failed: the line so far is what was taken of the line
-pub read_failed : (fault : LineFault) (start now : Reading) (left_start left left_now : Option (List ℕ)) (line : List ℕ) →
-    unread start left_start ≡ before_known line (unread now left) → IsOneLine line → (start.ended ≡ true → now.ended ≡ true) →
-    IsUnreadable now left left_now → Leaves fault start left_start left_now
-read_failed ReadFault start now left_start left left_now line front in_line still stops = record {
-  part = line;
-  front = front ∙ ap (λ (h : List ℕ). before_known line (before_known h left)) stops.empty ∙ nothing_before line left ∙ ap (λ (l : Option (List ℕ)). before_known line l) (sym stops.same);
-  in_line = in_line;
-  going = not_true start.ended now.ended still stops.going;
-}
-read_failed TooLong start now left_start left left_now line front in_line still stops = tt
-read_failed (LineLong number) start now left_start left left_now line front in_line still stops = tt
-read_failed OutOfMemory start now left_start left left_now line front in_line still stops = tt
-
--- held bytes that were refused: no read failed
-pub not_read : (fault : LineFault) (start now : Reading) (left_start left_now : Option (List ℕ)) (line : List ℕ) → IsRefusedLine fault now line → Leaves fault start left_start left_now
-not_read ReadFault start now left_start left_now line refused = absurd refused
-not_read TooLong start now left_start left_now line refused = tt
-not_read (LineLong number) start now left_start left_now line refused = tt
-not_read OutOfMemory start now left_start left_now line refused = tt
 
 -- bytes moved: they stand behind the line so far
 pub moved_behind : (unread_start left : Option (List ℕ)) (line moved held held_now : List ℕ) →

@@ -1,5 +1,5 @@
 -- A text that isn't empty is a word where each byte passes.
-use Rattle.std.proofs.Common.{◌≡◌, sym, ◌∙◌}
+use Rattle.std.proofs.Common.{sym, ◌∙◌}
 use Rattle.entity_rdf.specs.Property.{is_datatype_char}
 use Rattle.rdf_term.proofs.Words.{is_word_filled}
 use Rattle.entity_rdf.proofs.property.has_type.Goals as goal

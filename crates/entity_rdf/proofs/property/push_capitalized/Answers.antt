@@ -1,5 +1,5 @@
 -- The first character in upper case, and the rest.
-use Rattle.std.proofs.Common.{◌≡◌, ◌++◌, ap, sym, ◌∙◌, string_bytes, encode_utf8}
+use Rattle.std.proofs.Common.{◌++◌, ap, sym, ◌∙◌, string_bytes, encode_utf8}
 use Rattle.std.proofs.lemmas.List.{append_assoc}
 use Rattle.entity_rdf.specs.Property.{capitalized}
 use Rattle.entity_rdf.proofs.Capitals.{capital}

@@ -1,5 +1,5 @@
 -- Where an entry is found, neither count moves.
-use Rattle.std.proofs.Common.{◌≡◌, refl}
+use Rattle.std.proofs.Common.{refl}
 use Rattle.revisions.proofs.Counts.{both_still}
 use Rattle.revisions.proofs.memory.MemoryRevisionsRevisions.fetch.Goals as goal
 

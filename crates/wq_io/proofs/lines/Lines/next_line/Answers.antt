@@ -4,7 +4,7 @@ use Rattle.std.proofs.lemmas.Result.{err_from_is_err_and}
 use Rattle.wq_io.specs.Streams.{before_known, IsAtEnd}
 use Rattle.wq_io.specs.Lines.{Reading}
 use Rattle.wq_io.specs.Taking.{HasByte, IsEnded, Takes}
-use Rattle.wq_io.proofs.NextLine.{at_end, cause_of, last_bytes, line_bytes, line_ended, not_read, read_failed}
+use Rattle.wq_io.proofs.NextLine.{at_end, cause_of, line_bytes, line_ended}
 use Rattle.std.proofs.Common.{true}
 use Rattle.wq_io.proofs.lines.Lines.next_line.Goals as goal
 
