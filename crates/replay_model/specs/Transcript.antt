@@ -1,13 +1,12 @@
 -- What a replay prints: an answer at each delivery that asks, and the closing sections.
-use Rattle.std.specs.Prelude.{ℕ, ◌+◌, Bool, true, false, ◌&&◌, cond, List, [], ◌++◌, Option, None, Some, filter, filter_map, flat_map, length, decimal, codes}
-use Rattle.std.specs.Ordering.{eq_by_cmp}
-use Rattle.rdf_term.specs.declared.term.Term.{Term}
-use Rattle.rdf_term.specs.declared.triple.Pattern.{Pattern}
+use Rattle.std.specs.Prelude.{ℕ, ◌+◌, Bool, true, false, cond, List, [], ◌++◌, Option, None, Some, filter, filter_map, flat_map, length, decimal, codes}
 use Rattle.std.specs.FinMap as map
 use Rattle.std.specs.Fmt.{signed_decimal}
+use Rattle.rdf_term.specs.declared.triple.Pattern.{Pattern}
 use Rattle.rdf_term.specs.declared.triple.Triple.{Triple}
-use Rattle.rdf_term.specs.Order.{term_cmp, triple_cmp}
+use Rattle.rdf_term.specs.Order.{triple_cmp}
 use Rattle.rdf_term.specs.Text.{triple_text}
+use Rattle.triple_store.specs.Agreeing.{agrees}
 use Rattle.entity_model.specs.declared.id.EntityId.{EntityId}
 use Rattle.entity_model.specs.declared.event.Event.{Event}
 use Rattle.entity_model.specs.declared.event.Kind.{Kind}
@@ -51,15 +50,6 @@ ask_head n count = codes "# ask " ++ decimal n ++ codes ": " ++ decimal count ++
 -- the answer to the n-th ask: its head, and the line of each triple
 abbrev pub ask_section : ℕ → List Triple → List ℕ
 ask_section n triples = ask_head n (length triples) ++ flat_map triple_text triples
-
--- whether a term is the one that is asked for, if one is
-abbrev pub agrees_with : Option Term → Term → Bool
-agrees_with None term = true
-agrees_with (Some asked) term = eq_by_cmp term_cmp asked term
-
--- whether the triple agrees with the pattern in each place
-abbrev pub agrees : Pattern → Triple → Bool
-agrees pattern triple = agrees_with pattern.subject triple.subject && (agrees_with pattern.predicate triple.predicate && agrees_with pattern.object triple.object)
 
 -- the triples that agree with the pattern, in their order
 abbrev pub rows : List Triple → Pattern → List Triple
