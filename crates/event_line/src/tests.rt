@@ -49,19 +49,28 @@ fn kinds(rt: HostRuntime) -> Result<(), Fail> {
             rev: 5,
             kind,
         };
-        assert_eq!(rt;
-            delivery(rt.alloc(), line.as_bytes())?,
-            Delivery::Event(want),
-            "of {line}"
-        );
+        let found = event_of(delivery(rt.alloc(), line.as_bytes())?);
+        assert_eq!(rt; found, Some(want), "of {line}");
     }
-    assert_eq!(rt;
-        delivery(
-            rt.alloc(),
-            br#"{"watermark":"1969-12-31T23:59:59.999999Z","rev":0}"#
-        )?,
-        Delivery::Watermark(-1)
-    );
+    Ok(())
+}
+
+/// The event that a delivery is, where it is one.
+fn event_of(delivery: Delivery) -> Option<Event> {
+    match delivery {
+        Delivery::Event(event) => Some(event),
+        Delivery::Watermark(_) | Delivery::Ask(_) => None,
+    }
+}
+
+#[test]
+fn watermarks(rt: HostRuntime) -> Result<(), Fail> {
+    let line = br#"{"watermark":"1969-12-31T23:59:59.999999Z","rev":0}"#;
+    let found = match delivery(rt.alloc(), line)? {
+        Delivery::Watermark(mark) => Some(mark),
+        Delivery::Event(_) | Delivery::Ask(_) => None,
+    };
+    assert_eq!(rt; found, Some(-1));
     Ok(())
 }
 
@@ -190,8 +199,7 @@ fn revisions(rt: HostRuntime) -> Result<(), Fail> {
             "{{\"kind\":\"delete\",\"entity\":\"Q1\",\"rev\":{rev},\"time\":\"2024-05-01T10:00:05Z\"}}"
         )?;
         let found = match delivery(rt.alloc(), line.as_str().as_bytes()) {
-            Ok(Delivery::Event(event)) => Some(event.rev),
-            Ok(Delivery::Watermark(_)) => Some(0),
+            Ok(delivery) => event_of(delivery).map(|event| event.rev),
             Err(fault) => {
                 assert_eq!(rt; fault, DeliveryFault::Bad(LineCause::Rev), "of {rev}");
                 None
