@@ -1,4 +1,6 @@
 pub mod Reading
+pub mod TermReading
+pub mod Places
 pub mod TimeLemmas
 pub mod TimeDigits
 pub mod TimeReading

@@ -1,18 +1,21 @@
 -- What one line of an event file delivers, or the first cause for which it delivers nothing.
-use Rattle.std.specs.Prelude.{◌≡◌, ℕ, nat_lt, if◌then◌else◌, List, codes, Option, Some, None, option_and_then, Result, Ok, Err, ℤ}
+use Rattle.std.specs.Prelude.{◌≡◌, ℕ, nat_lt, if◌then◌else◌, List, codes, Option, Some, None, option_map, option_and_then, Result, Ok, Err, ℤ}
 use Rattle.std.specs.Str.{is_utf8, bytes_eq}
-use Rattle.serde_json.specs.Data.{Data}
-use Rattle.serde_json.specs.Find.{get, as_str, as_number, as_u64}
+use Rattle.serde_json.specs.Data.{Data, Items, no_items, item}
+use Rattle.serde_json.specs.Find.{get, as_str, as_number, as_u64, as_array}
 use Rattle.serde_json.specs.Read.{read}
+use Rattle.rdf_term.specs.declared.term.Term.{Term}
+use Rattle.rdf_term.specs.declared.triple.Pattern.{Pattern}
+use Rattle.rdf_term.specs.Reader.{read as term_of}
 use Rattle.entity_model.specs.declared.id.EntityId.{EntityId}
 use Rattle.entity_model.specs.declared.event.Event.{Event}
 use Rattle.entity_model.specs.declared.event.Kind.{Kind}
 use Rattle.entity_model.specs.declared.event.Kind.TheVariants.{Edit, Delete, Undelete, ReconcileDeleted, ReconcileKept}
 use Rattle.entity_model.specs.IdOf.{id_of}
 use Rattle.event_line.specs.declared.deliveries.Delivery.{Delivery}
-use Rattle.event_line.specs.declared.deliveries.Delivery.TheVariants.{Event as Told, Watermark}
+use Rattle.event_line.specs.declared.deliveries.Delivery.TheVariants.{Event as Told, Watermark, Ask}
 use Rattle.event_line.specs.declared.deliveries.LineCause.{LineCause}
-use Rattle.event_line.specs.declared.deliveries.LineCause.TheVariants.{NotJson, NoForm, Kind as BadKind, Entity, Rev, Time, Mode, Pattern}
+use Rattle.event_line.specs.declared.deliveries.LineCause.TheVariants.{NotJson, NoForm, Kind as BadKind, Entity, Rev, Time, Mode, Pattern as BadPattern}
 use Rattle.event_line.specs.declared.deliveries.DeliveryFault.{DeliveryFault}
 use Rattle.event_line.specs.declared.deliveries.DeliveryFault.TheVariants.{Bad, OutOfMemory}
 use Rattle.event_line.specs.declared.line.KindName.{KindName}
@@ -94,11 +97,40 @@ told (Err cause) = Err cause
 abbrev pub watermark_of : Data → Result Delivery LineCause
 watermark_of json = else_cause Time (time_at (codes "watermark") json) (λ time. Ok (Watermark time))
 
+-- what a text wants at its place: `?` leaves the place free, and any other text is that of a term in N-Triples
+abbrev pub place_of : List ℕ → Option (Option Term)
+place_of text = if bytes_eq text (codes "?") then Some None else option_map Some (term_of text)
+
+-- what a value wants at its place; only a text wants anything
+abbrev pub place_in : Data → Option (Option Term)
+place_in json = option_and_then place_of (as_str json)
+
+-- the pattern of three values, for subject, predicate and object
+abbrev pub pattern_with : Data → Data → Data → Option Pattern
+pattern_with s p o =
+    option_and_then (λ subject.
+    option_and_then (λ predicate.
+    option_map (λ object. record { subject = subject; predicate = predicate; object = object })
+    (place_in o)) (place_in p)) (place_in s)
+
+-- the pattern of a list, which has exactly three values
+abbrev pub pattern_in : Items → Option Pattern
+pattern_in (item s (item p (item o no_items))) = pattern_with s p o
+pattern_in _ = None
+
+-- the pattern that the value of `ask` is; only a list is one
+abbrev pub pattern_of : Data → Option Pattern
+pattern_of ask = option_and_then pattern_in (as_array ask)
+
+-- the question with that value of `ask`, or the cause
+abbrev pub ask_of : Data → Result Delivery LineCause
+ask_of ask = else_cause BadPattern (pattern_of ask) (λ pattern. Ok (Ask pattern))
+
 -- what an object delivers by the values of its keys `kind`, `watermark` and `ask`, of which it has exactly one
 abbrev pub by_form : Data → Option Data → Option Data → Option Data → Result Delivery LineCause
 by_form json (Some kind) None None = told (event_of json)
 by_form json None (Some watermark) None = watermark_of json
-by_form json None None (Some ask) = Err Pattern
+by_form json None None (Some ask) = ask_of ask
 by_form json _ _ _ = Err NoForm
 
 -- what a JSON value delivers; only an object has keys
@@ -114,3 +146,9 @@ abbrev pub Answers : List ℕ → Result Delivery DeliveryFault → Type 0
 Answers line (Ok delivery) = delivery_of line ≡ Ok delivery
 Answers line (Err (Bad cause)) = delivery_of line ≡ Err cause
 Answers line (Err OutOfMemory) = Unit {0}
+
+-- the answer to what a part of a line is; it may be that a request for memory was refused
+abbrev pub AnswersPart : {A : Type 0} → Result A LineCause → Result A DeliveryFault → Type 0
+AnswersPart part (Ok value) = part ≡ Ok value
+AnswersPart part (Err (Bad cause)) = part ≡ Err cause
+AnswersPart part (Err OutOfMemory) = Unit {0}

@@ -1,14 +1,16 @@
 // One line of an event file.
 
-ghost use Rattle.std.specs.Prelude.{◌≡◌, ◌⊎◌, None, Some, MatchResult};
+ghost use Rattle.std.specs.Prelude.{◌≡◌, ◌⊎◌, None, Some, MatchResult, IfOk};
 ghost use Rattle.serde_json.specs.View.{view};
-ghost use Rattle.event_line.specs.Line.{Answers, data_of, delivery_in, event_of, watermark_of, kind_named, kind_name, entity_of, rev_of, time_at, whole_kind};
+ghost use Rattle.rdf_term.specs.Reader.{read as term_of};
+ghost use Rattle.event_line.specs.Line.{Answers, AnswersPart, data_of, delivery_in, else_cause, event_of, watermark_of, ask_of, pattern_of, pattern_with, place_in, kind_named, kind_name, entity_of, rev_of, time_at, whole_kind};
 ghost use Rattle.event_line.specs.declared.deliveries.DeliveryFault.TheVariants.{Bad as Refused, OutOfMemory as NoMemory};
 ghost use Rattle.event_line.specs.declared.deliveries.LineCause.TheVariants.{NotJson as NoJson};
 
 use crate::deliveries::{Delivery, DeliveryFault, LineCause};
 use crate::time;
 use entity_model::{EntityId, Event, Kind};
+use rdf_term::{OutOfMemory, Pattern, Term, read_term};
 use serde_json::Value;
 use std::alloc::Global;
 
@@ -25,13 +27,15 @@ enum KindName {
 /// and `ask`.
 ///
 /// With `kind` it is an event of the page of `entity`, at `time`, with the revision `rev`; a reconciliation
-/// also has `mode`. With `watermark`, whose value is a time, it is a watermark. A line with `ask` delivers
-/// nothing yet. Other keys are passed over, and of a key that is repeated the last value counts.
+/// also has `mode`. With `watermark`, whose value is a time, it is a watermark. With `ask` it is a question:
+/// the value is a list of three texts, for subject, predicate and object, each `?` where any term is wanted
+/// or else the term that is wanted, by the grammar of N-Triples. Other keys are passed over, and of a key
+/// that is repeated the last value counts.
 pub fn delivery(alloc: Global, line: &[u8]) -> Result<Delivery, DeliveryFault>
     ensures { Answers line.now result }
 {
     let value = read_value(alloc, line)?;
-    Ok(delivery_in(&value)?)
+    delivery_in(alloc, &value)
 }
 
 /// The JSON value of a line.
@@ -52,14 +56,14 @@ fn read_value(alloc: Global, line: &[u8]) -> Result<Value, DeliveryFault>
 }
 
 /// What the value of a line delivers.
-fn delivery_in(value: &Value) -> Result<Delivery, LineCause>
-    ensures { result ≡ delivery_in (view value.now) }
+fn delivery_in(alloc: Global, value: &Value) -> Result<Delivery, DeliveryFault>
+    ensures { AnswersPart (delivery_in (view value.now)) result }
 {
     match (value.get("kind"), value.get("watermark"), value.get("ask")) {
         (Some(_), None, None) => Ok(Delivery::Event(event(value)?)),
-        (None, Some(_), None) => watermark(value),
-        (None, None, Some(_)) => Err(LineCause::Pattern),
-        _ => Err(LineCause::NoForm),
+        (None, Some(_), None) => Ok(watermark(value)?),
+        (None, None, Some(wanted)) => ask(alloc, wanted),
+        _ => Err(DeliveryFault::Bad(LineCause::NoForm)),
     }
 }
 
@@ -86,6 +90,59 @@ fn watermark(object: &Value) -> Result<Delivery, LineCause>
 {
     let time = time_at(object, "watermark").ok_or(LineCause::Time)?;
     Ok(Delivery::Watermark(time))
+}
+
+/// The question with that value of `ask`.
+fn ask(alloc: Global, value: &Value) -> Result<Delivery, DeliveryFault>
+    ensures { AnswersPart (ask_of (view value.now)) result }
+{
+    Ok(Delivery::Ask(pattern(alloc, value)?))
+}
+
+/// The pattern that a value is: a list of exactly three values.
+#[tactic(auto, using(crate::proofs::Places::pattern_of_other))]
+fn pattern(alloc: Global, value: &Value) -> Result<Pattern, DeliveryFault>
+    ensures { AnswersPart (else_cause LineCause.Pattern (pattern_of (view value.now)) Ok) result }
+{
+    match value.as_array().ok_or(LineCause::Pattern)?.as_slice() {
+        [subject, predicate, object] => pattern_with(alloc, subject, predicate, object),
+        _ => Err(DeliveryFault::Bad(LineCause::Pattern)),
+    }
+}
+
+/// The pattern of three values.
+fn pattern_with(
+    alloc: Global,
+    subject: &Value,
+    predicate: &Value,
+    object: &Value,
+) -> Result<Pattern, DeliveryFault>
+    ensures { AnswersPart (else_cause LineCause.Pattern
+        (pattern_with (view subject.now) (view predicate.now) (view object.now)) Ok) result }
+{
+    Ok(Pattern {
+        subject: place(alloc, subject)?,
+        predicate: place(alloc, predicate)?,
+        object: place(alloc, object)?,
+    })
+}
+
+/// What a value wants at its place.
+fn place(alloc: Global, value: &Value) -> Result<Option<Term>, DeliveryFault>
+    ensures { AnswersPart (else_cause LineCause.Pattern (place_in (view value.now)) Ok) result }
+{
+    match value.as_str().ok_or(LineCause::Pattern)? {
+        "?" => Ok(None),
+        text => Ok(Some(term(alloc, text)?.ok_or(LineCause::Pattern)?)),
+    }
+}
+
+/// The term that a text writes.
+#[tactic(auto, using(crate::proofs::TermReading::answer_read))]
+fn term(alloc: Global, text: &str) -> Result<Option<Term>, OutOfMemory>
+    ensures { IfOk result (λ found. found ≡ term_of text.now) }
+{
+    read_term(alloc, text)
 }
 
 fn kind_name(object: &Value) -> Option<KindName>
