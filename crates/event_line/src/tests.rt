@@ -2,6 +2,7 @@
 
 use crate::{Delivery, DeliveryFault, LineCause, delivery, time};
 use entity_model::{EntityId, Event, IdKind, Kind};
+use rdf_term::{OutOfMemory, Term, Text};
 use std::process::Abort;
 use std::test::Fail;
 
@@ -161,8 +162,6 @@ fn causes(rt: HostRuntime) {
                 Some(LineCause::Time),
             ),
             (r#"{"watermark":"2024-05-01T10:00:05Z","time":""}"#, None),
-            (r#"{"ask":["?","?","?"]}"#, Some(LineCause::Pattern)),
-            (r#"{"ask":null}"#, Some(LineCause::Pattern)),
         ],
     );
     for (line, cause) in [
@@ -178,6 +177,100 @@ fn causes(rt: HostRuntime) {
     ] {
         let found = delivery(rt.alloc(), line).err();
         assert_eq!(rt; found, cause.map(DeliveryFault::Bad), "of {line:?}");
+    }
+}
+
+#[test]
+fn pattern_causes(rt: HostRuntime) {
+    check_causes(
+        &rt,
+        &[
+            (r#"{"ask":["?","?","?"]}"#, None),
+            (r#"{"ask":["?","?","\"a\\\"b\""],"mode":7}"#, None),
+            (r#"{"ask":["\"a\"","_:b","<c>"]}"#, None),
+            (r#"{"ask":null}"#, Some(LineCause::Pattern)),
+            (r#"{"ask":"?"}"#, Some(LineCause::Pattern)),
+            (
+                r#"{"ask":{"0":"?","1":"?","2":"?"}}"#,
+                Some(LineCause::Pattern),
+            ),
+            (r#"{"ask":[]}"#, Some(LineCause::Pattern)),
+            (r#"{"ask":["?","?"]}"#, Some(LineCause::Pattern)),
+            (r#"{"ask":["?","?","?","?"]}"#, Some(LineCause::Pattern)),
+            (r#"{"ask":[["?","?","?"]]}"#, Some(LineCause::Pattern)),
+            (r#"{"ask":["?","?",1]}"#, Some(LineCause::Pattern)),
+            (r#"{"ask":[null,"?","?"]}"#, Some(LineCause::Pattern)),
+            (r#"{"ask":["","?","?"]}"#, Some(LineCause::Pattern)),
+            (r#"{"ask":["??","?","?"]}"#, Some(LineCause::Pattern)),
+            (r#"{"ask":["?","? ","?"]}"#, Some(LineCause::Pattern)),
+            (r#"{"ask":["?","?","a"]}"#, Some(LineCause::Pattern)),
+            (r#"{"ask":["?","?","\"a\"b\""]}"#, Some(LineCause::Pattern)),
+            (r#"{"ask":["?","<a b>","?"]}"#, Some(LineCause::Pattern)),
+            (r#"{"ask":["<a> ","?","?"]}"#, Some(LineCause::Pattern)),
+            (
+                r#"{"ask":["?","?","?"],"ask":["?"]}"#,
+                Some(LineCause::Pattern),
+            ),
+        ],
+    );
+}
+
+#[test]
+fn patterns(rt: HostRuntime) -> Result<(), Fail> {
+    for (line, want) in [
+        (r#"{"ask":["?","?","?"]}"#, (None, None, None)),
+        (
+            r#"{"ask":["<http://www.wikidata.org/entity/Q42>","?","?"]}"#,
+            (
+                Some(Term::Iri(text(&rt, "http://www.wikidata.org/entity/Q42")?)),
+                None,
+                None,
+            ),
+        ),
+        (
+            r#"{"ask":["?","<p>","\"a\\\"b\\n\""]}"#,
+            (
+                None,
+                Some(Term::Iri(text(&rt, "p")?)),
+                Some(Term::Plain(text(&rt, "a\"b\n")?)),
+            ),
+        ),
+        (
+            r#"{"ask":["_:b0","?","\"caf\u00e9\"@fr-CA"]}"#,
+            (
+                Some(Term::Blank(text(&rt, "b0")?)),
+                None,
+                Some(Term::Lang(text(&rt, "café")?, text(&rt, "fr-CA")?)),
+            ),
+        ),
+        (
+            r#"{"ask":0,"ask":["?","?","\"+5\"^^<http://www.w3.org/2001/XMLSchema#decimal>"]}"#,
+            (
+                None,
+                None,
+                Some(Term::Typed(
+                    text(&rt, "+5")?,
+                    text(&rt, "http://www.w3.org/2001/XMLSchema#decimal")?,
+                )),
+            ),
+        ),
+    ] {
+        let found = places_of(delivery(rt.alloc(), line.as_bytes())?);
+        assert_eq!(rt; found, Some(want), "of {line}");
+    }
+    Ok(())
+}
+
+/// An owned text.
+fn text(rt: &impl AllocGlobal, text: &str) -> Result<Text, OutOfMemory> {
+    Text::new(rt.alloc(), text)
+}
+
+/// What a question wants as subject, predicate and object.
+fn places_of(delivery: Delivery) -> Option<(Option<Term>, Option<Term>, Option<Term>)> {
+    match delivery {
+        Delivery::Ask(pattern) => Some((pattern.subject, pattern.predicate, pattern.object)),
+        Delivery::Event(_) | Delivery::Watermark(_) => None,
     }
 }
 
