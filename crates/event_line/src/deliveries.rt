@@ -15,7 +15,7 @@ pub enum Delivery {
     /// From here on, events up to this time are not expected any more. The time is in microseconds
     /// since 1970-01-01T00:00:00Z.
     Watermark(i64),
-    /// A question: which of the triples that are held after the lines before it agree with the pattern?
+    /// A question: which of the triples at this point agree with the pattern?
     Ask(Pattern),
 }
 
