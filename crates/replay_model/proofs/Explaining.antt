@@ -98,6 +98,11 @@ module _ (unfit : Judgement) (told : Option (ℕ → Option Bytes)) where
           failed_applied = λ q h. applied-event w e q ∙ x.failed_applied q (ap (has event_cmp q) (sym failed) ∙ h);
         }
 
+    -- the replies stay
+    pub event_replies : (e : Event) → (Explained-event e).replies ≡ x.replies
+    unfolding Explained-event
+    event_replies e = refl
+
     -- and no event is due after it
     pub Explained-event_rests : (e : Event) → first_due (after_event w e).buffer ≡ None
     Explained-event_rests e =
@@ -139,6 +144,11 @@ module _ (unfit : Judgement) (told : Option (ℕ → Option Bytes)) where
       honest = x.honest;
       failed_applied = x.failed_applied;
     }
+
+    -- the replies stay
+    pub ask_replies : (q : Pattern) → (Explained-ask q).replies ≡ x.replies
+    unfolding Explained-ask
+    ask_replies q = refl
 
     -- the end is taken
     pub Explained-end : ExplainedToEnd unfit told ds made (after_end w)

@@ -30,8 +30,8 @@ use Rattle.session.specs.Stops.{Settles, StillLeads}
 -- events are applied: what is told stays, and the world leads where it led
 pub record Goes (contents_start contents : Option Contents) (place : List ℕ) (before now : Counts) (start world : ReplayState) : Type 0 where
   pub told : contents ≡ contents_start
-  pub leads : (play_of : Replies → ReplayState) (fetches_of : Replies → List Fetch) (begun_of : Replies → ReplayState) (first : Counts) →
-      IsUnderWay (told_at contents_start place) play_of fetches_of begun_of first before start → IsUnderWay (told_at contents_start place) play_of fetches_of begun_of first now world
+  pub leads : (play_of : Replies → ReplayState) (fetches_of : Replies → List Fetch) (said_of : Replies → Option (List ℕ)) (said : Option (List ℕ)) (begun_of : Replies → ReplayState) (first : Counts) →
+      IsUnderWay (told_at contents_start place) play_of fetches_of said_of said begun_of first before start → IsUnderWay (told_at contents_start place) play_of fetches_of said_of said begun_of first now world
 
 -- the counts after an application, as its outcome shows
 pub record Rises (outcome : Outcome) (before now : Counts) : Type 0 where
@@ -125,24 +125,25 @@ reply_gives contents place x r (Err cause) is = tt
 
 -- the world still leads to its play, one application further
 pub applies-leads : (contents : Option Contents) (place : List ℕ) (before now : Counts) (old new : ReplayState) (applied : Applied) → Applies contents place old new applied → Rises applied.outcome before now →
-    (play_of : Replies → ReplayState) (fetches_of : Replies → List Fetch) (begun_of : Replies → ReplayState) (first : Counts) →
-    IsUnderWay (told_at contents place) play_of fetches_of begun_of first before old → IsUnderWay (told_at contents place) play_of fetches_of begun_of first now new
-applies-leads contents place before now old new applied a rises play_of fetches_of begun_of first under_way =
+    (play_of : Replies → ReplayState) (fetches_of : Replies → List Fetch) (said_of : Replies → Option (List ℕ)) (said : Option (List ℕ)) (begun_of : Replies → ReplayState) (first : Counts) →
+    IsUnderWay (told_at contents place) play_of fetches_of said_of said begun_of first before old → IsUnderWay (told_at contents place) play_of fetches_of said_of said begun_of first now new
+applies-leads contents place before now old new applied a rises play_of fetches_of said_of said begun_of first under_way =
     let told : Option (ℕ → Option Bytes) = told_at contents place in
     let e : Event = applied.event in
-    let leads : Leads told play_of fetches_of first before old = under_way.leads in
+    let leads : Leads told play_of fetches_of said_of said first before old = under_way.leads in
     let made : ℕ = leads.made + cond (is_fetching old e) 1 0 in
     let next : Next judgement told play_of fetches_of leads.made old e a.reply leads.explained =
     Explained-next judgement told play_of fetches_of leads.made old e a.reply leads.explained a.due
     (λ there known _. reply_is_honest contents place e.entity _ a.reply a.is_reply there known) in
     let Counted : ReplayState → Type 0 = λ w. HasCounted first now made w.played.side in
-    let There : ReplayState → Type 0 = λ w. IsUnderWay told play_of fetches_of begun_of first now w in
+    let There : ReplayState → Type 0 = λ w. IsUnderWay told play_of fetches_of said_of said begun_of first now w in
     let there : There (next_by old e a.reply) = record {
       leads = record {
         made = made;
         explained = next.explained;
         counted = subst Counted a.new_is (counted_applying contents place first before now leads.made old new applied a rises leads.counted);
         documents = documents-apply judgement e a.reply (reply_gives contents place e.entity _ a.reply a.is_reply) old.played leads.documents;
+        says = λ others agree. leads.says others (next.agree_before others agree);
       };
       steps = suc under_way.steps;
       is = λ others agree. next.is_next others agree ∙ ap (after_next others) (under_way.is others (next.agree_before others agree));
@@ -168,8 +169,8 @@ pub goes-next : (contents_start contents contents_next : Option Contents) (place
     Goes contents_start contents_next place before after start next
 goes-next contents_start contents contents_next place before now after start world next applied goes applies rises same = record {
   told = same ∙ goes.told;
-  leads = λ play_of fetches_of begun_of first under_way.
-      applies-leads contents_start place now after world next applied (rw goes.told at applies) rises play_of fetches_of begun_of first (goes.leads play_of fetches_of begun_of first under_way);
+  leads = λ play_of fetches_of said_of said begun_of first under_way.
+      applies-leads contents_start place now after world next applied (rw goes.told at applies) rises play_of fetches_of said_of said begun_of first (goes.leads play_of fetches_of said_of said begun_of first under_way);
 }
 
 -- no event is left: the last call has made no fetch
@@ -177,8 +178,8 @@ pub settled : (contents_start contents : Option Contents) (place : List ℕ) (be
     Goes contents_start contents place before now start world → last.calls ≡ now.calls → now.faults ≤ last.faults → now.misses ≤ last.misses →
     world_now ≡ world → first_due world.buffer ≡ None → Settles (told_at contents_start place) before last start world_now
 settled contents_start contents place before now last start world world_now goes calls faults misses same none = rw same (record {
-  leads = λ play_of fetches_of first leads.
-      let there = (goes.leads play_of fetches_of (λ replies. start) first (record { leads = leads; steps = 0; is = λ others agree. refl })).leads in
+  leads = λ play_of fetches_of said_of said first leads.
+      let there = (goes.leads play_of fetches_of said_of said (λ replies. start) first (record { leads = leads; steps = 0; is = λ others agree. refl })).leads in
       record {
         made = there.made;
         explained = there.explained;
@@ -188,23 +189,26 @@ settled contents_start contents place before now last start world world_now goes
           missing = λ below. let earlier : now.misses < 2 ^ 64 - 1 = omega arith in omega (arith, there.counted.missing earlier);
         };
         documents = there.documents;
+        says = there.says;
       };
   rests = none;
 })
 
 -- a world that is under way in a play is where some of its due events were applied
-pub within : (told : Option (ℕ → Option Bytes)) (play_of : Replies → ReplayState) (fetches_of : Replies → List Fetch) (begun_of : Replies → ReplayState) (start now : Counts) (world : ReplayState) →
-    IsUnderWay told play_of fetches_of begun_of start now world → IsWithin told begun_of world
-within told play_of fetches_of begun_of start now world under_way = record {
+pub within : (told : Option (ℕ → Option Bytes)) (play_of : Replies → ReplayState) (fetches_of : Replies → List Fetch) (said_of : Replies → Option (List ℕ)) (said : Option (List ℕ)) (begun_of : Replies → ReplayState) (start now : Counts) (world : ReplayState) →
+    IsUnderWay told play_of fetches_of said_of said begun_of start now world → IsWithin told said_of said begun_of world
+within told play_of fetches_of said_of said begun_of start now world under_way = record {
   steps = under_way.steps;
   replies = under_way.leads.explained.replies;
   is = under_way.is under_way.leads.explained.replies (λ q r h. refl);
+  says = under_way.leads.says under_way.leads.explained.replies (λ q r h. refl);
   source = λ contents known. under_way.is (source_replies judgement contents (failed_events world.played.side)) (λ q r h. sym (under_way.leads.explained.honest contents known q r h));
+  source_says = λ contents known. under_way.leads.says (source_replies judgement contents (failed_events world.played.side)) (λ q r h. sym (under_way.leads.explained.honest contents known q r h));
   documents = under_way.leads.documents;
 }
 
 -- memory was refused: the world is that before
 pub starved : (contents_start contents : Option Contents) (place : List ℕ) (before now : Counts) (start world world_now : ReplayState) →
     Goes contents_start contents place before now start world → world_now ≡ world → StillLeads (told_at contents_start place) before start world_now
-starved contents_start contents place before now start world world_now goes same = rw same (λ play_of fetches_of begun_of first under_way.
-    within (told_at contents_start place) play_of fetches_of begun_of first now world (goes.leads play_of fetches_of begun_of first under_way))
+starved contents_start contents place before now start world world_now goes same = rw same (λ play_of fetches_of said_of said begun_of first under_way.
+    within (told_at contents_start place) play_of fetches_of said_of said begun_of first now world (goes.leads play_of fetches_of said_of said begun_of first under_way))

@@ -5,7 +5,7 @@ use Rattle.std.proofs.Math.Seq.{take-length, take-suc}
 use Rattle.std.proofs.lemmas.List.Concat.{flat_map-append}
 use Rattle.std.proofs.lemmas.Option.{get_or_from_slice_get, slice_get_cases}
 use Rattle.std.proofs.lemmas.List.{length-drop, take-append-drop}
-use Rattle.wq_io.specs.Streams.{after_known}
+use Rattle.wq_io.specs.Streams.{Rose, after_known}
 use Rattle.session.specs.Printing.{Wrote}
 use Rattle.session.specs.declared.status.Status.{Status}
 use Rattle.session.specs.declared.status.Status.TheVariants.{OutOfMemory}
@@ -18,6 +18,10 @@ after_twice (Some bytes) first second = ap Some (append_assoc bytes first second
 -- three parts
 pub after_thrice : (held : Option (List ℕ)) (first second third : List ℕ) → after_known (after_known (after_known held first) second) third ≡ after_known held (first ++ second ++ third)
 after_thrice held first second third = ap (λ h. after_known h third) (after_twice held first second) ∙ after_twice held (first ++ second) third
+
+-- a count that rose since a later time rose since an earlier one
+pub rose_since : (before between after : ℕ) → before ≤ between → Rose between after → Rose before after
+rose_since before between after earlier rose = omega arith
 
 -- what follows from an error for each status
 pub at_err : {T : Type 0} (P Q : Status → Type 0) (r : Result T Status) → ((status : Status) → P status → Q status) → IfErr r P → IfErr r Q

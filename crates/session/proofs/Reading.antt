@@ -2,7 +2,7 @@
 use Rattle.std.proofs.Common.{refl, sym, subst, ◌∙◌, ap, inl, inr, ⊎_elim, ◌≡◌, ℕ, ◌+◌, ◌-◌, ◌<◌, ◌≤◌, Bool, true, false, List, [], ◌∷◌, ◌++◌, length, Option, None, Some, IfSome, Result, Ok, Err, arith, append_assoc, append-nil, length-append}
 use Rattle.std.proofs.lemmas.Grind.{flat_map-append}
 use Rattle.std.specs.Option.{option_map}
-use Rattle.wq_io.specs.Streams.{IsAtEnd, Rose, before_known}
+use Rattle.wq_io.specs.Streams.{IsAtEnd, before_known}
 use Rattle.wq_io.specs.Lines.{GoesOn, HasCause, IsLineLong, IsOneLine, IsSound, IsTooLong, Leaves, Reading, StopsInLine, TakesBytes, before_lines, ended_lines, fresh, input_length, line_feed, lines, lines_of, room, unread, whole_lines}
 use Rattle.wq_io.proofs.LineLists.{whole_lines-ended}
 use Rattle.wq_io.specs.declared.lines.LineFault.{LineFault}
@@ -15,6 +15,7 @@ use Rattle.entity_state.specs.declared.record.Record.{Record}
 use Rattle.replay_model.specs.Records.{Bytes}
 use Rattle.replay_model.specs.Replies.{HoldsDocument}
 use Rattle.replay_model.specs.ReplayState.{ReplayState, nothing_delivered}
+use Rattle.replay_model.specs.Transcript.{asks}
 use Rattle.replay_model.proofs.Explaining.{Explained-start}
 use Rattle.replay_model.proofs.FetchCounts.{risen_by-none}
 use Rattle.replay_model.proofs.RecordOf.{record_of-empty}
@@ -22,16 +23,19 @@ use Rattle.replay_model.proofs.ToldContents.{Each-append}
 use Rattle.session.specs.Counts.{Counts}
 use Rattle.session.specs.Faults.{fault_status}
 use Rattle.session.specs.Running.{AreDeliveries, AreFirst, AreWhole, AtRest, HasRead, IsPastLimit, IsRefusedLine, deliveries_of, judgement, onto_deliveries}
-use Rattle.session.specs.Stops.{HasTaken, IsRefused, Stops, StopsWithin, TakesLine}
-use Rattle.session.proofs.Deliveries.{rest_within}
+use Rattle.session.specs.Stops.{CutsOff, FallsSilent, HasTaken, IsCutOff, IsRefused, Stops, StopsAnswering, StopsWithin, TakesDelivery}
+use Rattle.session.proofs.Deliveries.{asks-push, rest_within}
+use Rattle.session.proofs.Parts.{after_nothing, rose_since}
 use Rattle.session.specs.declared.status.Status.{Status}
 use Rattle.session.specs.declared.status.Status.TheVariants.{Ok as Ended, BadWords, BadLine, ReadFault, WriteFault, TooLong, OutOfMemory}
 
--- the lines so far were read, and the world has taken them
-pub record Progress (limit : ℕ) (left_start : Option (List ℕ)) (told : Option (ℕ → Option Bytes)) (start now : Counts) (reader : Reading) (left : Option (List ℕ)) (world : ReplayState) : Type 0 where
+-- the lines so far were read, the world has taken them, and so many of them asked
+pub record Progress (limit : ℕ) (left_start : Option (List ℕ)) (told : Option (ℕ → Option Bytes)) (held held_now : Option (List ℕ)) (start now : Counts) (reader : Reading) (left : Option (List ℕ)) (asked : ℕ) (world : ReplayState) : Type 0 where
   pub deliveries : List Delivery
   pub read : HasRead left_start reader left deliveries
-  pub at_rest : AtRest told deliveries start now world
+  pub at_rest : AtRest told deliveries held held_now start now world
+  pub asked_is : asked ≡ asks deliveries
+  pub few_asked : asked ≤ reader.given
   pub max : reader.max_bytes ≡ limit
   pub sound : IsSound reader
   pub going : reader.failed ≡ false
@@ -67,8 +71,8 @@ same_bytes limit None = refl
 same_bytes limit (Some bytes) = refl
 
 -- before the first line
-pub before_lines_taken : (limit : ℕ) (left : Option (List ℕ)) (told : Option (ℕ → Option Bytes)) (now : Counts) → Progress limit left told now now (fresh limit) left nothing_delivered
-before_lines_taken limit left told now = record {
+pub before_lines_taken : (limit : ℕ) (left : Option (List ℕ)) (told : Option (ℕ → Option Bytes)) (held : Option (List ℕ)) (now : Counts) → Progress limit left told held held now now (fresh limit) left 0 nothing_delivered
+before_lines_taken limit left told held now = record {
   deliveries = [];
   read = record {
     done = [];
@@ -87,9 +91,12 @@ before_lines_taken limit left told now = record {
       explained = Explained-start judgement told;
       counted = record { calls = λ fits. sym (risen_by-none now.calls fits); failed = λ below. omega arith; missing = λ below. omega arith };
       documents = λ x. subst (λ (r : Record Bytes). HoldsDocument judgement x r.held) (sym (record_of-empty x)) tt;
+      says = λ others agree. sym (after_nothing held);
     };
     rests = refl;
   };
+  asked_is = refl;
+  few_asked = omega arith;
   max = refl;
   sound = record { within = omega arith; counted = omega arith; bounded = omega arith };
   going = refl;
@@ -144,20 +151,20 @@ whole_read left_start left left_now reader ds read stops = record {
 too_long : (bytes : List ℕ) (u : List ℕ) (max consumed : ℕ) → IsTooLong (max - consumed) u → consumed ≤ max → consumed + length u ≡ length bytes → max < length bytes
 too_long bytes u max consumed over within total = omega (arith, over.more)
 
-module _ (limit : ℕ) (told : Option (ℕ → Option Bytes)) (start now : Counts) where
-  told_progress : (bytes : List ℕ) (reader : Reading) (left : Option (List ℕ)) (world : ReplayState) (so_far : Progress limit (Some bytes) told start now reader left world) →
+module _ (limit : ℕ) (told : Option (ℕ → Option Bytes)) (held held_now : Option (List ℕ)) (start now : Counts) (asked : ℕ) where
+  told_progress : (bytes : List ℕ) (reader : Reading) (left : Option (List ℕ)) (world : ReplayState) (so_far : Progress limit (Some bytes) told held held_now start now reader left asked world) →
       Told bytes so_far.read.done so_far.read.read reader.consumed (unread reader left)
   told_progress bytes reader left world so_far =
       told_parts bytes so_far.read.done so_far.read.read reader.consumed (unread reader left) so_far.read.front so_far.read.total so_far.read.bytes
 
-  first_lines : (left_start : Option (List ℕ)) (reader : Reading) (left : Option (List ℕ)) (world : ReplayState) (so_far : Progress limit left_start told start now reader left world) →
+  first_lines : (left_start : Option (List ℕ)) (reader : Reading) (left : Option (List ℕ)) (world : ReplayState) (so_far : Progress limit left_start told held held_now start now reader left asked world) →
       IfSome left_start (λ bytes. AreFirst bytes so_far.deliveries)
   first_lines None reader left world so_far = tt
   first_lines (Some bytes) reader left world so_far =
       let parts = told_progress bytes reader left world so_far in
       record { before = so_far.read.done; after = lines parts.u; are_lines = parts.are_lines; delivered = so_far.read.delivered }
 
-  past_limit : (left_start : Option (List ℕ)) (reader : Reading) (left : Option (List ℕ)) (world : ReplayState) (so_far : Progress limit left_start told start now reader left world) →
+  past_limit : (left_start : Option (List ℕ)) (reader : Reading) (left : Option (List ℕ)) (world : ReplayState) (so_far : Progress limit left_start told held held_now start now reader left asked world) →
       IfSome (unread reader left) (IsTooLong (room reader)) → IfSome left_start (λ bytes. IsPastLimit limit bytes so_far.deliveries)
   past_limit None reader left world so_far over = tt
   past_limit (Some bytes) reader left world so_far over =
@@ -176,7 +183,7 @@ module _ (limit : ℕ) (told : Option (ℕ → Option Bytes)) (start now : Count
         past = subst (λ n. IsTooLong n parts.u) (same_room limit reader so_far.read.read so_far.max parts.read_is) here;
       }
 
-  stops_long_line : (left_start : Option (List ℕ)) (reader : Reading) (left : Option (List ℕ)) (world : ReplayState) (number : ℕ) (so_far : Progress limit left_start told start now reader left world) →
+  stops_long_line : (left_start : Option (List ℕ)) (reader : Reading) (left : Option (List ℕ)) (world : ReplayState) (number : ℕ) (so_far : Progress limit left_start told held held_now start now reader left asked world) →
       number ≡ reader.given + 1 → IfSome (unread reader left) (IsLineLong (room reader)) →
       IfSome left_start (λ bytes. IsRefusedLine limit bytes so_far.deliveries number LineLong)
   stops_long_line None reader left world number so_far next over = tt
@@ -197,37 +204,34 @@ module _ (limit : ℕ) (told : Option (ℕ → Option Bytes)) (start now : Count
         },
       )
 
-  rose_since : (before between after : ℕ) → before ≤ between → Rose between after → Rose before after
-  rose_since before between after earlier rose = omega arith
-
   -- the world is as it was after the lines so far
-  stands : (left_start : Option (List ℕ)) (reader : Reading) (left : Option (List ℕ)) (world : ReplayState) → Progress limit left_start told start now reader left world → StopsWithin left_start told world
+  stands : (left_start : Option (List ℕ)) (reader : Reading) (left : Option (List ℕ)) (world : ReplayState) → Progress limit left_start told held held_now start now reader left asked world → StopsWithin left_start told held held_now world
   stands left_start reader left world so_far = record {
     deliveries = so_far.deliveries;
     last = None;
-    within = rest_within told so_far.deliveries start now world so_far.at_rest;
+    within = rest_within told so_far.deliveries held held_now start now world so_far.at_rest;
     first = first_none left_start reader left world so_far;
   }
     where
-      first_none : (left_start : Option (List ℕ)) (reader : Reading) (left : Option (List ℕ)) (world : ReplayState) (so_far : Progress limit left_start told start now reader left world) →
+      first_none : (left_start : Option (List ℕ)) (reader : Reading) (left : Option (List ℕ)) (world : ReplayState) (so_far : Progress limit left_start told held held_now start now reader left asked world) →
           IfSome left_start (λ bytes. AreFirst bytes (so_far.deliveries ++ []))
       first_none left_start reader left world so_far = rw (append-nil so_far.deliveries) (first_lines left_start reader left world so_far)
 
   -- a fault of the reader stops the taking
-  pub fault_stops : (fault : LineFault) (left_start : Option (List ℕ)) (reader : Reading) (left left_now : Option (List ℕ)) (world : ReplayState) (before between after : ℕ) →
-      Progress limit left_start told start now reader left world → before ≤ between → HasCause fault reader left between after → Leaves fault reader left left_now →
-      Stops (fault_status fault) limit left_start left_now told start now world before after
-  fault_stops NotRead left_start reader left left_now world before between after so_far earlier cause leaves = (
+  pub fault_stops : (fault : LineFault) (left_start : Option (List ℕ)) (reader : Reading) (left left_now : Option (List ℕ)) (world : ReplayState) (before between after writes writes_now : ℕ) →
+      Progress limit left_start told held held_now start now reader left asked world → before ≤ between → HasCause fault reader left between after → Leaves fault reader left left_now →
+      Stops (fault_status fault) limit left_start left_now told held held_now start now world before after writes writes_now
+  fault_stops NotRead left_start reader left left_now world before between after writes writes_now so_far earlier cause leaves = (
     rose_since before between after earlier cause,
     record { deliveries = so_far.deliveries; at_rest = so_far.at_rest; whole = whole_read left_start left left_now reader so_far.deliveries so_far.read leaves },
   )
-  fault_stops PastLimit left_start reader left left_now world before between after so_far earlier cause leaves =
+  fault_stops PastLimit left_start reader left left_now world before between after writes writes_now so_far earlier cause leaves =
       record { deliveries = so_far.deliveries; at_rest = so_far.at_rest; past = past_limit left_start reader left world so_far cause }
-  fault_stops (OverLong number) left_start reader left left_now world before between after so_far earlier cause leaves =
+  fault_stops (OverLong number) left_start reader left left_now world before between after writes writes_now so_far earlier cause leaves =
       record { deliveries = so_far.deliveries; at_rest = so_far.at_rest; bad = stops_long_line left_start reader left world number so_far cause.0 cause.1 }
-  fault_stops Refused left_start reader left left_now world before between after so_far earlier cause leaves = inl (stands left_start reader left world so_far)
+  fault_stops Refused left_start reader left left_now world before between after writes writes_now so_far earlier cause leaves = inl (inl (stands left_start reader left world so_far))
 
-  taken_all : (left_start : Option (List ℕ)) (reader : Reading) (left : Option (List ℕ)) (world : ReplayState) (so_far : Progress limit left_start told start now reader left world) →
+  taken_all : (left_start : Option (List ℕ)) (reader : Reading) (left : Option (List ℕ)) (world : ReplayState) (so_far : Progress limit left_start told held held_now start now reader left asked world) →
       IsAtEnd (unread reader left) → IfSome left_start (λ bytes. AreDeliveries limit bytes so_far.deliveries)
   taken_all None reader left world so_far at_end = tt
   taken_all (Some bytes) reader left world so_far at_end =
@@ -239,7 +243,7 @@ module _ (limit : ℕ) (told : Option (ℕ → Option Bytes)) (start now : Count
 
   -- at the end of the input all lines were taken
   pub end_reached : (left_start : Option (List ℕ)) (reader : Reading) (left : Option (List ℕ)) (world : ReplayState) →
-      Progress limit left_start told start now reader left world → IsAtEnd (unread reader left) → HasTaken limit left_start told start now world
+      Progress limit left_start told held held_now start now reader left asked world → IsAtEnd (unread reader left) → HasTaken limit left_start told held held_now start now world
   end_reached left_start reader left world so_far at_end = record {
     deliveries = so_far.deliveries;
     are = taken_all left_start reader left world so_far at_end;
@@ -252,7 +256,7 @@ module _ (limit : ℕ) (told : Option (ℕ → Option Bytes)) (start now : Count
   front_grows left_start known None done line front first = rw (front, first) refl
   front_grows left_start known (Some ls) done line front first = rw (front, first) (ap Some (sym (append_assoc done (line ∷ []) ls)))
 
-  first_with : (left_start : Option (List ℕ)) (reader : Reading) (left known : Option (List ℕ)) (world : ReplayState) (line : List ℕ) (d : Delivery) (so_far : Progress limit left_start told start now reader left world) →
+  first_with : (left_start : Option (List ℕ)) (reader : Reading) (left known : Option (List ℕ)) (world : ReplayState) (line : List ℕ) (d : Delivery) (so_far : Progress limit left_start told held held_now start now reader left asked world) →
       lines_of (unread reader left) ≡ before_lines line (lines_of known) → delivery_of line ≡ Ok d → IfSome left_start (λ bytes. AreFirst bytes (so_far.deliveries ++ d ∷ []))
   first_with None reader left known world line d so_far first is = tt
   first_with (Some bytes) reader left None world line d so_far first is =
@@ -267,12 +271,12 @@ module _ (limit : ℕ) (told : Option (ℕ → Option Bytes)) (start now : Count
       }
 
   -- the bytes of one line more
-  bytes_grow : (left_start : Option (List ℕ)) (reader : Reading) (left known : Option (List ℕ)) (world : ReplayState) (line : List ℕ) (ended : Bool) (so_far : Progress limit left_start told start now reader left world) →
+  bytes_grow : (left_start : Option (List ℕ)) (reader : Reading) (left known : Option (List ℕ)) (world : ReplayState) (line : List ℕ) (ended : Bool) (so_far : Progress limit left_start told held held_now start now reader left asked world) →
       (takes : TakesBytes ended (unread reader left) known line) → left_start ≡ before_known (so_far.read.read ++ takes.moved) known
   bytes_grow left_start reader left known world line ended so_far takes =
       so_far.read.bytes ∙ ap (λ (o : Option (List ℕ)). before_known so_far.read.read o) takes.front ∙ before_both so_far.read.read takes.moved known
 
-  bad_line : (left_start : Option (List ℕ)) (reader : Reading) (left known : Option (List ℕ)) (world : ReplayState) (line : List ℕ) (consumed number : ℕ) (cause : LineCause) (ended : Bool) (so_far : Progress limit left_start told start now reader left world) →
+  bad_line : (left_start : Option (List ℕ)) (reader : Reading) (left known : Option (List ℕ)) (world : ReplayState) (line : List ℕ) (consumed number : ℕ) (cause : LineCause) (ended : Bool) (so_far : Progress limit left_start told held held_now start now reader left asked world) →
       lines_of (unread reader left) ≡ before_lines line (lines_of known) → option_map (λ (u : List ℕ). consumed + length u) known ≡ input_length reader left → TakesBytes ended (unread reader left) known line → consumed ≤ limit →
       number ≡ reader.given + 1 → delivery_of line ≡ Err cause → IfSome left_start (λ bytes. IsRefusedLine limit bytes so_far.deliveries number cause)
   bad_line None reader left known world line consumed number cause ended so_far first total takes within next refused = tt
@@ -299,31 +303,66 @@ module _ (limit : ℕ) (told : Option (ℕ → Option Bytes)) (start now : Count
       })
 
   -- a line that is refused stops the taking
-  pub line_stops : (status : Status) (left_start : Option (List ℕ)) (reader next : Reading) (left left_next : Option (List ℕ)) (now_then : Counts) (world world_now : ReplayState) (line : List ℕ) (number before after : ℕ) →
-      Progress limit left_start told start now reader left world → lines_of (unread reader left) ≡ before_lines line (lines_of (unread next left_next)) →
+  pub line_stops : (status : Status) (left_start : Option (List ℕ)) (reader next : Reading) (left left_next : Option (List ℕ)) (world : ReplayState) (line : List ℕ) (number before after writes writes_now : ℕ) →
+      Progress limit left_start told held held_now start now reader left asked world → lines_of (unread reader left) ≡ before_lines line (lines_of (unread next left_next)) →
       input_length next left_next ≡ input_length reader left → TakesBytes next.ended (unread reader left) (unread next left_next) line → next.max_bytes ≡ reader.max_bytes → IsSound next → number ≡ reader.given + 1 →
-      IsRefused told status line number now now_then world world_now → Stops status limit left_start left_next told start now_then world_now before after
-  line_stops Ended left_start reader next left left_next now_then world world_now line number before after so_far first total takes same_limit sound counted refused = absurd refused
-  line_stops BadWords left_start reader next left left_next now_then world world_now line number before after so_far first total takes same_limit sound counted refused = absurd refused
-  line_stops (BadLine n cause) left_start reader next left left_next now_then world world_now line number before after so_far first total takes same_limit sound counted refused =
-      rw (refused.2, refused.3) (record {
-        deliveries = so_far.deliveries;
-        at_rest = so_far.at_rest;
-        bad = bad_line left_start reader left (unread next left_next) world line next.consumed n cause next.ended so_far first total takes (omega (arith, sound.within, same_limit, so_far.max)) (refused.0 ∙ counted) refused.1;
-      })
-  line_stops ReadFault left_start reader next left left_next now_then world world_now line number before after so_far first total takes same_limit sound counted refused = absurd refused
-  line_stops WriteFault left_start reader next left left_next now_then world world_now line number before after so_far first total takes same_limit sound counted refused = absurd refused
-  line_stops TooLong left_start reader next left left_next now_then world world_now line number before after so_far first total takes same_limit sound counted refused = absurd refused
-  line_stops OutOfMemory left_start reader next left left_next now_then world world_now line number before after so_far first total takes same_limit sound counted refused =
-      ⊎_elim
-      (λ same. inl (subst (λ w. StopsWithin left_start told w) (sym same) (stands left_start reader left world so_far)))
-      (λ begun. inl (record {
-        deliveries = so_far.deliveries;
-        last = Some begun.delivery;
-        within = begun.within;
-        first = first_with left_start reader left (unread next left_next) world line begun.delivery so_far first begun.is;
-      }))
-      (refused so_far.deliveries start so_far.at_rest)
+      IsRefused status line number → Stops status limit left_start left_next told held held_now start now world before after writes writes_now
+  line_stops Ended left_start reader next left left_next world line number before after writes writes_now so_far first total takes same_limit sound counted refused = absurd refused
+  line_stops BadWords left_start reader next left left_next world line number before after writes writes_now so_far first total takes same_limit sound counted refused = absurd refused
+  line_stops (BadLine n cause) left_start reader next left left_next world line number before after writes writes_now so_far first total takes same_limit sound counted refused = record {
+    deliveries = so_far.deliveries;
+    at_rest = so_far.at_rest;
+    bad = bad_line left_start reader left (unread next left_next) world line next.consumed n cause next.ended so_far first total takes (omega (arith, sound.within, same_limit, so_far.max)) (refused.0 ∙ counted) refused.1;
+  }
+  line_stops ReadFault left_start reader next left left_next world line number before after writes writes_now so_far first total takes same_limit sound counted refused = absurd refused
+  line_stops WriteFault left_start reader next left left_next world line number before after writes writes_now so_far first total takes same_limit sound counted refused = absurd refused
+  line_stops TooLong left_start reader next left left_next world line number before after writes writes_now so_far first total takes same_limit sound counted refused = absurd refused
+  line_stops OutOfMemory left_start reader next left left_next world line number before after writes writes_now so_far first total takes same_limit sound counted refused =
+      inl (inl (stands left_start reader left world so_far))
+
+  -- a question that isn't answered wholly stops the taking
+  stops_answering : (status : Status) (left_start : Option (List ℕ)) (reader : Reading) (left known held_then : Option (List ℕ)) (now_then : Counts) (world world_now : ReplayState) (line : List ℕ) (d : Delivery) (so_far : Progress limit left_start told held held_now start now reader left asked world) →
+      lines_of (unread reader left) ≡ before_lines line (lines_of known) → delivery_of line ≡ Ok d → FallsSilent status d so_far.deliveries held_now held_then now now_then world world_now →
+      StopsAnswering status left_start told held held_then start now_then world_now
+  stops_answering status left_start reader left known held_then now_then world world_now line d so_far first is silent = rw (silent.world, silent.counts) (record {
+    deliveries = so_far.deliveries;
+    pattern = silent.pattern;
+    between = held_now;
+    at_rest = so_far.at_rest;
+    begun = silent.begun;
+    first = subst (λ q. IfSome left_start (λ bytes. AreFirst bytes (so_far.deliveries ++ q ∷ []))) silent.is (first_with left_start reader left known world line d so_far first is);
+  })
+
+  -- a delivery that isn't taken wholly stops the taking
+  pub delivery_stops : (status : Status) (left_start : Option (List ℕ)) (reader : Reading) (left known left_next held_then : Option (List ℕ)) (now_then : Counts) (world world_now : ReplayState) (line : List ℕ) (d : Delivery) (asked_now before after writes writes_now writes_then : ℕ) →
+      Progress limit left_start told held held_now start now reader left asked world → lines_of (unread reader left) ≡ before_lines line (lines_of known) → delivery_of line ≡ Ok d →
+      asked_now ≡ asked + asks (d ∷ []) → writes ≤ writes_now →
+      CutsOff status told d asked_now held_now held_then now now_then world world_now writes_now writes_then → Stops status limit left_start left_next told held held_then start now_then world_now before after writes writes_then
+  delivery_stops status left_start reader left known left_next held_then now_then world world_now line d asked_now before after writes writes_now writes_then so_far first is more earlier cuts =
+      by status (cuts so_far.deliveries held start (more ∙ ap (λ n. n + asks (d ∷ [])) so_far.asked_is ∙ sym (asks-push so_far.deliveries d)) so_far.at_rest)
+    where
+      by : (status : Status) → IsCutOff status told d so_far.deliveries held held_now held_then now now_then world world_now writes_now writes_then → Stops status limit left_start left_next told held held_then start now_then world_now before after writes writes_then
+      by Ended cut = absurd cut
+      by BadWords cut = absurd cut
+      by (BadLine number cause) cut = absurd cut
+      by ReadFault cut = absurd cut
+      by WriteFault cut = (rose_since writes writes_now writes_then earlier cut.0, stops_answering WriteFault left_start reader left known held_then now_then world world_now line d so_far first is cut.1)
+      by TooLong cut = absurd cut
+      by OutOfMemory cut =
+          ⊎_elim
+          (λ may. inl (inl (
+            ⊎_elim
+            (λ same. subst (λ w. StopsWithin left_start told held held_then w) (sym same) (subst (λ h. StopsWithin left_start told held h world) (sym may.0) (stands left_start reader left world so_far)))
+            (λ begun. record {
+              deliveries = so_far.deliveries;
+              last = Some d;
+              within = begun;
+              first = first_with left_start reader left known world line d so_far first is;
+            })
+            may.1
+          )))
+          (λ silent. inr (stops_answering OutOfMemory left_start reader left known held_then now_then world world_now line d so_far first is silent))
+          cut
 
   whole_grows : (done : List (List ℕ)) (line read moved : List ℕ) → read ≡ ended_lines done → moved ≡ line ++ line_feed ∷ [] → read ++ moved ≡ ended_lines (done ++ line ∷ [])
   whole_grows done line read moved is ends =
@@ -334,33 +373,38 @@ module _ (limit : ℕ) (told : Option (ℕ → Option Bytes)) (start now : Count
   not_ended false now still is = refl
 
   -- a line that is taken
-  pub line_taken : (left_start : Option (List ℕ)) (reader next : Reading) (left left_next : Option (List ℕ)) (now_then : Counts) (world world_now : ReplayState) (line : List ℕ) →
-      Progress limit left_start told start now reader left world → lines_of (unread reader left) ≡ before_lines line (lines_of (unread next left_next)) →
+  pub line_taken : (left_start : Option (List ℕ)) (reader next : Reading) (left left_next held_then : Option (List ℕ)) (now_then : Counts) (world world_now : ReplayState) (line : List ℕ) (d : Delivery) (asked_now : ℕ) →
+      Progress limit left_start told held held_now start now reader left asked world → lines_of (unread reader left) ≡ before_lines line (lines_of (unread next left_next)) →
       input_length next left_next ≡ input_length reader left → TakesBytes next.ended (unread reader left) (unread next left_next) line → next.given ≡ reader.given + 1 → GoesOn reader next line →
-      (next.ended ≡ true → IsAtEnd left_next) → TakesLine told line now now_then world world_now → Progress limit left_start told start now_then next left_next world_now
-  line_taken left_start reader next left left_next now_then world world_now line so_far first total bytes given goes ended takes = record {
-    deliveries = so_far.deliveries ++ takes.delivery ∷ [];
-    read = record {
-      done = so_far.read.done ++ line ∷ [];
-      front = front_grows (lines_of left_start) (lines_of (unread reader left)) (lines_of (unread next left_next)) so_far.read.done line so_far.read.front first;
-      delivered = deliveries-push so_far.read.done line so_far.deliveries takes.delivery so_far.read.delivered takes.is;
-      counted = given ∙ omega (arith, so_far.read.counted, length-append so_far.read.done (line ∷ []));
-      total = total ∙ so_far.read.total;
-      read = so_far.read.read ++ bytes.moved;
-      bytes = bytes_grow left_start reader left (unread next left_next) world line next.ended so_far bytes;
-      whole = λ going. whole_grows so_far.read.done line so_far.read.read bytes.moved (so_far.read.whole (not_ended reader.ended next.ended goes.still going)) (bytes.whole going);
-      are_lines = Each-append IsOneLine so_far.read.done (line ∷ []) so_far.read.are_lines (bytes.in_line, tt);
-    };
-    at_rest = takes.then_rests so_far.deliveries start so_far.at_rest;
-    max = goes.limit ∙ so_far.max;
-    sound = goes.sound;
-    going = goes.going;
-    ended = ended;
-  }
+      (next.ended ≡ true → IsAtEnd left_next) → delivery_of line ≡ Ok d → asked_now ≡ asked + asks (d ∷ []) → asks (d ∷ []) ≤ 1 →
+      TakesDelivery told d asked_now held_now held_then now now_then world world_now → Progress limit left_start told held held_then start now_then next left_next asked_now world_now
+  line_taken left_start reader next left left_next held_then now_then world world_now line d asked_now so_far first total bytes given goes ended is more one takes =
+      let asked_is : asked_now ≡ asks (so_far.deliveries ++ d ∷ []) = more ∙ ap (λ n. n + asks (d ∷ [])) so_far.asked_is ∙ sym (asks-push so_far.deliveries d) in
+      record {
+        deliveries = so_far.deliveries ++ d ∷ [];
+        read = record {
+          done = so_far.read.done ++ line ∷ [];
+          front = front_grows (lines_of left_start) (lines_of (unread reader left)) (lines_of (unread next left_next)) so_far.read.done line so_far.read.front first;
+          delivered = deliveries-push so_far.read.done line so_far.deliveries d so_far.read.delivered is;
+          counted = given ∙ omega (arith, so_far.read.counted, length-append so_far.read.done (line ∷ []));
+          total = total ∙ so_far.read.total;
+          read = so_far.read.read ++ bytes.moved;
+          bytes = bytes_grow left_start reader left (unread next left_next) world line next.ended so_far bytes;
+          whole = λ going. whole_grows so_far.read.done line so_far.read.read bytes.moved (so_far.read.whole (not_ended reader.ended next.ended goes.still going)) (bytes.whole going);
+          are_lines = Each-append IsOneLine so_far.read.done (line ∷ []) so_far.read.are_lines (bytes.in_line, tt);
+        };
+        at_rest = takes so_far.deliveries held start asked_is so_far.at_rest;
+        asked_is = asked_is;
+        few_asked = omega (arith, so_far.few_asked, more, one, given);
+        max = goes.limit ∙ so_far.max;
+        sound = goes.sound;
+        going = goes.going;
+        ended = ended;
+      }
 
 -- before the first line the world is that of no delivery
-pub nothing_begun : (limit : ℕ) (left : Option (List ℕ)) (told : Option (ℕ → Option Bytes)) (now : Counts) → StopsWithin left told nothing_delivered
-nothing_begun limit left told now = stands limit told now now left (fresh limit) left nothing_delivered (before_lines_taken limit left told now)
+pub nothing_begun : (limit : ℕ) (left : Option (List ℕ)) (told : Option (ℕ → Option Bytes)) (held : Option (List ℕ)) (now : Counts) → StopsWithin left told held held nothing_delivered
+nothing_begun limit left told held now = stands limit told held held now now 0 left (fresh limit) left nothing_delivered (before_lines_taken limit left told held now)
 
 -- at the end nothing is left of the source
 pub nothing_left : (held : List ℕ) (left : Option (List ℕ)) → IsAtEnd (before_known held left) → IsAtEnd left

@@ -1,11 +1,13 @@
 -- What a run that ended leaves: the states, what is held, the side output and what was printed.
-use Rattle.std.specs.Prelude.{◌≡◌, ◌⊎◌, ℕ, ◌-◌, ◌^◌, ◌<◌, true, false, not, List, [], Option, None, Some, IfSome, length, ⊤}
+use Rattle.std.specs.Prelude.{◌≡◌, ◌⊎◌, ℕ, ◌-◌, ◌^◌, ◌<◌, true, false, not, List, [], ◌∷◌, ◌++◌, Option, None, Some, IfSome, length, ⊤}
 use Rattle.std.specs.List.{list_any}
 use Rattle.rising.specs.Rising.{Each}
 use Rattle.wq_io.specs.Streams.{Rose, after_known}
+use Rattle.rdf_term.specs.declared.triple.Pattern.{Pattern}
 use Rattle.entity_model.specs.declared.id.EntityId.{EntityId}
 use Rattle.entity_state.specs.State.{is_kept}
 use Rattle.event_line.specs.declared.deliveries.Delivery.{Delivery}
+use Rattle.event_line.specs.declared.deliveries.Delivery.TheVariants.{Ask}
 use Rattle.event_line.specs.declared.deliveries.LineCause.{LineCause}
 use Rattle.replay_model.specs.Acceptance.{due, known, late}
 use Rattle.replay_model.specs.Entries.{has_open_revision, is_open_late, late_events}
@@ -20,8 +22,8 @@ use Rattle.session.specs.Words.{Choices, limit_of}
 use Rattle.session.specs.declared.status.Status.{Status}
 use Rattle.session.specs.declared.status.Status.TheVariants.{Ok as Ended, BadWords, BadLine, ReadFault, WriteFault, TooLong, OutOfMemory}
 use Rattle.session.specs.Counts.{Counts, HasCounted}
-use Rattle.session.specs.Running.{AreDeliveries, AreWhole, HoldsDocuments, IsPastLimit, IsRefusedLine, judgement}
-use Rattle.session.specs.Stops.{StopsStarved}
+use Rattle.session.specs.Running.{AreDeliveries, AreFirst, AreWhole, HoldsDocuments, IsPastLimit, IsRefusedLine, judgement, said_behind}
+use Rattle.session.specs.Stops.{HasBegunAnswer, StopsStarved}
 use Rattle.session.specs.Printing.{Wrote, sections_of}
 
 -- the world is where a play leads, with some replies to its fetches, and the counts of the source rose by these
@@ -73,36 +75,62 @@ pub record Replayed (limit : ℕ) (left : Option (List ℕ)) (told : Option (ℕ
   pub holds : HoldsRightly told world
   pub names : NamesRightly told deliveries world
 
--- all was printed: the sections of the world, and where the source tells what it has the transcript of the play
-pub record HasPrinted (plan : Choices) (told : Option (ℕ → Option Bytes)) (ds : List Delivery) (world : ReplayState) (held held_now : Option (List ℕ)) : Type 0 where
-  pub sections : held_now ≡ after_known held (closing meaning (sections_of plan) world.played)
+-- the answers to the questions were printed, and nothing else: those of the play with these replies; where the source tells
+-- what it has, those of the play with the replies of what is there and of the events whose fetches failed
+pub record HasAnswered (told : Option (ℕ → Option Bytes)) (ds : List Delivery) (replies : Replies) (world : ReplayState) (held held_now : Option (List ℕ)) : Type 0 where
+  pub some : held_now ≡ said_behind ds held replies
+  pub all : (contents : ℕ → Option Bytes) → told ≡ Some contents → held_now ≡ said_behind ds held (source_replies judgement contents (failed_events world.played.side))
+
+-- the whole input was replayed, and the answers were printed
+pub record HasReplayed (limit : ℕ) (left : Option (List ℕ)) (told : Option (ℕ → Option Bytes)) (start now : Counts) (world : ReplayState) (held held_now : Option (List ℕ)) : Type 0 where
+  pub replayed : Replayed limit left told start now world
+  pub answered : HasAnswered told replayed.deliveries replayed.played.replies world held held_now
+
+-- all was printed: the answers and the sections of the world; where the source tells what it has, this is the transcript of
+-- the play
+pub record HasPrinted (plan : Choices) (told : Option (ℕ → Option Bytes)) (ds : List Delivery) (replies : Replies) (world : ReplayState) (held held_now : Option (List ℕ)) : Type 0 where
+  pub some : held_now ≡ after_known held (transcript meaning (sections_of plan) replies ds)
   pub all : (contents : ℕ → Option Bytes) → told ≡ Some contents →
       held_now ≡ after_known held (transcript meaning (sections_of plan) (source_replies judgement contents (failed_events world.played.side)) ds)
 
--- a front of it was printed, and nothing else: of the sections of the world, and where the source tells what it has of
--- the transcript of the play; where the sink failed, not all of it
-pub record HasBegun (status : Status) (plan : Choices) (told : Option (ℕ → Option Bytes)) (ds : List Delivery) (world : ReplayState) (held held_now : Option (List ℕ)) : Type 0 where
-  pub sections : Wrote status held held_now (closing meaning (sections_of plan) world.played)
-  pub all : (contents : ℕ → Option Bytes) → told ≡ Some contents →
-      Wrote status held held_now (transcript meaning (sections_of plan) (source_replies judgement contents (failed_events world.played.side)) ds)
+-- the answers were printed and then a front of the sections of the world, and nothing else; where the sink failed, not all of
+-- them
+pub record HasBegun (status : Status) (plan : Choices) (told : Option (ℕ → Option Bytes)) (ds : List Delivery) (replies : Replies) (world : ReplayState) (held held_now : Option (List ℕ)) : Type 0 where
+  pub between : Option (List ℕ)
+  pub answered : HasAnswered told ds replies world held between
+  pub sections : Wrote status between held_now (closing meaning (sections_of plan) world.played)
 
 -- the world has taken the deliveries of all whole lines of the bytes that were read before a read failed
-pub record StandsAfter (left left_now : Option (List ℕ)) (told : Option (ℕ → Option Bytes)) (start now : Counts) (world : ReplayState) : Type 0 where
+pub record StandsAfter (left left_now : Option (List ℕ)) (told : Option (ℕ → Option Bytes)) (start now : Counts) (world : ReplayState) (held held_now : Option (List ℕ)) : Type 0 where
   pub deliveries : List Delivery
   pub played : IsPlayedAfter told deliveries start now world
+  pub answered : HasAnswered told deliveries played.replies world held held_now
   pub whole : AreWhole left left_now deliveries
 
 -- the world has taken the deliveries before the line in which the input goes past the limit
-pub record StandsAtLimit (limit : ℕ) (left : Option (List ℕ)) (told : Option (ℕ → Option Bytes)) (start now : Counts) (world : ReplayState) : Type 0 where
+pub record StandsAtLimit (limit : ℕ) (left : Option (List ℕ)) (told : Option (ℕ → Option Bytes)) (start now : Counts) (world : ReplayState) (held held_now : Option (List ℕ)) : Type 0 where
   pub deliveries : List Delivery
   pub played : IsPlayedAfter told deliveries start now world
+  pub answered : HasAnswered told deliveries played.replies world held held_now
   pub past : IfSome left (λ bytes. IsPastLimit limit bytes deliveries)
 
 -- the world has taken the deliveries before the line with this number, which is refused
-pub record StandsBeforeLine (limit : ℕ) (left : Option (List ℕ)) (told : Option (ℕ → Option Bytes)) (start now : Counts) (number : ℕ) (cause : LineCause) (world : ReplayState) : Type 0 where
+pub record StandsBeforeLine (limit : ℕ) (left : Option (List ℕ)) (told : Option (ℕ → Option Bytes)) (start now : Counts) (number : ℕ) (cause : LineCause) (world : ReplayState) (held held_now : Option (List ℕ)) : Type 0 where
   pub deliveries : List Delivery
   pub played : IsPlayedAfter told deliveries start now world
+  pub answered : HasAnswered told deliveries played.replies world held held_now
   pub bad : IfSome left (λ bytes. IsRefusedLine limit bytes deliveries number cause)
+
+-- the world has taken the deliveries before a question; the answers before it were printed and then a front of its own, and
+-- nothing else; where the sink failed, not all of it
+pub record FallsSilentAnswering (status : Status) (left : Option (List ℕ)) (told : Option (ℕ → Option Bytes)) (start now : Counts) (world : ReplayState) (held held_now : Option (List ℕ)) : Type 0 where
+  pub deliveries : List Delivery
+  pub pattern : Pattern
+  pub played : IsPlayedAfter told deliveries start now world
+  pub between : Option (List ℕ)
+  pub answered : HasAnswered told deliveries played.replies world held between
+  pub begun : HasBegunAnswer status pattern deliveries world between held_now
+  pub first : IfSome left (λ bytes. AreFirst bytes (deliveries ++ Ask pattern ∷ []))
 
 -- where no fetch failed, the world and what was printed are functions of the words, the lines and the contents
 pub record IsFunction (plan : Choices) (told : Option (ℕ → Option Bytes)) (ds : List Delivery) (start now : Counts) (world : ReplayState) (held held_now : Option (List ℕ)) : Type 0 where
@@ -114,24 +142,29 @@ pub record IsFunction (plan : Choices) (told : Option (ℕ → Option Bytes)) (d
 -- all that a run of these words over this input and source leaves, where it ended well
 pub record Ending (plan : Choices) (left : Option (List ℕ)) (told : Option (ℕ → Option Bytes)) (start now : Counts) (world : ReplayState) (held held_now : Option (List ℕ)) : Type 0 where
   pub replayed : Replayed (limit_of plan) left told start now world
-  pub printed : HasPrinted plan told replayed.deliveries world held held_now
+  pub printed : HasPrinted plan told replayed.deliveries replayed.played.replies world held held_now
   pub function : IsFunction plan told replayed.deliveries start now world held held_now
 
--- what a run leaves that stopped while it printed
+-- what a run leaves that stopped while it printed the sections
 pub record BrokenOff (status : Status) (plan : Choices) (left : Option (List ℕ)) (told : Option (ℕ → Option Bytes)) (start now : Counts) (world : ReplayState) (held held_now : Option (List ℕ)) : Type 0 where
   pub replayed : Replayed (limit_of plan) left told start now world
-  pub begun : HasBegun status plan told replayed.deliveries world held held_now
+  pub begun : HasBegun status plan told replayed.deliveries replayed.played.replies world held held_now
+
+-- what a run leaves that stopped while it printed: in the answer to a question, or in the sections
+abbrev pub IsInterrupted : Status → Choices → Option (List ℕ) → Option (ℕ → Option Bytes) → Counts → Counts → ReplayState → Option (List ℕ) → Option (List ℕ) → Type 0
+IsInterrupted status plan left told start now world held held_now =
+    FallsSilentAnswering status left told start now world held held_now ⊎ BrokenOff status plan left told start now world held held_now
 
 -- why a run stopped, and what stands then
 abbrev pub Stopped : Status → Choices → Option (List ℕ) → Option (List ℕ) → Option (ℕ → Option Bytes) → Counts → Counts → ReplayState → Option (List ℕ) → Option (List ℕ) → ℕ → ℕ → ℕ → ℕ → Type 0
 Stopped Ended plan left left_now told start now world held held_now reads reads_now writes writes_now = ⊥
 Stopped BadWords plan left left_now told start now world held held_now reads reads_now writes writes_now = ⊥
-Stopped (BadLine number cause) plan left left_now told start now world held held_now reads reads_now writes writes_now = StandsBeforeLine (limit_of plan) left told start now number cause world × (held_now ≡ held)
-Stopped ReadFault plan left left_now told start now world held held_now reads reads_now writes writes_now = Rose reads reads_now × StandsAfter left left_now told start now world × (held_now ≡ held)
-Stopped WriteFault plan left left_now told start now world held held_now reads reads_now writes writes_now = Rose writes writes_now × BrokenOff WriteFault plan left told start now world held held_now
-Stopped TooLong plan left left_now told start now world held held_now reads reads_now writes writes_now = StandsAtLimit (limit_of plan) left told start now world × (held_now ≡ held)
+Stopped (BadLine number cause) plan left left_now told start now world held held_now reads reads_now writes writes_now = StandsBeforeLine (limit_of plan) left told start now number cause world held held_now
+Stopped ReadFault plan left left_now told start now world held held_now reads reads_now writes writes_now = Rose reads reads_now × StandsAfter left left_now told start now world held held_now
+Stopped WriteFault plan left left_now told start now world held held_now reads reads_now writes writes_now = Rose writes writes_now × IsInterrupted WriteFault plan left told start now world held held_now
+Stopped TooLong plan left left_now told start now world held held_now reads reads_now writes writes_now = StandsAtLimit (limit_of plan) left told start now world held held_now
 Stopped OutOfMemory plan left left_now told start now world held held_now reads reads_now writes writes_now =
-    (StopsStarved (limit_of plan) left told world × (held_now ≡ held)) ⊎ BrokenOff OutOfMemory plan left told start now world held held_now
+    StopsStarved (limit_of plan) left told held held_now world ⊎ IsInterrupted OutOfMemory plan left told start now world held held_now
 
 -- the run was begun and stopped
 abbrev pub IsStop : Status → Type 0

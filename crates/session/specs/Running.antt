@@ -2,7 +2,7 @@
 use Rattle.std.specs.Prelude.{◌≡◌, ◌⊎◌, ℕ, ◌+◌, ◌-◌, ◌<◌, ◌≤◌, false, List, [], ◌∷◌, ◌++◌, length, Option, None, Some, Result, Ok, Err}
 use Rattle.std.specs.Option.{option_map}
 use Rattle.rising.specs.Rising.{Each}
-use Rattle.wq_io.specs.Streams.{before_known}
+use Rattle.wq_io.specs.Streams.{after_known, before_known}
 use Rattle.wq_io.specs.Lines.{Reading, IsLineLong, IsOneLine, IsTooLong, ended_lines, input_length, lines, lines_of, unread, whole_lines}
 use Rattle.revisions.specs.Revisions.{Contents}
 use Rattle.entity_model.specs.declared.id.EntityId.{EntityId}
@@ -17,6 +17,8 @@ use Rattle.replay_model.specs.Play.{Fetch, Replies, fetches, fetches_to_end}
 use Rattle.replay_model.specs.Replies.{HoldsDocument, Judgement, failed_events, source_replies}
 use Rattle.replay_model.specs.ReplayState.{ReplayState, after_some, entered, following, following_to_end}
 use Rattle.replay_model.specs.Explained.{AgreeOnApplied, Explained}
+use Rattle.replay_model.specs.Transcript.{said as answers_said}
+use Rattle.world.specs.Meaning.{meaning}
 use Rattle.session.specs.Counts.{Counts, HasCounted}
 
 -- why bytes are no document of an entity
@@ -42,29 +44,37 @@ deliveries_of (line ∷ others) = onto_deliveries (delivery_of line) (deliveries
 abbrev pub HoldsDocuments : ReplayState → Type 0
 HoldsDocuments world = (x : EntityId) → HoldsDocument judgement x (record_of world.played.records x).held
 
+-- what a sink holds behind what a play with these replies says at the deliveries
+abbrev pub said_behind : List Delivery → Option (List ℕ) → Replies → Option (List ℕ)
+said_behind ds held replies = after_known held (answers_said meaning replies ds)
+
 -- the world leads to a play with some replies, the counts rose with what was fetched for it so far, and what is held are
--- documents
-pub record Leads (told : Option (ℕ → Option Bytes)) (play_of : Replies → ReplayState) (fetches_of : Replies → List Fetch) (start now : Counts) (world : ReplayState) : Type 0 where
+-- documents; what was said is what is said with all replies that agree with these on what was applied
+pub record Leads (told : Option (ℕ → Option Bytes)) (play_of : Replies → ReplayState) (fetches_of : Replies → List Fetch) (said_of : Replies → Option (List ℕ)) (said : Option (List ℕ)) (start now : Counts) (world : ReplayState) : Type 0 where
   pub made : ℕ
   pub explained : Explained judgement told play_of fetches_of made world
   pub counted : HasCounted start now made world.played.side
   pub documents : HoldsDocuments world
+  pub says : (others : Replies) → AgreeOnApplied world explained.replies others → said ≡ said_of others
 
 -- the world leads to a play with some replies, and is so many applications of due events after where the play begins them,
 -- the least first
-pub record IsUnderWay (told : Option (ℕ → Option Bytes)) (play_of : Replies → ReplayState) (fetches_of : Replies → List Fetch) (begun_of : Replies → ReplayState) (start now : Counts) (world : ReplayState) : Type 0 where
-  pub leads : Leads told play_of fetches_of start now world
+pub record IsUnderWay (told : Option (ℕ → Option Bytes)) (play_of : Replies → ReplayState) (fetches_of : Replies → List Fetch) (said_of : Replies → Option (List ℕ)) (said : Option (List ℕ)) (begun_of : Replies → ReplayState) (start now : Counts) (world : ReplayState) : Type 0 where
+  pub leads : Leads told play_of fetches_of said_of said start now world
   pub steps : ℕ
   pub is : (others : Replies) → AgreeOnApplied world leads.explained.replies others → world ≡ after_some others steps (begun_of others)
 
--- the world is so many applications of due events after where a play begins them, the least first, with some replies; where
--- the source tells what it has, with those of what is there and of the events whose fetches failed
-pub record IsWithin (told : Option (ℕ → Option Bytes)) (begun_of : Replies → ReplayState) (world : ReplayState) : Type 0 where
+-- the world is so many applications of due events after where a play begins them, the least first, with some replies, and
+-- what was printed is what that play says; where the source tells what it has, with the replies of what is there and of the
+-- events whose fetches failed
+pub record IsWithin (told : Option (ℕ → Option Bytes)) (said_of : Replies → Option (List ℕ)) (said : Option (List ℕ)) (begun_of : Replies → ReplayState) (world : ReplayState) : Type 0 where
   pub steps : ℕ
   pub replies : Replies
   pub is : world ≡ after_some replies steps (begun_of replies)
+  pub says : said ≡ said_of replies
   pub source : (contents : ℕ → Option Bytes) → told ≡ Some contents →
       world ≡ after_some (source_replies judgement contents (failed_events world.played.side)) steps (begun_of (source_replies judgement contents (failed_events world.played.side)))
+  pub source_says : (contents : ℕ → Option Bytes) → told ≡ Some contents → said ≡ said_of (source_replies judgement contents (failed_events world.played.side))
   pub documents : HoldsDocuments world
 
 -- right after a delivery, if there is one, is taken, before what it makes due is applied
@@ -72,14 +82,15 @@ abbrev pub entered_perhaps : ReplayState → Option Delivery → ReplayState
 entered_perhaps w None = w
 entered_perhaps w (Some d) = entered w d
 
--- the world has taken these deliveries, and no event is due: with some replies, it is where a replay of them leads
-pub record AtRest (told : Option (ℕ → Option Bytes)) (ds : List Delivery) (start now : Counts) (world : ReplayState) : Type 0 where
-  pub leads : Leads told (λ replies. following replies ds) (λ replies. fetches replies ds) start now world
+-- the world has taken these deliveries, and no event is due: with some replies, it is where a replay of them leads; what was
+-- printed is what this replay says
+pub record AtRest (told : Option (ℕ → Option Bytes)) (ds : List Delivery) (held held_now : Option (List ℕ)) (start now : Counts) (world : ReplayState) : Type 0 where
+  pub leads : Leads told (λ replies. following replies ds) (λ replies. fetches replies ds) (said_behind ds held) held_now start now world
   pub rests : first_due world.buffer ≡ None
 
 -- the world has taken these deliveries and the end of the input, and no event is due
-pub record AtEnd (told : Option (ℕ → Option Bytes)) (ds : List Delivery) (start now : Counts) (world : ReplayState) : Type 0 where
-  pub leads : Leads told (λ replies. following_to_end replies ds) (λ replies. fetches_to_end replies ds) start now world
+pub record AtEnd (told : Option (ℕ → Option Bytes)) (ds : List Delivery) (held held_now : Option (List ℕ)) (start now : Counts) (world : ReplayState) : Type 0 where
+  pub leads : Leads told (λ replies. following_to_end replies ds) (λ replies. fetches_to_end replies ds) (said_behind ds held) held_now start now world
   pub rests : first_due world.buffer ≡ None
 
 -- the lines so far were read, and are these deliveries; the bytes that went into them stand before those that are unread

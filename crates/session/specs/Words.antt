@@ -1,5 +1,5 @@
 -- The words after the program's name, and what they ask for.
-use Rattle.std.specs.Prelude.{◌≡◌, ℕ, ◌≤◌, ◌&&◌, ◌==◌, not, nat_le, nat_lt, true, false, Bool, cond, List, [], ◌∷◌, length, Option, None, Some, unwrap_or, is_none, codes, MatchBool}
+use Rattle.std.specs.Prelude.{◌≡◌, ℕ, ◌≤◌, ◌&&◌, ◌||◌, ◌==◌, not, nat_le, nat_lt, true, false, Bool, cond, List, [], ◌∷◌, length, Option, None, Some, unwrap_or, is_none, codes, MatchBool}
 use Rattle.std.specs.Fmt.{decimal}
 use Rattle.std.specs.List.{after_first, before_first, position_or_len}
 use Rattle.std.specs.Option.{option_and_then}

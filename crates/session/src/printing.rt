@@ -1,12 +1,12 @@
-// What is printed after the end.
+// What is printed: the answers to the questions, and the sections after the end.
 
-ghost use Rattle.std.specs.Prelude.{◌≡◌, ◌<◌, ◌≤◌, cond, [], length, slice_get, IfErr, IfOk, IfSome, OnErr, OnOk, flat_map, string_bytes};
+ghost use Rattle.std.specs.Prelude.{◌≡◌, ◌++◌, ◌<◌, ◌≤◌, cond, [], length, slice_get, IfErr, IfOk, IfSome, OnErr, OnOk, flat_map, string_bytes};
 ghost use Rattle.wq_io.specs.Streams.{after_known};
 ghost use Rattle.rdf_term.specs.Order.{triple_cmp};
 ghost use Rattle.rdf_term.specs.Text.{triple_text};
 ghost use Rattle.replay_model.specs.Entries.{is_open_in};
 ghost use Rattle.replay_model.specs.Records.{record_of};
-ghost use Rattle.replay_model.specs.Transcript.{closing, entry_line, export_head, export_section, side_section, state_line, state_section};
+ghost use Rattle.replay_model.specs.Transcript.{ask_head, ask_section, closing, entry_line, export_head, export_section, rows, side_section, state_line, state_section};
 ghost use Rattle.replay_model.specs.Union.{union};
 ghost use Rattle.world.specs.Meaning.{meaning};
 ghost use Rattle.session.specs.Printing.{IsUnwritten, Wrote, sections_of};
@@ -15,10 +15,31 @@ use crate::arguments::Arguments;
 use crate::lines::{entry_line, state_line};
 use crate::status::Status;
 use entity_model::EntityId;
-use rdf_term::{Triple, write_triple};
+use rdf_term::{OutOfMemory, Pattern, Triple, write_triple};
 use std::alloc::Global;
 use world::World;
 use wq_io::{NoWrite, Sink};
+
+/// Prints the answer to the question with this number: how many triples of the world agree with the pattern, and the line of
+/// each.
+pub fn print_answer<K: Sink>(
+    alloc: Global,
+    number: u64,
+    pattern: &Pattern,
+    world: &World,
+    out: &mut K,
+) -> Result<(), Status>
+    ensures ok { OnOk result (K.held out.new ≡ after_known (K.held out.old)
+        (ask_section number (rows (union triple_cmp meaning world.now.played.records) pattern.now))) }
+    ensures err { IfErr result (λ status. IsUnwritten status (K.faults out.old) (K.faults out.new)) }
+    ensures front { IfErr result (λ status. Wrote status (K.held out.old) (K.held out.new)
+        (ask_section number (rows (union triple_cmp meaning world.now.played.records) pattern.now))) }
+    ensures later { K.faults out.old ≤ K.faults out.new }
+{
+    let triples = world.matches(pattern)?;
+    let head = answer_line(alloc, number, triples.items().len())?;
+    print_section(alloc, head.as_str(), triples.items(), out)
+}
 
 /// Prints the sections that were asked for: the export, the states and the side output.
 pub fn print_closing<K: Sink>(
@@ -56,7 +77,8 @@ fn print_export<K: Sink>(
         return Ok(());
     }
     let triples = world.export()?;
-    print_all(alloc, triples.items(), out)
+    let head = export_line(alloc, triples.items().len())?;
+    print_section(alloc, head.as_str(), triples.items(), out)
 }
 
 // Prints the section of the states, where it is wanted.
@@ -98,28 +120,36 @@ fn print_side<K: Sink>(
     print_entries(alloc, world, out)
 }
 
-// Prints the head of an export and the line of each triple.
-fn print_all<K: Sink>(alloc: Global, triples: &[Triple], out: &mut K) -> Result<(), Status>
-    ensures ok { OnOk result (K.held out.new ≡ after_known (K.held out.old) (export_section triples.now)) }
+// Prints a head and the line of each triple.
+fn print_section<K: Sink>(
+    alloc: Global,
+    head: &str,
+    triples: &[Triple],
+    out: &mut K,
+) -> Result<(), Status>
+    ensures ok { OnOk result (K.held out.new ≡ after_known (K.held out.old) (head.now ++ flat_map triple_text triples.now)) }
     ensures err { IfErr result (λ status. IsUnwritten status (K.faults out.old) (K.faults out.new)) }
-    ensures front { IfErr result (λ status. Wrote status (K.held out.old) (K.held out.new) (export_section triples.now)) }
+    ensures front { IfErr result (λ status. Wrote status (K.held out.old) (K.held out.new) (head.now ++ flat_map triple_text triples.now)) }
     ensures later { K.faults out.old ≤ K.faults out.new }
 {
-    let head = export_line(alloc, triples.len())?;
     write_all(head.as_bytes(), out)?;
     print_triples(alloc, triples, out)
 }
 
 // The first line of an export.
 #[tactic(auto, unfolding(replay_model::specs::Transcript::export_head))]
-fn export_line(alloc: Global, count: usize) -> Result<String, Status>
-    ensures ok { IfOk result (λ line. string_bytes line ≡ export_head count) }
-    ensures err { IfErr result (λ status. status ≡ Status.OutOfMemory) }
+fn export_line(alloc: Global, count: usize) -> Result<String, OutOfMemory>
+    ensures { IfOk result (λ line. string_bytes line ≡ export_head count) }
 {
-    let Ok(line) = format!(in alloc; "# export: {count} triples\n") else {
-        return Err(Status::OutOfMemory);
-    };
-    Ok(line)
+    Ok(format!(in alloc; "# export: {count} triples\n")?)
+}
+
+// The first line of the answer to the question with this number.
+#[tactic(auto, unfolding(replay_model::specs::Transcript::ask_head))]
+fn answer_line(alloc: Global, number: u64, count: usize) -> Result<String, OutOfMemory>
+    ensures { IfOk result (λ line. string_bytes line ≡ ask_head number count) }
+{
+    Ok(format!(in alloc; "# ask {number}: {count} triples\n")?)
 }
 
 // Prints the line of each triple.

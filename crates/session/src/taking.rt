@@ -1,13 +1,16 @@
 // The lines of the input are taken one by one, and what is due is applied.
 
-ghost use Rattle.std.specs.Prelude.{◌≡◌, ℕ, ◌≤◌, ◌^◌, false, List, IfErr, OnErr, OnOk};
+ghost use Rattle.std.specs.Prelude.{◌≡◌, ℕ, ◌≤◌, ◌^◌, ◌∷◌, [], false, List, Ok, Option, IfErr, IfOk, OnErr, OnOk};
 ghost use Rattle.wq_io.specs.Streams.{IsAtEnd};
 ghost use Rattle.replay_model.specs.ReplayState.{after_end, after_event, after_mark, following, nothing_delivered};
+ghost use Rattle.replay_model.specs.Transcript.{asks};
 ghost use Rattle.event_line.specs.declared.deliveries.Delivery.{Delivery};
+ghost use Rattle.event_line.specs.Line.{delivery_of};
 ghost use Rattle.session.specs.Counts.{Counts, counts};
-ghost use Rattle.session.specs.Running.{AtEnd, AtRest, IsWithin, told_at};
-ghost use Rattle.session.specs.Stops.{HasTaken, IsRefused, MayTake, Settles, StillLeads, Stops, TakesDelivery, TakesLine};
+ghost use Rattle.session.specs.Running.{AtEnd, AtRest, IsWithin, said_behind, told_at};
+ghost use Rattle.session.specs.Stops.{CutsOff, HasTaken, IsRefused, Settles, StillLeads, Stops, TakesDelivery};
 
+use crate::printing::print_answer;
 use crate::status::Status;
 use entity_model::Event;
 use event_line::{Delivery, DeliveryFault, delivery};
@@ -15,36 +18,42 @@ use rdf_term::OutOfMemory;
 use revisions::Revisions;
 use std::alloc::Global;
 use world::{World, WorldFault};
-use wq_io::{Lines, Source};
+use wq_io::{Lines, Sink, Source};
 
 /// Takes all lines of an input of at most `max_bytes` bytes; after each watermark all due events are applied before the
-/// next line is read.
-pub fn take_lines<S: Source, R: Revisions>(
+/// next line is read, and each question is answered at once.
+pub fn take_lines<S: Source, R: Revisions, K: Sink>(
     alloc: Global,
     max_bytes: u64,
     place: &str,
     events: &mut S,
     revisions: &mut R,
+    out: &mut K,
     world: &mut World,
 ) -> Result<(), Status>
     requires limit { max_bytes ≤ 2 ^ 40 }
     requires world { world.old ≡ nothing_delivered }
-    ensures ok { OnOk result (HasTaken max_bytes (S.left events.old) (told_at (R.contents revisions.old) place.now)
+    ensures ok { OnOk result (HasTaken max_bytes (S.left events.old) (told_at (R.contents revisions.old) place.now) (K.held out.old) (K.held out.new)
         (counts (R.calls revisions.old) (R.misses revisions.old) (R.faults revisions.old))
         (counts (R.calls revisions.new) (R.misses revisions.new) (R.faults revisions.new)) world.new) }
     ensures read { OnOk result (IsAtEnd (S.left events.new)) }
-    ensures err { IfErr result (λ status. Stops status max_bytes (S.left events.old) (S.left events.new) (told_at (R.contents revisions.old) place.now)
+    ensures err { IfErr result (λ status. Stops status max_bytes (S.left events.old) (S.left events.new) (told_at (R.contents revisions.old) place.now) (K.held out.old) (K.held out.new)
         (counts (R.calls revisions.old) (R.misses revisions.old) (R.faults revisions.old))
         (counts (R.calls revisions.new) (R.misses revisions.new) (R.faults revisions.new))
-        world.new (S.faults events.old) (S.faults events.new)) }
+        world.new (S.faults events.old) (S.faults events.new) (K.faults out.old) (K.faults out.new)) }
     ensures told { R.contents revisions.new ≡ R.contents revisions.old }
     ensures more_faults { R.faults revisions.old ≤ R.faults revisions.new }
     ensures more_misses { R.misses revisions.old ≤ R.misses revisions.new }
+    ensures later { K.faults out.old ≤ K.faults out.new }
 {
     let mut lines = Lines::new(max_bytes);
     let mut line = Vec::new(alloc);
+    let mut asked = 0;
     while let Some(number) = lines.next(events, &mut line)? {
-        take_line(alloc, place, line.as_slice(), number, revisions, world)?;
+        let delivery = read_delivery(alloc, line.as_slice(), number)?;
+        asked += asks(&delivery);
+        deliver(alloc, place, asked, &delivery, revisions, out, world)?;
+        drop(delivery);
     }
     Ok(())
 }
@@ -55,12 +64,12 @@ pub fn take_end<R: Revisions>(
     revisions: &mut R,
     world: &mut World,
 ) -> Result<(), OutOfMemory>
-    ensures ok { OnOk result ((ds : List Delivery) (start : Counts) →
-        AtRest (told_at (R.contents revisions.old) place.now) ds start (counts (R.calls revisions.old) (R.misses revisions.old) (R.faults revisions.old)) world.old →
-        AtEnd (told_at (R.contents revisions.old) place.now) ds start (counts (R.calls revisions.new) (R.misses revisions.new) (R.faults revisions.new)) world.new) }
-    ensures err { OnErr result ((ds : List Delivery) (start : Counts) →
-        AtRest (told_at (R.contents revisions.old) place.now) ds start (counts (R.calls revisions.old) (R.misses revisions.old) (R.faults revisions.old)) world.old →
-        IsWithin (told_at (R.contents revisions.old) place.now) (λ replies. after_end (following replies ds)) world.new) }
+    ensures ok { OnOk result ((ds : List Delivery) (held held_now : Option (List ℕ)) (start : Counts) →
+        AtRest (told_at (R.contents revisions.old) place.now) ds held held_now start (counts (R.calls revisions.old) (R.misses revisions.old) (R.faults revisions.old)) world.old →
+        AtEnd (told_at (R.contents revisions.old) place.now) ds held held_now start (counts (R.calls revisions.new) (R.misses revisions.new) (R.faults revisions.new)) world.new) }
+    ensures err { OnErr result ((ds : List Delivery) (held held_now : Option (List ℕ)) (start : Counts) →
+        AtRest (told_at (R.contents revisions.old) place.now) ds held held_now start (counts (R.calls revisions.old) (R.misses revisions.old) (R.faults revisions.old)) world.old →
+        IsWithin (told_at (R.contents revisions.old) place.now) (said_behind ds held) held_now (λ replies. after_end (following replies ds)) world.new) }
     ensures told { R.contents revisions.new ≡ R.contents revisions.old }
     ensures more_faults { R.faults revisions.old ≤ R.faults revisions.new }
     ensures more_misses { R.misses revisions.old ≤ R.misses revisions.new }
@@ -69,53 +78,55 @@ pub fn take_end<R: Revisions>(
     apply_due(place, revisions, world)
 }
 
-// Takes one line.
-fn take_line<R: Revisions>(
-    alloc: Global,
-    place: &str,
-    line: &[u8],
-    number: u64,
-    revisions: &mut R,
-    world: &mut World,
-) -> Result<(), Status>
-    requires { world.old.buffer.closed ≡ false }
-    ensures ok { OnOk result (TakesLine (told_at (R.contents revisions.old) place.now) line.now
-        (counts (R.calls revisions.old) (R.misses revisions.old) (R.faults revisions.old))
-        (counts (R.calls revisions.new) (R.misses revisions.new) (R.faults revisions.new)) world.old world.new) }
-    ensures err { IfErr result (λ status. IsRefused (told_at (R.contents revisions.old) place.now) status line.now number
-        (counts (R.calls revisions.old) (R.misses revisions.old) (R.faults revisions.old))
-        (counts (R.calls revisions.new) (R.misses revisions.new) (R.faults revisions.new)) world.old world.new) }
-    ensures told { R.contents revisions.new ≡ R.contents revisions.old }
-    ensures more_faults { R.faults revisions.old ≤ R.faults revisions.new }
-    ensures more_misses { R.misses revisions.old ≤ R.misses revisions.new }
+// Reads one line.
+fn read_delivery(alloc: Global, line: &[u8], number: u64) -> Result<Delivery, Status>
+    ensures ok { IfOk result (λ d. delivery_of line.now ≡ Ok d) }
+    ensures err { IfErr result (λ status. IsRefused status line.now number) }
 {
     match delivery(alloc, line) {
-        Ok(delivery) => Ok(deliver(place, &delivery, revisions, world)?),
+        Ok(delivery) => Ok(delivery),
         Err(DeliveryFault::Bad(cause)) => Err(Status::BadLine(number, cause)),
         Err(DeliveryFault::OutOfMemory) => Err(Status::OutOfMemory),
     }
 }
 
-// Takes one delivery, and applies all that it makes due.
-fn deliver<R: Revisions>(
+// How many questions the delivery asks.
+fn asks(delivery: &Delivery) -> u64
+    ensures number { result ≡ asks (delivery.now ∷ []) }
+    ensures at_most_one { result ≤ 1 }
+{
+    match delivery {
+        Delivery::Ask(_) => 1,
+        Delivery::Event(_) | Delivery::Watermark(_) => 0,
+    }
+}
+
+// Takes one delivery, applies all that it makes due, and answers it if it asks, as the question with the number `asked`.
+fn deliver<R: Revisions, K: Sink>(
+    alloc: Global,
     place: &str,
+    asked: u64,
     delivery: &Delivery,
     revisions: &mut R,
+    out: &mut K,
     world: &mut World,
-) -> Result<(), OutOfMemory>
+) -> Result<(), Status>
     requires { world.old.buffer.closed ≡ false }
-    ensures ok { OnOk result (TakesDelivery (told_at (R.contents revisions.old) place.now) delivery.now
+    ensures ok { OnOk result (TakesDelivery (told_at (R.contents revisions.old) place.now) delivery.now asked (K.held out.old) (K.held out.new)
         (counts (R.calls revisions.old) (R.misses revisions.old) (R.faults revisions.old))
         (counts (R.calls revisions.new) (R.misses revisions.new) (R.faults revisions.new)) world.old world.new) }
-    ensures err { OnErr result (MayTake (told_at (R.contents revisions.old) place.now) delivery.now
-        (counts (R.calls revisions.old) (R.misses revisions.old) (R.faults revisions.old)) world.old world.new) }
+    ensures err { IfErr result (λ status. CutsOff status (told_at (R.contents revisions.old) place.now) delivery.now asked (K.held out.old) (K.held out.new)
+        (counts (R.calls revisions.old) (R.misses revisions.old) (R.faults revisions.old))
+        (counts (R.calls revisions.new) (R.misses revisions.new) (R.faults revisions.new)) world.old world.new (K.faults out.old) (K.faults out.new)) }
     ensures told { R.contents revisions.new ≡ R.contents revisions.old }
     ensures more_faults { R.faults revisions.old ≤ R.faults revisions.new }
     ensures more_misses { R.misses revisions.old ≤ R.misses revisions.new }
+    ensures later { K.faults out.old ≤ K.faults out.new }
 {
     match delivery {
-        Delivery::Event(event) => take_event(*event, world),
-        Delivery::Watermark(mark) => take_mark(place, mark, revisions, world),
+        Delivery::Event(event) => Ok(take_event(*event, world)?),
+        Delivery::Watermark(mark) => Ok(take_mark(place, mark, revisions, world)?),
+        Delivery::Ask(pattern) => print_answer(alloc, asked, pattern, world, out),
     }
 }
 

@@ -39,6 +39,11 @@ const PAGES: &[(u64, &str)] = &[
 const UNKNOWN_PAGE: &str =
     r#"{"type":"item","id":"Q1","claims":{"P1":[{"mainsnak":{"snaktype":"novalue","property":"P1","datatype":"string"},"id":"Q1$n","rank":"normal"}],"P2":[{"mainsnak":{"snaktype":"somevalue","property":"P2","datatype":"string"},"id":"Q1$s","rank":"normal","qualifiers":{"P3":[{"snaktype":"somevalue","property":"P3","datatype":"string"}],"P4":[{"snaktype":"novalue","property":"P4","datatype":"string"}]}}]}}"#;
 
+// What two redirects to Q2 and Q1 mean.
+const TRIPLE_OF_1: &str = "<http://www.wikidata.org/entity/Q1> <http://www.w3.org/2002/07/owl#sameAs> <http://www.wikidata.org/entity/Q2> .";
+
+const TRIPLE_OF_8: &str = "<http://www.wikidata.org/entity/Q2> <http://www.w3.org/2002/07/owl#sameAs> <http://www.wikidata.org/entity/Q1> .";
+
 // The triples of the revisions 1, 3 and 10, as an export has them.
 const EXPORT_OF_1: &str = "# export: 1 triples
 <http://www.wikidata.org/entity/Q1> <http://www.w3.org/2002/07/owl#sameAs> <http://www.wikidata.org/entity/Q2> .
@@ -122,9 +127,12 @@ struct Left {
     fetches: u64,
 }
 
-// The line of a delivery that is written as KIND ID REVISION SECONDS, or as `watermark` SECONDS.
+// The line of a delivery that is written as KIND ID REVISION SECONDS, as `watermark` SECONDS, or as `ask` PLACES.
 fn line(alloc: Global, delivery: &str) -> Result<String, Fail> {
     let (kind, rest) = delivery.split_once(" ").ok_or("a delivery")?;
+    if kind == "ask" {
+        return Ok(format!(in alloc; "{{\"ask\":[{rest}]}}\n")?);
+    }
     let Some((id, rest)) = rest.split_once(" ") else {
         return Ok(format!(in alloc; "{{\"watermark\":\"2024-05-01T10:00:0{rest}Z\"}}\n")?);
     };
@@ -393,6 +401,88 @@ fn worlds(rt: HostRuntime) -> Result<(), Fail> {
         check(&rt, &given, Status::Ok, printed, seen_then)?;
     }
     Ok(())
+}
+
+// Questions: all triples, those with Q1 as subject, and those with Q1 as object.
+const ALL: &str = r#"ask "?","?","?""#;
+
+const FROM_Q1: &str = r#"ask "<http://www.wikidata.org/entity/Q1>","?","?""#;
+
+const TO_Q1: &str = r#"ask "?","<http://www.w3.org/2002/07/owl#sameAs>","<http://www.wikidata.org/entity/Q1>""#;
+
+// Checks what is printed at the lines of deliveries, of which those that begin with `ask` ask.
+fn check_answers(
+    rt: &(impl Abort + Alloc<A = Global>),
+    deliveries: &[&str],
+    failing_writes: &'static [u64],
+    status: Status,
+    printed: &[&str],
+) -> Result<(), Fail> {
+    let alloc = rt.alloc();
+    let mut input = Vec::new(alloc);
+    for delivery in deliveries {
+        input.extend_from_slice(line(alloc, delivery)?.as_bytes())?;
+    }
+    let given = Given {
+        words: "replay",
+        failing_writes,
+        ..EXPORT
+    };
+    let left = run_over(rt, &given, input)?;
+    let mut lines = Vec::new(alloc);
+    for text in printed {
+        lines.extend_from_slice(text.as_bytes())?;
+        lines.push(b'\n')?;
+    }
+    let count = deliveries.len();
+    assert_eq!(rt; left.status, status, "of {count} deliveries");
+    assert_eq!(rt; left.out.bytes(), lines.as_slice(), "of {count} deliveries");
+    Ok(())
+}
+
+// A question is answered at its place: what waits isn't seen, what is late neither, and what was deleted is gone.
+#[test]
+fn answers(rt: HostRuntime) -> Result<(), Fail> {
+    check_answers(
+        &rt,
+        &[ALL, "edit Q1 1 1", ALL, "watermark 1", ALL],
+        &[],
+        Status::Ok,
+        &["# ask 1: 0 triples", "# ask 2: 0 triples", "# ask 3: 1 triples", TRIPLE_OF_1],
+    )?;
+    check_answers(
+        &rt,
+        &["edit Q2 8 2", "edit Q1 1 1", "watermark 2", FROM_Q1, TO_Q1, "edit Q1 2 2", ALL],
+        &[],
+        Status::Ok,
+        &["# ask 1: 1 triples", TRIPLE_OF_1, "# ask 2: 1 triples", TRIPLE_OF_8, "# ask 3: 2 triples", TRIPLE_OF_1, TRIPLE_OF_8],
+    )?;
+    check_answers(
+        &rt,
+        &["edit Q1 1 1", "watermark 1", FROM_Q1, "delete Q1 1 2", FROM_Q1, "watermark 2", FROM_Q1],
+        &[],
+        Status::Ok,
+        &["# ask 1: 1 triples", TRIPLE_OF_1, "# ask 2: 1 triples", TRIPLE_OF_1, "# ask 3: 0 triples"],
+    )
+}
+
+// What was answered stands where a later line is refused, and where a later write fails.
+#[test]
+fn answers_stand(rt: HostRuntime) -> Result<(), Fail> {
+    check_answers(
+        &rt,
+        &[ALL, "edit Q1 1 1", "watermark 1", ALL, "edit Q1 0 2", ALL],
+        &[],
+        Status::BadLine(5, LineCause::Rev),
+        &["# ask 1: 0 triples", "# ask 2: 1 triples", TRIPLE_OF_1],
+    )?;
+    check_answers(
+        &rt,
+        &["edit Q1 1 1", "watermark 1", ALL, ALL],
+        &[4],
+        Status::WriteFault,
+        &["# ask 1: 1 triples", TRIPLE_OF_1, "# ask 2: 1 triples"],
+    )
 }
 
 #[test]
