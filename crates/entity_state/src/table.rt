@@ -1,6 +1,6 @@
 // The records of all entities.
 
-ghost use Rattle.std.specs.Prelude.{◌≡◌, ◌+◌, ◌<◌, ◌≤◌, [], ◌∷◌, ◌++◌, None, IsTrue, OnOk, OnErr, IfOk, slice_get, length};
+ghost use Rattle.std.specs.Prelude.{◌≡◌, ◌+◌, ◌^◌, ◌<◌, ◌≤◌, [], ◌∷◌, ◌++◌, None, IsTrue, OnOk, OnErr, IfOk, slice_get, length};
 ghost use Rattle.std.specs.Option.{option_copied};
 ghost use Rattle.std.specs.Ordering.{eq_by_cmp};
 ghost use Rattle.std.specs.List.{IsDistinct};
@@ -117,6 +117,7 @@ impl<H: Drop> Table<H> {
     pub fn len(&self) -> usize
         ensures records { result ≡ map.len self.now.records }
         ensures places { result ≡ length self.now.places }
+        ensures small { result < 2 ^ 63 }
         ensures each { (id : EntityId) → has entity_cmp id self.now.places ≡ is_there self.now id }
         ensures once { IsDistinct (eq_by_cmp entity_cmp) self.now.places }
     {
