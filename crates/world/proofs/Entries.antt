@@ -1,6 +1,5 @@
 -- What is gathered over the ids of the records is what is gathered over their entries.
 use Rattle.std.proofs.Common.{refl, ◌∙◌, ap, ◌≡◌, Bool, true, false, T, ◌&&◌, List, [], ◌∷◌, ◌++◌, Option, Some, map, Ordering, Less, Equal, Greater}
-use Rattle.std.specs.Option.{unwrap_or}
 use Rattle.std.specs.List.{flat_map}
 use Rattle.std.specs.Ordering.{eq_by_cmp, is_eq, is_lt, ordering_reverse}
 use Rattle.std.specs.Cmp.{IsTotalOrder, eq_by_cmp_equiv}
@@ -9,9 +8,7 @@ use Rattle.std.specs.FinMap.Entries.{find, is_sorted, below_all}
 use Rattle.entity_model.specs.declared.id.EntityId.{EntityId}
 use Rattle.entity_model.specs.EntityId.{entity_cmp, entity_cmp_total}
 use Rattle.entity_state.specs.declared.record.Record.{Record}
-use Rattle.entity_state.specs.Record.{blank}
-use Rattle.replay_model.specs.Records.{Bytes, Records, record_of}
-use Rattle.replay_model.specs.Union.{Meaning, triples_held, triples_at}
+use Rattle.replay_model.specs.Records.{Bytes, Records}
 
 first : (a b : Bool) → T (a && b) → T a
 first true b h = tt
@@ -57,8 +54,3 @@ over_ids {B} g records =
     let asked : flat_map (λ x. g x (fin.get records x)) (fin.keys records) ≡ flat_map h (fin.keys records) =
     λ i. flat_map (λ x. g x (fin.get-entries records x i)) (fin.keys records) in
     asked ∙ over_keys entity_cmp_total g h (fin.entries records) ∙ found entity_cmp_total g (fin.entries records) (fin.entries_sorted records)
-
--- the triples of all that is held, by the ids of the records
-pub held_over_ids : {Triple : Type 0} (meaning : Meaning Triple) (records : Records) →
-    flat_map (λ x. triples_held meaning x (record_of records x).held) (fin.keys records) ≡ flat_map (triples_at meaning) (fin.entries records)
-held_over_ids {Triple} meaning records = over_ids (λ x r. triples_held meaning x (unwrap_or r blank).held) records

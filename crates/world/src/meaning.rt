@@ -1,6 +1,6 @@
 // The triples of a page.
 
-ghost use Rattle.std.specs.Prelude.{◌≡◌, ◌++◌, IfOk, OnOk};
+ghost use Rattle.std.specs.Prelude.{◌≡◌, [], IfOk};
 ghost use Rattle.std.specs.List.{AllByRecursion};
 ghost use Rattle.rdf_term.specs.Fit.{HasFitAndShortTerms};
 ghost use Rattle.entity_model.specs.Document.{IsSmall};
@@ -10,40 +10,30 @@ use entity_json::{DocumentFault, document};
 use entity_model::{Document, EntityId};
 use entity_rdf::dump_triples;
 use munger::munge;
-use rdf_term::{List, OutOfMemory, Triple, TripleSet};
+use rdf_term::{List, OutOfMemory, TripleSet};
 use std::alloc::Global;
 
-/// Puts the triples that the bytes of a revision of `id` mean at the end of `out`. Their terms are fit and short.
-#[tactic(auto, using(crate::proofs::Fit::meaning_fit))]
-pub fn append_meaning(
+/// The triples that the bytes of a revision of `id` mean.
+pub fn triples_of(
     alloc: Global,
     id: EntityId,
     rev: u64,
     bytes: &[u8],
-    out: &mut List<Triple>,
-) -> Result<(), OutOfMemory>
-    ensures value { OnOk result (out.new ≡ out.old ++ meaning id rev bytes.now) }
-    ensures fit { AllByRecursion HasFitAndShortTerms (meaning id rev bytes.now) }
+) -> Result<TripleSet, OutOfMemory>
+    ensures { IfOk result (λ set. set ≡ meaning id rev bytes.now) }
 {
     match document(alloc, id, bytes) {
-        Ok(document) => append_document(alloc, id, rev, &document, out),
-        Err(DocumentFault::Unfit(_)) => Ok(()),
+        Ok(document) => document_triples(alloc, id, rev, &document),
+        Err(DocumentFault::Unfit(_)) => Ok(no_triples(alloc)),
         Err(DocumentFault::OutOfMemory) => Err(OutOfMemory),
     }
 }
 
-// Puts the triples of the document at the end of `out`.
-fn append_document(
-    alloc: Global,
-    id: EntityId,
-    rev: u64,
-    document: &Document,
-    out: &mut List<Triple>,
-) -> Result<(), OutOfMemory>
-    ensures { OnOk result (out.new ≡ out.old ++ document_triples id rev document.now) }
+/// The set without triples, which takes no memory.
+pub fn no_triples(alloc: Global) -> TripleSet
+    ensures { result ≡ [] }
 {
-    let triples = document_triples(alloc, id, rev, document)?;
-    out.append(triples.into_list())
+    TripleSet::from_rising(List::new(alloc))
 }
 
 // The triples of the document.

@@ -2,38 +2,50 @@
 
 ghost use Rattle.std.specs.Prelude.{◌≡◌, ◌<◌, ◌++◌, ◌∷◌, [], None, Some, IsTrue, IfOk, OnErr, OnOk, is_some};
 ghost use Rattle.std.specs.FinMap as map;
+ghost use Rattle.rdf_term.specs.Order.{triple_cmp};
 ghost use Rattle.entity_state.specs.Table.{has_room};
 ghost use Rattle.replay_model.specs.Records.{record_of, wants};
 ghost use Rattle.replay_model.specs.Play.{apply, entries_after, nothing_played, record_after, records_after};
+ghost use Rattle.replay_model.specs.Transcript.{rows};
+ghost use Rattle.replay_model.specs.Union.{owners, union};
 ghost use Rattle.world.specs.Applying.{outcome_after};
+ghost use Rattle.world.specs.Meaning.{meaning};
 ghost use Rattle.world.specs.Standing.{reply_or_any, standing_after, standing_of, standing_wants, unfetched_outcome, unless_deleted};
 
 use crate::applied::Outcome;
 use crate::fetching::Reply;
 use crate::standing::Standing;
+use crate::stocking::restock;
 use entity_model::{EntityId, Event};
 use entity_state::{Held, Mode, Record, Table};
-use rdf_term::{List, OutOfMemory};
+use rdf_term::{List, OutOfMemory, Pattern, Triple, TripleSet};
 use side_output::{Entry, Side};
 use std::alloc::Global;
 use std::marker::Model;
+use triple_store::Store;
 
-/// The records of the entities, each with the bytes that it holds, and the side output.
+/// The records of the entities, each with the bytes that it holds, the side output, and the store of the triples that
+/// these bytes mean. Contracts see the records and the side output, which the store follows.
 #[derive(Drop)]
 pub struct Pages {
+    alloc: Global,
     pub table: Table<List<u8>>,
     pub side: Side,
+    store: Store,
 }
 
 impl Model for Pages {
     ghost use Rattle.replay_model.specs.Play.{Played};
     ghost use Rattle.world.specs.Codes.{played_code};
+    ghost use Rattle.world.specs.Counting.{IsCounted};
 
     ghost Value = { Played };
 
     ghost coded = { played_code };
 
     ghost view = { λ a. record { records = a.table.records; side = a.side.entries } };
+
+    ghost invariant = { λ a. IsCounted a.store a.table.records };
 }
 
 impl Pages {
@@ -43,8 +55,10 @@ impl Pages {
     {
         let table = Table::new(alloc)?;
         Ok(Pages {
+            alloc,
             table,
             side: Side::new(alloc),
+            store: Store::new(alloc),
         })
     }
 
@@ -65,7 +79,36 @@ impl Pages {
     {
         make_room(&mut self.table, &mut self.side, event.entity)?;
         let after = standing_in(&self.table, event.entity).after(&event);
+        restock(
+            self.alloc,
+            &mut self.store,
+            &self.table,
+            event,
+            after,
+            &reply,
+        )?;
         Ok(settle(&mut self.table, &mut self.side, event, after, reply))
+    }
+
+    /// The triples of all that is held, in memory of their own.
+    pub fn triples(&self) -> Result<TripleSet, OutOfMemory>
+        ensures { IfOk result (λ set. set ≡ union triple_cmp meaning self.now.records) }
+    {
+        self.store.all()
+    }
+
+    /// Those of them that agree with the pattern, in memory of their own.
+    pub fn matches(&self, pattern: &Pattern) -> Result<TripleSet, OutOfMemory>
+        ensures { IfOk result (λ set. set ≡ rows (union triple_cmp meaning self.now.records) pattern.now) }
+    {
+        self.store.matches(pattern)
+    }
+
+    /// How many entities hold the triple.
+    pub fn count(&self, triple: &Triple) -> u64
+        ensures { result ≡ owners triple_cmp meaning self.now.records triple.now }
+    {
+        self.store.count(triple)
     }
 }
 

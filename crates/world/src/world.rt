@@ -3,7 +3,6 @@
 ghost use Rattle.std.specs.Prelude.{◌≡◌, ◌↔◌, ◌⊎◌, ◌<◌, ◌≤◌, ◌++◌, ℕ, false, None, Some, length, slice_get, is_some, IfSome, MatchOption, if◌then◌else◌, IfOk, IfErr, OnErr, OnOk, IsErrOf};
 ghost use Rattle.std.specs.Option.{option_copied};
 ghost use Rattle.std.specs.FinMap as map;
-ghost use Rattle.std.specs.List.{flat_map};
 ghost use Rattle.std.specs.List.{AllByRecursion};
 ghost use Rattle.rdf_term.specs.Fit.{HasFitAndShortTerms};
 ghost use Rattle.rdf_term.specs.Order.{triple_cmp};
@@ -12,7 +11,8 @@ ghost use Rattle.reorder_buffer.specs.Buffered.{after_taking, answer_to, first_d
 ghost use Rattle.replay_model.specs.Entries.{entity_of, is_open_in};
 ghost use Rattle.replay_model.specs.Records.{record_of};
 ghost use Rattle.replay_model.specs.ReplayState.{after_end, after_event, after_mark, nothing_delivered, taken_entries};
-ghost use Rattle.replay_model.specs.Union.{triples_at, triples_held, union};
+ghost use Rattle.replay_model.specs.Transcript.{rows};
+ghost use Rattle.replay_model.specs.Union.{owners, union};
 ghost use Rattle.world.specs.Applying.{Applies, IsReply, IsShown, calls_after, outcome_of_reply};
 ghost use Rattle.world.specs.Standing.{reply_or_any, standing_after, standing_of, standing_wants};
 ghost use Rattle.entity_state.specs.State.{state_after};
@@ -21,11 +21,10 @@ ghost use Rattle.world.specs.declared.applied.WorldFault.TheVariants.{Nothing as
 
 use crate::applied::{Applied, WorldFault};
 use crate::fetching::{Reply, fetch};
-use crate::meaning::append_meaning;
 use crate::pages::Pages;
 use entity_model::{EntityId, Event};
-use entity_state::{State, Table};
-use rdf_term::{List, OutOfMemory, Triple, TripleSet};
+use entity_state::State;
+use rdf_term::{List, OutOfMemory, Pattern, Triple, TripleSet};
 use reorder_buffer::{Buffer, Taken};
 use revisions::Revisions;
 use side_output::{Entry, Side, is_open};
@@ -133,7 +132,21 @@ impl World {
         ensures value { IfOk result (λ set. set ≡ union triple_cmp meaning self.now.played.records) }
         ensures fit { IfOk result (AllByRecursion HasFitAndShortTerms) }
     {
-        union_of(self.alloc, &self.pages.table)
+        self.pages.triples()
+    }
+
+    /// The stored triples that agree with the pattern, in order, in memory of their own.
+    pub fn matches(&self, pattern: &Pattern) -> Result<TripleSet, OutOfMemory>
+        ensures { IfOk result (λ set. set ≡ rows (union triple_cmp meaning self.now.played.records) pattern.now) }
+    {
+        self.pages.matches(pattern)
+    }
+
+    /// How many entities hold the triple.
+    pub fn count(&self, triple: &Triple) -> u64
+        ensures { result ≡ owners triple_cmp meaning self.now.played.records triple.now }
+    {
+        self.pages.count(triple)
     }
 
     /// The ids of the entities with a record, in rising order.
@@ -244,54 +257,4 @@ fn take_event(buffer: &mut Buffer, side: &mut Side, event: Event) -> Result<Take
         let _ = side.push(Entry::Late(event));
     }
     Ok(taken)
-}
-
-// The triples of all that the records hold.
-fn union_of(alloc: Global, table: &Table<List<u8>>) -> Result<TripleSet, OutOfMemory>
-    ensures { IfOk result (λ set. set ≡ union triple_cmp meaning table.now.records) }
-{
-    let triples = gather_all(alloc, table)?;
-    TripleSet::from_list(triples)
-}
-
-// The triples that the entities hold, one entity after the other.
-fn gather_all(alloc: Global, table: &Table<List<u8>>) -> Result<List<Triple>, OutOfMemory>
-    ensures { IfOk result (λ triples. triples ≡ flat_map (triples_at meaning) (map.entries table.now.records)) }
-{
-    let ids = table.ids(alloc)?;
-    gather(alloc, table, ids.as_slice())
-}
-
-// The triples that these entities hold, one after the other.
-fn gather(
-    alloc: Global,
-    table: &Table<List<u8>>,
-    ids: &[EntityId],
-) -> Result<List<Triple>, OutOfMemory>
-    ensures { IfOk result (λ triples. triples
-        ≡ flat_map (λ x. triples_held meaning x (record_of table.now.records x).held) ids.now) }
-{
-    let mut triples = List::new(alloc);
-    for id in ids {
-        append_held(alloc, table, *id, &mut triples)?;
-    }
-    Ok(triples)
-}
-
-// Puts the triples that an entity holds at the end of `out`.
-fn append_held(
-    alloc: Global,
-    table: &Table<List<u8>>,
-    id: EntityId,
-    out: &mut List<Triple>,
-) -> Result<(), OutOfMemory>
-    ensures { OnOk result (out.new ≡ out.old ++ triples_held meaning id (record_of table.now.records id).held) }
-{
-    let Some(record) = table.get(id) else {
-        return Ok(());
-    };
-    match &record.held {
-        Some(held) => append_meaning(alloc, id, held.revision, held.content.as_slice(), out),
-        None => Ok(()),
-    }
 }
