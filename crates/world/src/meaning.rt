@@ -13,14 +13,16 @@ use munger::munge;
 use rdf_term::{List, OutOfMemory, TripleSet};
 use std::alloc::Global;
 
-/// The triples that the bytes of a revision of `id` mean.
+/// The triples that the bytes of a revision of `id` mean. Their terms are fit and short.
+#[tactic(auto, using(crate::proofs::Fit::meaning_fit))]
 pub fn triples_of(
     alloc: Global,
     id: EntityId,
     rev: u64,
     bytes: &[u8],
 ) -> Result<TripleSet, OutOfMemory>
-    ensures { IfOk result (λ set. set ≡ meaning id rev bytes.now) }
+    ensures value { IfOk result (λ set. set ≡ meaning id rev bytes.now) }
+    ensures fit { AllByRecursion HasFitAndShortTerms (meaning id rev bytes.now) }
 {
     match document(alloc, id, bytes) {
         Ok(document) => document_triples(alloc, id, rev, &document),

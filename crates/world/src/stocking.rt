@@ -98,6 +98,8 @@ fn exchange(
 {
     let old = held_triples(alloc, table, id)?;
     let changes = patch(alloc, &old, new)?;
+
+    // So no count is at its end.
     let entities = table.len();
     prove!(entities < usize::MAX);
     store.apply(&changes)
