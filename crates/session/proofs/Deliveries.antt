@@ -1,5 +1,5 @@
 -- What a delivery, and the end of the input, make of a world at rest.
-use Rattle.std.proofs.Common.{refl, inl, inr, ⊎_elim, sym, subst, ap, ◌∙◌, ◌≡◌, ℕ, ◌+◌, ℤ, false, List, [], ◌∷◌, ◌++◌, length, length-append, append-nil, Option, None, Some, Result, Ok, Err, IfErr}
+use Rattle.std.proofs.Common.{refl, inl, inr, sym, subst, ap, ◌∙◌, ◌≡◌, ℕ, ◌+◌, ℤ, false, List, [], ◌∷◌, ◌++◌, length, length-append, append-nil, Option, Result, Ok, Err, IfErr}
 use Rattle.std.specs.List.{filter_map}
 use Rattle.std.proofs.lemmas.List.Elements.{filter_map-append}
 use Rattle.rdf_term.specs.declared.triple.Pattern.{Pattern}
@@ -13,7 +13,7 @@ use Rattle.reorder_buffer.specs.declared.taken.Taken.{Taken}
 use Rattle.reorder_buffer.specs.Buffered.{answer_to}
 use Rattle.replay_model.specs.Records.{Bytes}
 use Rattle.replay_model.specs.Explained.{AgreeOnApplied}
-use Rattle.replay_model.specs.Play.{Played, Replies, fetches, fetches_to_end, play}
+use Rattle.replay_model.specs.Play.{Replies, fetches, fetches_to_end}
 use Rattle.replay_model.specs.ReplayState.{ReplayState, after_end, after_event, after_mark, entered, following, following_to_end, taken_entries}
 use Rattle.replay_model.specs.Transcript.{ask_section, asks, pattern_of, rows, said, said_at}
 use Rattle.replay_model.specs.Union.{union}

@@ -351,15 +351,15 @@ module _ (limit : ℕ) (told : Option (ℕ → Option Bytes)) (held held_now : O
       by OutOfMemory cut =
           ⊎_elim
           (λ may. inl (inl (
-            ⊎_elim
-            (λ same. subst (λ w. StopsWithin left_start told held held_then w) (sym same) (subst (λ h. StopsWithin left_start told held h world) (sym may.0) (stands left_start reader left world so_far)))
-            (λ begun. record {
-              deliveries = so_far.deliveries;
-              last = Some d;
-              within = begun;
-              first = first_with left_start reader left known world line d so_far first is;
-            })
-            may.1
+          ⊎_elim
+          (λ same. subst (λ w. StopsWithin left_start told held held_then w) (sym same) (subst (λ h. StopsWithin left_start told held h world) (sym may.0) (stands left_start reader left world so_far)))
+          (λ begun. record {
+            deliveries = so_far.deliveries;
+            last = Some d;
+            within = begun;
+            first = first_with left_start reader left known world line d so_far first is;
+          })
+          may.1
           )))
           (λ silent. inr (stops_answering OutOfMemory left_start reader left known held_then now_then world world_now line d so_far first is silent))
           cut

@@ -40,9 +40,11 @@ const UNKNOWN_PAGE: &str =
     r#"{"type":"item","id":"Q1","claims":{"P1":[{"mainsnak":{"snaktype":"novalue","property":"P1","datatype":"string"},"id":"Q1$n","rank":"normal"}],"P2":[{"mainsnak":{"snaktype":"somevalue","property":"P2","datatype":"string"},"id":"Q1$s","rank":"normal","qualifiers":{"P3":[{"snaktype":"somevalue","property":"P3","datatype":"string"}],"P4":[{"snaktype":"novalue","property":"P4","datatype":"string"}]}}]}}"#;
 
 // What two redirects to Q2 and Q1 mean.
-const TRIPLE_OF_1: &str = "<http://www.wikidata.org/entity/Q1> <http://www.w3.org/2002/07/owl#sameAs> <http://www.wikidata.org/entity/Q2> .";
+const TRIPLE_OF_1: &str =
+    "<http://www.wikidata.org/entity/Q1> <http://www.w3.org/2002/07/owl#sameAs> <http://www.wikidata.org/entity/Q2> .";
 
-const TRIPLE_OF_8: &str = "<http://www.wikidata.org/entity/Q2> <http://www.w3.org/2002/07/owl#sameAs> <http://www.wikidata.org/entity/Q1> .";
+const TRIPLE_OF_8: &str =
+    "<http://www.wikidata.org/entity/Q2> <http://www.w3.org/2002/07/owl#sameAs> <http://www.wikidata.org/entity/Q1> .";
 
 // The triples of the revisions 1, 3 and 10, as an export has them.
 const EXPORT_OF_1: &str = "# export: 1 triples
@@ -408,7 +410,8 @@ const ALL: &str = r#"ask "?","?","?""#;
 
 const FROM_Q1: &str = r#"ask "<http://www.wikidata.org/entity/Q1>","?","?""#;
 
-const TO_Q1: &str = r#"ask "?","<http://www.w3.org/2002/07/owl#sameAs>","<http://www.wikidata.org/entity/Q1>""#;
+const TO_Q1: &str =
+    r#"ask "?","<http://www.w3.org/2002/07/owl#sameAs>","<http://www.wikidata.org/entity/Q1>""#;
 
 // Checks what is printed at the lines of deliveries, of which those that begin with `ask` ask.
 fn check_answers(
@@ -448,21 +451,56 @@ fn answers(rt: HostRuntime) -> Result<(), Fail> {
         &[ALL, "edit Q1 1 1", ALL, "watermark 1", ALL],
         &[],
         Status::Ok,
-        &["# ask 1: 0 triples", "# ask 2: 0 triples", "# ask 3: 1 triples", TRIPLE_OF_1],
+        &[
+            "# ask 1: 0 triples",
+            "# ask 2: 0 triples",
+            "# ask 3: 1 triples",
+            TRIPLE_OF_1,
+        ],
     )?;
     check_answers(
         &rt,
-        &["edit Q2 8 2", "edit Q1 1 1", "watermark 2", FROM_Q1, TO_Q1, "edit Q1 2 2", ALL],
+        &[
+            "edit Q2 8 2",
+            "edit Q1 1 1",
+            "watermark 2",
+            FROM_Q1,
+            TO_Q1,
+            "edit Q1 2 2",
+            ALL,
+        ],
         &[],
         Status::Ok,
-        &["# ask 1: 1 triples", TRIPLE_OF_1, "# ask 2: 1 triples", TRIPLE_OF_8, "# ask 3: 2 triples", TRIPLE_OF_1, TRIPLE_OF_8],
+        &[
+            "# ask 1: 1 triples",
+            TRIPLE_OF_1,
+            "# ask 2: 1 triples",
+            TRIPLE_OF_8,
+            "# ask 3: 2 triples",
+            TRIPLE_OF_1,
+            TRIPLE_OF_8,
+        ],
     )?;
     check_answers(
         &rt,
-        &["edit Q1 1 1", "watermark 1", FROM_Q1, "delete Q1 1 2", FROM_Q1, "watermark 2", FROM_Q1],
+        &[
+            "edit Q1 1 1",
+            "watermark 1",
+            FROM_Q1,
+            "delete Q1 1 2",
+            FROM_Q1,
+            "watermark 2",
+            FROM_Q1,
+        ],
         &[],
         Status::Ok,
-        &["# ask 1: 1 triples", TRIPLE_OF_1, "# ask 2: 1 triples", TRIPLE_OF_1, "# ask 3: 0 triples"],
+        &[
+            "# ask 1: 1 triples",
+            TRIPLE_OF_1,
+            "# ask 2: 1 triples",
+            TRIPLE_OF_1,
+            "# ask 3: 0 triples",
+        ],
     )
 }
 

@@ -1,5 +1,5 @@
 -- Values that are not taken, a stop of the taking, a fault of the sink, and the end.
-use Rattle.std.proofs.Common.{refl, inl, ◌≡◌, ℕ, List, Option}
+use Rattle.std.proofs.Common.{inl, ◌≡◌, ℕ, List, Option}
 use Rattle.std.proofs.lemmas.Result.{err_from_is_err_and, on_ok_weaker}
 use Rattle.replay_model.specs.Records.{Bytes}
 use Rattle.replay_model.specs.Transcript.{closing}

@@ -1,5 +1,5 @@
 -- The start, a fault of the reader, a line that is refused, and a line that is taken.
-use Rattle.std.proofs.Common.{refl, sym, ◌∙◌, ◌≡◌, ◌≤◌, ℕ, Option, arith}
+use Rattle.std.proofs.Common.{refl, sym, ◌∙◌, ℕ, Option, arith}
 use Rattle.std.proofs.lemmas.Result.{err_from_is_err_and}
 use Rattle.replay_model.specs.Records.{Bytes}
 use Rattle.session.specs.Counts.{Counts, counts}
