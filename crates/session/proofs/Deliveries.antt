@@ -27,7 +27,7 @@ use Rattle.session.specs.declared.status.Status.{Status}
 use Rattle.session.specs.declared.status.Status.TheVariants.{Ok as Ended, BadWords, BadLine, ReadFault, WriteFault, TooLong, OutOfMemory}
 use Rattle.session.specs.Printing.{IsUnwritten, Wrote}
 use Rattle.session.specs.Running.{AtEnd, AtRest, IsWithin, Leads, judgement, said_behind}
-use Rattle.session.specs.Stops.{CutsOff, FallsSilent, Settles, StillLeads}
+use Rattle.session.specs.Stops.{CutsOff, IsAnsweredInPart, Settles, StillLeads}
 use Rattle.session.proofs.Due.{within}
 use Rattle.session.proofs.Parts.{after_twice}
 
@@ -194,9 +194,9 @@ pub mark_cut_off : (told : Option (ℕ → Option Bytes)) (m : ℤ) (asked : ℕ
 mark_cut_off told m asked held before now old new writes leads = λ ds held_start start counts_it at_rest. inl (refl, inr (mark_begun told ds held_start held start before old new m leads at_rest))
 
 -- a question was answered in part
-falls_silent : (status : Status) (ds : List Delivery) (q : Pattern) (asked : ℕ) (held_old held_new : Option (List ℕ)) (now : Counts) (world : ReplayState) → asked ≡ asks (ds ++ Ask q ∷ []) →
-    Wrote status held_old held_new (ask_section asked (rows (union triple_cmp meaning world.played.records) q)) → FallsSilent status (Ask q) ds held_old held_new now now world world
-falls_silent status ds q asked held_old held_new now world counts_it front = record {
+answered_in_part : (status : Status) (ds : List Delivery) (q : Pattern) (asked : ℕ) (held_old held_new : Option (List ℕ)) (now : Counts) (world : ReplayState) → asked ≡ asks (ds ++ Ask q ∷ []) →
+    Wrote status held_old held_new (ask_section asked (rows (union triple_cmp meaning world.played.records) q)) → IsAnsweredInPart status (Ask q) ds held_old held_new now now world world
+answered_in_part status ds q asked held_old held_new now world counts_it front = record {
   pattern = q;
   is = refl;
   world = refl;
@@ -212,10 +212,10 @@ ask_cut_off BadWords told q asked held_old held_new now world writes writes_now 
 ask_cut_off (BadLine number cause) told q asked held_old held_new now world writes writes_now why front = absurd why
 ask_cut_off ReadFault told q asked held_old held_new now world writes writes_now why front = absurd why
 ask_cut_off WriteFault told q asked held_old held_new now world writes writes_now why front =
-    λ ds held_start start counts_it at_rest. (why, falls_silent WriteFault ds q asked held_old held_new now world counts_it front)
+    λ ds held_start start counts_it at_rest. (why, answered_in_part WriteFault ds q asked held_old held_new now world counts_it front)
 ask_cut_off TooLong told q asked held_old held_new now world writes writes_now why front = absurd why
 ask_cut_off OutOfMemory told q asked held_old held_new now world writes writes_now why front =
-    λ ds held_start start counts_it at_rest. inr (falls_silent OutOfMemory ds q asked held_old held_new now world counts_it front)
+    λ ds held_start start counts_it at_rest. inr (answered_in_part OutOfMemory ds q asked held_old held_new now world counts_it front)
 
 pub answer_cut_off : {T : Type 0} (answer : Result T Status) (told : Option (ℕ → Option Bytes)) (q : Pattern) (asked : ℕ) (held_old held_new : Option (List ℕ)) (now : Counts) (world : ReplayState) (writes writes_now : ℕ) →
     IfErr answer (λ status. IsUnwritten status writes writes_now) → IfErr answer (λ status. Wrote status held_old held_new (ask_section asked (rows (union triple_cmp meaning world.played.records) q))) →

@@ -23,7 +23,7 @@ use Rattle.replay_model.proofs.ToldContents.{Each-append}
 use Rattle.session.specs.Counts.{Counts}
 use Rattle.session.specs.Faults.{fault_status}
 use Rattle.session.specs.Running.{AreDeliveries, AreFirst, AreWhole, AtRest, HasRead, IsPastLimit, IsRefusedLine, deliveries_of, judgement, onto_deliveries}
-use Rattle.session.specs.Stops.{CutsOff, FallsSilent, HasTaken, IsCutOff, IsRefused, Stops, StopsAnswering, StopsWithin, TakesDelivery}
+use Rattle.session.specs.Stops.{CutsOff, IsAnsweredInPart, HasTaken, IsCutOff, IsRefused, Stops, StopsAnswering, StopsWithin, TakesDelivery}
 use Rattle.session.proofs.Deliveries.{asks-push, rest_within}
 use Rattle.session.proofs.Parts.{after_nothing, rose_since}
 use Rattle.session.specs.declared.status.Status.{Status}
@@ -322,15 +322,15 @@ module _ (limit : ℕ) (told : Option (ℕ → Option Bytes)) (held held_now : O
 
   -- a question that isn't answered wholly stops the taking
   stops_answering : (status : Status) (left_start : Option (List ℕ)) (reader : Reading) (left known held_then : Option (List ℕ)) (now_then : Counts) (world world_now : ReplayState) (line : List ℕ) (d : Delivery) (so_far : Progress limit left_start told held held_now start now reader left asked world) →
-      lines_of (unread reader left) ≡ before_lines line (lines_of known) → delivery_of line ≡ Ok d → FallsSilent status d so_far.deliveries held_now held_then now now_then world world_now →
+      lines_of (unread reader left) ≡ before_lines line (lines_of known) → delivery_of line ≡ Ok d → IsAnsweredInPart status d so_far.deliveries held_now held_then now now_then world world_now →
       StopsAnswering status left_start told held held_then start now_then world_now
-  stops_answering status left_start reader left known held_then now_then world world_now line d so_far first is silent = rw (silent.world, silent.counts) (record {
+  stops_answering status left_start reader left known held_then now_then world world_now line d so_far first is in_part = rw (in_part.world, in_part.counts) (record {
     deliveries = so_far.deliveries;
-    pattern = silent.pattern;
+    pattern = in_part.pattern;
     between = held_now;
     at_rest = so_far.at_rest;
-    begun = silent.begun;
-    first = subst (λ q. IfSome left_start (λ bytes. AreFirst bytes (so_far.deliveries ++ q ∷ []))) silent.is (first_with left_start reader left known world line d so_far first is);
+    begun = in_part.begun;
+    first = subst (λ q. IfSome left_start (λ bytes. AreFirst bytes (so_far.deliveries ++ q ∷ []))) in_part.is (first_with left_start reader left known world line d so_far first is);
   })
 
   -- a delivery that isn't taken wholly stops the taking
@@ -361,7 +361,7 @@ module _ (limit : ℕ) (told : Option (ℕ → Option Bytes)) (held held_now : O
           })
           may.1
           )))
-          (λ silent. inr (stops_answering OutOfMemory left_start reader left known held_then now_then world world_now line d so_far first is silent))
+          (λ in_part. inr (stops_answering OutOfMemory left_start reader left known held_then now_then world world_now line d so_far first is in_part))
           cut
 
   whole_grows : (done : List (List ℕ)) (line read moved : List ℕ) → read ≡ ended_lines done → moved ≡ line ++ line_feed ∷ [] → read ++ moved ≡ ended_lines (done ++ line ∷ [])

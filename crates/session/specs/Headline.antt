@@ -123,7 +123,7 @@ pub record StandsBeforeLine (limit : ℕ) (left : Option (List ℕ)) (told : Opt
 
 -- the world has taken the deliveries before a question; the answers before it were printed and then a front of its own, and
 -- nothing else; where the sink failed, not all of it
-pub record FallsSilentAnswering (status : Status) (left : Option (List ℕ)) (told : Option (ℕ → Option Bytes)) (start now : Counts) (world : ReplayState) (held held_now : Option (List ℕ)) : Type 0 where
+pub record StandsAtQuestion (status : Status) (left : Option (List ℕ)) (told : Option (ℕ → Option Bytes)) (start now : Counts) (world : ReplayState) (held held_now : Option (List ℕ)) : Type 0 where
   pub deliveries : List Delivery
   pub pattern : Pattern
   pub played : IsPlayedAfter told deliveries start now world
@@ -153,7 +153,7 @@ pub record BrokenOff (status : Status) (plan : Choices) (left : Option (List ℕ
 -- what a run leaves that stopped while it printed: in the answer to a question, or in the sections
 abbrev pub IsInterrupted : Status → Choices → Option (List ℕ) → Option (ℕ → Option Bytes) → Counts → Counts → ReplayState → Option (List ℕ) → Option (List ℕ) → Type 0
 IsInterrupted status plan left told start now world held held_now =
-    FallsSilentAnswering status left told start now world held held_now ⊎ BrokenOff status plan left told start now world held held_now
+    StandsAtQuestion status left told start now world held held_now ⊎ BrokenOff status plan left told start now world held held_now
 
 -- why a run stopped, and what stands then
 abbrev pub Stopped : Status → Choices → Option (List ℕ) → Option (List ℕ) → Option (ℕ → Option Bytes) → Counts → Counts → ReplayState → Option (List ℕ) → Option (List ℕ) → ℕ → ℕ → ℕ → ℕ → Type 0

@@ -119,7 +119,7 @@ StillLeads told before old new =
     IsUnderWay told play_of fetches_of said_of said begun_of start before old → IsWithin told said_of said begun_of new
 
 -- a question was answered, but not all was written: the world and the counts are as they were
-pub record FallsSilent (status : Status) (d : Delivery) (ds : List Delivery) (held_old held_new : Option (List ℕ)) (before now : Counts) (old new : ReplayState) : Type 0 where
+pub record IsAnsweredInPart (status : Status) (d : Delivery) (ds : List Delivery) (held_old held_new : Option (List ℕ)) (before now : Counts) (old new : ReplayState) : Type 0 where
   pub pattern : Pattern
   pub is : d ≡ Ask pattern
   pub world : new ≡ old
@@ -137,10 +137,10 @@ IsCutOff Ended told d ds held held_old held_new before now old new writes writes
 IsCutOff BadWords told d ds held held_old held_new before now old new writes writes_now = ⊥
 IsCutOff (BadLine number cause) told d ds held held_old held_new before now old new writes writes_now = ⊥
 IsCutOff ReadFault told d ds held held_old held_new before now old new writes writes_now = ⊥
-IsCutOff WriteFault told d ds held held_old held_new before now old new writes writes_now = Rose writes writes_now × FallsSilent WriteFault d ds held_old held_new before now old new
+IsCutOff WriteFault told d ds held held_old held_new before now old new writes writes_now = Rose writes writes_now × IsAnsweredInPart WriteFault d ds held_old held_new before now old new
 IsCutOff TooLong told d ds held held_old held_new before now old new writes writes_now = ⊥
 IsCutOff OutOfMemory told d ds held held_old held_new before now old new writes writes_now =
-    ((held_new ≡ held_old) × MayTake told d ds held held_new old new) ⊎ FallsSilent OutOfMemory d ds held_old held_new before now old new
+    ((held_new ≡ held_old) × MayTake told d ds held held_new old new) ⊎ IsAnsweredInPart OutOfMemory d ds held_old held_new before now old new
 
 -- the same, of a world that was at rest
 abbrev pub CutsOff : Status → Option (ℕ → Option Bytes) → Delivery → ℕ → Option (List ℕ) → Option (List ℕ) → Counts → Counts → ReplayState → ReplayState → ℕ → ℕ → Type 0
