@@ -25,7 +25,7 @@ use Rattle.replay_model.specs.Acceptance.{is_late}
 use Rattle.replay_model.specs.Fate.{is_of}
 use Rattle.replay_model.specs.Records.{Bytes, record_of, wants, settles_at, is_settled}
 use Rattle.replay_model.specs.Play.{Replies, Played, nothing_played, held_after_fetch, record_after, entry_of, entries_after, apply, apply_all, newly_due, happens, play, played}
-use Rattle.replay_model.specs.Entries.{is_open_by, is_revision_of, has_open_revision}
+use Rattle.replay_model.specs.Entries.{HoldsUnlessOpen, is_open_by, is_revision_of, has_open_revision}
 use Rattle.replay_model.proofs.Arrivals.{play-push}
 use Rattle.replay_model.proofs.RecordOf.{entity_of, record-after, record_of-empty}
 use Rattle.replay_model.proofs.Times.{not_true, not_false}
@@ -168,3 +168,48 @@ settled_by side x r t =
 -- an entity holds what its state wants exactly where the side output has no open revision entry of it
 pub settled-played : (closed : Bool) (replies : Replies) (ds : List Delivery) (x : EntityId) → is_settled (record_of (played closed replies ds).records x) ≡ not (has_open_revision (played closed replies ds).records (played closed replies ds).side x)
 settled-played closed replies ds x = settled_by (played closed replies ds).side x (record_of (played closed replies ds).records x) (Tells-played closed replies ds x)
+
+-- the same, of any records and side output of which it holds
+told_holds : (p : Played) → TellsAll p → HoldsUnlessOpen p
+told_holds p all = record {
+  settled = λ x. settled_by p.side x (record_of p.records x) (all x);
+  empty = λ x. (all x).empty_unless_kept;
+}
+
+-- an open revision entry of an entity names the revision that its state wants
+open_named : (x : EntityId) (r : Record Bytes) (entry : Entry) → is_open_of x r entry ≡ true → names x r.state.rev entry ≡ true
+open_named x r (Late e) o = o
+open_named x r (Revision e q cause) o =
+    let kept_there : (is_kept r.state.mode && r.state.rev == q) ≡ true = and_left (is_kept r.state.mode && r.state.rev == q) _ (and_right (is_of x e) _ o) in
+    let same : r.state.rev ≡ q = eqb-true r.state.rev q (and_right (is_kept r.state.mode) _ kept_there) in
+    ap (λ b. b && q == r.state.rev) (and_left (is_of x e) _ o) ∙ ap (λ n. q == n) same ∙ same_number q
+
+holds_told : (p : Played) → HoldsUnlessOpen p → TellsAll p
+holds_told p holds x = record {
+  empty_unless_kept = holds.empty x;
+  named = λ w. list_any_weaker (is_open_of x r) (names x r.state.rev) (open_named x r) p.side (not_settled_open w);
+}
+  where
+    r : Record Bytes
+    r = record_of p.records x
+
+    unsettled : (m : Mode) → (is_kept m && not (is_held r.state.rev (held_revision r.held))) ≡ true → settles_at m r.state.rev (held_revision r.held) ≡ false
+    unsettled Unknown w = contradicts false w refl
+    unsettled Kept w = not_true _ w
+    unsettled Deleted w = contradicts false w refl
+
+    not_settled_open : wants r.state (held_revision r.held) ≡ true → list_any (is_open_of x r) p.side ≡ true
+    not_settled_open w = not_false _ (sym (holds.settled x) ∙ unsettled r.state.mode w)
+
+-- it holds at the start
+pub holds-nothing : HoldsUnlessOpen nothing_played
+holds-nothing = told_holds nothing_played Tells-nothing
+
+-- an application keeps it
+pub holds-apply : (replies : Replies) (p : Played) (e : Event) → HoldsUnlessOpen p → HoldsUnlessOpen (apply replies p e)
+holds-apply replies p e holds = told_holds (apply replies p e) (Tells-apply replies p e (holds_told p holds))
+
+-- more entries keep it
+pub holds-more : (p : Played) (more : List Entry) → HoldsUnlessOpen p → HoldsUnlessOpen (record { records = p.records; side = p.side ++ more })
+holds-more p more holds =
+    told_holds (record { records = p.records; side = p.side ++ more }) (λ x. Tells-more p.side more x (record_of p.records x) (holds_told p holds x))

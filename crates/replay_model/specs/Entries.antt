@@ -1,5 +1,5 @@
 -- Which entries of the side output are open.
-use Rattle.std.specs.Prelude.{Bool, false, not, ◌&&◌, List, Option, None, Some, filter_map}
+use Rattle.std.specs.Prelude.{◌≡◌, Bool, false, not, ◌&&◌, List, Option, None, Some, filter_map}
 use Rattle.std.specs.List.{list_any}
 use Rattle.std.specs.Ordering.{is_lt}
 use Rattle.entity_model.specs.declared.id.EntityId.{EntityId}
@@ -7,12 +7,13 @@ use Rattle.entity_model.specs.declared.event.Event.{Event}
 use Rattle.entity_model.specs.Event.{event_cmp}
 use Rattle.entity_state.specs.declared.record.Record.{Record}
 use Rattle.entity_state.specs.Record.{held_revision}
+use Rattle.entity_state.specs.State.{is_kept}
 use Rattle.side_output.specs.declared.entry.Entry.{Entry}
 use Rattle.side_output.specs.declared.entry.Entry.TheVariants.{Late, Revision}
 use Rattle.side_output.specs.Entry.{is_open}
 use Rattle.replay_model.specs.Fate.{is_of}
-use Rattle.replay_model.specs.Records.{Bytes, Records, record_of}
-use Rattle.replay_model.specs.Play.{is_reconciliation}
+use Rattle.replay_model.specs.Records.{Bytes, Records, is_settled, record_of}
+use Rattle.replay_model.specs.Play.{Played, is_reconciliation}
 
 -- the event of a late entry
 abbrev pub late_event : Entry → Option Event
@@ -56,3 +57,8 @@ is_revision_of x (Revision e r cause) = is_of x e
 -- whether the side output has an open revision entry of the entity x
 abbrev pub has_open_revision : Records → List Entry → EntityId → Bool
 has_open_revision records side x = list_any (λ entry. is_revision_of x entry && is_open_by (record_of records x) entry) side
+
+-- each entity holds what its state wants exactly where no revision entry of it is open, and nothing of a page that isn't kept
+pub record HoldsUnlessOpen (p : Played) : Type 0 where
+  pub settled : (x : EntityId) → is_settled (record_of p.records x) ≡ not (has_open_revision p.records p.side x)
+  pub empty : (x : EntityId) → is_kept (record_of p.records x).state.mode ≡ false → (record_of p.records x).held ≡ None

@@ -1,12 +1,12 @@
 -- What a replay prints: an answer at each delivery that asks, and the closing sections.
-use Rattle.std.specs.Prelude.{ℕ, ◌+◌, Bool, true, false, cond, List, [], ◌++◌, Option, None, Some, filter, filter_map, flat_map, length, decimal, codes}
+use Rattle.std.specs.Prelude.{ℕ, ◌+◌, Bool, true, false, cond, List, [], ◌++◌, Option, None, Some, filter_map, flat_map, length, decimal, codes}
 use Rattle.std.specs.FinMap as map
 use Rattle.std.specs.Fmt.{signed_decimal}
 use Rattle.rdf_term.specs.declared.triple.Pattern.{Pattern}
 use Rattle.rdf_term.specs.declared.triple.Triple.{Triple}
 use Rattle.rdf_term.specs.Order.{triple_cmp}
 use Rattle.rdf_term.specs.Text.{triple_text}
-use Rattle.triple_store.specs.Agreeing.{agrees}
+use Rattle.triple_store.specs.Agreeing.{rows}
 use Rattle.entity_model.specs.declared.id.EntityId.{EntityId}
 use Rattle.entity_model.specs.declared.event.Event.{Event}
 use Rattle.entity_model.specs.declared.event.Kind.{Kind}
@@ -50,10 +50,6 @@ ask_head n count = codes "# ask " ++ decimal n ++ codes ": " ++ decimal count ++
 -- the answer to the n-th ask: its head, and the line of each triple
 abbrev pub ask_section : ℕ → List Triple → List ℕ
 ask_section n triples = ask_head n (length triples) ++ flat_map triple_text triples
-
--- the triples that agree with the pattern, in their order
-abbrev pub rows : List Triple → Pattern → List Triple
-rows triples pattern = filter (agrees pattern) triples
 
 -- the pattern that a delivery asks for
 abbrev pub pattern_of : Delivery → Option Pattern

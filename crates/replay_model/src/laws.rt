@@ -10,9 +10,9 @@ ghost use Rattle.entity_state.specs.State.{is_kept};
 ghost use Rattle.side_output.specs.declared.entry.Entry.{Entry};
 ghost use Rattle.event_line.specs.declared.deliveries.Delivery.{Delivery};
 ghost use Rattle.replay_model.specs.Acceptance.{accepted, late, due, known};
-ghost use Rattle.replay_model.specs.Entries.{late_events, is_later, is_open_by, is_open_late, has_open_revision};
+ghost use Rattle.replay_model.specs.Entries.{HoldsUnlessOpen, late_events, is_later, is_open_by, is_open_late, has_open_revision};
 ghost use Rattle.replay_model.specs.Fate.{fate, events_of, in_order};
-ghost use Rattle.replay_model.specs.Play.{Replies, is_reconciliation, played, play_to_end};
+ghost use Rattle.replay_model.specs.Play.{Played, Replies, apply, is_reconciliation, nothing_played, played, play_to_end};
 ghost use Rattle.replay_model.specs.Records.{record_of, is_settled};
 
 /// After each delivery and after the end, the state of each entity is the fate of its due events in their order.
@@ -29,7 +29,8 @@ pub fn late_entries_are_late_events()
 {}
 
 /// After each delivery and after the end, an entity holds what its state wants exactly where no revision entry of it
-/// is open, and a page that isn't kept holds nothing.
+/// is open, and a page that isn't kept holds nothing. It is so before the first delivery, and an application with any
+/// reply and each further entry keep it.
 pub fn settled_unless_open()
     ensures settled { (closed : Bool) (replies : Replies) (ds : List Delivery) (x : EntityId) →
         is_settled (record_of (played closed replies ds).records x)
@@ -37,6 +38,10 @@ pub fn settled_unless_open()
     ensures empty { (closed : Bool) (replies : Replies) (ds : List Delivery) (x : EntityId) →
         is_kept (record_of (played closed replies ds).records x).state.mode ≡ false →
         (record_of (played closed replies ds).records x).held ≡ None }
+    ensures start { HoldsUnlessOpen nothing_played }
+    ensures application { (replies : Replies) (p : Played) (e : Event) → HoldsUnlessOpen p → HoldsUnlessOpen (apply replies p e) }
+    ensures entries { (p : Played) (more : List Entry) → HoldsUnlessOpen p →
+        HoldsUnlessOpen (record { records = p.records; side = p.side ++ more }) }
 {}
 
 /// Two closed lists of deliveries with the same accepted events give the same records, wherever their watermarks stand.

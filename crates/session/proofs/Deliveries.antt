@@ -15,7 +15,8 @@ use Rattle.replay_model.specs.Records.{Bytes}
 use Rattle.replay_model.specs.Explained.{AgreeOnApplied}
 use Rattle.replay_model.specs.Play.{Replies, fetches, fetches_to_end}
 use Rattle.replay_model.specs.ReplayState.{ReplayState, after_end, after_event, after_mark, entered, following, following_to_end, taken_entries}
-use Rattle.replay_model.specs.Transcript.{ask_section, asks, pattern_of, rows, said, said_at}
+use Rattle.replay_model.specs.Transcript.{ask_section, asks, pattern_of, said, said_at}
+use Rattle.triple_store.specs.Agreeing.{rows}
 use Rattle.replay_model.specs.Union.{union}
 use Rattle.replay_model.proofs.Applied.{applied-event}
 use Rattle.replay_model.proofs.Explaining.{Explained-ask, Explained-end, Explained-event, Explained-event_rests, Explained-is, Explained-mark, Explained-rests, ask_replies, end_replies, event_replies, mark_replies}

@@ -12,14 +12,14 @@ use Rattle.revisions.specs.Revisions.{Contents, counted}
 use Rattle.reorder_buffer.specs.Buffered.{first_due}
 use Rattle.replay_model.specs.Records.{Bytes, record_of}
 use Rattle.replay_model.specs.Play.{Fetch, Replies}
-use Rattle.replay_model.specs.Replies.{GivesDocument, failed_events, missing_events, reply_there, source_replies}
+use Rattle.replay_model.specs.Replies.{GivesDocument, HasUnfit, failed_events, missing_events, reply_there, source_replies}
 use Rattle.replay_model.specs.ReplayState.{ReplayState, after_next}
 use Rattle.replay_model.specs.Explained.{is_fetching}
 use Rattle.replay_model.proofs.Documents.{documents-apply}
 use Rattle.replay_model.proofs.Explaining.{Explained-next, Next, next_by}
 use Rattle.replay_model.proofs.FetchCounts.{risen_by-more}
 use Rattle.replay_model.proofs.Fetching.{failed-applying, failed_by, missing-applying, missing_of}
-use Rattle.world.specs.Applying.{Applies, HasUnfit, IsReply, IsShown, calls_after, outcome_of_reply}
+use Rattle.world.specs.Applying.{Applies, IsReply, IsShown, calls_after, outcome_of_reply}
 use Rattle.world.specs.declared.applied.Applied.{Applied}
 use Rattle.world.specs.declared.applied.Outcome.{Outcome}
 use Rattle.world.specs.declared.applied.Outcome.TheVariants.{Same, Dropped}
@@ -40,7 +40,7 @@ pub record Rises (outcome : Outcome) (before now : Counts) : Type 0 where
   pub more_faults : before.faults ≤ now.faults
   pub more_misses : before.misses ≤ now.misses
 
-unfit_there : (x : EntityId) (unfit : Unfit) (there : Option Bytes) → HasUnfit x unfit there → ◌≡◌ {A = Result Bytes Cause} (Err (NoDocument unfit)) (reply_there judgement x there)
+unfit_there : (x : EntityId) (unfit : Unfit) (there : Option Bytes) → HasUnfit judgement x unfit there → ◌≡◌ {A = Result Bytes Cause} (Err (NoDocument unfit)) (reply_there judgement x there)
 unfit_there x unfit None has = absurd has
 unfit_there x unfit (Some bytes) has = rw has refl
 

@@ -153,9 +153,9 @@ replayed limit left told ds held held_now start now world are at_end =
     }
 
 -- an answer that wasn't written wholly
-answered_in_part : (status : Status) (left : Option (List ℕ)) (told : Option (ℕ → Option Bytes)) (held held_now : Option (List ℕ)) (start now : Counts) (world : ReplayState) →
-    StopsAnswering status left told held held_now start now world → StandsAtQuestion status left told start now world held held_now
-answered_in_part status left told held held_now start now world stops = record {
+answered_in_part : (status : Status) (limit : ℕ) (left : Option (List ℕ)) (told : Option (ℕ → Option Bytes)) (held held_now : Option (List ℕ)) (start now : Counts) (world : ReplayState) →
+    StopsAnswering status limit left told held held_now start now world → StandsAtQuestion status limit left told start now world held held_now
+answered_in_part status limit left told held held_now start now world stops = record {
   deliveries = stops.deliveries;
   pattern = stops.pattern;
   played = is_played_after told stops.deliveries held stops.between start now world stops.at_rest;
@@ -185,7 +185,7 @@ stopped ReadFault plan left left_now told held held_now start now world reads re
     whole = stops.1.whole;
   },
 )
-stopped WriteFault plan left left_now told held held_now start now world reads reads_now writes writes_now stops = (stops.0, inl (answered_in_part WriteFault left told held held_now start now world stops.1))
+stopped WriteFault plan left left_now told held held_now start now world reads reads_now writes writes_now stops = (stops.0, inl (answered_in_part WriteFault (limit_of plan) left told held held_now start now world stops.1))
 stopped TooLong plan left left_now told held held_now start now world reads reads_now writes writes_now stops = record {
   deliveries = stops.deliveries;
   played = is_played_after told stops.deliveries held held_now start now world stops.at_rest;
@@ -193,7 +193,7 @@ stopped TooLong plan left left_now told held held_now start now world reads read
   past = stops.past;
 }
 stopped OutOfMemory plan left left_now told held held_now start now world reads reads_now writes writes_now stops =
-    ⊎_elim (λ starved. inl starved) (λ answering. inr (inl (answered_in_part OutOfMemory left told held held_now start now world answering))) stops
+    ⊎_elim (λ starved. inl starved) (λ answering. inr (inl (answered_in_part OutOfMemory (limit_of plan) left told held held_now start now world answering))) stops
 
 -- a fault of the sink in the sections, with the world at its end
 pub unwritten : (status : Status) (plan : Choices) (left left_now : Option (List ℕ)) (told : Option (ℕ → Option Bytes)) (start now : Counts) (world : ReplayState) (held held_now : Option (List ℕ)) (reads reads_now writes between writes_now : ℕ) →

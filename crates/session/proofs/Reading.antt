@@ -1,9 +1,10 @@
 -- How far the reading of lines has come, and what follows where it goes on or ends.
-use Rattle.std.proofs.Common.{refl, sym, subst, ◌∙◌, ap, inl, inr, ⊎_elim, ◌≡◌, ℕ, ◌+◌, ◌-◌, ◌<◌, ◌≤◌, Bool, true, false, List, [], ◌∷◌, ◌++◌, length, Option, None, Some, IfSome, Result, Ok, Err, arith, append_assoc, append-nil, length-append}
+use Rattle.std.proofs.Common.{refl, sym, subst, ◌∙◌, ap, inl, inr, ⊎_elim, ◌≡◌, ℕ, ◌+◌, ◌-◌, ◌<◌, ◌≤◌, Bool, true, false, cond, List, [], ◌∷◌, ◌++◌, length, Option, None, Some, IfSome, Result, Ok, Err, arith, append_assoc, append-nil, length-append}
+use Rattle.std.proofs.lemmas.Bool.{le-leb}
 use Rattle.std.proofs.lemmas.Grind.{flat_map-append}
 use Rattle.std.specs.Option.{option_map}
 use Rattle.wq_io.specs.Streams.{IsAtEnd, before_known}
-use Rattle.wq_io.specs.Lines.{GoesOn, HasCause, IsLineLong, IsOneLine, IsSound, IsTooLong, Leaves, Reading, StopsInLine, TakesBytes, before_lines, ended_lines, fresh, input_length, line_feed, lines, lines_of, room, unread, whole_lines}
+use Rattle.wq_io.specs.Lines.{GoesOn, HasCause, IsLineLong, IsOneLine, IsSound, IsTooLong, Leaves, Reading, StopsInLine, TakesBytes, before_lines, ended_lines, fresh, input_length, line_feed, lines, lines_of, longest_line, room, unread, whole_lines}
 use Rattle.wq_io.proofs.LineLists.{whole_lines-ended}
 use Rattle.wq_io.specs.declared.lines.LineFault.{LineFault}
 use Rattle.wq_io.specs.declared.lines.LineFault.TheVariants.{ReadFault as NotRead, TooLong as PastLimit, LineLong as OverLong, OutOfMemory as Refused}
@@ -22,7 +23,7 @@ use Rattle.replay_model.proofs.RecordOf.{record_of-empty}
 use Rattle.replay_model.proofs.ToldContents.{Each-append}
 use Rattle.session.specs.Counts.{Counts}
 use Rattle.session.specs.Faults.{fault_status}
-use Rattle.session.specs.Running.{AreDeliveries, AreFirst, AreWhole, AtRest, HasRead, IsPastLimit, IsRefusedLine, deliveries_of, judgement, onto_deliveries}
+use Rattle.session.specs.Running.{AreDeliveries, AreFirst, AreWhole, AtRest, HasRead, IsPastLimit, IsRefusedLine, deliveries_of, judgement, line_delivers, onto_deliveries}
 use Rattle.session.specs.Stops.{CutsOff, IsAnsweredInPart, HasTaken, IsCutOff, IsRefused, Stops, StopsAnswering, StopsWithin, TakesDelivery}
 use Rattle.session.proofs.Deliveries.{asks-push, rest_within}
 use Rattle.session.proofs.Parts.{after_nothing, rose_since}
@@ -50,13 +51,17 @@ onto-push (Ok first) (Some others) more ds d grows is =
 onto-push (Ok first) None more ds d grows is = cc
 onto-push (Err cause) o more ds d grows is = cc
 
-pub deliveries-push : (done : List (List ℕ)) (line : List ℕ) (ds : List Delivery) (d : Delivery) → deliveries_of done ≡ Some ds → delivery_of line ≡ Ok d →
+-- a line that isn't over-long delivers what it is read as
+short_delivers : (line : List ℕ) (d : Delivery) → length line ≤ longest_line → delivery_of line ≡ Ok d → line_delivers line ≡ Ok d
+short_delivers line d short is = ap (λ b. cond b (delivery_of line) (Err LineLong)) (le-leb (length line) longest_line short) ∙ is
+
+pub deliveries-push : (done : List (List ℕ)) (line : List ℕ) (ds : List Delivery) (d : Delivery) → deliveries_of done ≡ Some ds → line_delivers line ≡ Ok d →
     deliveries_of (done ++ line ∷ []) ≡ Some (ds ++ d ∷ [])
 deliveries-push [] line ds d done_is line_is =
     let none : [] ≡ ds = cc in
     rw (line_is, ← none) refl
 deliveries-push (l ∷ ls) line ds d done_is line_is =
-    onto-push (delivery_of l) (deliveries_of ls) (deliveries_of (ls ++ line ∷ [])) ds d (λ others is. deliveries-push ls line others d is line_is) done_is
+    onto-push (line_delivers l) (deliveries_of ls) (deliveries_of (ls ++ line ∷ [])) ds d (λ others is. deliveries-push ls line others d is line_is) done_is
 
 same_lines : (limit : ℕ) (left : Option (List ℕ)) → lines_of left ≡ option_map (λ (ls : List (List ℕ)). [] ++ ls) (lines_of (unread (fresh limit) left))
 same_lines limit None = refl
@@ -139,9 +144,11 @@ same_room : (limit : ℕ) (reader : Reading) (read : List ℕ) → reader.max_by
 same_room limit reader read max is = ap (λ n. n - reader.consumed) max ∙ ap (λ n. limit - n) (sym is)
 
 -- what was read and a part of a line are the bytes that were read
-whole_read : (left_start left left_now : Option (List ℕ)) (reader : Reading) (ds : List Delivery) (read : HasRead left_start reader left ds) → StopsInLine reader left left_now → AreWhole left_start left_now ds
-whole_read left_start left left_now reader ds read stops = record {
+whole_read : (limit : ℕ) (left_start left left_now : Option (List ℕ)) (reader : Reading) (ds : List Delivery) (read : HasRead left_start reader left ds) →
+    (stops : StopsInLine reader left left_now) → IfSome left_start (λ bytes. length (read.read ++ stops.part) ≤ limit) → AreWhole limit left_start left_now ds
+whole_read limit left_start left left_now reader ds read stops within = record {
   read = read.read ++ stops.part;
+  within = within;
   is = read.bytes ∙ ap (λ (o : Option (List ℕ)). before_known read.read o) stops.front ∙ before_both read.read stops.part left_now;
   delivered =
       ap (λ xs. deliveries_of (whole_lines (xs ++ stops.part))) (read.whole stops.going)
@@ -158,11 +165,27 @@ module _ (limit : ℕ) (told : Option (ℕ → Option Bytes)) (held held_now : O
       told_parts bytes so_far.read.done so_far.read.read reader.consumed (unread reader left) so_far.read.front so_far.read.total so_far.read.bytes
 
   first_lines : (left_start : Option (List ℕ)) (reader : Reading) (left : Option (List ℕ)) (world : ReplayState) (so_far : Progress limit left_start told held held_now start now reader left asked world) →
-      IfSome left_start (λ bytes. AreFirst bytes so_far.deliveries)
+      IfSome left_start (λ bytes. AreFirst limit bytes so_far.deliveries)
   first_lines None reader left world so_far = tt
   first_lines (Some bytes) reader left world so_far =
       let parts = told_progress bytes reader left world so_far in
-      record { before = so_far.read.done; after = lines parts.u; are_lines = parts.are_lines; delivered = so_far.read.delivered }
+      record {
+        before = so_far.read.done;
+        read_bytes = so_far.read.read;
+        unread_bytes = parts.u;
+        all = parts.all;
+        are_lines = parts.are_lines;
+        within = omega (arith, so_far.max, so_far.sound.within, parts.read_is);
+        delivered = so_far.read.delivered;
+      }
+
+  -- what was read and a part of a line within the limit are within it
+  part_within : (left_start : Option (List ℕ)) (reader : Reading) (left : Option (List ℕ)) (world : ReplayState) (so_far : Progress limit left_start told held held_now start now reader left asked world) (part : List ℕ) →
+      length part ≤ room reader → IfSome left_start (λ bytes. length (so_far.read.read ++ part) ≤ limit)
+  part_within None reader left world so_far part few = tt
+  part_within (Some bytes) reader left world so_far part few =
+      let parts = told_progress bytes reader left world so_far in
+      omega (arith, length-append so_far.read.read part, parts.read_is, so_far.max, so_far.sound.within, few)
 
   past_limit : (left_start : Option (List ℕ)) (reader : Reading) (left : Option (List ℕ)) (world : ReplayState) (so_far : Progress limit left_start told held held_now start now reader left asked world) →
       IfSome (unread reader left) (IsTooLong (room reader)) → IfSome left_start (λ bytes. IsPastLimit limit bytes so_far.deliveries)
@@ -205,7 +228,7 @@ module _ (limit : ℕ) (told : Option (ℕ → Option Bytes)) (held held_now : O
       )
 
   -- the world is as it was after the lines so far
-  stands : (left_start : Option (List ℕ)) (reader : Reading) (left : Option (List ℕ)) (world : ReplayState) → Progress limit left_start told held held_now start now reader left asked world → StopsWithin left_start told held held_now world
+  stands : (left_start : Option (List ℕ)) (reader : Reading) (left : Option (List ℕ)) (world : ReplayState) → Progress limit left_start told held held_now start now reader left asked world → StopsWithin limit left_start told held held_now world
   stands left_start reader left world so_far = record {
     deliveries = so_far.deliveries;
     last = None;
@@ -214,7 +237,7 @@ module _ (limit : ℕ) (told : Option (ℕ → Option Bytes)) (held held_now : O
   }
     where
       first_none : (left_start : Option (List ℕ)) (reader : Reading) (left : Option (List ℕ)) (world : ReplayState) (so_far : Progress limit left_start told held held_now start now reader left asked world) →
-          IfSome left_start (λ bytes. AreFirst bytes (so_far.deliveries ++ []))
+          IfSome left_start (λ bytes. AreFirst limit bytes (so_far.deliveries ++ []))
       first_none left_start reader left world so_far = rw (append-nil so_far.deliveries) (first_lines left_start reader left world so_far)
 
   -- a fault of the reader stops the taking
@@ -223,7 +246,7 @@ module _ (limit : ℕ) (told : Option (ℕ → Option Bytes)) (held held_now : O
       Stops (fault_status fault) limit left_start left_now told held held_now start now world before after writes writes_now
   fault_stops NotRead left_start reader left left_now world before between after writes writes_now so_far earlier cause leaves = (
     rose_since before between after earlier cause,
-    record { deliveries = so_far.deliveries; at_rest = so_far.at_rest; whole = whole_read left_start left left_now reader so_far.deliveries so_far.read leaves },
+    record { deliveries = so_far.deliveries; at_rest = so_far.at_rest; whole = whole_read limit left_start left left_now reader so_far.deliveries so_far.read leaves (part_within left_start reader left world so_far leaves.part leaves.within) },
   )
   fault_stops PastLimit left_start reader left left_now world before between after writes writes_now so_far earlier cause leaves =
       record { deliveries = so_far.deliveries; at_rest = so_far.at_rest; past = past_limit left_start reader left world so_far cause }
@@ -256,33 +279,43 @@ module _ (limit : ℕ) (told : Option (ℕ → Option Bytes)) (held held_now : O
   front_grows left_start known None done line front first = rw (front, first) refl
   front_grows left_start known (Some ls) done line front first = rw (front, first) (ap Some (sym (append_assoc done (line ∷ []) ls)))
 
-  first_with : (left_start : Option (List ℕ)) (reader : Reading) (left known : Option (List ℕ)) (world : ReplayState) (line : List ℕ) (d : Delivery) (so_far : Progress limit left_start told held held_now start now reader left asked world) →
-      lines_of (unread reader left) ≡ before_lines line (lines_of known) → delivery_of line ≡ Ok d → IfSome left_start (λ bytes. AreFirst bytes (so_far.deliveries ++ d ∷ []))
-  first_with None reader left known world line d so_far first is = tt
-  first_with (Some bytes) reader left None world line d so_far first is =
-      let none : Some (lines bytes) ≡ None = front_grows (Some (lines bytes)) (lines_of (unread reader left)) None so_far.read.done line so_far.read.front first in cc
-  first_with (Some bytes) reader left (Some u) world line d so_far first is =
-      let whole : Some (lines bytes) ≡ Some ((so_far.read.done ++ line ∷ []) ++ lines u) = front_grows (Some (lines bytes)) (lines_of (unread reader left)) (Some (lines u)) so_far.read.done line so_far.read.front first in
-      record {
-        before = so_far.read.done ++ line ∷ [];
-        after = lines u;
-        are_lines = cc;
-        delivered = deliveries-push so_far.read.done line so_far.deliveries d so_far.read.delivered is;
-      }
-
   -- the bytes of one line more
   bytes_grow : (left_start : Option (List ℕ)) (reader : Reading) (left known : Option (List ℕ)) (world : ReplayState) (line : List ℕ) (ended : Bool) (so_far : Progress limit left_start told held held_now start now reader left asked world) →
       (takes : TakesBytes ended (unread reader left) known line) → left_start ≡ before_known (so_far.read.read ++ takes.moved) known
   bytes_grow left_start reader left known world line ended so_far takes =
       so_far.read.bytes ∙ ap (λ (o : Option (List ℕ)). before_known so_far.read.read o) takes.front ∙ before_both so_far.read.read takes.moved known
 
+  -- the lines so far and one more are the first ones
+  first_with : (left_start : Option (List ℕ)) (reader : Reading) (left known : Option (List ℕ)) (world : ReplayState) (line : List ℕ) (d : Delivery) (consumed : ℕ) (ended : Bool) (so_far : Progress limit left_start told held held_now start now reader left asked world) →
+      lines_of (unread reader left) ≡ before_lines line (lines_of known) → option_map (λ (u : List ℕ). consumed + length u) known ≡ input_length reader left → TakesBytes ended (unread reader left) known line → consumed ≤ limit →
+      line_delivers line ≡ Ok d → IfSome left_start (λ bytes. AreFirst limit bytes (so_far.deliveries ++ d ∷ []))
+  first_with None reader left known world line d consumed ended so_far first total takes within is = tt
+  first_with (Some bytes) reader left None world line d consumed ended so_far first total takes within is =
+      let none : Some (lines bytes) ≡ None = front_grows (Some (lines bytes)) (lines_of (unread reader left)) None so_far.read.done line so_far.read.front first in cc
+  first_with (Some bytes) reader left (Some u) world line d consumed ended so_far first total takes within is =
+      let whole : Some (lines bytes) ≡ Some ((so_far.read.done ++ line ∷ []) ++ lines u) = front_grows (Some (lines bytes)) (lines_of (unread reader left)) (Some (lines u)) so_far.read.done line so_far.read.front first in
+      let counts_all : Some (consumed + length u) ≡ Some (length bytes) = total ∙ so_far.read.total in
+      let all : consumed + length u ≡ length bytes = cc in
+      let grown : Some bytes ≡ Some ((so_far.read.read ++ takes.moved) ++ u) = bytes_grow (Some bytes) reader left (Some u) world line ended so_far takes in
+      let read : bytes ≡ (so_far.read.read ++ takes.moved) ++ u = cc in
+      let read_is : length (so_far.read.read ++ takes.moved) ≡ consumed = read_length bytes (so_far.read.read ++ takes.moved) u consumed read all in
+      record {
+        before = so_far.read.done ++ line ∷ [];
+        read_bytes = so_far.read.read ++ takes.moved;
+        unread_bytes = u;
+        all = read;
+        are_lines = cc;
+        within = omega arith;
+        delivered = deliveries-push so_far.read.done line so_far.deliveries d so_far.read.delivered is;
+      }
+
   bad_line : (left_start : Option (List ℕ)) (reader : Reading) (left known : Option (List ℕ)) (world : ReplayState) (line : List ℕ) (consumed number : ℕ) (cause : LineCause) (ended : Bool) (so_far : Progress limit left_start told held held_now start now reader left asked world) →
       lines_of (unread reader left) ≡ before_lines line (lines_of known) → option_map (λ (u : List ℕ). consumed + length u) known ≡ input_length reader left → TakesBytes ended (unread reader left) known line → consumed ≤ limit →
-      number ≡ reader.given + 1 → delivery_of line ≡ Err cause → IfSome left_start (λ bytes. IsRefusedLine limit bytes so_far.deliveries number cause)
-  bad_line None reader left known world line consumed number cause ended so_far first total takes within next refused = tt
-  bad_line (Some bytes) reader left None world line consumed number cause ended so_far first total takes within next refused =
+      number ≡ reader.given + 1 → length line ≤ longest_line → delivery_of line ≡ Err cause → IfSome left_start (λ bytes. IsRefusedLine limit bytes so_far.deliveries number cause)
+  bad_line None reader left known world line consumed number cause ended so_far first total takes within next short refused = tt
+  bad_line (Some bytes) reader left None world line consumed number cause ended so_far first total takes within next short refused =
       let none : Some (lines bytes) ≡ None = so_far.read.front ∙ ap (λ (o : Option (List (List ℕ))). option_map (λ ls. so_far.read.done ++ ls) o) first in cc
-  bad_line (Some bytes) reader left (Some u) world line consumed number cause ended so_far first total takes within next refused =
+  bad_line (Some bytes) reader left (Some u) world line consumed number cause ended so_far first total takes within next short refused =
       let whole : Some (lines bytes) ≡ Some (so_far.read.done ++ line ∷ lines u) = so_far.read.front ∙ ap (λ (o : Option (List (List ℕ))). option_map (λ ls. so_far.read.done ++ ls) o) first in
       let counts_all : Some (consumed + length u) ≡ Some (length bytes) = total ∙ so_far.read.total in
       let all : consumed + length u ≡ length bytes = cc in
@@ -299,69 +332,69 @@ module _ (limit : ℕ) (told : Option (ℕ → Option Bytes)) (held held_now : O
         within = omega arith;
         delivered = so_far.read.delivered;
         counted = next ∙ ap (λ n. n + 1) so_far.read.counted;
+        short = short;
         refused = refused;
       })
 
   -- a line that is refused stops the taking
   pub line_stops : (status : Status) (left_start : Option (List ℕ)) (reader next : Reading) (left left_next : Option (List ℕ)) (world : ReplayState) (line : List ℕ) (number before after writes writes_now : ℕ) →
       Progress limit left_start told held held_now start now reader left asked world → lines_of (unread reader left) ≡ before_lines line (lines_of (unread next left_next)) →
-      input_length next left_next ≡ input_length reader left → TakesBytes next.ended (unread reader left) (unread next left_next) line → next.max_bytes ≡ reader.max_bytes → IsSound next → number ≡ reader.given + 1 →
+      input_length next left_next ≡ input_length reader left → TakesBytes next.ended (unread reader left) (unread next left_next) line → GoesOn reader next line → number ≡ reader.given + 1 →
       IsRefused status line number → Stops status limit left_start left_next told held held_now start now world before after writes writes_now
-  line_stops Ended left_start reader next left left_next world line number before after writes writes_now so_far first total takes same_limit sound counted refused = absurd refused
-  line_stops BadWords left_start reader next left left_next world line number before after writes writes_now so_far first total takes same_limit sound counted refused = absurd refused
-  line_stops (BadLine n cause) left_start reader next left left_next world line number before after writes writes_now so_far first total takes same_limit sound counted refused = record {
+  line_stops Ended left_start reader next left left_next world line number before after writes writes_now so_far first total takes goes counted refused = absurd refused
+  line_stops BadWords left_start reader next left left_next world line number before after writes writes_now so_far first total takes goes counted refused = absurd refused
+  line_stops (BadLine n cause) left_start reader next left left_next world line number before after writes writes_now so_far first total takes goes counted refused = record {
     deliveries = so_far.deliveries;
     at_rest = so_far.at_rest;
-    bad = bad_line left_start reader left (unread next left_next) world line next.consumed n cause next.ended so_far first total takes (omega (arith, sound.within, same_limit, so_far.max)) (refused.0 ∙ counted) refused.1;
+    bad = bad_line left_start reader left (unread next left_next) world line next.consumed n cause next.ended so_far first total takes (omega (arith, goes.sound.within, goes.limit, so_far.max)) (refused.0 ∙ counted) goes.short refused.1;
   }
-  line_stops ReadFault left_start reader next left left_next world line number before after writes writes_now so_far first total takes same_limit sound counted refused = absurd refused
-  line_stops WriteFault left_start reader next left left_next world line number before after writes writes_now so_far first total takes same_limit sound counted refused = absurd refused
-  line_stops TooLong left_start reader next left left_next world line number before after writes writes_now so_far first total takes same_limit sound counted refused = absurd refused
-  line_stops OutOfMemory left_start reader next left left_next world line number before after writes writes_now so_far first total takes same_limit sound counted refused =
+  line_stops ReadFault left_start reader next left left_next world line number before after writes writes_now so_far first total takes goes counted refused = absurd refused
+  line_stops WriteFault left_start reader next left left_next world line number before after writes writes_now so_far first total takes goes counted refused = absurd refused
+  line_stops TooLong left_start reader next left left_next world line number before after writes writes_now so_far first total takes goes counted refused = absurd refused
+  line_stops OutOfMemory left_start reader next left left_next world line number before after writes writes_now so_far first total takes goes counted refused =
       inl (inl (stands left_start reader left world so_far))
 
   -- a question that isn't answered wholly stops the taking
-  stops_answering : (status : Status) (left_start : Option (List ℕ)) (reader : Reading) (left known held_then : Option (List ℕ)) (now_then : Counts) (world world_now : ReplayState) (line : List ℕ) (d : Delivery) (so_far : Progress limit left_start told held held_now start now reader left asked world) →
-      lines_of (unread reader left) ≡ before_lines line (lines_of known) → delivery_of line ≡ Ok d → IsAnsweredInPart status d so_far.deliveries held_now held_then now now_then world world_now →
-      StopsAnswering status left_start told held held_then start now_then world_now
-  stops_answering status left_start reader left known held_then now_then world world_now line d so_far first is in_part = rw (in_part.world, in_part.counts) (record {
+  stops_answering : (status : Status) (left_start : Option (List ℕ)) (reader : Reading) (left held_then : Option (List ℕ)) (now_then : Counts) (world world_now : ReplayState) (d : Delivery) (so_far : Progress limit left_start told held held_now start now reader left asked world) →
+      IfSome left_start (λ bytes. AreFirst limit bytes (so_far.deliveries ++ d ∷ [])) → IsAnsweredInPart status d so_far.deliveries held_now held_then now now_then world world_now →
+      StopsAnswering status limit left_start told held held_then start now_then world_now
+  stops_answering status left_start reader left held_then now_then world world_now d so_far first in_part = rw (in_part.world, in_part.counts) (record {
     deliveries = so_far.deliveries;
     pattern = in_part.pattern;
     between = held_now;
     at_rest = so_far.at_rest;
     begun = in_part.begun;
-    first = subst (λ q. IfSome left_start (λ bytes. AreFirst bytes (so_far.deliveries ++ q ∷ []))) in_part.is (first_with left_start reader left known world line d so_far first is);
+    first = subst (λ q. IfSome left_start (λ bytes. AreFirst limit bytes (so_far.deliveries ++ q ∷ []))) in_part.is first;
   })
 
   -- a delivery that isn't taken wholly stops the taking
-  pub delivery_stops : (status : Status) (left_start : Option (List ℕ)) (reader : Reading) (left known left_next held_then : Option (List ℕ)) (now_then : Counts) (world world_now : ReplayState) (line : List ℕ) (d : Delivery) (asked_now before after writes writes_now writes_then : ℕ) →
-      Progress limit left_start told held held_now start now reader left asked world → lines_of (unread reader left) ≡ before_lines line (lines_of known) → delivery_of line ≡ Ok d →
+  pub delivery_stops : (status : Status) (left_start : Option (List ℕ)) (reader next : Reading) (left left_next held_then : Option (List ℕ)) (now_then : Counts) (world world_now : ReplayState) (line : List ℕ) (d : Delivery) (asked_now before after writes writes_now writes_then : ℕ) →
+      Progress limit left_start told held held_now start now reader left asked world → lines_of (unread reader left) ≡ before_lines line (lines_of (unread next left_next)) →
+      input_length next left_next ≡ input_length reader left → TakesBytes next.ended (unread reader left) (unread next left_next) line → GoesOn reader next line → delivery_of line ≡ Ok d →
       asked_now ≡ asked + asks (d ∷ []) → writes ≤ writes_now →
       CutsOff status told d asked_now held_now held_then now now_then world world_now writes_now writes_then → Stops status limit left_start left_next told held held_then start now_then world_now before after writes writes_then
-  delivery_stops status left_start reader left known left_next held_then now_then world world_now line d asked_now before after writes writes_now writes_then so_far first is more earlier cuts =
+  delivery_stops status left_start reader next left left_next held_then now_then world world_now line d asked_now before after writes writes_now writes_then so_far lines_first total takes goes is more earlier cuts =
       by status (cuts so_far.deliveries held start (more ∙ ap (λ n. n + asks (d ∷ [])) so_far.asked_is ∙ sym (asks-push so_far.deliveries d)) so_far.at_rest)
     where
+      first : IfSome left_start (λ bytes. AreFirst limit bytes (so_far.deliveries ++ d ∷ []))
+      first = first_with left_start reader left (unread next left_next) world line d next.consumed next.ended so_far lines_first total takes (omega (arith, goes.sound.within, goes.limit, so_far.max)) (short_delivers line d goes.short is)
+
       by : (status : Status) → IsCutOff status told d so_far.deliveries held held_now held_then now now_then world world_now writes_now writes_then → Stops status limit left_start left_next told held held_then start now_then world_now before after writes writes_then
       by Ended cut = absurd cut
       by BadWords cut = absurd cut
       by (BadLine number cause) cut = absurd cut
       by ReadFault cut = absurd cut
-      by WriteFault cut = (rose_since writes writes_now writes_then earlier cut.0, stops_answering WriteFault left_start reader left known held_then now_then world world_now line d so_far first is cut.1)
+      by WriteFault cut = (rose_since writes writes_now writes_then earlier cut.0, stops_answering WriteFault left_start reader left held_then now_then world world_now d so_far first cut.1)
       by TooLong cut = absurd cut
       by OutOfMemory cut =
           ⊎_elim
           (λ may. inl (inl (
           ⊎_elim
-          (λ same. subst (λ w. StopsWithin left_start told held held_then w) (sym same) (subst (λ h. StopsWithin left_start told held h world) (sym may.0) (stands left_start reader left world so_far)))
-          (λ begun. record {
-            deliveries = so_far.deliveries;
-            last = Some d;
-            within = begun;
-            first = first_with left_start reader left known world line d so_far first is;
-          })
+          (λ same. subst (λ w. StopsWithin limit left_start told held held_then w) (sym same) (subst (λ h. StopsWithin limit left_start told held h world) (sym may.0) (stands left_start reader left world so_far)))
+          (λ begun. record { deliveries = so_far.deliveries; last = Some d; within = begun; first = first })
           may.1
           )))
-          (λ in_part. inr (stops_answering OutOfMemory left_start reader left known held_then now_then world world_now line d so_far first is in_part))
+          (λ in_part. inr (stops_answering OutOfMemory left_start reader left held_then now_then world world_now d so_far first in_part))
           cut
 
   whole_grows : (done : List (List ℕ)) (line read moved : List ℕ) → read ≡ ended_lines done → moved ≡ line ++ line_feed ∷ [] → read ++ moved ≡ ended_lines (done ++ line ∷ [])
@@ -385,7 +418,7 @@ module _ (limit : ℕ) (told : Option (ℕ → Option Bytes)) (held held_now : O
         read = record {
           done = so_far.read.done ++ line ∷ [];
           front = front_grows (lines_of left_start) (lines_of (unread reader left)) (lines_of (unread next left_next)) so_far.read.done line so_far.read.front first;
-          delivered = deliveries-push so_far.read.done line so_far.deliveries d so_far.read.delivered is;
+          delivered = deliveries-push so_far.read.done line so_far.deliveries d so_far.read.delivered (short_delivers line d goes.short is);
           counted = given ∙ omega (arith, so_far.read.counted, length-append so_far.read.done (line ∷ []));
           total = total ∙ so_far.read.total;
           read = so_far.read.read ++ bytes.moved;
@@ -403,7 +436,7 @@ module _ (limit : ℕ) (told : Option (ℕ → Option Bytes)) (held held_now : O
       }
 
 -- before the first line the world is that of no delivery
-pub nothing_begun : (limit : ℕ) (left : Option (List ℕ)) (told : Option (ℕ → Option Bytes)) (held : Option (List ℕ)) (now : Counts) → StopsWithin left told held held nothing_delivered
+pub nothing_begun : (limit : ℕ) (left : Option (List ℕ)) (told : Option (ℕ → Option Bytes)) (held : Option (List ℕ)) (now : Counts) → StopsWithin limit left told held held nothing_delivered
 nothing_begun limit left told held now = stands limit told held held now now 0 left (fresh limit) left nothing_delivered (before_lines_taken limit left told held now)
 
 -- at the end nothing is left of the source

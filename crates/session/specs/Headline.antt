@@ -101,11 +101,11 @@ pub record HasBegun (status : Status) (plan : Choices) (told : Option (ℕ → O
   pub sections : Wrote status between held_now (closing meaning (sections_of plan) world.played)
 
 -- the world has taken the deliveries of all whole lines of the bytes that were read before a read failed
-pub record StandsAfter (left left_now : Option (List ℕ)) (told : Option (ℕ → Option Bytes)) (start now : Counts) (world : ReplayState) (held held_now : Option (List ℕ)) : Type 0 where
+pub record StandsAfter (limit : ℕ) (left left_now : Option (List ℕ)) (told : Option (ℕ → Option Bytes)) (start now : Counts) (world : ReplayState) (held held_now : Option (List ℕ)) : Type 0 where
   pub deliveries : List Delivery
   pub played : IsPlayedAfter told deliveries start now world
   pub answered : HasAnswered told deliveries played.replies world held held_now
-  pub whole : AreWhole left left_now deliveries
+  pub whole : AreWhole limit left left_now deliveries
 
 -- the world has taken the deliveries before the line in which the input goes past the limit
 pub record StandsAtLimit (limit : ℕ) (left : Option (List ℕ)) (told : Option (ℕ → Option Bytes)) (start now : Counts) (world : ReplayState) (held held_now : Option (List ℕ)) : Type 0 where
@@ -123,14 +123,14 @@ pub record StandsBeforeLine (limit : ℕ) (left : Option (List ℕ)) (told : Opt
 
 -- the world has taken the deliveries before a question; the answers before it were printed and then a front of its own, and
 -- nothing else; where the sink failed, not all of it
-pub record StandsAtQuestion (status : Status) (left : Option (List ℕ)) (told : Option (ℕ → Option Bytes)) (start now : Counts) (world : ReplayState) (held held_now : Option (List ℕ)) : Type 0 where
+pub record StandsAtQuestion (status : Status) (limit : ℕ) (left : Option (List ℕ)) (told : Option (ℕ → Option Bytes)) (start now : Counts) (world : ReplayState) (held held_now : Option (List ℕ)) : Type 0 where
   pub deliveries : List Delivery
   pub pattern : Pattern
   pub played : IsPlayedAfter told deliveries start now world
   pub between : Option (List ℕ)
   pub answered : HasAnswered told deliveries played.replies world held between
   pub begun : HasBegunAnswer status pattern deliveries world between held_now
-  pub first : IfSome left (λ bytes. AreFirst bytes (deliveries ++ Ask pattern ∷ []))
+  pub first : IfSome left (λ bytes. AreFirst limit bytes (deliveries ++ Ask pattern ∷ []))
 
 -- where no fetch failed, the world and what was printed are functions of the words, the lines and the contents
 pub record IsFunction (plan : Choices) (told : Option (ℕ → Option Bytes)) (ds : List Delivery) (start now : Counts) (world : ReplayState) (held held_now : Option (List ℕ)) : Type 0 where
@@ -153,14 +153,14 @@ pub record BrokenOff (status : Status) (plan : Choices) (left : Option (List ℕ
 -- what a run leaves that stopped while it printed: in the answer to a question, or in the sections
 abbrev pub IsInterrupted : Status → Choices → Option (List ℕ) → Option (ℕ → Option Bytes) → Counts → Counts → ReplayState → Option (List ℕ) → Option (List ℕ) → Type 0
 IsInterrupted status plan left told start now world held held_now =
-    StandsAtQuestion status left told start now world held held_now ⊎ BrokenOff status plan left told start now world held held_now
+    StandsAtQuestion status (limit_of plan) left told start now world held held_now ⊎ BrokenOff status plan left told start now world held held_now
 
 -- why a run stopped, and what stands then
 abbrev pub Stopped : Status → Choices → Option (List ℕ) → Option (List ℕ) → Option (ℕ → Option Bytes) → Counts → Counts → ReplayState → Option (List ℕ) → Option (List ℕ) → ℕ → ℕ → ℕ → ℕ → Type 0
 Stopped Ended plan left left_now told start now world held held_now reads reads_now writes writes_now = ⊥
 Stopped BadWords plan left left_now told start now world held held_now reads reads_now writes writes_now = ⊥
 Stopped (BadLine number cause) plan left left_now told start now world held held_now reads reads_now writes writes_now = StandsBeforeLine (limit_of plan) left told start now number cause world held held_now
-Stopped ReadFault plan left left_now told start now world held held_now reads reads_now writes writes_now = Rose reads reads_now × StandsAfter left left_now told start now world held held_now
+Stopped ReadFault plan left left_now told start now world held held_now reads reads_now writes writes_now = Rose reads reads_now × StandsAfter (limit_of plan) left left_now told start now world held held_now
 Stopped WriteFault plan left left_now told start now world held held_now reads reads_now writes writes_now = Rose writes writes_now × IsInterrupted WriteFault plan left told start now world held held_now
 Stopped TooLong plan left left_now told start now world held held_now reads reads_now writes writes_now = StandsAtLimit (limit_of plan) left told start now world held held_now
 Stopped OutOfMemory plan left left_now told start now world held held_now reads reads_now writes writes_now =

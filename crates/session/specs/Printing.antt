@@ -1,4 +1,4 @@
--- What is printed after the end, and why it isn't.
+-- Which sections are asked for, and why not all of something was written.
 use Rattle.std.specs.Prelude.{◌≡◌, ℕ, ◌<◌, List, ◌++◌, length, Option, ⊤}
 use Rattle.wq_io.specs.Streams.{Rose, after_known}
 use Rattle.replay_model.specs.Transcript.{Sections}

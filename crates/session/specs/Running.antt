@@ -1,9 +1,9 @@
 -- The lines of an input as deliveries, and how far a run has come.
-use Rattle.std.specs.Prelude.{◌≡◌, ◌⊎◌, ℕ, ◌+◌, ◌-◌, ◌<◌, ◌≤◌, false, List, [], ◌∷◌, ◌++◌, length, Option, None, Some, Result, Ok, Err}
+use Rattle.std.specs.Prelude.{◌≡◌, ◌⊎◌, ℕ, ◌+◌, ◌-◌, ◌<◌, ◌≤◌, false, List, [], ◌∷◌, ◌++◌, length, nat_le, if◌then◌else◌, Option, None, Some, IfSome, Result, Ok, Err}
 use Rattle.std.specs.Option.{option_map}
 use Rattle.rising.specs.Rising.{Each}
 use Rattle.wq_io.specs.Streams.{after_known, before_known}
-use Rattle.wq_io.specs.Lines.{Reading, IsLineLong, IsOneLine, IsTooLong, ended_lines, input_length, lines, lines_of, unread, whole_lines}
+use Rattle.wq_io.specs.Lines.{Reading, IsLineLong, IsOneLine, IsTooLong, ended_lines, input_length, lines, lines_of, longest_line, unread, whole_lines}
 use Rattle.revisions.specs.Revisions.{Contents}
 use Rattle.entity_model.specs.declared.id.EntityId.{EntityId}
 use Rattle.entity_json.specs.Document.{unfit_of}
@@ -29,6 +29,10 @@ judgement = unfit_of
 abbrev pub told_at : Option Contents → List ℕ → Option (ℕ → Option Bytes)
 told_at contents place = option_map (λ (c : Contents). c place) contents
 
+-- what a line delivers, or why it is refused: an over-long one isn't read
+abbrev pub line_delivers : List ℕ → Result Delivery LineCause
+line_delivers line = if nat_le (length line) longest_line then delivery_of line else Err LineLong
+
 -- a delivery before the others, if all of them are
 abbrev pub onto_deliveries : Result Delivery LineCause → Option (List Delivery) → Option (List Delivery)
 onto_deliveries (Ok d) (Some ds) = Some (d ∷ ds)
@@ -38,7 +42,7 @@ onto_deliveries (Err cause) ds = None
 -- the deliveries that the lines are, where each line is one
 abbrev pub deliveries_of : List (List ℕ) → Option (List Delivery)
 deliveries_of [] = Some []
-deliveries_of (line ∷ others) = onto_deliveries (delivery_of line) (deliveries_of others)
+deliveries_of (line ∷ others) = onto_deliveries (line_delivers line) (deliveries_of others)
 
 -- every entity holds a document of itself, or nothing
 abbrev pub HoldsDocuments : ReplayState → Type 0
@@ -110,17 +114,22 @@ pub record AreDeliveries (limit : ℕ) (bytes : List ℕ) (ds : List Delivery) :
   pub within : length bytes ≤ limit
   pub delivered : deliveries_of (lines bytes) ≡ Some ds
 
--- the first lines of the input are these deliveries
-pub record AreFirst (bytes : List ℕ) (ds : List Delivery) : Type 0 where
+-- the first lines of the input are these deliveries, and end within the limit
+pub record AreFirst (limit : ℕ) (bytes : List ℕ) (ds : List Delivery) : Type 0 where
   pub before : List (List ℕ)
-  pub after : List (List ℕ)
-  pub are_lines : lines bytes ≡ before ++ after
+  pub read_bytes : List ℕ
+  pub unread_bytes : List ℕ
+  pub all : bytes ≡ read_bytes ++ unread_bytes
+  pub are_lines : lines bytes ≡ before ++ lines unread_bytes
+  pub within : length read_bytes ≤ limit
   pub delivered : deliveries_of before ≡ Some ds
 
--- all whole lines of the bytes that were read are these deliveries; the bytes behind them are left
-pub record AreWhole (left left_now : Option (List ℕ)) (ds : List Delivery) : Type 0 where
+-- all whole lines of the bytes that were read are these deliveries; these bytes are within the limit, and those behind them
+-- are left
+pub record AreWhole (limit : ℕ) (left left_now : Option (List ℕ)) (ds : List Delivery) : Type 0 where
   pub read : List ℕ
   pub is : left ≡ before_known read left_now
+  pub within : IfSome left (λ _. length read ≤ limit)
   pub delivered : deliveries_of (whole_lines read) ≡ Some ds
 
 -- the line with this number is no delivery, for this reason, and those before it are these deliveries; it ends within
@@ -135,6 +144,7 @@ pub record IsBadLine (limit : ℕ) (bytes : List ℕ) (ds : List Delivery) (numb
   pub within : length read_bytes ≤ limit
   pub delivered : deliveries_of before ≡ Some ds
   pub counted : number ≡ length before + 1
+  pub short : length line ≤ longest_line
   pub refused : delivery_of line ≡ Err cause
 
 -- the line with this number is over-long: its first 65,537 bytes are there, within the limit, and those before it are

@@ -12,7 +12,8 @@ use Rattle.reorder_buffer.specs.Buffered.{first_due}
 use Rattle.replay_model.specs.Play.{Fetch, Replies}
 use Rattle.replay_model.specs.Records.{Bytes}
 use Rattle.replay_model.specs.ReplayState.{ReplayState, after_end, entered, following}
-use Rattle.replay_model.specs.Transcript.{ask_section, asks, rows}
+use Rattle.replay_model.specs.Transcript.{ask_section, asks}
+use Rattle.triple_store.specs.Agreeing.{rows}
 use Rattle.replay_model.specs.Union.{union}
 use Rattle.world.specs.Meaning.{meaning}
 use Rattle.session.specs.Counts.{Counts}
@@ -28,10 +29,10 @@ pub record StopsAtLine (limit : ℕ) (left : Option (List ℕ)) (told : Option (
   pub bad : IfSome left (λ bytes. IsRefusedLine limit bytes deliveries number cause)
 
 -- what stands where the input can't be read further: the world of all whole lines of the bytes that were read
-pub record StopsReading (left left_now : Option (List ℕ)) (told : Option (ℕ → Option Bytes)) (held held_now : Option (List ℕ)) (start now : Counts) (world : ReplayState) : Type 0 where
+pub record StopsReading (limit : ℕ) (left left_now : Option (List ℕ)) (told : Option (ℕ → Option Bytes)) (held held_now : Option (List ℕ)) (start now : Counts) (world : ReplayState) : Type 0 where
   pub deliveries : List Delivery
   pub at_rest : AtRest told deliveries held held_now start now world
-  pub whole : AreWhole left left_now deliveries
+  pub whole : AreWhole limit left left_now deliveries
 
 -- what stands where the input goes past its limit: the world of the lines before
 pub record StopsPastLimit (limit : ℕ) (left : Option (List ℕ)) (told : Option (ℕ → Option Bytes)) (held held_now : Option (List ℕ)) (start now : Counts) (world : ReplayState) : Type 0 where
@@ -47,21 +48,21 @@ HasBegunAnswer status pattern ds world held held_now =
 
 -- what stands where a question is answered and not all is written: the world of the lines before it, and after what was
 -- printed at them a front of the answer
-pub record StopsAnswering (status : Status) (left : Option (List ℕ)) (told : Option (ℕ → Option Bytes)) (held held_now : Option (List ℕ)) (start now : Counts) (world : ReplayState) : Type 0 where
+pub record StopsAnswering (status : Status) (limit : ℕ) (left : Option (List ℕ)) (told : Option (ℕ → Option Bytes)) (held held_now : Option (List ℕ)) (start now : Counts) (world : ReplayState) : Type 0 where
   pub deliveries : List Delivery
   pub pattern : Pattern
   pub between : Option (List ℕ)
   pub at_rest : AtRest told deliveries held between start now world
   pub begun : HasBegunAnswer status pattern deliveries world between held_now
-  pub first : IfSome left (λ bytes. AreFirst bytes (deliveries ++ Ask pattern ∷ []))
+  pub first : IfSome left (λ bytes. AreFirst limit bytes (deliveries ++ Ask pattern ∷ []))
 
 -- what stands where memory was refused at a line: the world of the first lines, of which the last is perhaps a watermark
 -- with some of the events that it makes due
-pub record StopsWithin (left : Option (List ℕ)) (told : Option (ℕ → Option Bytes)) (held held_now : Option (List ℕ)) (world : ReplayState) : Type 0 where
+pub record StopsWithin (limit : ℕ) (left : Option (List ℕ)) (told : Option (ℕ → Option Bytes)) (held held_now : Option (List ℕ)) (world : ReplayState) : Type 0 where
   pub deliveries : List Delivery
   pub last : Option Delivery
   pub within : IsWithin told (said_behind deliveries held) held_now (λ replies. entered_perhaps (following replies deliveries) last) world
-  pub first : IfSome left (λ bytes. AreFirst bytes (deliveries ++ option_to_list last))
+  pub first : IfSome left (λ bytes. AreFirst limit bytes (deliveries ++ option_to_list last))
 
 -- what stands where memory was refused after the last line: the world of all lines and the end, with some of the events
 -- that the end makes due
@@ -72,18 +73,18 @@ pub record StopsAtEnd (limit : ℕ) (left : Option (List ℕ)) (told : Option (�
 
 -- what stands where memory was refused while nothing was printed
 abbrev pub StopsStarved : ℕ → Option (List ℕ) → Option (ℕ → Option Bytes) → Option (List ℕ) → Option (List ℕ) → ReplayState → Type 0
-StopsStarved limit left told held held_now world = StopsWithin left told held held_now world ⊎ StopsAtEnd limit left told held held_now world
+StopsStarved limit left told held held_now world = StopsWithin limit left told held held_now world ⊎ StopsAtEnd limit left told held held_now world
 
 -- why the taking of lines stops, and what stands then
 abbrev pub Stops : Status → ℕ → Option (List ℕ) → Option (List ℕ) → Option (ℕ → Option Bytes) → Option (List ℕ) → Option (List ℕ) → Counts → Counts → ReplayState → ℕ → ℕ → ℕ → ℕ → Type 0
 Stops Ended limit left left_now told held held_now start now world reads reads_now writes writes_now = ⊥
 Stops BadWords limit left left_now told held held_now start now world reads reads_now writes writes_now = ⊥
 Stops (BadLine number cause) limit left left_now told held held_now start now world reads reads_now writes writes_now = StopsAtLine limit left told held held_now start now number cause world
-Stops ReadFault limit left left_now told held held_now start now world reads reads_now writes writes_now = Rose reads reads_now × StopsReading left left_now told held held_now start now world
-Stops WriteFault limit left left_now told held held_now start now world reads reads_now writes writes_now = Rose writes writes_now × StopsAnswering WriteFault left told held held_now start now world
+Stops ReadFault limit left left_now told held held_now start now world reads reads_now writes writes_now = Rose reads reads_now × StopsReading limit left left_now told held held_now start now world
+Stops WriteFault limit left left_now told held held_now start now world reads reads_now writes writes_now = Rose writes writes_now × StopsAnswering WriteFault limit left told held held_now start now world
 Stops TooLong limit left left_now told held held_now start now world reads reads_now writes writes_now = StopsPastLimit limit left told held held_now start now world
 Stops OutOfMemory limit left left_now told held held_now start now world reads reads_now writes writes_now =
-    StopsStarved limit left told held held_now world ⊎ StopsAnswering OutOfMemory left told held held_now start now world
+    StopsStarved limit left told held held_now world ⊎ StopsAnswering OutOfMemory limit left told held held_now start now world
 
 -- all lines were taken
 pub record HasTaken (limit : ℕ) (left : Option (List ℕ)) (told : Option (ℕ → Option Bytes)) (held held_now : Option (List ℕ)) (start now : Counts) (world : ReplayState) : Type 0 where

@@ -1,4 +1,4 @@
-// The lines of the input are taken one by one, and what is due is applied.
+// The lines of the input are taken one by one: what is due is applied, and each question is answered.
 
 ghost use Rattle.std.specs.Prelude.{◌≡◌, ℕ, ◌≤◌, ◌^◌, ◌∷◌, [], false, List, Ok, Option, IfErr, IfOk, OnErr, OnOk};
 ghost use Rattle.wq_io.specs.Streams.{IsAtEnd};
@@ -53,7 +53,7 @@ pub fn take_lines<S: Source, R: Revisions, K: Sink>(
         let delivery = read_delivery(alloc, line.as_slice(), number)?;
         asked += asks(&delivery);
         deliver(alloc, place, asked, &delivery, revisions, out, world)?;
-        drop(delivery);
+        drop(delivery); // its memory is free before the next line is read
     }
     Ok(())
 }

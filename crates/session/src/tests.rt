@@ -31,6 +31,10 @@ const PAGES: &[(u64, &str)] = &[
         "[[[[[[[[[[[[[[[[[[[[[[[[[[[[[[[[[[[[[[[[[[[[[[[[[[[[[[[[[[[[[[[[[",
     ),
     (14, r#"{"type":"item","id":"Q1""#),
+    (
+        20,
+        r#"{"type":"item","id":"Q20","claims":{"P1":[{"mainsnak":{"snaktype":"value","property":"P1","datatype":"string","datavalue":{"value":"a\"b","type":"string"}},"id":"Q20$a","rank":"normal"}]}}"#,
+    ),
     (74, UNKNOWN_PAGE),
     (75, UNKNOWN_PAGE),
 ];
@@ -38,13 +42,6 @@ const PAGES: &[(u64, &str)] = &[
 // A page with an unknown value in a statement and in a qualifier, and with no values beside them.
 const UNKNOWN_PAGE: &str =
     r#"{"type":"item","id":"Q1","claims":{"P1":[{"mainsnak":{"snaktype":"novalue","property":"P1","datatype":"string"},"id":"Q1$n","rank":"normal"}],"P2":[{"mainsnak":{"snaktype":"somevalue","property":"P2","datatype":"string"},"id":"Q1$s","rank":"normal","qualifiers":{"P3":[{"snaktype":"somevalue","property":"P3","datatype":"string"}],"P4":[{"snaktype":"novalue","property":"P4","datatype":"string"}]}}]}}"#;
-
-// What two redirects to Q2 and Q1 mean.
-const TRIPLE_OF_1: &str =
-    "<http://www.wikidata.org/entity/Q1> <http://www.w3.org/2002/07/owl#sameAs> <http://www.wikidata.org/entity/Q2> .";
-
-const TRIPLE_OF_8: &str =
-    "<http://www.wikidata.org/entity/Q2> <http://www.w3.org/2002/07/owl#sameAs> <http://www.wikidata.org/entity/Q1> .";
 
 // The triples of the revisions 1, 3 and 10, as an export has them.
 const EXPORT_OF_1: &str = "# export: 1 triples
@@ -405,121 +402,136 @@ fn worlds(rt: HostRuntime) -> Result<(), Fail> {
     Ok(())
 }
 
-// Questions: all triples, those with Q1 as subject, and those with Q1 as object.
-const ALL: &str = r#"ask "?","?","?""#;
-
-const FROM_Q1: &str = r#"ask "<http://www.wikidata.org/entity/Q1>","?","?""#;
-
-const TO_Q1: &str =
-    r#"ask "?","<http://www.w3.org/2002/07/owl#sameAs>","<http://www.wikidata.org/entity/Q1>""#;
-
-// Checks what is printed at the lines of deliveries, of which those that begin with `ask` ask.
-fn check_answers(
+// Checks what a run prints that asks, how it ends, and what the world holds then.
+fn check_asking(
     rt: &(impl Abort + Alloc<A = Global>),
-    deliveries: &[&str],
-    failing_writes: &'static [u64],
+    deliveries: &'static str,
     status: Status,
-    printed: &[&str],
+    printed: &str,
+    seen_then: &str,
 ) -> Result<(), Fail> {
-    let alloc = rt.alloc();
-    let mut input = Vec::new(alloc);
-    for delivery in deliveries {
-        input.extend_from_slice(line(alloc, delivery)?.as_bytes())?;
-    }
     let given = Given {
         words: "replay",
-        failing_writes,
+        deliveries,
         ..EXPORT
     };
-    let left = run_over(rt, &given, input)?;
-    let mut lines = Vec::new(alloc);
-    for text in printed {
-        lines.extend_from_slice(text.as_bytes())?;
-        lines.push(b'\n')?;
+    check(rt, &given, status, printed, seen_then)
+}
+
+// A question is answered at its place: what waits isn't seen, and what was deleted is seen until the deletion is due.
+#[test]
+fn answers(rt: HostRuntime) -> Result<(), Fail> {
+    for (deliveries, printed, seen_then) in [
+        (
+            r#"ask "?","?","?"
+edit Q1 1 1
+ask "?","?","?"
+watermark 1
+ask "?","?","?""#,
+            "# ask 1: 0 triples
+# ask 2: 0 triples
+# ask 3: 1 triples
+<http://www.wikidata.org/entity/Q1> <http://www.w3.org/2002/07/owl#sameAs> <http://www.wikidata.org/entity/Q2> .
+",
+            "Q1 Kept 1, holds Some(1)\nfetches 1",
+        ),
+        (
+            r#"edit Q2 8 2
+edit Q1 1 1
+watermark 2
+ask "<http://www.wikidata.org/entity/Q1>","?","?"
+edit Q1 2 3
+ask "?","<http://www.w3.org/2002/07/owl#sameAs>","<http://www.wikidata.org/entity/Q1>"
+ask "?","?","?""#,
+            "# ask 1: 1 triples
+<http://www.wikidata.org/entity/Q1> <http://www.w3.org/2002/07/owl#sameAs> <http://www.wikidata.org/entity/Q2> .
+# ask 2: 1 triples
+<http://www.wikidata.org/entity/Q2> <http://www.w3.org/2002/07/owl#sameAs> <http://www.wikidata.org/entity/Q1> .
+# ask 3: 2 triples
+<http://www.wikidata.org/entity/Q1> <http://www.w3.org/2002/07/owl#sameAs> <http://www.wikidata.org/entity/Q2> .
+<http://www.wikidata.org/entity/Q2> <http://www.w3.org/2002/07/owl#sameAs> <http://www.wikidata.org/entity/Q1> .
+",
+            "Q1 Kept 2, holds Some(2)\nQ2 Kept 8, holds Some(8)\nfetches 3",
+        ),
+        (
+            r#"edit Q1 1 1
+watermark 1
+delete Q1 1 2
+ask "<http://www.wikidata.org/entity/Q1>","?","?"
+watermark 2
+ask "<http://www.wikidata.org/entity/Q1>","?","?""#,
+            "# ask 1: 1 triples
+<http://www.wikidata.org/entity/Q1> <http://www.w3.org/2002/07/owl#sameAs> <http://www.wikidata.org/entity/Q2> .
+# ask 2: 0 triples
+",
+            "Q1 Deleted 1, holds None\nfetches 1",
+        ),
+        // The escapes of a literal stand beneath those of JSON.
+        (
+            r#"edit Q20 20 1
+watermark 1
+ask "?","?","\"a\\\"b\"""#,
+            r#"# ask 1: 2 triples
+<http://www.wikidata.org/entity/Q20> <http://www.wikidata.org/prop/direct/P1> "a\"b" .
+<http://www.wikidata.org/entity/statement/Q20-a> <http://www.wikidata.org/prop/statement/P1> "a\"b" .
+"#,
+            "Q20 Kept 20, holds Some(20)\nfetches 1",
+        ),
+    ] {
+        check_asking(&rt, deliveries, Status::Ok, printed, seen_then)?;
     }
-    let count = deliveries.len();
-    assert_eq!(rt; left.status, status, "of {count} deliveries");
-    assert_eq!(rt; left.out.bytes(), lines.as_slice(), "of {count} deliveries");
     Ok(())
 }
 
-// A question is answered at its place: what waits isn't seen, what is late neither, and what was deleted is gone.
+// What was answered stands where a later line is refused.
 #[test]
-fn answers(rt: HostRuntime) -> Result<(), Fail> {
-    check_answers(
+fn answers_before_a_bad_line(rt: HostRuntime) -> Result<(), Fail> {
+    check_asking(
         &rt,
-        &[ALL, "edit Q1 1 1", ALL, "watermark 1", ALL],
-        &[],
-        Status::Ok,
-        &[
-            "# ask 1: 0 triples",
-            "# ask 2: 0 triples",
-            "# ask 3: 1 triples",
-            TRIPLE_OF_1,
-        ],
-    )?;
-    check_answers(
-        &rt,
-        &[
-            "edit Q2 8 2",
-            "edit Q1 1 1",
-            "watermark 2",
-            FROM_Q1,
-            TO_Q1,
-            "edit Q1 2 2",
-            ALL,
-        ],
-        &[],
-        Status::Ok,
-        &[
-            "# ask 1: 1 triples",
-            TRIPLE_OF_1,
-            "# ask 2: 1 triples",
-            TRIPLE_OF_8,
-            "# ask 3: 2 triples",
-            TRIPLE_OF_1,
-            TRIPLE_OF_8,
-        ],
-    )?;
-    check_answers(
-        &rt,
-        &[
-            "edit Q1 1 1",
-            "watermark 1",
-            FROM_Q1,
-            "delete Q1 1 2",
-            FROM_Q1,
-            "watermark 2",
-            FROM_Q1,
-        ],
-        &[],
-        Status::Ok,
-        &[
-            "# ask 1: 1 triples",
-            TRIPLE_OF_1,
-            "# ask 2: 1 triples",
-            TRIPLE_OF_1,
-            "# ask 3: 0 triples",
-        ],
+        r#"ask "?","?","?"
+edit Q1 1 1
+watermark 1
+edit Q1 0 2
+ask "?","?","?""#,
+        Status::BadLine(4, LineCause::Rev),
+        "# ask 1: 0 triples\n",
+        "Q1 Kept 1, holds Some(1)\nfetches 1",
     )
 }
 
-// What was answered stands where a later line is refused, and where a later write fails.
+// Two lines and the beginning of a third are read, and then a read fails; likewise a write at the third line of output.
 #[test]
-fn answers_stand(rt: HostRuntime) -> Result<(), Fail> {
-    check_answers(
+fn answers_before_a_fault(rt: HostRuntime) -> Result<(), Fail> {
+    let deliveries = r#"ask "?","?","?"
+edit Q1 1 1
+watermark 1
+ask "?","?","?""#;
+    let given = Given {
+        words: "replay",
+        deliveries,
+        piece: 114,
+        failing_reads: &[2],
+        ..EXPORT
+    };
+    check(
         &rt,
-        &[ALL, "edit Q1 1 1", "watermark 1", ALL, "edit Q1 0 2", ALL],
-        &[],
-        Status::BadLine(5, LineCause::Rev),
-        &["# ask 1: 0 triples", "# ask 2: 1 triples", TRIPLE_OF_1],
+        &given,
+        Status::ReadFault,
+        "# ask 1: 0 triples\n",
+        "waiting 1\nfetches 0",
     )?;
-    check_answers(
+    let given = Given {
+        words: "replay",
+        deliveries,
+        failing_writes: &[3],
+        ..EXPORT
+    };
+    check(
         &rt,
-        &["edit Q1 1 1", "watermark 1", ALL, ALL],
-        &[4],
+        &given,
         Status::WriteFault,
-        &["# ask 1: 1 triples", TRIPLE_OF_1, "# ask 2: 1 triples"],
+        "# ask 1: 0 triples\n# ask 2: 1 triples\n",
+        "Q1 Kept 1, holds Some(1)\nfetches 1",
     )
 }
 

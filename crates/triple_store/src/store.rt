@@ -1,12 +1,12 @@
 // The stored triples and their counts.
 
-ghost use Rattle.std.specs.Prelude.{◌≡◌, ◌<◌, [], true, false, filter, IsOk, OnOk, OnErr, IfOk};
+ghost use Rattle.std.specs.Prelude.{◌≡◌, ◌<◌, [], true, false, IsOk, OnOk, OnErr, IfOk};
 ghost use Rattle.std.specs.FinMap as map;
 ghost use Rattle.rising.specs.Rising.{has};
 ghost use Rattle.rdf_term.specs.declared.triple.Triple.{Triple};
 ghost use Rattle.rdf_term.specs.Order.{triple_cmp};
 ghost use Rattle.triple_store.specs.Counts.{HaveOwners, count_of, after_patch};
-ghost use Rattle.triple_store.specs.Agreeing.{agrees};
+ghost use Rattle.triple_store.specs.Agreeing.{rows};
 
 use crate::counting::{lower_all, raise_all};
 use crate::matching::copies_that_agree;
@@ -80,7 +80,7 @@ impl Store {
 
     /// The stored triples that agree with the pattern, in memory of their own. It looks at every stored triple.
     pub fn matches(&self, pattern: &Pattern) -> Result<TripleSet, OutOfMemory>
-        ensures rows { IfOk result (λ set. set ≡ filter (agrees pattern.now) (map.keys self.now)) }
+        ensures rows { IfOk result (λ set. set ≡ rows (map.keys self.now) pattern.now) }
         ensures owned { HaveOwners self.now }
     {
         let rows = copies_that_agree(self.alloc, &self.counts, pattern)?;

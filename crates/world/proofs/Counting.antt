@@ -1,5 +1,5 @@
 -- The counts after the patch of one entity are the owners after its record is put in.
-use Rattle.std.proofs.Common.{◌≡◌, ℕ, ◌+◌, ◌-◌, ◌<◌, ◌≤◌, Bool, true, false, not, ◌&&◌, List, [], Option, Some, None, unwrap_or, refl, sym, ◌∙◌, ap, subst, true≢false, lt-ltb, nat_lt, arith}
+use Rattle.std.proofs.Common.{◌≡◌, ℕ, ◌+◌, ◌-◌, ◌<◌, ◌≤◌, Bool, true, false, not, ◌&&◌, List, [], Option, Some, None, unwrap_or, refl, sym, ◌∙◌, ap, subst, true≢false, lt-ltb, arith}
 use Rattle.std.specs.FinMap as map
 use Rattle.std.specs.List.{flat_map}
 use Rattle.std.proofs.lemmas.List.Sums.{count_by-le-length}

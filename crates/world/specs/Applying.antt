@@ -1,7 +1,6 @@
 -- The application of one due event.
 use Rattle.std.specs.Prelude.{◌≡◌, ℕ, cond, List, Option, None, Some, IfSome, Result, Ok, Err, ⊤}
 use Rattle.entity_model.specs.declared.id.EntityId.{EntityId}
-use Rattle.entity_model.specs.declared.unfit.Unfit.{Unfit}
 use Rattle.entity_model.specs.declared.event.Event.{Event}
 use Rattle.entity_state.specs.declared.state.State.{State}
 use Rattle.entity_state.specs.declared.record.Record.{Record}
@@ -14,16 +13,12 @@ use Rattle.revisions.specs.Revisions.{Contents, counted}
 use Rattle.wq_io.specs.Streams.{Rose}
 use Rattle.reorder_buffer.specs.Buffered.{first_due, after_dropping}
 use Rattle.replay_model.specs.Records.{Bytes, record_of, wants}
+use Rattle.replay_model.specs.Replies.{HasUnfit}
 use Rattle.replay_model.specs.Play.{apply}
 use Rattle.replay_model.specs.ReplayState.{ReplayState}
 use Rattle.world.specs.declared.applied.Applied.{Applied}
 use Rattle.world.specs.declared.applied.Outcome.{Outcome}
 use Rattle.world.specs.declared.applied.Outcome.TheVariants.{Same, Stored, Dropped, Sided}
-
--- bytes are there that are no document of x, for this reason
-abbrev pub HasUnfit : EntityId → Unfit → Option Bytes → Type 0
-HasUnfit x unfit None = ⊥
-HasUnfit x unfit (Some bytes) = unfit_of x bytes ≡ Some unfit
 
 -- the reply says whether the bytes are a document of x
 abbrev pub IsJudged : EntityId → Bytes → Result Bytes Cause → Type 0
@@ -38,7 +33,7 @@ abbrev pub IsReply : Option Contents → List ℕ → EntityId → ℕ → Resul
 IsReply told place x r (Ok bytes) = (unfit_of x bytes ≡ None) × IfSome told (λ there. there place r ≡ Some bytes)
 IsReply told place x r (Err Missing) = IfSome told (λ there. there place r ≡ None)
 IsReply told place x r (Err Failed) = ⊤
-IsReply told place x r (Err (NoDocument unfit)) = IfSome told (λ there. HasUnfit x unfit (there place r))
+IsReply told place x r (Err (NoDocument unfit)) = IfSome told (λ there. HasUnfit unfit_of x unfit (there place r))
 
 -- what a fetch's reply leads to
 abbrev pub outcome_of_reply : Result Bytes Cause → Outcome

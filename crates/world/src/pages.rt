@@ -6,7 +6,7 @@ ghost use Rattle.rdf_term.specs.Order.{triple_cmp};
 ghost use Rattle.entity_state.specs.Table.{has_room};
 ghost use Rattle.replay_model.specs.Records.{record_of, wants};
 ghost use Rattle.replay_model.specs.Play.{apply, entries_after, nothing_played, record_after, records_after};
-ghost use Rattle.replay_model.specs.Transcript.{rows};
+ghost use Rattle.triple_store.specs.Agreeing.{rows};
 ghost use Rattle.replay_model.specs.Union.{owners, union};
 ghost use Rattle.world.specs.Applying.{outcome_after};
 ghost use Rattle.world.specs.Meaning.{meaning};
@@ -69,7 +69,7 @@ impl Pages {
         standing_in(&self.table, id)
     }
 
-    /// Applies an event, with the reply to its fetch where it wants one.
+    /// Applies an event, with the reply to its fetch where it wants one. After `OutOfMemory` nothing has changed.
     pub fn apply(&mut self, event: Event, reply: Option<Reply>) -> Result<Outcome, OutOfMemory>
         requires { is_some reply ≡ standing_wants (standing_after (standing_of (record_of self.old.records event.entity)) event) }
         ensures applied { OnOk result (self.new ≡ apply (λ _ _. reply_or_any reply) self.old event) }
@@ -105,7 +105,7 @@ impl Pages {
     }
 
     /// How many entities hold the triple.
-    pub fn count(&self, triple: &Triple) -> u64
+    pub fn owners(&self, triple: &Triple) -> u64
         ensures { result ≡ owners triple_cmp meaning self.now.records triple.now }
     {
         self.store.count(triple)
@@ -171,7 +171,7 @@ fn settle(
 {
     match reply {
         Some(Ok(bytes)) => {
-            store(table, event.entity, after, bytes);
+            hold(table, event.entity, after, bytes);
             Outcome::Stored
         }
         Some(Err(cause)) => {
@@ -206,7 +206,7 @@ fn settle_unfetched(table: &mut Table<List<u8>>, id: EntityId, after: Standing) 
 }
 
 // Sets the record, with the bytes of its state's revision.
-fn store(table: &mut Table<List<u8>>, id: EntityId, after: Standing, bytes: List<u8>)
+fn hold(table: &mut Table<List<u8>>, id: EntityId, after: Standing, bytes: List<u8>)
     requires { IsTrue (has_room table.old id) }
     ensures { table.new.records ≡ map.insert table.old.records id (record {
       state = after.state;

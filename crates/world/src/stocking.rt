@@ -99,7 +99,7 @@ fn exchange(
     let old = held_triples(alloc, table, id)?;
     let changes = patch(alloc, &old, new)?;
 
-    // So no count is at its end.
+    // A triple has at most as many owners as there are records, so no count is at its last value.
     let entities = table.len();
     prove!(entities < usize::MAX);
     store.apply(&changes)

@@ -8,10 +8,10 @@ ghost use Rattle.rdf_term.specs.Fit.{HasFitAndShortTerms};
 ghost use Rattle.rdf_term.specs.Order.{triple_cmp};
 ghost use Rattle.revisions.specs.Revisions.{counted};
 ghost use Rattle.reorder_buffer.specs.Buffered.{after_taking, answer_to, first_due};
-ghost use Rattle.replay_model.specs.Entries.{entity_of, is_open_in};
+ghost use Rattle.replay_model.specs.Entries.{HoldsUnlessOpen, entity_of, is_open_in};
 ghost use Rattle.replay_model.specs.Records.{record_of};
 ghost use Rattle.replay_model.specs.ReplayState.{after_end, after_event, after_mark, nothing_delivered, taken_entries};
-ghost use Rattle.replay_model.specs.Transcript.{rows};
+ghost use Rattle.triple_store.specs.Agreeing.{rows};
 ghost use Rattle.replay_model.specs.Union.{owners, union};
 ghost use Rattle.world.specs.Applying.{Applies, IsReply, IsShown, calls_after, outcome_of_reply};
 ghost use Rattle.world.specs.Standing.{reply_or_any, standing_after, standing_of, standing_wants};
@@ -31,7 +31,8 @@ use side_output::{Entry, Side, is_open};
 use std::alloc::Global;
 use std::marker::Model;
 
-/// The events that wait, what is kept of each entity, and the side output. Contracts see the state of a replay.
+/// The events that wait, what is kept of each entity, the side output, and the triples that all held pages mean, each with
+/// the number of its owners. Contracts see the state of a replay, which the triples follow.
 #[derive(Drop)]
 pub struct World {
     alloc: Global,
@@ -40,6 +41,7 @@ pub struct World {
 }
 
 impl Model for World {
+    ghost use Rattle.replay_model.specs.Entries.{HoldsUnlessOpen};
     ghost use Rattle.replay_model.specs.ReplayState.{ReplayState};
     ghost use Rattle.world.specs.Codes.{state_code};
 
@@ -48,6 +50,8 @@ impl Model for World {
     ghost coded = { state_code };
 
     ghost view = { λ a. record { buffer = a.buffer; played = a.pages } };
+
+    ghost invariant = { λ a. HoldsUnlessOpen a.pages };
 }
 
 impl World {
@@ -143,10 +147,10 @@ impl World {
     }
 
     /// How many entities hold the triple.
-    pub fn count(&self, triple: &Triple) -> u64
+    pub fn owners(&self, triple: &Triple) -> u64
         ensures { result ≡ owners triple_cmp meaning self.now.played.records triple.now }
     {
-        self.pages.count(triple)
+        self.pages.owners(triple)
     }
 
     /// The ids of the entities with a record, in rising order.
@@ -163,9 +167,11 @@ impl World {
         self.pages.standing(id).state
     }
 
-    /// The revision that an entity holds, and its bytes.
+    /// The revision that an entity holds, and its bytes. An entity holds what its state wants exactly where no revision entry
+    /// of it is open, and nothing of a page that isn't kept.
     pub fn held(&self, id: EntityId) -> Option<(u64, &[u8])>
-        ensures { MatchOption result ((record_of self.now.played.records id).held ≡ None)
+        ensures unless_open { HoldsUnlessOpen self.now.played }
+        ensures value { MatchOption result ((record_of self.now.played.records id).held ≡ None)
             (λ h. (record_of self.now.played.records id).held ≡ Some (record { revision = h.0; content = h.1.now })) }
     {
         let held = self.pages.table.get(id)?.held.as_ref()?;

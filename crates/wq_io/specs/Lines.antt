@@ -123,11 +123,12 @@ HasCause TooLong old left before now = IfSome (unread old left) (IsTooLong (room
 HasCause (LineLong number) old left before now = (number ≡ old.given + 1) × IfSome (unread old left) (IsLineLong (room old))
 HasCause OutOfMemory old left before now = ⊤
 
--- a read failed within a line: what was taken of it has no line feed, and the rest is left
+-- a read failed within a line: what was taken of it has no line feed and lies within the limit, and the rest is left
 pub record StopsInLine (old : Reading) (left left_now : Option (List ℕ)) : Type 0 where
   pub part : List ℕ
   pub front : unread old left ≡ before_known part left_now
   pub in_line : IsOneLine part
+  pub within : length part ≤ room old
   pub going : old.ended ≡ false
 
 -- what a fault leaves of the source: a read that failed stands before the first byte that wasn't taken

@@ -4,7 +4,8 @@ use Rattle.std.proofs.lemmas.Result.{err_from_is_err_and, on_ok_weaker}
 use Rattle.wq_io.specs.Streams.{after_known}
 use Rattle.rdf_term.specs.Order.{triple_cmp}
 use Rattle.replay_model.specs.Records.{Bytes}
-use Rattle.replay_model.specs.Transcript.{ask_section, rows}
+use Rattle.replay_model.specs.Transcript.{ask_section}
+use Rattle.triple_store.specs.Agreeing.{rows}
 use Rattle.replay_model.specs.Union.{union}
 use Rattle.world.specs.Meaning.{meaning}
 use Rattle.session.specs.Counts.{Counts, counts}

@@ -36,7 +36,7 @@ returns-in_err-delivery-clause-err g c =
     let bytes = rw c.in-Some.is at c.in_ok-number.ensures.bytes in
     let refused = rw c.as_slice.ensures.value at c.in_err-delivery.ensures.err in
     rw (p.1, p.2) (line_stops c.args.max_bytes told _ _ _ _ _ _ _ c.loop-line.lines c.next.new.self _ _ c.loop-line.world c.next.new.line.items c.in-Some.number _ _ _ _ c.loop-line.invariant.0 line
-    c.in_ok-number.ensures.length bytes goes.limit goes.sound number.0 refused)
+    c.in_ok-number.ensures.length bytes goes number.0 refused)
 
 pub deliver-requires : goal.deliver-requires
 deliver-requires g c = rest_open _ _ _ _ _ _ c.loop-line.world c.loop-line.invariant.0.at_rest
@@ -46,10 +46,11 @@ returns-in_err-deliver-clause-err g c =
     let told : Option (ℕ → Option Bytes) = told_at (g.R.Revisions.contents c.args.revisions.now) c.args.place.now in
     let p = err_from_is_err_and c.from_residual-in_err-deliver.result c.from_residual-in_err-deliver.ensures.1 in
     let line = rw c.in-Some.is at c.in_ok-number.ensures.line in
+    let bytes = rw c.in-Some.is at c.in_ok-number.ensures.bytes in
     let delivered = rw c.as_slice.ensures.value at c.in_ok-delivery.ensures.ok in
     let cuts = rw c.loop-line.invariant.2 at c.in_err-deliver.ensures.err in
-    rw (p.1, p.2) (delivery_stops c.args.max_bytes told _ _ _ _ _ _ _ c.loop-line.lines _ _ _ _ _ c.loop-line.world c.deliver.new.world c.next.new.line.items c.in_ok-delivery.delivery _ _ _ _ _ _ c.loop-line.invariant.0 line
-    delivered (omega (arith, c.asks-asked.ensures.number)) c.loop-line.invariant.5 cuts)
+    rw (p.1, p.2) (delivery_stops c.args.max_bytes told _ _ _ _ _ _ _ c.loop-line.lines c.next.new.self _ _ _ _ c.loop-line.world c.deliver.new.world c.next.new.line.items c.in_ok-delivery.delivery _ _ _ _ _ _ c.loop-line.invariant.0 line
+    c.in_ok-number.ensures.length bytes c.in_ok-number.ensures.goes_on delivered (omega (arith, c.asks-asked.ensures.number)) c.loop-line.invariant.5 cuts)
 
 pub loop-line-preserved : goal.loop-line-preserved
 loop-line-preserved g c =
