@@ -1,0 +1,75 @@
+// The revisions of a drill, as a source.
+
+ghost use Rattle.std.specs.Prelude.{◌≡◌, ◌+◌, ◌-◌, ◌*◌, ◌^◌, ◌≤◌, Some, IsTrue, ◌↔◌, min};
+ghost use Rattle.drill.specs.Drill.{IsSize, contents_of};
+
+use crate::pages::page;
+use revisions::{NoRevision, Revisions};
+use std::alloc::Global;
+use std::marker::Model;
+
+/// The revisions of a drill, at every place the same: each is made when it is fetched, and nothing is kept.
+/// A fetch never answers `Failed`.
+#[derive(Debug, Drop)]
+pub struct DrillRevisions {
+    size: u32,
+    calls: u64,
+    misses: u64,
+}
+
+impl Model for DrillRevisions {
+    ghost use Rattle.drill.specs.Source.{Source};
+
+    ghost Value = { Source };
+
+    ghost view = { λ a. record { size = a.size; calls = a.calls; misses = a.misses } };
+}
+
+impl DrillRevisions {
+    /// The revisions of the drill of this size. No call was made yet.
+    pub fn new(size: u32) -> DrillRevisions
+        requires { IsSize size }
+        ensures { result ≡ record { size = size; calls = 0; misses = 0 } }
+    {
+        DrillRevisions {
+            size,
+            calls: 0,
+            misses: 0,
+        }
+    }
+
+    // Whether the drill has the revision.
+    fn has(&self, rev: u64) -> bool
+        ensures { IsTrue result ↔ ((1 ≤ rev) × (rev ≤ 2 * self.now.size)) }
+    {
+        1 <= rev && rev <= 2 * u64::from(self.size)
+    }
+
+    // A fetch found nothing.
+    fn miss(&mut self) -> NoRevision
+        ensures missing { result ≡ NoRevision.Missing }
+        ensures counted { self.new ≡ record self.old { misses = min (self.old.misses + 1) (2 ^ 64 - 1) } }
+        ensures more { self.old.misses ≤ self.new.misses }
+    {
+        self.misses = self.misses.saturating_add(1);
+        NoRevision::Missing
+    }
+}
+
+impl Revisions for DrillRevisions {
+    ghost contents = { λ s. Some (λ place. contents_of s.size) };
+
+    ghost calls = { λ s. s.calls };
+
+    ghost faults = { λ _. 0 };
+
+    ghost misses = { λ s. s.misses };
+
+    fn fetch(&mut self, alloc: Global, _place: &str, rev: u64) -> Result<Vec<u8>, NoRevision> {
+        self.calls = self.calls.saturating_add(1);
+        if !self.has(rev) {
+            return Err(self.miss());
+        }
+        Ok(page(alloc, rev)?.into_bytes())
+    }
+}
