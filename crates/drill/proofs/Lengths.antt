@@ -1,25 +1,28 @@
 -- How many deliveries a drill has.
-use Rattle.std.proofs.Common.{◌≡◌, ◌∙◌, sym, refl, ap, ℕ, suc, zero, ◌+◌, ◌*◌, ◌/◌, ◌%◌, Bool, true, false, ◌==◌, cond, List, [], ◌∷◌, ◌++◌, length, length-append, arith}
+use Rattle.std.proofs.Common.{◌≡◌, ◌∙◌, refl, ap, ℕ, suc, zero, ◌+◌, ◌*◌, ◌/◌, ◌%◌, Bool, true, false, ◌==◌, cond, List, [], ◌++◌, length, length-append, arith}
 use Rattle.std.specs.List.{flat_map, range_with_len}
-use Rattle.event_line.specs.declared.deliveries.Delivery.{Delivery}
 use Rattle.drill.specs.Drill.{edits, deletion, late_edit, deliveries_of, drill}
 
 -- three for each number up to n, one more for each fifth, and two more for each tenth
 abbrev count_to : ℕ → ℕ
 count_to n = 3 * n + n / 5 + 2 * (n / 10)
 
+-- how long a list is that is there or not
 length_chosen : {A : Type 0} (b : Bool) (xs : List A) → length (cond b xs []) ≡ cond b (length xs) 0
 length_chosen true xs = refl
 length_chosen false xs = refl
 
+-- one fifth more where 5 divides the next number
 fifth : (i : ℕ) (b : Bool) → ((i + 1) % 5 == 0) ≡ b → cond b 1 0 + i / 5 ≡ (i + 1) / 5
 fifth i true is = grind arith
 fifth i false is = grind arith
 
+-- two more where 10 divides the next number
 tenth : (i : ℕ) (b : Bool) → ((i + 1) % 10 == 0) ≡ b → cond b 2 0 + 2 * (i / 10) ≡ 2 * ((i + 1) / 10)
 tenth i true is = grind arith
 tenth i false is = grind arith
 
+-- how many deliveries the next number has
 of_one : (i : ℕ) → length (deliveries_of (i + 1)) + count_to i ≡ count_to (i + 1)
 of_one i =
     let joined : length (deliveries_of (i + 1)) ≡ length (edits (i + 1)) + length (deletion (i + 1)) + length (late_edit (i + 1)) =
@@ -29,6 +32,7 @@ of_one i =
     let three : length (edits (i + 1)) ≡ 3 = refl in
     omega (arith, joined, deleted, late, three, fifth i _ refl, tenth i _ refl)
 
+-- how many deliveries the n numbers after a have
 from : (a n : ℕ) → length (flat_map deliveries_of (range_with_len (a + 1) n)) + count_to a ≡ count_to (a + n)
 from a zero =
     let same : a ≡ a + zero = omega arith in
@@ -42,6 +46,7 @@ from a (suc n) =
     let ends : count_to (a + 1 + n) ≡ count_to (a + suc n) = ap count_to same in
     omega (arith, joined, of_one a, from (a + 1) n, ends)
 
+-- how many deliveries a whole drill has
 pub drill_length : (n : ℕ) → length (drill n) ≡ 3 * n + n / 5 + 2 * (n / 10)
 drill_length n =
     let same : 0 + n ≡ n = omega arith in

@@ -1,6 +1,6 @@
 // The pages of an item.
 
-ghost use Rattle.std.specs.Prelude.{◌≡◌, ◌++◌, IfOk, string_bytes};
+ghost use Rattle.std.specs.Prelude.{◌≡◌, IfOk, string_bytes};
 ghost use Rattle.drill.specs.Drill.{claims, earlier_page, later_page, page_front, page_of};
 
 use rdf_term::OutOfMemory;

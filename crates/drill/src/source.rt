@@ -1,7 +1,8 @@
 // The revisions of a drill, as a source.
 
-ghost use Rattle.std.specs.Prelude.{◌≡◌, ◌+◌, ◌-◌, ◌*◌, ◌^◌, ◌≤◌, Some, IsTrue, ◌↔◌, min};
+ghost use Rattle.std.specs.Prelude.{◌≡◌, ◌+◌, ◌-◌, ◌*◌, ◌^◌, ◌≤◌, Some, IsTrue, ◌↔◌, MatchResult, min};
 ghost use Rattle.drill.specs.Drill.{IsSize, contents_of};
+ghost use Rattle.drill.specs.Source.{Explains, after_fetch};
 
 use crate::pages::page;
 use revisions::{NoRevision, Revisions};
@@ -65,7 +66,12 @@ impl Revisions for DrillRevisions {
 
     ghost misses = { λ s. s.misses };
 
-    fn fetch(&mut self, alloc: Global, _place: &str, rev: u64) -> Result<Vec<u8>, NoRevision> {
+    fn fetch(&mut self, alloc: Global, _place: &str, rev: u64) -> Result<Vec<u8>, NoRevision>
+        ensures source { self.new ≡ after_fetch rev self.old }
+        ensures answer { let there = contents_of self.old.size rev in
+            MatchResult result (λ v. there ≡ Some v.items) (λ why. Explains why there) }
+        ensures more_misses { self.old.misses ≤ self.new.misses }
+    {
         self.calls = self.calls.saturating_add(1);
         if !self.has(rev) {
             return Err(self.miss());

@@ -1,6 +1,6 @@
 // The deliveries of an item.
 
-ghost use Rattle.std.specs.Prelude.{◌≡◌, ◌*◌, ◌++◌, IfOk, OnOk};
+ghost use Rattle.std.specs.Prelude.{◌≡◌, ◌++◌, IfOk, OnOk};
 ghost use Rattle.drill.specs.Drill.{IsSize, deletion, deliveries_of, edits, event, late_edit, time_at};
 
 use entity_model::{EntityId, Event, IdKind, Kind};
@@ -10,6 +10,7 @@ use std::alloc::Global;
 
 /// What is delivered of the item with this number, in order: its later edit, its earlier edit, and the later
 /// one again. Each fifth item is also deleted, and after each tenth come a watermark and an edit that is late.
+/// Each revision is as many seconds after 1970-01-01T00:00:00Z as its number says, but a late edit's is two less.
 pub fn deliveries(alloc: Global, number: u32) -> Result<List<Delivery>, OutOfMemory>
     requires { IsSize number }
     ensures { IfOk result (λ list. list ≡ deliveries_of number) }

@@ -2,7 +2,7 @@
 
 use crate::{DrillRevisions, deliveries};
 use entity_json::document;
-use entity_model::{Document, EntityId, Event, IdKind, Kind};
+use entity_model::{Document, EntityId, IdKind, Kind};
 use event_line::Delivery;
 use revisions::{NoRevision, Revisions};
 use std::process::Abort;
@@ -16,7 +16,7 @@ fn item(number: u32) -> EntityId {
     }
 }
 
-// The kind, none for a watermark, with the revision, 0 for a watermark, and the time; the item is to be this one.
+// The kind, the revision and the time of an event of this item, or the time alone of a watermark.
 fn summary(delivery: &Delivery, id: EntityId) -> Option<(Option<Kind>, u64, i64)> {
     match delivery {
         Delivery::Event(event) if event.entity == id => {
