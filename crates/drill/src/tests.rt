@@ -1,5 +1,7 @@
 // Deliveries and pages that were worked out by hand from the rules of a drill.
 
+ghost use Rattle.drill.specs.Drill.{IsSize};
+
 use crate::{DrillRevisions, deliveries};
 use entity_json::document;
 use entity_model::{Document, EntityId, IdKind, Kind};
@@ -27,46 +29,39 @@ fn summary(delivery: &Delivery, id: EntityId) -> Option<(Option<Kind>, u64, i64)
     }
 }
 
-#[test]
-fn deliveries_of_items(rt: HostRuntime) -> Result<(), Fail> {
-    let rows: [(u32, &[(Option<Kind>, u64, i64)]); 3] = [
-        (
-            1,
-            &[
-                (Some(Kind::Edit), 2, 2_000_000),
-                (Some(Kind::Edit), 1, 1_000_000),
-                (Some(Kind::Edit), 2, 2_000_000),
-            ],
-        ),
-        (
-            5,
-            &[
-                (Some(Kind::Edit), 10, 10_000_000),
-                (Some(Kind::Edit), 9, 9_000_000),
-                (Some(Kind::Edit), 10, 10_000_000),
-                (Some(Kind::Delete), 10, 10_000_000),
-            ],
-        ),
-        (
-            10,
-            &[
-                (Some(Kind::Edit), 20, 20_000_000),
-                (Some(Kind::Edit), 19, 19_000_000),
-                (Some(Kind::Edit), 20, 20_000_000),
-                (Some(Kind::Delete), 20, 20_000_000),
-                (None, 0, 20_000_000),
-                (Some(Kind::Edit), 19, 17_000_000),
-            ],
-        ),
-    ];
-    for (number, want) in rows {
-        let list = deliveries(rt.alloc(), number)?;
-        assert_eq!(rt; list.len(), want.len(), "of {number}");
-        for (delivery, row) in list.as_slice().iter().zip(want) {
-            assert_eq!(rt; summary(delivery, item(number)), Some(*row), "of {number}");
-        }
+// The item's deliveries are to be these.
+fn check_deliveries(
+    rt: &(impl Abort + AllocGlobal),
+    number: u32,
+    want: &[(Option<Kind>, u64, i64)],
+) -> Result<(), Fail>
+    requires { IsSize number }
+{
+    let list = deliveries(rt.alloc(), number)?;
+    assert_eq!(rt; list.len(), want.len(), "of {number}");
+    for (delivery, row) in list.as_slice().iter().zip(want) {
+        assert_eq!(rt; summary(delivery, item(number)), Some(*row), "of {number}");
     }
     Ok(())
+}
+
+#[test]
+fn deliveries_of_items(rt: HostRuntime) -> Result<(), Fail> {
+    let later = (Some(Kind::Edit), 2, 2_000_000);
+    let earlier = (Some(Kind::Edit), 1, 1_000_000);
+    check_deliveries(&rt, 1, &[later, earlier, later])?;
+
+    let later = (Some(Kind::Edit), 10, 10_000_000);
+    let earlier = (Some(Kind::Edit), 9, 9_000_000);
+    let deletion = (Some(Kind::Delete), 10, 10_000_000);
+    check_deliveries(&rt, 5, &[later, earlier, later, deletion])?;
+
+    let later = (Some(Kind::Edit), 20, 20_000_000);
+    let earlier = (Some(Kind::Edit), 19, 19_000_000);
+    let deletion = (Some(Kind::Delete), 20, 20_000_000);
+    let watermark = (None, 0, 20_000_000);
+    let late = (Some(Kind::Edit), 19, 17_000_000);
+    check_deliveries(&rt, 10, &[later, earlier, later, deletion, watermark, late])
 }
 
 // What a fetch gives is to be this.
@@ -92,30 +87,31 @@ fn check_fetch(
 #[test]
 fn pages_of_revisions(rt: HostRuntime) {
     let mut revisions = DrillRevisions::new(10);
-    for (rev, want) in [
+    for (place, rev, want) in [
         (
+            "Q1",
             1,
             Ok(r#"{"type":"item","id":"Q1","labels":{"en":{"language":"en","value":"item 1"}}}"#),
         ),
         (
+            "Q1",
             2,
             Ok(
                 r#"{"type":"item","id":"Q1","labels":{"en":{"language":"en","value":"item 1"}},"claims":{"P1":[{"mainsnak":{"snaktype":"value","property":"P1","datavalue":{"type":"quantity","value":{"amount":"+1","unit":"1"}}},"id":"Q1$1","rank":"normal","references":[{"hash":"1","snaks":{"P2":[{"snaktype":"value","property":"P2","datavalue":{"type":"string","value":"source 1"}}]}}]}]}}"#,
             ),
         ),
         (
+            "",
             20,
             Ok(
                 r#"{"type":"item","id":"Q10","labels":{"en":{"language":"en","value":"item 10"}},"claims":{"P1":[{"mainsnak":{"snaktype":"value","property":"P1","datavalue":{"type":"quantity","value":{"amount":"+3","unit":"1"}}},"id":"Q10$1","rank":"normal","references":[{"hash":"1","snaks":{"P2":[{"snaktype":"value","property":"P2","datavalue":{"type":"string","value":"source 1"}}]}}]}]}}"#,
             ),
         ),
-        (0, Err(NoRevision::Missing)),
-        (21, Err(NoRevision::Missing)),
-        (18_446_744_073_709_551_615, Err(NoRevision::Missing)),
+        ("Q1", 0, Err(NoRevision::Missing)),
+        ("Q10", 21, Err(NoRevision::Missing)),
+        ("Q1", 18_446_744_073_709_551_615, Err(NoRevision::Missing)),
     ] {
-        for place in ["Q1", ""] {
-            check_fetch(&rt, &mut revisions, place, rev, want);
-        }
+        check_fetch(&rt, &mut revisions, place, rev, want);
     }
 }
 
