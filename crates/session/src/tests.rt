@@ -5,7 +5,7 @@
 use crate::{Status, run, status_number, status_text};
 use entity_model::EntityId;
 use event_line::LineCause;
-use rdf_term::{List, OutOfMemory, Pattern, Term, Text};
+use rdf_term::{List, OutOfMemory, Text};
 use revisions::{MemoryRevisions, RevisionBytes};
 use side_output::Entry;
 use std::alloc::Global;
@@ -35,8 +35,6 @@ const PAGES: &[(u64, &str)] = &[
         20,
         r#"{"type":"item","id":"Q20","claims":{"P1":[{"mainsnak":{"snaktype":"value","property":"P1","datatype":"string","datavalue":{"value":"a\"b","type":"string"}},"id":"Q20$a","rank":"normal"}]}}"#,
     ),
-    (30, TIME_PAGE_OF_Q30),
-    (31, TIME_PAGE_OF_Q31),
     (74, UNKNOWN_PAGE),
     (75, UNKNOWN_PAGE),
 ];
@@ -44,13 +42,6 @@ const PAGES: &[(u64, &str)] = &[
 // A page with an unknown value in a statement and in a qualifier, and with no values beside them.
 const UNKNOWN_PAGE: &str =
     r#"{"type":"item","id":"Q1","claims":{"P1":[{"mainsnak":{"snaktype":"novalue","property":"P1","datatype":"string"},"id":"Q1$n","rank":"normal"}],"P2":[{"mainsnak":{"snaktype":"somevalue","property":"P2","datatype":"string"},"id":"Q1$s","rank":"normal","qualifiers":{"P3":[{"snaktype":"somevalue","property":"P3","datatype":"string"}],"P4":[{"snaktype":"novalue","property":"P4","datatype":"string"}]}}]}}"#;
-
-// Pages of two items with the same time in a statement, so that they share its node.
-const TIME_PAGE_OF_Q30: &str =
-    r#"{"type":"item","id":"Q30","claims":{"P571":[{"mainsnak":{"snaktype":"value","property":"P571","datatype":"time","datavalue":{"type":"time","value":{"time":"+2001-12-31T00:00:00Z","timezone":0,"before":0,"after":0,"precision":11,"calendarmodel":"http://www.wikidata.org/entity/Q1985727"}}},"id":"Q30$t","rank":"normal"}]}}"#;
-
-const TIME_PAGE_OF_Q31: &str =
-    r#"{"type":"item","id":"Q31","claims":{"P571":[{"mainsnak":{"snaktype":"value","property":"P571","datatype":"time","datavalue":{"type":"time","value":{"time":"+2001-12-31T00:00:00Z","timezone":0,"before":0,"after":0,"precision":11,"calendarmodel":"http://www.wikidata.org/entity/Q1985727"}}},"id":"Q31$t","rank":"normal"}]}}"#;
 
 // The triples of the revisions 1, 3 and 10, as an export has them.
 const EXPORT_OF_1: &str = "# export: 1 triples
@@ -135,15 +126,29 @@ struct Left {
     fetches: u64,
 }
 
-// The line of a delivery that is written as KIND ID REVISION SECONDS, as `watermark` SECONDS, or as `ask` PLACES.
+// The line of a delivery that is written as `ask` PLACES, as `watermark` SECONDS, or as KIND ID REVISION SECONDS.
 fn line(alloc: Global, delivery: &str) -> Result<String, Fail> {
     let (kind, rest) = delivery.split_once(" ").ok_or("a delivery")?;
-    if kind == "ask" {
-        return Ok(format!(in alloc; "{{\"ask\":[{rest}]}}\n")?);
+    match kind {
+        "ask" => question_line(alloc, rest),
+        "watermark" => watermark_line(alloc, rest),
+        _ => event_line(alloc, kind, rest),
     }
-    let Some((id, rest)) = rest.split_once(" ") else {
-        return Ok(format!(in alloc; "{{\"watermark\":\"2024-05-01T10:00:0{rest}Z\"}}\n")?);
-    };
+}
+
+// The line of a question.
+fn question_line(alloc: Global, places: &str) -> Result<String, Fail> {
+    Ok(format!(in alloc; "{{\"ask\":[{places}]}}\n")?)
+}
+
+// The line of a watermark.
+fn watermark_line(alloc: Global, seconds: &str) -> Result<String, Fail> {
+    Ok(format!(in alloc; "{{\"watermark\":\"2024-05-01T10:00:0{seconds}Z\"}}\n")?)
+}
+
+// The line of an event.
+fn event_line(alloc: Global, kind: &str, rest: &str) -> Result<String, Fail> {
+    let (id, rest) = rest.split_once(" ").ok_or("an id")?;
     let (rev, seconds) = rest.split_once(" ").ok_or("a revision")?;
     Ok(format!(in alloc;
         "{{\"kind\":\"{kind}\",\"entity\":\"{id}\",\"rev\":{rev},\"time\":\"2024-05-01T10:00:0{seconds}Z\",\"mode\":\"kept\"}}\n"
@@ -870,55 +875,6 @@ fn texts_and_numbers(rt: HostRuntime) -> Result<(), Fail> {
         let found = status_text(rt.alloc(), &status)?;
         assert_eq!(rt; found.as_str(), text);
         assert_eq!(rt; status_number(&status), number, "of {text}");
-    }
-    Ok(())
-}
-
-// The pattern of the nodes of times.
-fn times(alloc: Global) -> Result<Pattern, Fail> {
-    let kind = Text::new(alloc, "http://www.w3.org/1999/02/22-rdf-syntax-ns#type")?;
-    let time = Text::new(alloc, "http://wikiba.se/ontology#TimeValue")?;
-    Ok(Pattern {
-        subject: None,
-        predicate: Some(Term::Iri(kind)),
-        object: Some(Term::Iri(time)),
-    })
-}
-
-// The world after a run over deliveries.
-fn world_after(
-    rt: &(impl Abort + Alloc<A = Global>),
-    deliveries: &'static str,
-) -> Result<World, Fail> {
-    let given = Given {
-        deliveries,
-        ..EXPORT
-    };
-    let left = run_over(rt, &given, input(rt.alloc(), &given)?)?;
-    assert_eq!(rt; left.status, Status::Ok, "of {deliveries}");
-    Ok(left.world)
-}
-
-// The node of a time that two pages share is stored until the last of them is gone.
-#[test]
-fn owners_of_a_shared_node(rt: HostRuntime) -> Result<(), Fail> {
-    let pattern = times(rt.alloc())?;
-    let both = world_after(&rt, "edit Q30 30 1\nedit Q31 31 2")?;
-    let rows = both.matches(&pattern)?;
-    assert_eq!(rt; rows.items().len(), 1);
-    let node = rows.items().first().ok_or("a node")?;
-    assert_eq!(rt; both.owners(node), 2);
-    for (deliveries, owners) in [
-        ("edit Q30 30 1\nedit Q31 31 2\ndelete Q30 30 3", 1),
-        (
-            "edit Q30 30 1\nedit Q31 31 2\ndelete Q30 30 3\ndelete Q31 31 4",
-            0,
-        ),
-    ] {
-        let world = world_after(&rt, deliveries)?;
-        let rows = world.matches(&pattern)?;
-        assert_eq!(rt; world.owners(node), owners, "after {deliveries}");
-        assert_eq!(rt; rows.contains(node), owners > 0, "after {deliveries}");
     }
     Ok(())
 }
