@@ -5,7 +5,7 @@
 use crate::{Status, run, status_number, status_text};
 use entity_model::EntityId;
 use event_line::LineCause;
-use rdf_term::{List, OutOfMemory, Text};
+use rdf_term::{List, OutOfMemory, Term, Text, Triple};
 use revisions::{MemoryRevisions, RevisionBytes};
 use side_output::Entry;
 use std::alloc::Global;
@@ -35,6 +35,8 @@ const PAGES: &[(u64, &str)] = &[
         20,
         r#"{"type":"item","id":"Q20","claims":{"P1":[{"mainsnak":{"snaktype":"value","property":"P1","datatype":"string","datavalue":{"value":"a\"b","type":"string"}},"id":"Q20$a","rank":"normal"}]}}"#,
     ),
+    (30, TIME_PAGE_OF_Q30),
+    (31, TIME_PAGE_OF_Q31),
     (74, UNKNOWN_PAGE),
     (75, UNKNOWN_PAGE),
 ];
@@ -42,6 +44,13 @@ const PAGES: &[(u64, &str)] = &[
 // A page with an unknown value in a statement and in a qualifier, and with no values beside them.
 const UNKNOWN_PAGE: &str =
     r#"{"type":"item","id":"Q1","claims":{"P1":[{"mainsnak":{"snaktype":"novalue","property":"P1","datatype":"string"},"id":"Q1$n","rank":"normal"}],"P2":[{"mainsnak":{"snaktype":"somevalue","property":"P2","datatype":"string"},"id":"Q1$s","rank":"normal","qualifiers":{"P3":[{"snaktype":"somevalue","property":"P3","datatype":"string"}],"P4":[{"snaktype":"novalue","property":"P4","datatype":"string"}]}}]}}"#;
+
+// Pages of two items with the same time in a statement, so that they share its node.
+const TIME_PAGE_OF_Q30: &str =
+    r#"{"type":"item","id":"Q30","claims":{"P571":[{"mainsnak":{"snaktype":"value","property":"P571","datatype":"time","datavalue":{"type":"time","value":{"time":"+2001-12-31T00:00:00Z","timezone":0,"before":0,"after":0,"precision":11,"calendarmodel":"http://www.wikidata.org/entity/Q1985727"}}},"id":"Q30$t","rank":"normal"}]}}"#;
+
+const TIME_PAGE_OF_Q31: &str =
+    r#"{"type":"item","id":"Q31","claims":{"P571":[{"mainsnak":{"snaktype":"value","property":"P571","datatype":"time","datavalue":{"type":"time","value":{"time":"+2001-12-31T00:00:00Z","timezone":0,"before":0,"after":0,"precision":11,"calendarmodel":"http://www.wikidata.org/entity/Q1985727"}}},"id":"Q31$t","rank":"normal"}]}}"#;
 
 // The triples of the revisions 1, 3 and 10, as an export has them.
 const EXPORT_OF_1: &str = "# export: 1 triples
@@ -875,6 +884,58 @@ fn texts_and_numbers(rt: HostRuntime) -> Result<(), Fail> {
         let found = status_text(rt.alloc(), &status)?;
         assert_eq!(rt; found.as_str(), text);
         assert_eq!(rt; status_number(&status), number, "of {text}");
+    }
+    Ok(())
+}
+
+// A triple of three IRIs.
+fn triple(
+    alloc: Global,
+    subject: &str,
+    predicate: &str,
+    object: &str,
+) -> Result<Triple, OutOfMemory> {
+    Ok(Triple {
+        subject: Term::Iri(Text::new(alloc, subject)?),
+        predicate: Term::Iri(Text::new(alloc, predicate)?),
+        object: Term::Iri(Text::new(alloc, object)?),
+    })
+}
+
+// How many entities hold the triple after a run over deliveries.
+fn owners_after(
+    rt: &(impl Abort + Alloc<A = Global>),
+    deliveries: &'static str,
+    triple: &Triple,
+) -> Result<u64, Fail> {
+    let given = Given {
+        deliveries,
+        ..EXPORT
+    };
+    let left = run_over(rt, &given, input(rt.alloc(), &given)?)?;
+    Ok(left.world.owners(triple))
+}
+
+// The node of a time that two pages share has two owners, until they go.
+#[test]
+fn owners_of_a_shared_node(rt: HostRuntime) -> Result<(), Fail> {
+    let class = triple(
+        rt.alloc(),
+        "http://www.wikidata.org/value/fc01a3bb6126ac0fe7a44fee1d86fdfc",
+        "http://www.w3.org/1999/02/22-rdf-syntax-ns#type",
+        "http://wikiba.se/ontology#TimeValue",
+    )?;
+    for (deliveries, owners) in [
+        ("edit Q30 30 1", 1),
+        ("edit Q30 30 1\nedit Q31 31 2", 2),
+        ("edit Q30 30 1\nedit Q31 31 2\ndelete Q30 30 3", 1),
+        (
+            "edit Q30 30 1\nedit Q31 31 2\ndelete Q30 30 3\ndelete Q31 31 4",
+            0,
+        ),
+    ] {
+        let found = owners_after(&rt, deliveries, &class)?;
+        assert_eq!(rt; found, owners, "after {deliveries}");
     }
     Ok(())
 }
