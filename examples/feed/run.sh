@@ -1,0 +1,17 @@
+#!/bin/sh
+# The whole path of docs/FEEDING.md without a network: a stream of page changes becomes an event file, wdq replays it, what its side
+# output leaves in doubt is reconciled, and wdq replays again. Needs jq. Compares with expected.txt and says so.
+cd "$(dirname "$0")" || exit 2
+work=$(mktemp -d) || exit 2
+trap 'rm -rf "$work"' EXIT
+
+jq -R -c -f events.jq < stream.txt > "$work/changes.jsonl" || exit 2
+jq -c -n --argjson delay 10 --argjson every 5 -f watermarks.jq < "$work/changes.jsonl" > "$work/events.jsonl" || exit 2
+"${WDQ:-../../wdq}" replay --from pages --state --side < "$work/events.jsonl" > "$work/first.txt" || exit 2
+
+sh doubtful.sh < "$work/first.txt" > "$work/doubtful.txt"
+jq -c --arg time 2024-05-01T11:00:00Z --argjson deleted '{}' -f reconcile.jq < now.json >> "$work/events.jsonl" || exit 2
+"${WDQ:-../../wdq}" replay --from pages --export --state --side < "$work/events.jsonl" > "$work/second.txt" || exit 2
+
+{ echo "first run"; cat "$work/first.txt"; echo "in doubt"; cat "$work/doubtful.txt"; echo "second run"; cat "$work/second.txt"; } | tee "$work/all.txt"
+if cmp -s "$work/all.txt" expected.txt; then echo "as expected"; else echo "not as expected.txt"; exit 1; fi
