@@ -5,8 +5,8 @@ use Rattle.entity_model.specs.declared.id.EntityId.{EntityId}
 use Rattle.entity_model.specs.declared.id.IdKind.TheVariants.{Q}
 use Rattle.entity_model.specs.declared.event.Kind.{Kind}
 use Rattle.entity_model.specs.declared.event.Kind.TheVariants.{Edit, Delete}
-use Rattle.event_line.specs.declared.deliveries.Delivery.{Delivery}
-use Rattle.event_line.specs.declared.deliveries.Delivery.TheVariants.{Event as Told, Watermark}
+use Rattle.entity_model.specs.declared.delivery.Delivery.{Delivery}
+use Rattle.entity_model.specs.declared.delivery.Delivery.TheVariants.{Event as Told, Watermark}
 
 -- the sizes that a drill has, and the numbers of its items
 abbrev pub IsSize : ℕ → Type 0

@@ -3,8 +3,7 @@
 ghost use Rattle.std.specs.Prelude.{◌≡◌, ◌++◌, IfOk, OnOk};
 ghost use Rattle.drill.specs.Drill.{IsSize, deletion, deliveries_of, edits, event, late_edit, time_at};
 
-use entity_model::{EntityId, Event, IdKind, Kind};
-use event_line::Delivery;
+use entity_model::{Delivery, EntityId, Event, IdKind, Kind};
 use rdf_term::{List, OutOfMemory};
 use std::alloc::Global;
 

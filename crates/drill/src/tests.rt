@@ -4,8 +4,7 @@ ghost use Rattle.drill.specs.Drill.{IsSize};
 
 use crate::{DrillRevisions, deliveries};
 use entity_json::document;
-use entity_model::{Document, EntityId, IdKind, Kind};
-use event_line::Delivery;
+use entity_model::{Delivery, Document, EntityId, IdKind, Kind};
 use revisions::{NoRevision, Revisions};
 use std::process::Abort;
 use std::test::Fail;

@@ -1,5 +1,6 @@
 pub mod Leaves
 pub mod Maps
+pub mod Found
 pub mod Gives
 pub mod Reading
 pub mod Document

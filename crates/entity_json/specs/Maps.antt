@@ -1,5 +1,5 @@
 -- The maps of a page: the members of an object, each key once, with its last value and at that place.
-use Rattle.std.specs.Prelude.{ℕ, Bool, false, cond, ◌||◌, List, [], ◌∷◌, Option, None, Some}
+use Rattle.std.specs.Prelude.{ℕ, Bool, false, not, cond, ◌||◌, List, [], ◌∷◌, Option, None, Some}
 use Rattle.std.specs.Str.{bytes_eq}
 use Rattle.json_spell.specs.Tree.{Tree, null, boolean, number, string, array, object, no_trees, tree, Pairs, no_pairs, pair, member_of}
 
@@ -12,6 +12,16 @@ has_key key (pair k t ps) = bytes_eq k key || has_key key ps
 abbrev pub entries : Pairs → List (List ℕ × Tree)
 entries no_pairs = []
 entries (pair k t ps) = cond (has_key k ps) (entries ps) ((k, t) ∷ entries ps)
+
+-- some member has another key
+abbrev pub has_other_key : List ℕ → Pairs → Bool
+has_other_key key no_pairs = false
+has_other_key key (pair k t ps) = not (bytes_eq k key) || has_other_key key ps
+
+-- of each member, whether its key doesn't come again
+abbrev pub lasts : Pairs → List Bool
+lasts no_pairs = []
+lasts (pair k t ps) = not (has_key k ps) ∷ lasts ps
 
 -- a map that may be missing; an empty array is the empty map
 abbrev pub map_of : Option Tree → Option (List (List ℕ × Tree))

@@ -4,7 +4,7 @@ use crate::document;
 use entity_model::{
     Content, Document, Entity, EntityId, Link, Rank, Reference, Snak, Statement, Tagged, Value,
 };
-use rdf_term::{List, Text};
+use rdf_term::{List, Piece};
 use std::alloc::Global;
 use std::test::Fail;
 
@@ -22,7 +22,7 @@ fn put_id(alloc: Global, id: &EntityId, out: &mut String) -> Result<(), Fail> {
     put(out, &[text.as_str()])
 }
 
-fn or_dash(text: &Option<Text>) -> &str {
+fn or_dash<'m>(text: &'m Option<Piece<'_>>) -> &'m str {
     match text {
         Some(text) => text.as_str(),
         None => "-",
@@ -163,6 +163,10 @@ const PAGES: &str = r#"Q1 {"entity":"Q1","redirect":"P31"} =>  P31
 Q1 {"type":"item","id":"Q1","modified":"2024-05-01T10:00:00Z"} =>  Q1 - 2024-05-01T10:00:00Z labels descriptions aliases statements links
 P1 {"type":"property","id":"P1","datatype":"string","sitelinks":0} =>  P1 string - labels descriptions aliases statements links
 Q1 {"type":"item","id":"Q1","labels":{"a":{"language":"de","value":"x"},"b":{"language":"en","value":"y"},"a":{"language":"fr","value":"z"}}} =>  Q1 - - labels en=y fr=z descriptions aliases statements links
+Q1 {"type":"item","id":"Q1","labels":{"a":{"language":"a","value":"0"},"b":{"language":"b","value":"1"},"c":{"language":"c","value":"2"},"d":{"language":"d","value":"3"},"e":{"language":"e","value":"4"},"f":{"language":"f","value":"5"},"g":{"language":"g","value":"6"},"a":{"language":"a","value":"7"}}} =>  Q1 - - labels b=1 c=2 d=3 e=4 f=5 g=6 a=7 descriptions aliases statements links
+Q1 {"type":"item","id":"Q1","labels":{"a":{"language":"a","value":"0"},"b":{"language":"b","value":"1"},"c":{"language":"c","value":"2"},"d":{"language":"d","value":"3"},"e":{"language":"e","value":"4"},"f":{"language":"f","value":"5"},"g":{"language":"g","value":"6"},"h":{"language":"h","value":"7"},"a":{"language":"a","value":"8"}}} =>  Q1 - - labels b=1 c=2 d=3 e=4 f=5 g=6 h=7 a=8 descriptions aliases statements links
+Q1 {"type":"item","id":"Q1","labels":{"b":{"language":"b","value":"0"},"a":{"language":"a","value":"1"},"c":{"language":"c","value":"2"},"d":{"language":"d","value":"3"},"a":{"language":"a","value":"4"},"e":{"language":"e","value":"5"},"f":{"language":"f","value":"6"},"g":{"language":"g","value":"7"},"h":{"language":"h","value":"8"},"c":{"language":"c","value":"9"}}} =>  Q1 - - labels b=0 d=3 a=4 e=5 f=6 g=7 h=8 c=9 descriptions aliases statements links
+Q1 {"type":"item","id":"Q1","labels":{"a":{"language":"x","value":"0"},"\u0061":{"language":"\u0061","value":"1\/2"}}} =>  Q1 - - labels a=1/2 descriptions aliases statements links
 Q1 {"type":"item","id":"Q1","descriptions":{"de":{"language":"de","value":"x"}},"aliases":{"b":[{"language":"de","value":"1"},{"language":"de","value":"2"}],"a":[{"language":"en","value":"3"}]}} =>  Q1 - - labels descriptions de=x aliases de=1 de=2 en=3 statements links
 Q1 {"type":"item","id":"Q1","sitelinks":{"x":{"site":"enwiki","title":"A b","badges":["Q2","Q1"]},"y":{"site":"dewiki","title":"C"}}} =>  Q1 - - labels descriptions aliases statements links enwiki=A b Q2 Q1 dewiki=C
 Q1 {"type":"item","id":"Q1","claims":{"P2":[{"mainsnak":{"snaktype":"novalue","property":"P2","datatype":"time"},"rank":"preferred","id":"a","qualifiers":{"P4":[{"snaktype":"somevalue","property":"P4"},{"snaktype":"novalue","property":"P4","datatype":"x"}],"P3":[{"snaktype":"novalue","property":"P3"}]},"references":[{"hash":"h1","snaks":{"P5":[{"snaktype":"value","property":"P5","datavalue":{"type":"string","value":"s"}}]}},{"hash":"h2"}]},{"mainsnak":{"snaktype":"somevalue","property":"P2"},"rank":"deprecated","id":"b"}],"P1":[]}} =>  Q1 - - labels descriptions aliases statements [a preferred P2 P2#0<time>none | P4#0<>some P4#1<x>none P3#0<>none (h1 P5#0<string>'s') (h2)] [b deprecated P2 P2#0<>some |] links

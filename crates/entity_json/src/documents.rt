@@ -15,8 +15,8 @@ use std::alloc::Global;
 const PAGE_LIMIT: usize = 8_388_608;
 
 // The document of a page, where it is that of the entity.
-fn own_document(id: EntityId, page: Page) -> Result<Document, DocumentFault>
-    ensures { Tells result (own_document id (Some page)) }
+fn own_document<'a>(id: EntityId, page: Page<'a>) -> Result<Document<'a>, DocumentFault>
+    ensures { Tells result (own_document id (Some page.entry)) }
 {
     if page.id == id {
         Ok(page.document)
@@ -25,12 +25,17 @@ fn own_document(id: EntityId, page: Page) -> Result<Document, DocumentFault>
     }
 }
 
-/// The document that the bytes are of the entity `id`, after Wikibase's JSON data model.
+/// The document that the bytes are of the entity `id`, after Wikibase's JSON data model. Its texts are parts of the bytes,
+/// but for those that the page writes with escapes.
 ///
 /// What isn't one is refused by the first cause that it has: `Large` over 8,388,608 bytes, `Deep` and `NotJson` as
 /// the JSON reader says, `Shape` where the value is no page of an item, a property or a redirect, and `Foreign` where
 /// the page is that of another entity.
-pub fn document(alloc: Global, id: EntityId, bytes: &[u8]) -> Result<Document, DocumentFault>
+pub fn document<'a>(
+    alloc: Global,
+    id: EntityId,
+    bytes: &'a [u8],
+) -> Result<Document<'a>, DocumentFault>
     ensures answer { Answers id bytes.now result }
     ensures small { IfOk result IsSmall }
 {

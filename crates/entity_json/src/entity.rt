@@ -12,11 +12,15 @@ use crate::terms::{aliases_at, labels_at};
 use crate::values::kind_at;
 use entity_model::{Entity, IdKind, Link};
 use json_spell::Json;
-use rdf_term::{List, Text};
+use rdf_term::{List, Piece};
 use std::alloc::Global;
 
 // The datatype, which a property alone has.
-fn datatype_by_kind(alloc: Global, kind: IdKind, json: &Json) -> Result<Option<Text>, PartFault>
+fn datatype_by_kind<'a>(
+    alloc: Global,
+    kind: IdKind,
+    json: &Json<'a>,
+) -> Result<Option<Piece<'a>>, PartFault>
     ensures { Gives result (datatype_by_kind kind (json_view json.now)) }
 {
     match kind {
@@ -26,7 +30,11 @@ fn datatype_by_kind(alloc: Global, kind: IdKind, json: &Json) -> Result<Option<T
 }
 
 // The links, which an item alone has.
-fn links_by_kind(alloc: Global, kind: IdKind, json: &Json) -> Result<List<Link>, PartFault>
+fn links_by_kind<'a>(
+    alloc: Global,
+    kind: IdKind,
+    json: &Json<'a>,
+) -> Result<List<Link<'a>>, PartFault>
     ensures { Gives result (links_by_kind kind (json_view json.now)) }
 {
     match kind {
@@ -37,7 +45,7 @@ fn links_by_kind(alloc: Global, kind: IdKind, json: &Json) -> Result<List<Link>,
 
 // An item or a property.
 #[tactic(auto, unfolding(crate::specs::Reading::Pages::entity_of))]
-pub fn entity_of(alloc: Global, json: &Json) -> Result<Entity, PartFault>
+pub fn entity_of<'a>(alloc: Global, json: &Json<'a>) -> Result<Entity<'a>, PartFault>
     ensures { Gives result (entity_of (json_view json.now)) }
 {
     let kind = kind_at(json, "type")?;

@@ -3,17 +3,18 @@
 ghost use Rattle.std.specs.Prelude.{map};
 ghost use Rattle.json_spell.specs.Tree.{member_of};
 ghost use Rattle.json_spell.specs.View.{json_view};
+ghost use Rattle.entity_json.specs.Found.{found_items};
 ghost use Rattle.entity_json.specs.Gives.{Gives, GivesBy};
 ghost use Rattle.entity_json.specs.Leaves.{text_of, number_of, list_of, text_at, number_at, id_at, optional_text_at, nullable_number_at, optional_list_at, id_of_kind, id_of_kind_at};
 
 use crate::part::PartFault;
 use entity_model::{EntityId, IdKind};
 use json_spell::Json;
-use rdf_term::Text;
+use rdf_term::Piece;
 use std::alloc::Global;
 
 // The member with the name.
-pub fn member_at<'a>(json: &'a Json, name: &str) -> Result<&'a Json, PartFault>
+pub fn member_at<'m, 'a>(json: &'m Json<'a>, name: &str) -> Result<&'m Json<'a>, PartFault>
     ensures { GivesBy (λ value. json_view value.now) result (member_of name.now (json_view json.now)) }
 {
     match json.get(name) {
@@ -23,7 +24,7 @@ pub fn member_at<'a>(json: &'a Json, name: &str) -> Result<&'a Json, PartFault>
 }
 
 // A text.
-pub fn text_of(json: &Json) -> Result<&Text, PartFault>
+pub fn text_of<'m, 'a>(json: &'m Json<'a>) -> Result<&'m Piece<'a>, PartFault>
     ensures { GivesBy (λ text. text.now) result (text_of (json_view json.now)) }
 {
     match json {
@@ -33,7 +34,7 @@ pub fn text_of(json: &Json) -> Result<&Text, PartFault>
 }
 
 // The values of an array.
-pub fn list_of(json: &Json) -> Result<&[Json], PartFault>
+pub fn list_of<'m, 'a>(json: &'m Json<'a>) -> Result<&'m [Json<'a>], PartFault>
     ensures { GivesBy (λ items. map json_view items.now) result (list_of (json_view json.now)) }
 {
     match json {
@@ -43,21 +44,21 @@ pub fn list_of(json: &Json) -> Result<&[Json], PartFault>
 }
 
 // The member with the name that is a text.
-pub fn text_at<'a>(json: &'a Json, name: &str) -> Result<&'a Text, PartFault>
+pub fn text_at<'m, 'a>(json: &'m Json<'a>, name: &str) -> Result<&'m Piece<'a>, PartFault>
     ensures { GivesBy (λ text. text.now) result (text_at name.now (json_view json.now)) }
 {
     text_of(member_at(json, name)?)
 }
 
 // A copy of the member with the name that is a text.
-pub fn copy_text_at(alloc: Global, json: &Json, name: &str) -> Result<Text, PartFault>
+pub fn copy_text_at<'a>(alloc: Global, json: &Json<'a>, name: &str) -> Result<Piece<'a>, PartFault>
     ensures { Gives result (text_at name.now (json_view json.now)) }
 {
     Ok(text_at(json, name)?.copy(alloc)?)
 }
 
 // A number, as it is spelled.
-pub fn number_of(json: &Json) -> Result<&Text, PartFault>
+pub fn number_of<'m, 'a>(json: &'m Json<'a>) -> Result<&'m Piece<'a>, PartFault>
     ensures { GivesBy (λ text. text.now) result (number_of (json_view json.now)) }
 {
     match json {
@@ -67,21 +68,29 @@ pub fn number_of(json: &Json) -> Result<&Text, PartFault>
 }
 
 // The member with the name that is a number.
-pub fn number_at<'a>(json: &'a Json, name: &str) -> Result<&'a Text, PartFault>
+pub fn number_at<'m, 'a>(json: &'m Json<'a>, name: &str) -> Result<&'m Piece<'a>, PartFault>
     ensures { GivesBy (λ text. text.now) result (number_at name.now (json_view json.now)) }
 {
     number_of(member_at(json, name)?)
 }
 
 // A copy of the member with the name that is a number.
-pub fn copy_number_at(alloc: Global, json: &Json, name: &str) -> Result<Text, PartFault>
+pub fn copy_number_at<'a>(
+    alloc: Global,
+    json: &Json<'a>,
+    name: &str,
+) -> Result<Piece<'a>, PartFault>
     ensures { Gives result (number_at name.now (json_view json.now)) }
 {
     Ok(number_at(json, name)?.copy(alloc)?)
 }
 
 // A copy of the member with the name that is a text and may be missing.
-pub fn optional_text_at(alloc: Global, json: &Json, name: &str) -> Result<Option<Text>, PartFault>
+pub fn optional_text_at<'a>(
+    alloc: Global,
+    json: &Json<'a>,
+    name: &str,
+) -> Result<Option<Piece<'a>>, PartFault>
     ensures { Gives result (optional_text_at name.now (json_view json.now)) }
 {
     match json.get(name) {
@@ -91,7 +100,11 @@ pub fn optional_text_at(alloc: Global, json: &Json, name: &str) -> Result<Option
 }
 
 // A copy of the member with the name that is a number and may be missing or null.
-pub fn nullable_number_at(alloc: Global, json: &Json, name: &str) -> Result<Option<Text>, PartFault>
+pub fn nullable_number_at<'a>(
+    alloc: Global,
+    json: &Json<'a>,
+    name: &str,
+) -> Result<Option<Piece<'a>>, PartFault>
     ensures { Gives result (nullable_number_at name.now (json_view json.now)) }
 {
     match json.get(name) {
@@ -101,17 +114,20 @@ pub fn nullable_number_at(alloc: Global, json: &Json, name: &str) -> Result<Opti
 }
 
 // The values of the array with the name, which may be missing.
-pub fn optional_list_at<'a>(json: &'a Json, name: &str) -> Result<&'a [Json], PartFault>
-    ensures { GivesBy (λ items. map json_view items.now) result (optional_list_at name.now (json_view json.now)) }
+pub fn optional_list_at<'m, 'a>(
+    json: &'m Json<'a>,
+    name: &str,
+) -> Result<Option<&'m [Json<'a>]>, PartFault>
+    ensures { GivesBy found_items result (optional_list_at name.now (json_view json.now)) }
 {
     match json.get(name) {
-        None => Ok(&[]),
-        Some(value) => list_of(value),
+        None => Ok(None),
+        Some(value) => Ok(Some(list_of(value)?)),
     }
 }
 
 // The member with the name that is the text of an id.
-pub fn id_at(json: &Json, name: &str) -> Result<EntityId, PartFault>
+pub fn id_at(json: &Json<'_>, name: &str) -> Result<EntityId, PartFault>
     ensures { Gives result (id_at name.now (json_view json.now)) }
 {
     match EntityId::read(text_at(json, name)?.as_str()) {
@@ -134,7 +150,7 @@ pub fn id_of_kind(kind: IdKind, text: &str) -> Result<EntityId, PartFault>
 }
 
 // The member with the name that is the text of an id of the kind.
-pub fn id_of_kind_at(kind: IdKind, json: &Json, name: &str) -> Result<EntityId, PartFault>
+pub fn id_of_kind_at(kind: IdKind, json: &Json<'_>, name: &str) -> Result<EntityId, PartFault>
     ensures { Gives result (id_of_kind_at kind name.now (json_view json.now)) }
 {
     id_of_kind(kind, text_at(json, name)?.as_str())

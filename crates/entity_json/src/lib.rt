@@ -1,8 +1,8 @@
-// The documents of entity pages in JSON.
-//
-// `documents` has the call, and `page` the page of a tree: a redirect, or an entity of `entity` with the parts that
-// `terms`, `statements`, `snaks`, `values` and `links` read. All of these read leaves by `leaf` and `number`, maps by
-// `map`, and lists by the loops of `each`. `part` and `fault` have what a part and a page are refused for.
+//! The documents of entity pages in JSON.
+//!
+//! `documents` has the call, and `page` the page of a tree: a redirect, or an entity of `entity` with the parts that
+//! `terms`, `statements`, `snaks`, `values` and `links` read. All of these read leaves by `leaf` and `number`, maps by
+//! `map`, and lists by the loops of `each`. `part` and `fault` have what a part and a page are refused for.
 #![tactic(auto)]
 
 mod documents;

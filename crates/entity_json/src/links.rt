@@ -4,7 +4,7 @@ ghost use Rattle.json_spell.specs.View.{json_view, member_view};
 ghost use Rattle.entity_json.specs.Gives.{Gives, Makes};
 ghost use Rattle.entity_json.specs.Reading.Links.{badge_of, badge_step, badges_at, link_of, link_step, links_at};
 
-use crate::each::{EntryReader, ItemReader, each_entry, each_item};
+use crate::each::{EntryReader, ItemReader, each_found_entry, each_found_item};
 use crate::leaf::{copy_text_at, id_of_kind, optional_list_at, text_of};
 use crate::map::map_at;
 use crate::part::PartFault;
@@ -14,7 +14,7 @@ use rdf_term::List;
 use std::alloc::Global;
 
 // A badge: the id of an item.
-fn badge_of(json: &Json) -> Result<EntityId, PartFault>
+fn badge_of(json: &Json<'_>) -> Result<EntityId, PartFault>
     ensures { Gives result (badge_of (json_view json.now)) }
 {
     id_of_kind(IdKind::Q, text_of(json)?.as_str())
@@ -22,14 +22,14 @@ fn badge_of(json: &Json) -> Result<EntityId, PartFault>
 
 struct BadgeReader;
 
-impl ItemReader<EntityId> for BadgeReader {
+impl<'a> ItemReader<'a, EntityId> for BadgeReader {
     ghost reads = { λ reader item out. badge_step item out };
 
     fn read(
         &self,
         _alloc: Global,
         _place: usize,
-        json: &Json,
+        json: &Json<'a>,
         out: &mut List<EntityId>,
     ) -> Result<(), PartFault> {
         out.push(badge_of(json)?)?;
@@ -39,18 +39,18 @@ impl ItemReader<EntityId> for BadgeReader {
 
 // The badges under the name, which may be missing.
 #[tactic(auto, unfolding(crate::specs::Reading::Links::badges_at))]
-fn badges_at(alloc: Global, json: &Json, name: &str) -> Result<List<EntityId>, PartFault>
+fn badges_at(alloc: Global, json: &Json<'_>, name: &str) -> Result<List<EntityId>, PartFault>
     ensures { Gives result (badges_at name.now (json_view json.now)) }
 {
     let items = optional_list_at(json, name)?;
     let mut badges = List::new(alloc);
-    each_item(alloc, &BadgeReader, items, &mut badges)?;
+    each_found_item(alloc, &BadgeReader, items, &mut badges)?;
     Ok(badges)
 }
 
 // A link.
 #[tactic(auto, unfolding(crate::specs::Reading::Links::link_of))]
-fn link_of(alloc: Global, json: &Json) -> Result<Link, PartFault>
+fn link_of<'a>(alloc: Global, json: &Json<'a>) -> Result<Link<'a>, PartFault>
     ensures { Gives result (link_of (json_view json.now)) }
 {
     let site = copy_text_at(alloc, json, "site")?;
@@ -65,10 +65,15 @@ fn link_of(alloc: Global, json: &Json) -> Result<Link, PartFault>
 
 struct LinkReader;
 
-impl EntryReader<Link> for LinkReader {
+impl<'a> EntryReader<'a, Link<'a>> for LinkReader {
     ghost reads = { λ reader entry out. link_step entry out };
 
-    fn read(&self, alloc: Global, entry: &Member, out: &mut List<Link>) -> Result<(), PartFault> {
+    fn read(
+        &self,
+        alloc: Global,
+        entry: &Member<'a>,
+        out: &mut List<Link<'a>>,
+    ) -> Result<(), PartFault> {
         out.push(link_of(alloc, &entry.value)?)?;
         Ok(())
     }
@@ -76,11 +81,11 @@ impl EntryReader<Link> for LinkReader {
 
 // The links of the map under the name.
 #[tactic(auto, unfolding(crate::specs::Reading::Links::links_at))]
-pub fn links_at(alloc: Global, json: &Json, name: &str) -> Result<List<Link>, PartFault>
+pub fn links_at<'a>(alloc: Global, json: &Json<'a>, name: &str) -> Result<List<Link<'a>>, PartFault>
     ensures { Gives result (links_at name.now (json_view json.now)) }
 {
-    let entries = map_at(alloc, json, name)?;
+    let entries = map_at(json, name)?;
     let mut links = List::new(alloc);
-    each_entry(alloc, &LinkReader, entries.as_slice(), &mut links)?;
+    each_found_entry(alloc, &LinkReader, entries, &mut links)?;
     Ok(links)
 }

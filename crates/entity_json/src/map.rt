@@ -1,70 +1,95 @@
 // The maps of a page: the members of an object, each key once, with its last value and at that place.
 
-ghost use Rattle.std.specs.Prelude.{◌≡◌, map, IfOk};
+ghost use Rattle.std.specs.Prelude.{◌≡◌, map, IfOk, reverse};
 ghost use Rattle.json_spell.specs.View.{json_view, member_view, pairs_of};
+ghost use Rattle.entity_json.specs.Found.{found_entries};
 ghost use Rattle.entity_json.specs.Gives.{GivesBy};
-ghost use Rattle.entity_json.specs.Maps.{entries, map_of, map_at, only_of};
+ghost use Rattle.entity_json.specs.Maps.{has_key, has_other_key, lasts, map_of, map_at, only_of};
 
 use crate::part::PartFault;
 use json_spell::{Json, Member};
 use rdf_term::OutOfMemory;
 use std::alloc::Global;
-use std::collections::HashSet;
+use std::collections::BTreeSet;
 
-// The members whose key doesn't come again.
-fn last_members<'a>(alloc: Global, members: &'a [Member]) -> Result<Vec<&'a Member>, OutOfMemory>
-    ensures { IfOk result (λ found. map (λ member. member_view member.now) found.items
-        ≡ entries (pairs_of (map member_view members.now))) }
+// Whether some member has the key.
+pub fn has_key(members: &[Member<'_>], key: &str) -> bool
+    ensures { result ≡ has_key key.now (pairs_of (map member_view members.now)) }
 {
-    let mut seen = HashSet::new(alloc);
-    let mut found = Vec::new(alloc);
-    let mut rest = members;
-    while let [before @ .., member] = rest {
-        if seen.insert(member.key.as_str())? {
-            found.push(member)?;
+    let mut left = members;
+    while let [member, rest @ ..] = left {
+        if member.key.as_str() == key {
+            return true;
         }
-        rest = before;
+        left = rest;
     }
-    found.reverse();
-    Ok(found)
+    false
 }
 
-// The entries of a map; an empty array is the empty map.
-fn map_of<'a>(alloc: Global, json: &'a Json) -> Result<Vec<&'a Member>, PartFault>
-    ensures { GivesBy (λ found. map (λ member. member_view member.now) found.items) result
-        (map_of (Some (json_view json.now))) }
+// Whether some member has another key.
+fn has_other_key(members: &[Member<'_>], key: &str) -> bool
+    ensures { result ≡ has_other_key key.now (pairs_of (map member_view members.now)) }
+{
+    let mut left = members;
+    while let [member, rest @ ..] = left {
+        if member.key.as_str() != key {
+            return true;
+        }
+        left = rest;
+    }
+    false
+}
+
+// Of each member, whether its key doesn't come again. The flag of the first member is at the end, where it is taken first.
+pub fn last_flags(alloc: Global, members: &[Member<'_>]) -> Result<Vec<bool>, OutOfMemory>
+    ensures { IfOk result (λ flags. reverse flags.items ≡ lasts (pairs_of (map member_view members.now))) }
+{
+    let mut seen = BTreeSet::new(alloc);
+    let mut flags = Vec::new(alloc);
+    let mut rest = members;
+    while let [before @ .., member] = rest {
+        flags.push(seen.insert(member.key.as_str())?)?;
+        rest = before;
+    }
+    Ok(flags)
+}
+
+// The members of a map; an empty array is the empty map.
+fn map_of<'m, 'a>(json: &'m Json<'a>) -> Result<Option<&'m [Member<'a>]>, PartFault>
+    ensures { GivesBy found_entries result (map_of (Some (json_view json.now))) }
 {
     match json {
-        Json::Members(members) => Ok(last_members(alloc, members.as_slice())?),
+        Json::Members(members) => Ok(Some(members.as_slice())),
         Json::Items(items) => match items.as_slice() {
-            [] => Ok(Vec::new(alloc)),
+            [] => Ok(None),
             [_, ..] => Err(PartFault::Shape),
         },
         _ => Err(PartFault::Shape),
     }
 }
 
-// The entries of the map with the name, which may be missing.
-pub fn map_at<'a>(alloc: Global, json: &'a Json, name: &str) -> Result<Vec<&'a Member>, PartFault>
-    ensures { GivesBy (λ found. map (λ member. member_view member.now) found.items) result
-        (map_at name.now (json_view json.now)) }
+// The members of the map with the name, which may be missing.
+pub fn map_at<'m, 'a>(json: &'m Json<'a>, name: &str) -> Result<Option<&'m [Member<'a>]>, PartFault>
+    ensures { GivesBy found_entries result (map_at name.now (json_view json.now)) }
 {
     match json.get(name) {
-        None => Ok(Vec::new(alloc)),
-        Some(value) => map_of(alloc, value),
+        None => Ok(None),
+        Some(value) => map_of(value),
     }
 }
 
 // The value of an object's only key.
-pub fn only_of<'a>(alloc: Global, json: &'a Json) -> Result<&'a Json, PartFault>
+pub fn only_of<'m, 'a>(json: &'m Json<'a>) -> Result<&'m Json<'a>, PartFault>
     ensures { GivesBy (λ value. json_view value.now) result (only_of (json_view json.now)) }
 {
     let Json::Members(members) = json else {
         return Err(PartFault::Shape);
     };
-    let entries = last_members(alloc, members.as_slice())?;
-    match entries.as_slice() {
-        [entry] => Ok(&entry.value),
-        _ => Err(PartFault::Shape),
+    let [before @ .., last] = members.as_slice() else {
+        return Err(PartFault::Shape);
+    };
+    if has_other_key(before, last.key.as_str()) {
+        return Err(PartFault::Shape);
     }
+    Ok(&last.value)
 }

@@ -14,16 +14,16 @@ use std::alloc::Global;
 
 // The page of an entity.
 #[derive(Debug, Drop)]
-pub struct Page {
+pub struct Page<'a> {
     // The entity whose page it is.
     pub id: EntityId,
     // What the page says.
-    pub document: Document,
+    pub document: Document<'a>,
 }
 
 // The page of an item or a property.
 #[tactic(auto, unfolding(crate::specs::Reading::Pages::entity_page))]
-fn entity_page(alloc: Global, json: &Json) -> Result<Page, PartFault>
+fn entity_page<'a>(alloc: Global, json: &Json<'a>) -> Result<Page<'a>, PartFault>
     ensures { Gives result (entity_page (json_view json.now)) }
 {
     let entity = entity_of(alloc, json)?;
@@ -35,7 +35,7 @@ fn entity_page(alloc: Global, json: &Json) -> Result<Page, PartFault>
 
 // The page of a redirect.
 #[tactic(auto, unfolding(crate::specs::Reading::Pages::redirect_page))]
-fn redirect_page(json: &Json) -> Result<Page, PartFault>
+fn redirect_page<'a>(json: &Json<'a>) -> Result<Page<'a>, PartFault>
     ensures { Gives result (redirect_page (json_view json.now)) }
 {
     let id = id_at(json, "entity")?;
@@ -48,7 +48,7 @@ fn redirect_page(json: &Json) -> Result<Page, PartFault>
 
 // The page that a value is: a redirect, where it has a member of that name.
 #[tactic(auto, unfolding(crate::specs::Reading::Pages::page_at))]
-fn page_at(alloc: Global, json: &Json) -> Result<Page, PartFault>
+fn page_at<'a>(alloc: Global, json: &Json<'a>) -> Result<Page<'a>, PartFault>
     ensures { Gives result (page_at (json_view json.now)) }
 {
     match json.get("redirect") {
@@ -59,19 +59,19 @@ fn page_at(alloc: Global, json: &Json) -> Result<Page, PartFault>
 
 // Where the page stands: the only entity, where entities are there.
 #[tactic(auto, unfolding(crate::specs::Reading::Pages::place_of))]
-fn place_of<'a>(alloc: Global, json: &'a Json) -> Result<&'a Json, PartFault>
+fn place_of<'m, 'a>(json: &'m Json<'a>) -> Result<&'m Json<'a>, PartFault>
     ensures { GivesBy (λ value. json_view value.now) result (place_of (json_view json.now)) }
 {
     match json.get("entities") {
-        Some(entities) => only_of(alloc, entities),
+        Some(entities) => only_of(entities),
         None => Ok(json),
     }
 }
 
 // The page of a text's value.
 #[tactic(auto, unfolding(crate::specs::Reading::Pages::page_of))]
-pub fn page_of(alloc: Global, json: &Json) -> Result<Page, PartFault>
+pub fn page_of<'a>(alloc: Global, json: &Json<'a>) -> Result<Page<'a>, PartFault>
     ensures { Gives result (page_of (json_view json.now)) }
 {
-    page_at(alloc, place_of(alloc, json)?)
+    page_at(alloc, place_of(json)?)
 }

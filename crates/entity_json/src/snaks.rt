@@ -5,19 +5,19 @@ ghost use Rattle.json_spell.specs.View.{json_view, member_view};
 ghost use Rattle.entity_json.specs.Gives.{Gives, Makes};
 ghost use Rattle.entity_json.specs.Reading.Snaks.{value_type, datatype_of, content_named, content_of, snak_of, snak_step, snaks_step, snaks_at};
 
-use crate::each::{EntryReader, ItemReader, each_entry, each_item};
+use crate::each::{EntryReader, ItemReader, each_found_entry, each_item};
 use crate::leaf::{id_of_kind, list_of, member_at, text_at, text_of};
 use crate::map::map_at;
 use crate::part::PartFault;
 use crate::values::value_of;
 use entity_model::{Content, EntityId, IdKind, Snak};
 use json_spell::{Json, Member};
-use rdf_term::{List, Text};
+use rdf_term::{List, Piece, Text};
 use std::alloc::Global;
 
 // The type of the data value, or the empty text where there is none.
 #[tactic(auto, unfolding(crate::specs::Reading::Snaks::value_type))]
-fn value_type(json: &Json) -> &str
+fn value_type<'m>(json: &'m Json<'_>) -> &'m str
     ensures { result.now ≡ value_type (json_view json.now) }
 {
     match json.get("datavalue") {
@@ -31,18 +31,18 @@ fn value_type(json: &Json) -> &str
 
 // The datatype, which may be missing.
 #[tactic(auto, unfolding(crate::specs::Reading::Snaks::datatype_of))]
-fn datatype_of(alloc: Global, json: &Json) -> Result<Text, PartFault>
+fn datatype_of<'a>(alloc: Global, json: &Json<'a>) -> Result<Piece<'a>, PartFault>
     ensures { Gives result (datatype_of (json_view json.now)) }
 {
     match json.get("datatype") {
         Some(datatype) => Ok(text_of(datatype)?.copy(alloc)?),
-        None => Ok(Text::new(alloc, value_type(json))?),
+        None => Ok(Piece::owned(Text::new(alloc, value_type(json))?)),
     }
 }
 
 // What is said of the value.
 #[tactic(auto, unfolding(crate::specs::Reading::Snaks::content_of))]
-fn content_of(alloc: Global, json: &Json) -> Result<Content, PartFault>
+fn content_of<'a>(alloc: Global, json: &Json<'a>) -> Result<Content<'a>, PartFault>
     ensures { Gives result (content_of (json_view json.now)) }
 {
     let named = text_at(json, "snaktype")?.as_str();
@@ -70,13 +70,13 @@ fn small_place(place: usize) -> Result<u32, PartFault>
 
 // The snak under a property, at its place.
 #[tactic(auto, unfolding(crate::specs::Reading::Snaks::snak_of))]
-pub fn snak_of(
+pub fn snak_of<'a>(
     alloc: Global,
     key: &str,
     property: EntityId,
     place: usize,
-    json: &Json,
-) -> Result<Snak, PartFault>
+    json: &Json<'a>,
+) -> Result<Snak<'a>, PartFault>
     ensures { Gives result (snak_of key.now property place (json_view json.now)) }
 {
     if text_at(json, "property")?.as_str() != key {
@@ -95,20 +95,20 @@ pub fn snak_of(
 
 // Reads the snaks of a property, whose id is the key.
 #[derive(Clone, Copy)]
-struct SnakReader<'a> {
-    key: &'a str,
+struct SnakReader<'k> {
+    key: &'k str,
     property: EntityId,
 }
 
-impl ItemReader<Snak> for SnakReader<'_> {
+impl<'a> ItemReader<'a, Snak<'a>> for SnakReader<'_> {
     ghost reads = { λ reader item out. snak_step reader.key.now reader.property item out };
 
     fn read(
         &self,
         alloc: Global,
         place: usize,
-        json: &Json,
-        out: &mut List<Snak>,
+        json: &Json<'a>,
+        out: &mut List<Snak<'a>>,
     ) -> Result<(), PartFault> {
         out.push(snak_of(alloc, self.key, self.property, place, json)?)?;
         Ok(())
@@ -117,11 +117,16 @@ impl ItemReader<Snak> for SnakReader<'_> {
 
 struct SnaksReader;
 
-impl EntryReader<Snak> for SnaksReader {
+impl<'a> EntryReader<'a, Snak<'a>> for SnaksReader {
     ghost reads = { λ reader entry out. snaks_step entry out };
 
     #[tactic(auto, unfolding(crate::specs::Reading::Snaks::snaks_step))]
-    fn read(&self, alloc: Global, entry: &Member, out: &mut List<Snak>) -> Result<(), PartFault> {
+    fn read(
+        &self,
+        alloc: Global,
+        entry: &Member<'a>,
+        out: &mut List<Snak<'a>>,
+    ) -> Result<(), PartFault> {
         let key = entry.key.as_str();
         let property = id_of_kind(IdKind::P, key)?;
         let reader = SnakReader { key, property };
@@ -131,11 +136,11 @@ impl EntryReader<Snak> for SnaksReader {
 
 // The snaks of the map under the name.
 #[tactic(auto, unfolding(crate::specs::Reading::Snaks::snaks_at))]
-pub fn snaks_at(alloc: Global, json: &Json, name: &str) -> Result<List<Snak>, PartFault>
+pub fn snaks_at<'a>(alloc: Global, json: &Json<'a>, name: &str) -> Result<List<Snak<'a>>, PartFault>
     ensures { Gives result (snaks_at name.now (json_view json.now)) }
 {
-    let entries = map_at(alloc, json, name)?;
+    let entries = map_at(json, name)?;
     let mut snaks = List::new(alloc);
-    each_entry(alloc, &SnaksReader, entries.as_slice(), &mut snaks)?;
+    each_found_entry(alloc, &SnaksReader, entries, &mut snaks)?;
     Ok(snaks)
 }

@@ -8,14 +8,14 @@ ghost use Rattle.entity_model.specs.Reference.{is_hash};
 ghost use Rattle.entity_json.specs.Gives.{Gives, GivesBy, Makes};
 ghost use Rattle.entity_json.specs.Reading.Statements.{rank_named, reference_of, reference_step, references_at, rank_of, statement_id, main_of, statement_of, statement_step, statements_step, statements_at};
 
-use crate::each::{EntryReader, ItemReader, each_entry, each_item};
+use crate::each::{EntryReader, ItemReader, each_found_entry, each_found_item, each_item};
 use crate::leaf::{id_of_kind, list_of, member_at, optional_list_at, text_at};
 use crate::map::map_at;
 use crate::part::PartFault;
 use crate::snaks::{snak_of, snaks_at};
 use entity_model::{EntityId, IdKind, Rank, Reference, Snak, Statement};
 use json_spell::{Json, Member};
-use rdf_term::{List, Text};
+use rdf_term::{List, Piece};
 use std::alloc::Global;
 
 // The rank with the name.
@@ -47,7 +47,7 @@ fn is_hash(text: &str) -> bool
 
 // A reference.
 #[tactic(auto, unfolding(crate::specs::Reading::Statements::reference_of))]
-fn reference_of(alloc: Global, json: &Json) -> Result<Reference, PartFault>
+fn reference_of<'a>(alloc: Global, json: &Json<'a>) -> Result<Reference<'a>, PartFault>
     ensures { Gives result (reference_of (json_view json.now)) }
 {
     let hash = text_at(json, "hash")?;
@@ -61,15 +61,15 @@ fn reference_of(alloc: Global, json: &Json) -> Result<Reference, PartFault>
 
 struct ReferenceReader;
 
-impl ItemReader<Reference> for ReferenceReader {
+impl<'a> ItemReader<'a, Reference<'a>> for ReferenceReader {
     ghost reads = { λ reader item out. reference_step item out };
 
     fn read(
         &self,
         alloc: Global,
         _place: usize,
-        json: &Json,
-        out: &mut List<Reference>,
+        json: &Json<'a>,
+        out: &mut List<Reference<'a>>,
     ) -> Result<(), PartFault> {
         out.push(reference_of(alloc, json)?)?;
         Ok(())
@@ -78,18 +78,22 @@ impl ItemReader<Reference> for ReferenceReader {
 
 // The references under the name, which may be missing.
 #[tactic(auto, unfolding(crate::specs::Reading::Statements::references_at))]
-fn references_at(alloc: Global, json: &Json, name: &str) -> Result<List<Reference>, PartFault>
+fn references_at<'a>(
+    alloc: Global,
+    json: &Json<'a>,
+    name: &str,
+) -> Result<List<Reference<'a>>, PartFault>
     ensures { Gives result (references_at name.now (json_view json.now)) }
 {
     let items = optional_list_at(json, name)?;
     let mut references = List::new(alloc);
-    each_item(alloc, &ReferenceReader, items, &mut references)?;
+    each_found_item(alloc, &ReferenceReader, items, &mut references)?;
     Ok(references)
 }
 
 // The rank of a statement.
 #[tactic(auto, unfolding(crate::specs::Reading::Statements::rank_of))]
-fn rank_of(json: &Json) -> Result<Rank, PartFault>
+fn rank_of(json: &Json<'_>) -> Result<Rank, PartFault>
     ensures { Gives result (rank_of (json_view json.now)) }
 {
     match rank_named(text_at(json, "rank")?.as_str()) {
@@ -100,7 +104,7 @@ fn rank_of(json: &Json) -> Result<Rank, PartFault>
 
 // The id of a statement, which isn't empty.
 #[tactic(auto, unfolding(crate::specs::Reading::Statements::statement_id))]
-fn statement_id(json: &Json) -> Result<&Text, PartFault>
+fn statement_id<'m, 'a>(json: &'m Json<'a>) -> Result<&'m Piece<'a>, PartFault>
     ensures { GivesBy (λ text. text.now) result (statement_id (json_view json.now)) }
 {
     let id = text_at(json, "id")?;
@@ -112,7 +116,12 @@ fn statement_id(json: &Json) -> Result<&Text, PartFault>
 
 // The main snak of a statement under a property.
 #[tactic(auto, unfolding(crate::specs::Reading::Statements::main_of))]
-fn main_of(alloc: Global, key: &str, property: EntityId, json: &Json) -> Result<Snak, PartFault>
+fn main_of<'a>(
+    alloc: Global,
+    key: &str,
+    property: EntityId,
+    json: &Json<'a>,
+) -> Result<Snak<'a>, PartFault>
     ensures { Gives result (main_of key.now property (json_view json.now)) }
 {
     snak_of(alloc, key, property, 0, member_at(json, "mainsnak")?)
@@ -120,12 +129,12 @@ fn main_of(alloc: Global, key: &str, property: EntityId, json: &Json) -> Result<
 
 // A statement under a property.
 #[tactic(auto, unfolding(crate::specs::Reading::Statements::statement_of))]
-fn statement_of(
+fn statement_of<'a>(
     alloc: Global,
     key: &str,
     property: EntityId,
-    json: &Json,
-) -> Result<Statement, PartFault>
+    json: &Json<'a>,
+) -> Result<Statement<'a>, PartFault>
     ensures { Gives result (statement_of key.now property (json_view json.now)) }
 {
     let rank = rank_of(json)?;
@@ -146,20 +155,20 @@ fn statement_of(
 
 // Reads the statements of a property, whose id is the key.
 #[derive(Clone, Copy)]
-struct StatementReader<'a> {
-    key: &'a str,
+struct StatementReader<'k> {
+    key: &'k str,
     property: EntityId,
 }
 
-impl ItemReader<Statement> for StatementReader<'_> {
+impl<'a> ItemReader<'a, Statement<'a>> for StatementReader<'_> {
     ghost reads = { λ reader item out. statement_step reader.key.now reader.property item out };
 
     fn read(
         &self,
         alloc: Global,
         _place: usize,
-        json: &Json,
-        out: &mut List<Statement>,
+        json: &Json<'a>,
+        out: &mut List<Statement<'a>>,
     ) -> Result<(), PartFault> {
         out.push(statement_of(alloc, self.key, self.property, json)?)?;
         Ok(())
@@ -168,15 +177,15 @@ impl ItemReader<Statement> for StatementReader<'_> {
 
 struct StatementsReader;
 
-impl EntryReader<Statement> for StatementsReader {
+impl<'a> EntryReader<'a, Statement<'a>> for StatementsReader {
     ghost reads = { λ reader entry out. statements_step entry out };
 
     #[tactic(auto, unfolding(crate::specs::Reading::Statements::statements_step))]
     fn read(
         &self,
         alloc: Global,
-        entry: &Member,
-        out: &mut List<Statement>,
+        entry: &Member<'a>,
+        out: &mut List<Statement<'a>>,
     ) -> Result<(), PartFault> {
         let key = entry.key.as_str();
         let property = id_of_kind(IdKind::P, key)?;
@@ -187,16 +196,15 @@ impl EntryReader<Statement> for StatementsReader {
 
 // The statements of the map under the name.
 #[tactic(auto, unfolding(crate::specs::Reading::Statements::statements_at))]
-pub fn statements_at(alloc: Global, json: &Json, name: &str) -> Result<List<Statement>, PartFault>
+pub fn statements_at<'a>(
+    alloc: Global,
+    json: &Json<'a>,
+    name: &str,
+) -> Result<List<Statement<'a>>, PartFault>
     ensures { Gives result (statements_at name.now (json_view json.now)) }
 {
-    let entries = map_at(alloc, json, name)?;
+    let entries = map_at(json, name)?;
     let mut statements = List::new(alloc);
-    each_entry(
-        alloc,
-        &StatementsReader,
-        entries.as_slice(),
-        &mut statements,
-    )?;
+    each_found_entry(alloc, &StatementsReader, entries, &mut statements)?;
     Ok(statements)
 }

@@ -4,7 +4,7 @@ ghost use Rattle.json_spell.specs.View.{json_view, member_view};
 ghost use Rattle.entity_json.specs.Gives.{Gives, Makes};
 ghost use Rattle.entity_json.specs.Reading.Terms.{tagged_of, label_step, alias_step, aliases_step, labels_at, aliases_at};
 
-use crate::each::{EntryReader, ItemReader, each_entry, each_item};
+use crate::each::{EntryReader, ItemReader, each_found_entry, each_item};
 use crate::leaf::{copy_text_at, list_of};
 use crate::map::map_at;
 use crate::part::PartFault;
@@ -15,7 +15,7 @@ use std::alloc::Global;
 
 // A text and its language, with the text under the name.
 #[tactic(auto, unfolding(crate::specs::Reading::Terms::tagged_of))]
-pub fn read_tagged(alloc: Global, json: &Json, name: &str) -> Result<Tagged, PartFault>
+pub fn read_tagged<'a>(alloc: Global, json: &Json<'a>, name: &str) -> Result<Tagged<'a>, PartFault>
     ensures { Gives result (tagged_of name.now (json_view json.now)) }
 {
     let language = copy_text_at(alloc, json, "language")?;
@@ -25,10 +25,15 @@ pub fn read_tagged(alloc: Global, json: &Json, name: &str) -> Result<Tagged, Par
 
 struct LabelReader;
 
-impl EntryReader<Tagged> for LabelReader {
+impl<'a> EntryReader<'a, Tagged<'a>> for LabelReader {
     ghost reads = { λ reader entry out. label_step entry out };
 
-    fn read(&self, alloc: Global, entry: &Member, out: &mut List<Tagged>) -> Result<(), PartFault> {
+    fn read(
+        &self,
+        alloc: Global,
+        entry: &Member<'a>,
+        out: &mut List<Tagged<'a>>,
+    ) -> Result<(), PartFault> {
         out.push(read_tagged(alloc, &entry.value, "value")?)?;
         Ok(())
     }
@@ -36,15 +41,15 @@ impl EntryReader<Tagged> for LabelReader {
 
 struct AliasReader;
 
-impl ItemReader<Tagged> for AliasReader {
+impl<'a> ItemReader<'a, Tagged<'a>> for AliasReader {
     ghost reads = { λ reader item out. alias_step item out };
 
     fn read(
         &self,
         alloc: Global,
         _place: usize,
-        json: &Json,
-        out: &mut List<Tagged>,
+        json: &Json<'a>,
+        out: &mut List<Tagged<'a>>,
     ) -> Result<(), PartFault> {
         out.push(read_tagged(alloc, json, "value")?)?;
         Ok(())
@@ -53,33 +58,46 @@ impl ItemReader<Tagged> for AliasReader {
 
 struct AliasesReader;
 
-impl EntryReader<Tagged> for AliasesReader {
+impl<'a> EntryReader<'a, Tagged<'a>> for AliasesReader {
     ghost reads = { λ reader entry out. aliases_step entry out };
 
     #[tactic(auto, unfolding(crate::specs::Reading::Terms::aliases_step))]
-    fn read(&self, alloc: Global, entry: &Member, out: &mut List<Tagged>) -> Result<(), PartFault> {
+    fn read(
+        &self,
+        alloc: Global,
+        entry: &Member<'a>,
+        out: &mut List<Tagged<'a>>,
+    ) -> Result<(), PartFault> {
         each_item(alloc, &AliasReader, list_of(&entry.value)?, out)
     }
 }
 
 // The labels or descriptions under the name.
 #[tactic(auto, unfolding(crate::specs::Reading::Terms::labels_at))]
-pub fn labels_at(alloc: Global, json: &Json, name: &str) -> Result<List<Tagged>, PartFault>
+pub fn labels_at<'a>(
+    alloc: Global,
+    json: &Json<'a>,
+    name: &str,
+) -> Result<List<Tagged<'a>>, PartFault>
     ensures { Gives result (labels_at name.now (json_view json.now)) }
 {
-    let entries = map_at(alloc, json, name)?;
+    let entries = map_at(json, name)?;
     let mut labels = List::new(alloc);
-    each_entry(alloc, &LabelReader, entries.as_slice(), &mut labels)?;
+    each_found_entry(alloc, &LabelReader, entries, &mut labels)?;
     Ok(labels)
 }
 
 // The aliases under the name.
 #[tactic(auto, unfolding(crate::specs::Reading::Terms::aliases_at))]
-pub fn aliases_at(alloc: Global, json: &Json, name: &str) -> Result<List<Tagged>, PartFault>
+pub fn aliases_at<'a>(
+    alloc: Global,
+    json: &Json<'a>,
+    name: &str,
+) -> Result<List<Tagged<'a>>, PartFault>
     ensures { Gives result (aliases_at name.now (json_view json.now)) }
 {
-    let entries = map_at(alloc, json, name)?;
+    let entries = map_at(json, name)?;
     let mut aliases = List::new(alloc);
-    each_entry(alloc, &AliasesReader, entries.as_slice(), &mut aliases)?;
+    each_found_entry(alloc, &AliasesReader, entries, &mut aliases)?;
     Ok(aliases)
 }

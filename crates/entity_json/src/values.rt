@@ -17,7 +17,7 @@ use crate::part::PartFault;
 use crate::terms::read_tagged;
 use entity_model::{EntityId, GlobeParts, IdKind, QuantityParts, TimeParts, Value};
 use json_spell::Json;
-use rdf_term::Text;
+use rdf_term::{Piece, Text};
 use std::alloc::Global;
 
 // The kind of an entity that is named in full.
@@ -32,7 +32,7 @@ fn kind_named(name: &str) -> Option<IdKind>
 
 // The kind that a member names.
 #[tactic(auto, unfolding(crate::specs::Reading::Values::kind_at))]
-pub fn kind_at(json: &Json, name: &str) -> Result<IdKind, PartFault>
+pub fn kind_at(json: &Json<'_>, name: &str) -> Result<IdKind, PartFault>
     ensures { Gives result (kind_at name.now (json_view json.now)) }
 {
     match kind_named(text_at(json, name)?.as_str()) {
@@ -74,7 +74,7 @@ fn numeric_id(alloc: Global, kind: IdKind, spelling: &str) -> Result<Text, PartF
 
 // The id of an entity that is given by its type and number.
 #[tactic(auto, unfolding(crate::specs::Reading::Values::numbered_entity))]
-fn numbered_entity(alloc: Global, json: &Json) -> Result<Text, PartFault>
+fn numbered_entity(alloc: Global, json: &Json<'_>) -> Result<Text, PartFault>
     ensures { Gives result (numbered_entity (json_view json.now)) }
 {
     let kind = kind_at(json, "entity-type")?;
@@ -84,11 +84,11 @@ fn numbered_entity(alloc: Global, json: &Json) -> Result<Text, PartFault>
 
 // The id of an entity, by its text where that is there.
 #[tactic(auto, unfolding(crate::specs::Reading::Values::entity_value))]
-fn entity_value(alloc: Global, json: &Json) -> Result<Text, PartFault>
+fn entity_value<'a>(alloc: Global, json: &Json<'a>) -> Result<Piece<'a>, PartFault>
     ensures { Gives result (entity_value (json_view json.now)) }
 {
     let Some(id) = json.get("id") else {
-        return numbered_entity(alloc, json);
+        return Ok(Piece::owned(numbered_entity(alloc, json)?));
     };
     let text = text_of(id)?;
     if !is_entity_text(text.as_str()) {
@@ -99,7 +99,7 @@ fn entity_value(alloc: Global, json: &Json) -> Result<Text, PartFault>
 
 // A point in time.
 #[tactic(auto, unfolding(crate::specs::Reading::Values::time_of))]
-fn time_of(alloc: Global, json: &Json) -> Result<TimeParts, PartFault>
+fn time_of<'a>(alloc: Global, json: &Json<'a>) -> Result<TimeParts<'a>, PartFault>
     ensures { Gives result (time_of (json_view json.now)) }
 {
     let time = copy_text_at(alloc, json, "time")?;
@@ -123,7 +123,7 @@ fn time_of(alloc: Global, json: &Json) -> Result<TimeParts, PartFault>
 
 // A number with its unit and bounds.
 #[tactic(auto, unfolding(crate::specs::Reading::Values::quantity_of))]
-fn quantity_of(alloc: Global, json: &Json) -> Result<QuantityParts, PartFault>
+fn quantity_of<'a>(alloc: Global, json: &Json<'a>) -> Result<QuantityParts<'a>, PartFault>
     ensures { Gives result (quantity_of (json_view json.now)) }
 {
     let amount = copy_text_at(alloc, json, "amount")?;
@@ -140,7 +140,7 @@ fn quantity_of(alloc: Global, json: &Json) -> Result<QuantityParts, PartFault>
 
 // A point on a globe.
 #[tactic(auto, unfolding(crate::specs::Reading::Values::globe_of))]
-fn globe_of(alloc: Global, json: &Json) -> Result<GlobeParts, PartFault>
+fn globe_of<'a>(alloc: Global, json: &Json<'a>) -> Result<GlobeParts<'a>, PartFault>
     ensures { Gives result (globe_of (json_view json.now)) }
 {
     let latitude = copy_number_at(alloc, json, "latitude")?;
@@ -157,7 +157,7 @@ fn globe_of(alloc: Global, json: &Json) -> Result<GlobeParts, PartFault>
 
 // A value of the type; one of a type that isn't named here may be anything.
 #[tactic(auto, unfolding(crate::specs::Reading::Values::value_of_type))]
-fn value_of_type(alloc: Global, kind: &str, json: &Json) -> Result<Value, PartFault>
+fn value_of_type<'a>(alloc: Global, kind: &str, json: &Json<'a>) -> Result<Value<'a>, PartFault>
     ensures { Gives result (value_of_type kind.now (json_view json.now)) }
 {
     if kind == "string" {
@@ -183,7 +183,7 @@ fn value_of_type(alloc: Global, kind: &str, json: &Json) -> Result<Value, PartFa
 
 // A data value.
 #[tactic(auto, unfolding(crate::specs::Reading::Values::value_of))]
-pub fn value_of(alloc: Global, json: &Json) -> Result<Value, PartFault>
+pub fn value_of<'a>(alloc: Global, json: &Json<'a>) -> Result<Value<'a>, PartFault>
     ensures { Gives result (value_of (json_view json.now)) }
 {
     let kind = text_at(json, "type")?;

@@ -3,11 +3,11 @@
 use crate::entity::Entity;
 use crate::id::EntityId;
 
-/// The document of an entity's page.
+/// The document of an entity's page. Its texts are parts of the page where they can be.
 #[derive(Debug, Drop)]
-pub enum Document {
+pub enum Document<'a> {
     /// The entity, with all that its page says of it.
-    Entity(Entity),
+    Entity(Entity<'a>),
     /// The entity was merged into another, which is named.
     Redirect(EntityId),
 }

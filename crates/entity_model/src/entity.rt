@@ -3,36 +3,36 @@
 use crate::id::EntityId;
 use crate::statement::Statement;
 use crate::value::Tagged;
-use rdf_term::{List, Text};
+use rdf_term::{List, Piece};
 
 /// An item or a property, after Wikibase's JSON format. Lists are in the order of the page.
 #[derive(Debug, Drop)]
-pub struct Entity {
+pub struct Entity<'a> {
     /// The id: its letter says which of the two it is.
     pub id: EntityId,
     /// The datatype of a property's values, as `wikibase-item`. An item has none.
-    pub datatype: Option<Text>,
+    pub datatype: Option<Piece<'a>>,
     /// When the page was changed last, as `2024-05-01T10:00:00Z`.
-    pub modified: Option<Text>,
+    pub modified: Option<Piece<'a>>,
     /// The labels, one for a language.
-    pub labels: List<Tagged>,
+    pub labels: List<Tagged<'a>>,
     /// The descriptions, one for a language.
-    pub descriptions: List<Tagged>,
+    pub descriptions: List<Tagged<'a>>,
     /// The aliases, any number for a language.
-    pub aliases: List<Tagged>,
+    pub aliases: List<Tagged<'a>>,
     /// The statements.
-    pub statements: List<Statement>,
+    pub statements: List<Statement<'a>>,
     /// The links to articles, one for a site. A property has none.
-    pub links: List<Link>,
+    pub links: List<Link<'a>>,
 }
 
 /// A link to an article of a site.
 #[derive(Debug, Drop)]
-pub struct Link {
+pub struct Link<'a> {
     /// The site's id, as `enwiki`.
-    pub site: Text,
+    pub site: Piece<'a>,
     /// The article's title.
-    pub title: Text,
+    pub title: Piece<'a>,
     /// The items of the badges that the article has.
     pub badges: List<EntityId>,
 }

@@ -1,8 +1,9 @@
-// The values that the whole workspace speaks of: the ids of Wikidata's items and properties, the
-// events of their pages with the order in which they are applied, the documents of pages with all
-// that they say, and the reasons for which the bytes of a page are no document.
+//! The values that the whole workspace speaks of: the ids of Wikidata's items and properties, the
+//! events of their pages with the order in which they are applied, the documents of pages with all
+//! that they say, and the reasons for which the bytes of a page are no document.
 #![tactic(auto)]
 
+mod delivery;
 mod document;
 mod entity;
 mod event;
@@ -12,6 +13,7 @@ mod statement;
 mod unfit;
 mod value;
 
+pub use delivery::Delivery;
 pub use document::Document;
 pub use entity::{Entity, Link};
 pub use event::{Event, Kind};

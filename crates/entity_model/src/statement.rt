@@ -2,7 +2,7 @@
 
 use crate::id::EntityId;
 use crate::snak::Snak;
-use rdf_term::{List, Text};
+use rdf_term::{List, Piece};
 
 /// How much a statement counts among those of its property.
 #[derive(Clone, Copy, Debug, PartialEq, Eq, PartialOrd, Ord)]
@@ -17,26 +17,26 @@ pub enum Rank {
 
 /// A statement: a snak, what qualifies it, and where it is from.
 #[derive(Debug, Drop)]
-pub struct Statement {
+pub struct Statement<'a> {
     /// The statement's id, as `Q42$f078e5b3-f9a8-480e-b7ac-d97778cbbef9`.
-    pub id: Text,
+    pub id: Piece<'a>,
     /// The property.
     pub property: EntityId,
     /// The rank.
     pub rank: Rank,
     /// What is stated.
-    pub main: Snak,
+    pub main: Snak<'a>,
     /// What qualifies it.
-    pub qualifiers: List<Snak>,
+    pub qualifiers: List<Snak<'a>>,
     /// Where it is from.
-    pub references: List<Reference>,
+    pub references: List<Reference<'a>>,
 }
 
 /// Where a statement is from.
 #[derive(Debug, Drop)]
-pub struct Reference {
+pub struct Reference<'a> {
     /// The hash of its snaks, 1 to 64 ASCII letters and digits.
-    pub hash: Text,
+    pub hash: Piece<'a>,
     /// What it says of the source.
-    pub snaks: List<Snak>,
+    pub snaks: List<Snak<'a>>,
 }

@@ -1,72 +1,72 @@
 // The data values of statements.
 
-use rdf_term::Text;
+use rdf_term::Piece;
 
 /// A data value, after Wikibase's JSON format. Numbers are as they are spelled there.
 #[derive(Debug, Drop)]
-pub enum Value {
+pub enum Value<'a> {
     /// An entity, by its id.
-    Entity(Text),
+    Entity(Piece<'a>),
     /// A text.
-    Str(Text),
+    Str(Piece<'a>),
     /// A point in time.
-    Time(TimeParts),
+    Time(TimeParts<'a>),
     /// A number with a unit.
-    Quantity(QuantityParts),
+    Quantity(QuantityParts<'a>),
     /// A point on a globe.
-    Globe(GlobeParts),
+    Globe(GlobeParts<'a>),
     /// A text in a language.
-    Mono(Tagged),
+    Mono(Tagged<'a>),
     /// A value of another type, which has no RDF.
     Other,
 }
 
 /// A text and its language.
 #[derive(Debug, Drop)]
-pub struct Tagged {
+pub struct Tagged<'a> {
     /// The text.
-    pub text: Text,
+    pub text: Piece<'a>,
     /// The language's code.
-    pub language: Text,
+    pub language: Piece<'a>,
 }
 
 /// The parts of a time.
 #[derive(Debug, Drop)]
-pub struct TimeParts {
+pub struct TimeParts<'a> {
     /// The time, as `+2001-12-31T00:00:00Z`.
-    pub time: Text,
+    pub time: Piece<'a>,
     /// How much of the time is known: 9 is a year, 10 a month, 11 a day.
     pub precision: u8,
     /// The precision as it is spelled.
-    pub precision_text: Text,
+    pub precision_text: Piece<'a>,
     /// The offset from UTC in minutes, as it is spelled.
-    pub timezone: Text,
+    pub timezone: Piece<'a>,
     /// The calendar model, by the IRI of its entity.
-    pub calendar: Text,
+    pub calendar: Piece<'a>,
 }
 
 /// The parts of a quantity.
 #[derive(Debug, Drop)]
-pub struct QuantityParts {
+pub struct QuantityParts<'a> {
     /// The number.
-    pub amount: Text,
+    pub amount: Piece<'a>,
     /// The unit, by the IRI of its entity, or `1` for none.
-    pub unit: Text,
+    pub unit: Piece<'a>,
     /// The number's upper bound.
-    pub upper: Option<Text>,
+    pub upper: Option<Piece<'a>>,
     /// The number's lower bound.
-    pub lower: Option<Text>,
+    pub lower: Option<Piece<'a>>,
 }
 
 /// The parts of a coordinate.
 #[derive(Debug, Drop)]
-pub struct GlobeParts {
+pub struct GlobeParts<'a> {
     /// The latitude in degrees, as it is spelled.
-    pub latitude: Text,
+    pub latitude: Piece<'a>,
     /// The longitude in degrees, as it is spelled.
-    pub longitude: Text,
+    pub longitude: Piece<'a>,
     /// The precision in degrees, as it is spelled.
-    pub precision: Option<Text>,
+    pub precision: Option<Piece<'a>>,
     /// The globe, by the IRI of its entity.
-    pub globe: Text,
+    pub globe: Piece<'a>,
 }

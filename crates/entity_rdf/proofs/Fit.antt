@@ -30,6 +30,7 @@ use Rattle.rdf_vocabulary.specs.Prefix.{prefixed}
 use Rattle.rdf_vocabulary.proofs.Fit.{predicate_fit, resource_fit, prefixed_fit}
 use Rattle.value_nodes.specs.Nodes.{about}
 use Rattle.value_nodes.proofs.Fit.{literal_fit, plain_fit, simple_term_fit}
+use Rattle.triple_sink.specs.declared.setting.MappingVersion.{MappingVersion}
 use Rattle.statement_rdf.specs.Ranking.{is_best}
 use Rattle.statement_rdf.proofs.NamesFit.{id_term_fit, decimal_short}
 use Rattle.statement_rdf.proofs.Fit.{statement_triples_fit}
@@ -163,9 +164,9 @@ property_fit Letter.P x datatype small =
     join (types ++ value_predicates x) (other_predicates x) (join types (value_predicates x) (datatype_fit x datatype small) (values_fit x)) (others_fit x)
 property_fit Letter.Q x datatype small = tt
 
-statements_fit : (x : EntityId) (e : Entity) → IsSmallEntity e → AreFit (statements_triples x e.statements)
-statements_fit x e small =
-    join_all IsSmallStatement (judged_triples x e.statements) e.statements (λ s is. statement_triples_fit x s (is_best e.statements s) is) (recursion_from_All IsSmallStatement e.statements small.statements)
+statements_fit : (version : MappingVersion) (x : EntityId) (e : Entity) → IsSmallEntity e → AreFit (statements_triples version x e.statements)
+statements_fit version x e small =
+    join_all IsSmallStatement (judged_triples version x e.statements) e.statements (λ s is. statement_triples_fit version (entity_term x) s (is_best e.statements s) (entity_fit x) is) (recursion_from_All IsSmallStatement e.statements small.statements)
 
 articles_fit : (x : EntityId) (e : Entity) → IsSmallEntity e → AreFit (flat_map (article_triples x) e.links)
 articles_fit x e small =
@@ -180,15 +181,15 @@ spoken_fit x rev e small =
     (property_fit x.kind x e.datatype small.datatype)
 
 -- the triples of a small document
-list_fit : (x : EntityId) (rev : ℕ) (document : Document) → IsSmall document → AreFit (dump x rev document)
-list_fit x rev (AnEntity e) small =
+list_fit : (version : MappingVersion) (x : EntityId) (rev : ℕ) (document : Document) → IsSmall document → AreFit (dump version x rev document)
+list_fit version x rev (AnEntity e) small =
     let spoken = spoken_triples x rev e in
     let articles = flat_map (article_triples x) e.links in
-    join (spoken ++ articles) (statements_triples x e.statements)
+    join (spoken ++ articles) (statements_triples version x e.statements)
     (join spoken articles (spoken_fit x rev e small) (articles_fit x e small))
-    (statements_fit x e small)
-list_fit x rev (Redirect y) small = (about_fit (entity_term x) Say.SameAs _ (entity_fit x) (entity_fit y), tt)
+    (statements_fit version x e small)
+list_fit version x rev (Redirect y) small = (about_fit (entity_term x) Say.SameAs _ (entity_fit x) (entity_fit y), tt)
 
 -- the set of a small document's triples
-pub dump_fit : (x : EntityId) (rev : ℕ) (document : Document) → IsSmall document → AreFit (sorted triple_cmp (dump x rev document))
-dump_fit x rev document small = sorted_each HasFitAndShortTerms triple_cmp (dump x rev document) (list_fit x rev document small)
+pub dump_fit : (version : MappingVersion) (x : EntityId) (rev : ℕ) (document : Document) → IsSmall document → AreFit (sorted triple_cmp (dump version x rev document))
+dump_fit version x rev document small = sorted_each HasFitAndShortTerms triple_cmp (dump version x rev document) (list_fit version x rev document small)

@@ -42,6 +42,7 @@ use Rattle.wb_values.specs.Decimal.{is_decimal}
 use Rattle.wb_values.specs.Literal.{time_literal}
 use Rattle.value_nodes.specs.Name.{node_name}
 use Rattle.value_nodes.specs.Nodes.{about, bound_triples, named_triples, node_triples, number_one, one, part_triples, precision_triples, unit_term}
+use Rattle.value_nodes.specs.Said.{object_triples, triple}
 use Rattle.value_nodes.specs.Terms.{amount_term, commons_media, julian_calendar, simple_term, text_term, time_term, time_text_term, url}
 use Rattle.sitelinks.specs.declared.sites.Site.{Site}
 use Rattle.sitelinks.specs.Article.{article_iri, article_triples, badge_triple, found_triples, group_triple}
@@ -49,9 +50,10 @@ use Rattle.sitelinks.specs.Site.{site_of}
 use Rattle.statement_rdf.specs.declared.role.Role.{Role}
 use Rattle.statement_rdf.specs.declared.role.Role.TheVariants as Roles
 use Rattle.statement_rdf.specs.Node.{id_term, reference_node, statement_node}
+use Rattle.triple_sink.specs.declared.setting.MappingVersion.{MappingVersion}
 use Rattle.statement_rdf.specs.Ranking.{is_best}
 use Rattle.statement_rdf.specs.Role.{node_prefix, value_prefix}
-use Rattle.statement_rdf.specs.Snak.{content_triples, link_triples, object_triples, snak_triples, triple}
+use Rattle.statement_rdf.specs.Snak.{content_triples, link_triples, snak_triples}
 use Rattle.statement_rdf.specs.Statement.{class_triple, direct_content, direct_triples, head_triples, main_triples, qualifier_triples, reference_triples, statement_triples, where_best}
 use Rattle.munger.specs.Short.{has_short_label, HasShortLabels}
 use Rattle.munger.proofs.Fit.{sorted_each}
@@ -175,8 +177,8 @@ named_short : (value : Value) (name : Option (List ℕ)) → AreShort (named_tri
 named_short value None = tt
 named_short value (Some name) = parts_short _ value refl
 
-node_short : (value : Value) → AreShort (node_triples value)
-node_short value = named_short value (node_name value)
+node_short : (version : MappingVersion) (value : Value) → AreShort (node_triples version value)
+node_short version value = named_short value (node_name version value)
 
 -- a snak's triples: an unknown value alone makes a blank node
 object_short : (subject predicate : Term) (object : Option Term) → IsShort subject → IsShort predicate → IfSome object IsShort → AreShort (object_triples subject predicate object)
@@ -187,25 +189,25 @@ link_short : (subject predicate : Term) (name : Option (List ℕ)) → IsShort s
 link_short subject predicate None s p = tt
 link_short subject predicate (Some name) s p = (triple_short subject predicate _ s p refl, tt)
 
-content_short : (subject : Term) (id : List ℕ) (role : Role) (snak : Snak) (content : Content) → IsShort subject → AreShort (content_triples subject id role snak content)
-content_short subject id role snak (Contents.Value value) s =
+content_short : (version : MappingVersion) (subject : Term) (id : List ℕ) (role : Role) (snak : Snak) (content : Content) → IsShort subject → AreShort (content_triples version subject id role snak content)
+content_short version subject id role snak (Contents.Value value) s =
     let by_value = id_term (value_prefix role) snak.property in
     let by_node = id_term (node_prefix role) snak.property in
     let objects = object_triples subject by_value (simple_term snak.datatype value) in
-    let links = link_triples subject by_node (node_name value) in
-    join (objects ++ links) (node_triples value)
+    let links = link_triples subject by_node (node_name version value) in
+    join (objects ++ links) (node_triples version value)
     (join objects links
     (object_short subject by_value (simple_term snak.datatype value) s refl (simple_short snak.datatype value))
-    (link_short subject by_node (node_name value) s refl))
-    (node_short value)
-content_short subject id role snak Contents.NoValue s = (triple_short subject _ _ s refl refl, tt)
-content_short subject id role snak Contents.SomeValue s = (triple_short subject _ _ s refl (blank_short _), tt)
+    (link_short subject by_node (node_name version value) s refl))
+    (node_short version value)
+content_short version subject id role snak Contents.NoValue s = (triple_short subject _ _ s refl refl, tt)
+content_short version subject id role snak Contents.SomeValue s = (triple_short subject _ _ s refl (blank_short _), tt)
 
-snak_short : (subject : Term) (id : List ℕ) (role : Role) → IsShort subject → (snak : Snak) → AreShort (snak_triples subject id role snak)
-snak_short subject id role s snak = content_short subject id role snak snak.content s
+snak_short : (version : MappingVersion) (subject : Term) (id : List ℕ) (role : Role) → IsShort subject → (snak : Snak) → AreShort (snak_triples version subject id role snak)
+snak_short version subject id role s snak = content_short version subject id role snak snak.content s
 
-snaks_short : (subject : Term) (id : List ℕ) (role : Role) (snaks : List Snak) → IsShort subject → AreShort (flat_map (snak_triples subject id role) snaks)
-snaks_short subject id role snaks s = join_all (snak_triples subject id role) snaks (snak_short subject id role s)
+snaks_short : (version : MappingVersion) (subject : Term) (id : List ℕ) (role : Role) (snaks : List Snak) → IsShort subject → AreShort (flat_map (snak_triples version subject id role) snaks)
+snaks_short version subject id role snaks s = join_all (snak_triples version subject id role) snaks (snak_short version subject id role s)
 
 direct_short : (x : EntityId) (id : List ℕ) (snak : Snak) (content : Content) → AreShort (direct_content (entity_term x) id snak content)
 direct_short x id snak (Contents.Value value) =
@@ -225,31 +227,31 @@ head_short x s best =
       (triple_short _ _ _ refl refl refl, (triple_short _ _ _ refl refl refl, best_short best best_class (triple_short _ _ _ refl refl refl, tt))),
     )
 
-main_short : (x : EntityId) (s : Statement) (best : Bool) → AreShort (main_triples (entity_term x) (statement_node s.id) s best)
-main_short x s best =
-    let said = snak_triples (statement_node s.id) s.id Roles.Main s.main in
+main_short : (version : MappingVersion) (x : EntityId) (s : Statement) (best : Bool) → AreShort (main_triples version (entity_term x) (statement_node s.id) s best)
+main_short version x s best =
+    let said = snak_triples version (statement_node s.id) s.id Roles.Main s.main in
     let direct = direct_triples (entity_term x) s.id s.main in
-    join said (where_best best direct) (snak_short (statement_node s.id) s.id Roles.Main refl s.main)
+    join said (where_best best direct) (snak_short version (statement_node s.id) s.id Roles.Main refl s.main)
     (best_short best direct (direct_short x s.id s.main s.main.content))
 
-reference_short : (id : List ℕ) (r : Reference) → AreShort (reference_triples (statement_node id) id r)
-reference_short id r = (
+reference_short : (version : MappingVersion) (id : List ℕ) (r : Reference) → AreShort (reference_triples version (statement_node id) id r)
+reference_short version id r = (
   triple_short _ _ _ refl refl refl,
-  (triple_short _ _ _ refl refl refl, snaks_short (reference_node r.hash) id (Roles.Reference r.hash) r.snaks refl),
+  (triple_short _ _ _ refl refl refl, snaks_short version (reference_node r.hash) id (Roles.Reference r.hash) r.snaks refl),
 )
 
-statement_short : (x : EntityId) (s : Statement) (best : Bool) → AreShort (statement_triples x s best)
-statement_short x s best =
+statement_short : (version : MappingVersion) (x : EntityId) (s : Statement) (best : Bool) → AreShort (statement_triples version (entity_term x) s best)
+statement_short version x s best =
     let node = statement_node s.id in
     let head = head_triples (entity_term x) node s best in
-    let main = main_triples (entity_term x) node s best in
-    let qualifiers = qualifier_triples node s in
-    let references = flat_map (reference_triples node s.id) s.references in
+    let main = main_triples version (entity_term x) node s best in
+    let qualifiers = qualifier_triples version node s in
+    let references = flat_map (reference_triples version node s.id) s.references in
     join (head ++ main ++ qualifiers) references
     (join (head ++ main) qualifiers
-    (join head main (head_short x s best) (main_short x s best))
-    (snaks_short node s.id Roles.Qualifier s.qualifiers refl))
-    (join_all (reference_triples node s.id) s.references (reference_short s.id))
+    (join head main (head_short x s best) (main_short version x s best))
+    (snaks_short version node s.id Roles.Qualifier s.qualifiers refl))
+    (join_all (reference_triples version node s.id) s.references (reference_short version s.id))
 
 -- a link's triples
 badges_short : (article : Term) (badges : List EntityId) → IsShort article → AreShort (map (badge_triple article) badges)
@@ -378,19 +380,19 @@ spoken_short x rev e =
     (join texts set (texts_short x e) (dataset_short x rev e))
     (property_short x.kind x e.datatype)
 
-statements_short : (x : EntityId) (all : List Statement) → AreShort (statements_triples x all)
-statements_short x all = join_all (judged_triples x all) all (λ s. statement_short x s (is_best all s))
+statements_short : (version : MappingVersion) (x : EntityId) (all : List Statement) → AreShort (statements_triples version x all)
+statements_short version x all = join_all (judged_triples version x all) all (λ s. statement_short version x s (is_best all s))
 
 -- the triples of a document
-list_short : (x : EntityId) (rev : ℕ) (document : Document) → AreShort (dump x rev document)
-list_short x rev (AnEntity e) =
+list_short : (version : MappingVersion) (x : EntityId) (rev : ℕ) (document : Document) → AreShort (dump version x rev document)
+list_short version x rev (AnEntity e) =
     let spoken = spoken_triples x rev e in
     let articles = flat_map (article_triples x) e.links in
-    join (spoken ++ articles) (statements_triples x e.statements)
+    join (spoken ++ articles) (statements_triples version x e.statements)
     (join spoken articles (spoken_short x rev e) (join_all (article_triples x) e.links (article_short x)))
-    (statements_short x e.statements)
-list_short x rev (Redirect y) = (about_short (entity_term x) Say.SameAs _ refl refl, tt)
+    (statements_short version x e.statements)
+list_short version x rev (Redirect y) = (about_short (entity_term x) Say.SameAs _ refl refl, tt)
 
 -- the set of a document's triples
-pub dump_labels : (x : EntityId) (rev : ℕ) (document : Document) → AreShort (sorted triple_cmp (dump x rev document))
-dump_labels x rev document = sorted_each HasShortLabels triple_cmp (dump x rev document) (list_short x rev document)
+pub dump_labels : (version : MappingVersion) (x : EntityId) (rev : ℕ) (document : Document) → AreShort (sorted triple_cmp (dump version x rev document))
+dump_labels version x rev document = sorted_each HasShortLabels triple_cmp (dump version x rev document) (list_short version x rev document)

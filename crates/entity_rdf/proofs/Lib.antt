@@ -3,3 +3,4 @@ pub mod Given
 pub mod TypeNames
 pub mod Fit
 pub mod Labels
+pub mod Direct

@@ -6,6 +6,7 @@ use Rattle.entity_model.specs.declared.id.EntityId.{EntityId}
 use Rattle.entity_model.specs.declared.entity.Entity.{Entity}
 use Rattle.entity_model.specs.declared.document.Document.{Document}
 use Rattle.entity_model.specs.declared.document.Document.TheVariants.{Entity as AnEntity, Redirect}
+use Rattle.triple_sink.specs.declared.setting.MappingVersion.{MappingVersion}
 use Rattle.rdf_vocabulary.specs.declared.predicate.Predicate.TheVariants as Say
 use Rattle.value_nodes.specs.Nodes.{about}
 use Rattle.sitelinks.specs.Article.{article_triples}
@@ -26,14 +27,14 @@ abbrev pub spoken_triples : EntityId → ℕ → Entity → List Triple
 spoken_triples x rev e = text_triples x e ++ dataset_triples x rev e ++ property_triples x e.datatype
 
 -- all that an entity's page says
-abbrev pub entity_triples : EntityId → ℕ → Entity → List Triple
-entity_triples x rev e =
-    spoken_triples x rev e ++ flat_map (article_triples x) e.links ++ statements_triples x e.statements
+abbrev pub entity_triples : MappingVersion → EntityId → ℕ → Entity → List Triple
+entity_triples version x rev e =
+    spoken_triples x rev e ++ flat_map (article_triples x) e.links ++ statements_triples version x e.statements
 
 -- a redirect says that the entity is the one that it redirects to
 abbrev pub redirect_triples : EntityId → EntityId → List Triple
 redirect_triples x y = about (entity_term x) Say.SameAs (entity_term y) ∷ []
 
-abbrev pub dump : EntityId → ℕ → Document → List Triple
-dump x rev (AnEntity e) = entity_triples x rev e
-dump x rev (Redirect y) = redirect_triples x y
+abbrev pub dump : MappingVersion → EntityId → ℕ → Document → List Triple
+dump version x rev (AnEntity e) = entity_triples version x rev e
+dump version x rev (Redirect y) = redirect_triples x y

@@ -11,6 +11,7 @@ use Rattle.entity_model.specs.declared.entity.Entity.{Entity}
 use Rattle.entity_model.specs.declared.entity.Link.{Link}
 use Rattle.entity_model.specs.declared.document.Document.{Document}
 use Rattle.entity_model.specs.declared.document.Document.TheVariants.{Entity as AnEntity, Redirect}
+use Rattle.triple_sink.specs.declared.setting.MappingVersion.{MappingVersion}
 use Rattle.rdf_vocabulary.specs.declared.datatype.Datatype.TheVariants.{DateTime}
 use Rattle.rdf_vocabulary.specs.declared.predicate.Predicate.TheVariants as Say
 use Rattle.rdf_vocabulary.specs.declared.resource.Resource.TheVariants.{Dataset, PublicDomain}
@@ -24,29 +25,29 @@ use Rattle.entity_rdf.specs.About.{class_of, dataset_term, entity_term, format_v
 use Rattle.entity_rdf.specs.Property.{other_predicates, type_triples, value_predicates}
 
 -- the document of an entity says the triple
-pub data EntityGives (x : EntityId) (rev : ℕ) (e : Entity) (t : Triple) : Type 0 where
-  class : t ≡ about (entity_term x) Say.RdfType (resource_term (class_of x.kind)) → EntityGives x rev e t
-  label : (l : Tagged) → In l e.labels → t ≡ about (entity_term x) Say.Label (text_term l) → EntityGives x rev e t
-  preferred_label : (l : Tagged) → In l e.labels → t ≡ about (entity_term x) Say.PrefLabel (text_term l) → EntityGives x rev e t
-  name : (l : Tagged) → In l e.labels → t ≡ about (entity_term x) Say.Name (text_term l) → EntityGives x rev e t
-  description : (d : Tagged) → In d e.descriptions → t ≡ about (entity_term x) Say.Description (text_term d) → EntityGives x rev e t
-  alternative_label : (a : Tagged) → In a e.aliases → t ≡ about (entity_term x) Say.AltLabel (text_term a) → EntityGives x rev e t
-  dataset : t ≡ about (dataset_term x) Say.RdfType (resource_term Dataset) → EntityGives x rev e t
-  dataset_about : t ≡ about (dataset_term x) Say.About (entity_term x) → EntityGives x rev e t
-  license : t ≡ about (dataset_term x) Say.License (resource_term PublicDomain) → EntityGives x rev e t
-  format : t ≡ about (dataset_term x) Say.SoftwareVersion (Plain format_version) → EntityGives x rev e t
-  revision : t ≡ about (dataset_term x) Say.Version (number_term rev) → EntityGives x rev e t
-  statement_count : t ≡ about (dataset_term x) Say.Statements (number_term (length e.statements)) → EntityGives x rev e t
-  identifier_count : t ≡ about (dataset_term x) Say.Identifiers (number_term (identifiers e.statements)) → EntityGives x rev e t
-  link_count : x.kind ≡ Q → t ≡ about (dataset_term x) Say.Sitelinks (number_term (length e.links)) → EntityGives x rev e t
-  modified : (time : List ℕ) → e.modified ≡ Some time → t ≡ about (dataset_term x) Say.DateModified (typed time DateTime) → EntityGives x rev e t
-  property_type : (datatype : List ℕ) → x.kind ≡ P → e.datatype ≡ Some datatype → In t (type_triples (entity_term x) datatype) → EntityGives x rev e t
-  value_predicate : x.kind ≡ P → In t (value_predicates x) → EntityGives x rev e t
-  other_predicate : x.kind ≡ P → In t (other_predicates x) → EntityGives x rev e t
-  article : (l : Link) → In l e.links → In t (article_triples x l) → EntityGives x rev e t
-  statement : (s : Statement) → In s e.statements → StatementGives x s (is_best e.statements s) t → EntityGives x rev e t
+pub data EntityGives (version : MappingVersion) (x : EntityId) (rev : ℕ) (e : Entity) (t : Triple) : Type 0 where
+  class : t ≡ about (entity_term x) Say.RdfType (resource_term (class_of x.kind)) → EntityGives version x rev e t
+  label : (l : Tagged) → In l e.labels → t ≡ about (entity_term x) Say.Label (text_term l) → EntityGives version x rev e t
+  preferred_label : (l : Tagged) → In l e.labels → t ≡ about (entity_term x) Say.PrefLabel (text_term l) → EntityGives version x rev e t
+  name : (l : Tagged) → In l e.labels → t ≡ about (entity_term x) Say.Name (text_term l) → EntityGives version x rev e t
+  description : (d : Tagged) → In d e.descriptions → t ≡ about (entity_term x) Say.Description (text_term d) → EntityGives version x rev e t
+  alternative_label : (a : Tagged) → In a e.aliases → t ≡ about (entity_term x) Say.AltLabel (text_term a) → EntityGives version x rev e t
+  dataset : t ≡ about (dataset_term x) Say.RdfType (resource_term Dataset) → EntityGives version x rev e t
+  dataset_about : t ≡ about (dataset_term x) Say.About (entity_term x) → EntityGives version x rev e t
+  license : t ≡ about (dataset_term x) Say.License (resource_term PublicDomain) → EntityGives version x rev e t
+  format : t ≡ about (dataset_term x) Say.SoftwareVersion (Plain format_version) → EntityGives version x rev e t
+  revision : t ≡ about (dataset_term x) Say.Version (number_term rev) → EntityGives version x rev e t
+  statement_count : t ≡ about (dataset_term x) Say.Statements (number_term (length e.statements)) → EntityGives version x rev e t
+  identifier_count : t ≡ about (dataset_term x) Say.Identifiers (number_term (identifiers e.statements)) → EntityGives version x rev e t
+  link_count : x.kind ≡ Q → t ≡ about (dataset_term x) Say.Sitelinks (number_term (length e.links)) → EntityGives version x rev e t
+  modified : (time : List ℕ) → e.modified ≡ Some time → t ≡ about (dataset_term x) Say.DateModified (typed time DateTime) → EntityGives version x rev e t
+  property_type : (datatype : List ℕ) → x.kind ≡ P → e.datatype ≡ Some datatype → In t (type_triples (entity_term x) datatype) → EntityGives version x rev e t
+  value_predicate : x.kind ≡ P → In t (value_predicates x) → EntityGives version x rev e t
+  other_predicate : x.kind ≡ P → In t (other_predicates x) → EntityGives version x rev e t
+  article : (l : Link) → In l e.links → In t (article_triples x l) → EntityGives version x rev e t
+  statement : (s : Statement) → In s e.statements → StatementGives version (entity_term x) s (is_best e.statements s) t → EntityGives version x rev e t
 
 -- the document says the triple: that of a redirect, that it is the entity which is named
-abbrev pub Gives : EntityId → ℕ → Document → Triple → Type 0
-Gives x rev (AnEntity e) t = EntityGives x rev e t
-Gives x rev (Redirect y) t = t ≡ about (entity_term x) Say.SameAs (entity_term y)
+abbrev pub Gives : MappingVersion → EntityId → ℕ → Document → Triple → Type 0
+Gives version x rev (AnEntity e) t = EntityGives version x rev e t
+Gives version x rev (Redirect y) t = t ≡ about (entity_term x) Say.SameAs (entity_term y)

@@ -4,12 +4,14 @@ use Rattle.std.specs.List.{flat_map}
 use Rattle.rdf_term.specs.declared.triple.Triple.{Triple}
 use Rattle.entity_model.specs.declared.id.EntityId.{EntityId}
 use Rattle.entity_model.specs.declared.statement.Statement.{Statement}
+use Rattle.triple_sink.specs.declared.setting.MappingVersion.{MappingVersion}
 use Rattle.statement_rdf.specs.Ranking.{is_best}
 use Rattle.statement_rdf.specs.Statement.{statement_triples}
+use Rattle.entity_rdf.specs.About.{entity_term}
 
 -- a statement, best or not among all of them
-abbrev pub judged_triples : EntityId → List Statement → Statement → List Triple
-judged_triples x all s = statement_triples x s (is_best all s)
+abbrev pub judged_triples : MappingVersion → EntityId → List Statement → Statement → List Triple
+judged_triples version x all s = statement_triples version (entity_term x) s (is_best all s)
 
-abbrev pub statements_triples : EntityId → List Statement → List Triple
-statements_triples x all = flat_map (judged_triples x all) all
+abbrev pub statements_triples : MappingVersion → EntityId → List Statement → List Triple
+statements_triples version x all = flat_map (judged_triples version x all) all

@@ -5,11 +5,12 @@ ghost use Rattle.rising.specs.Rising.{In};
 ghost use Rattle.rdf_term.specs.declared.triple.Triple.{Triple};
 ghost use Rattle.entity_model.specs.declared.id.EntityId.{EntityId};
 ghost use Rattle.entity_model.specs.declared.document.Document.{Document};
+ghost use Rattle.triple_sink.specs.declared.setting.MappingVersion.{MappingVersion};
 ghost use Rattle.entity_rdf.specs.Dump.{dump};
 ghost use Rattle.entity_rdf.specs.Gives.{Gives};
 
 /// The triples of a document are exactly those that a rule of the dump format gives.
 #[tactic(auto, using(crate::proofs::Given::dump_rules))]
 pub fn dump_triples_are_given()
-    ensures { (x : EntityId) (rev : ℕ) (document : Document) (t : Triple) → In t (dump x rev document) ↔ Gives x rev document t }
+    ensures { (version : MappingVersion) (x : EntityId) (rev : ℕ) (document : Document) (t : Triple) → In t (dump version x rev document) ↔ Gives version x rev document t }
 {}

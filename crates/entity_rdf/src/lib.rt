@@ -1,16 +1,20 @@
-// The RDF of entity pages ("Wikibase RDF Dump Format").
-//
-// `about` has what a page says of its entity and of itself, `property` what a property's page says of its predicates,
-// and `statements` what its statements say; `dump` puts the rules together, and `laws` has what holds of them.
+//! The RDF of entity pages ("Wikibase RDF Dump Format").
+//!
+//! `about` has what a page says of its entity, `dataset` what it says of itself, `property` what a property's page says of
+//! its predicates, and `statements` what its statements say; `walk` puts the rules together. `dump` has the sets that a walk
+//! makes, of the dump and of what munging leaves of it, and `laws` what holds of the rules.
 #![tactic(auto)]
 
 mod about;
+mod dataset;
 mod dump;
 mod laws;
 mod property;
 mod statements;
 #[cfg(test)]
 mod tests;
+mod walk;
 
-pub use dump::dump_triples;
+pub use dump::{direct_triples, dump_triples};
 pub use laws::dump_triples_are_given;
+pub use walk::emit_dump;

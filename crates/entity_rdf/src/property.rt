@@ -4,14 +4,16 @@ ghost use Rattle.std.specs.Prelude.{◌≡◌, [], ◌∷◌, ◌++◌, IfOk, On
 ghost use Rattle.std.specs.Option.{option_copied};
 ghost use Rattle.std.specs.List.{flat_map, list_all, slice_split};
 ghost use Rattle.rdf_term.specs.Grammar.{is_word};
-ghost use Rattle.entity_rdf.specs.About.{entity_term};
+ghost use Rattle.triple_sink.specs.Gains.{Gains};
+ghost use Rattle.triple_sink.specs.TermRef.{meant};
 ghost use Rattle.entity_rdf.specs.Property.{capitalized, datatype_triples, is_datatype_char, is_hyphen, other_predicates, predicate_triple, property_triples, type_name, type_triples, value_predicates};
 
-use crate::about::push;
+use crate::about::emit;
 use entity_model::{EntityId, IdKind};
-use rdf_term::{List, OutOfMemory, Term, Text, Triple};
+use rdf_term::{OutOfMemory, Piece};
 use rdf_vocabulary::{Predicate, Prefix};
 use std::alloc::Global;
+use triple_sink::{Setting, TermRef, TripleSink};
 
 // Whether letters, digits and hyphens alone make the datatype.
 pub(crate) fn has_type(datatype: &[u8]) -> bool
@@ -78,95 +80,100 @@ fn split_first(text: &str) -> Option<(char, &str)>
     Some((first, rest.as_str()))
 }
 
-// Appends the type of properties of the datatype.
-fn push_type(
-    alloc: Global,
-    entity: &Term,
+// Emits the type of properties of the datatype.
+fn emit_type<S: TripleSink>(
+    setting: Setting,
+    entity: &TermRef<'_>,
     datatype: &str,
-    out: &mut List<Triple>,
+    out: &mut S,
 ) -> Result<(), OutOfMemory>
-    ensures { OnOk result (out.new ≡ out.old ++ type_triples entity.now datatype.now) }
+    ensures gains { OnOk result (Gains S.items S.keeps out.old out.new (type_triples (meant entity.now) datatype.now)) }
+    ensures stays { S.rest out.new ≡ S.rest out.old }
 {
     if !has_type(datatype.as_bytes()) {
         return Ok(());
     }
-    let name = type_name(alloc, datatype)?;
-    let class = Prefix::Wikibase.term(alloc, name.as_str())?;
-    push(alloc, entity, Predicate::PropertyType, class, out)
+    let name = type_name(setting.alloc, datatype)?;
+    let class = TermRef::Named(Prefix::Wikibase, name.as_str());
+    emit(setting, entity, Predicate::PropertyType, &class, out)
 }
 
-// Appends the type of properties of the datatype that the page says.
-fn push_datatype(
-    alloc: Global,
-    entity: &Term,
-    datatype: Option<&Text>,
-    out: &mut List<Triple>,
+// Emits the type of properties of the datatype that the page says.
+fn emit_datatype<S: TripleSink>(
+    setting: Setting,
+    entity: &TermRef<'_>,
+    datatype: Option<&Piece<'_>>,
+    out: &mut S,
 ) -> Result<(), OutOfMemory>
-    ensures { OnOk result (out.new ≡ out.old ++ datatype_triples entity.now (option_copied datatype.entry)) }
+    ensures gains { OnOk result (Gains S.items S.keeps out.old out.new (datatype_triples (meant entity.now) (option_copied datatype.entry))) }
+    ensures stays { S.rest out.new ≡ S.rest out.old }
 {
     match datatype {
-        Some(datatype) => push_type(alloc, entity, datatype.as_str(), out),
+        Some(datatype) => emit_type(setting, entity, datatype.as_str(), out),
         None => Ok(()),
     }
 }
 
-// Appends the property as a predicate of the namespace.
-fn push_predicate(
-    alloc: Global,
+// Emits the property as a predicate of the namespace.
+fn emit_predicate<S: TripleSink>(
+    setting: Setting,
     id: EntityId,
     predicate: Predicate,
     prefix: Prefix,
-    out: &mut List<Triple>,
+    out: &mut S,
 ) -> Result<(), OutOfMemory>
-    ensures { OnOk result (out.new ≡ out.old ++ predicate_triple id predicate prefix ∷ []) }
+    ensures gains { OnOk result (Gains S.items S.keeps out.old out.new (predicate_triple id predicate prefix ∷ [])) }
+    ensures stays { S.rest out.new ≡ S.rest out.old }
 {
-    let entity = crate::about::entity_term(alloc, id)?;
-    let object = prefix.term(alloc, id.text(alloc)?.as_str())?;
-    push(alloc, &entity, predicate, object, out)
+    let entity = TermRef::Id(Prefix::Wd, id);
+    emit(setting, &entity, predicate, &TermRef::Id(prefix, id), out)
 }
 
-fn push_value_predicates(
-    alloc: Global,
+fn emit_value_predicates<S: TripleSink>(
+    setting: Setting,
     id: EntityId,
-    out: &mut List<Triple>,
+    out: &mut S,
 ) -> Result<(), OutOfMemory>
-    ensures { OnOk result (out.new ≡ out.old ++ value_predicates id) }
+    ensures gains { OnOk result (Gains S.items S.keeps out.old out.new (value_predicates id)) }
+    ensures stays { S.rest out.new ≡ S.rest out.old }
 {
-    push_predicate(alloc, id, Predicate::DirectClaim, Prefix::Wdt, out)?;
-    push_predicate(alloc, id, Predicate::Claim, Prefix::P, out)?;
-    push_predicate(alloc, id, Predicate::StatementProperty, Prefix::Ps, out)?;
-    push_predicate(alloc, id, Predicate::StatementValue, Prefix::Psv, out)
+    emit_predicate(setting, id, Predicate::DirectClaim, Prefix::Wdt, out)?;
+    emit_predicate(setting, id, Predicate::Claim, Prefix::P, out)?;
+    emit_predicate(setting, id, Predicate::StatementProperty, Prefix::Ps, out)?;
+    emit_predicate(setting, id, Predicate::StatementValue, Prefix::Psv, out)
 }
 
-fn push_other_predicates(
-    alloc: Global,
+fn emit_other_predicates<S: TripleSink>(
+    setting: Setting,
     id: EntityId,
-    out: &mut List<Triple>,
+    out: &mut S,
 ) -> Result<(), OutOfMemory>
-    ensures { OnOk result (out.new ≡ out.old ++ other_predicates id) }
+    ensures gains { OnOk result (Gains S.items S.keeps out.old out.new (other_predicates id)) }
+    ensures stays { S.rest out.new ≡ S.rest out.old }
 {
-    push_predicate(alloc, id, Predicate::Qualifier, Prefix::Pq, out)?;
-    push_predicate(alloc, id, Predicate::QualifierValue, Prefix::Pqv, out)?;
-    push_predicate(alloc, id, Predicate::Reference, Prefix::Pr, out)?;
-    push_predicate(alloc, id, Predicate::ReferenceValue, Prefix::Prv, out)?;
-    push_predicate(alloc, id, Predicate::Novalue, Prefix::Wdno, out)
+    emit_predicate(setting, id, Predicate::Qualifier, Prefix::Pq, out)?;
+    emit_predicate(setting, id, Predicate::QualifierValue, Prefix::Pqv, out)?;
+    emit_predicate(setting, id, Predicate::Reference, Prefix::Pr, out)?;
+    emit_predicate(setting, id, Predicate::ReferenceValue, Prefix::Prv, out)?;
+    emit_predicate(setting, id, Predicate::Novalue, Prefix::Wdno, out)
 }
 
-/// Appends what the page of a property says of its predicates. An item's page says nothing of them.
-pub(crate) fn push_property(
-    alloc: Global,
+/// Emits what the page of a property says of its predicates. An item's page says nothing of them.
+pub(crate) fn emit_property<S: TripleSink>(
+    setting: Setting,
     id: EntityId,
-    datatype: Option<&Text>,
-    out: &mut List<Triple>,
+    datatype: Option<&Piece<'_>>,
+    out: &mut S,
 ) -> Result<(), OutOfMemory>
-    ensures { OnOk result (out.new ≡ out.old ++ property_triples id (option_copied datatype.entry)) }
+    ensures gains { OnOk result (Gains S.items S.keeps out.old out.new (property_triples id (option_copied datatype.entry))) }
+    ensures stays { S.rest out.new ≡ S.rest out.old }
 {
     match id.kind {
         IdKind::P => {
-            let entity = crate::about::entity_term(alloc, id)?;
-            push_datatype(alloc, &entity, datatype, out)?;
-            push_value_predicates(alloc, id, out)?;
-            push_other_predicates(alloc, id, out)
+            let entity = TermRef::Id(Prefix::Wd, id);
+            emit_datatype(setting, &entity, datatype, out)?;
+            emit_value_predicates(setting, id, out)?;
+            emit_other_predicates(setting, id, out)
         }
         IdKind::Q => Ok(()),
     }

@@ -1,42 +1,47 @@
 // The triples of all statements of an entity, each judged among them.
 
-ghost use Rattle.std.specs.Prelude.{◌≡◌, ◌++◌, ◌<◌, length, map, slice_index, OnOk};
+ghost use Rattle.std.specs.Prelude.{◌≡◌, ◌<◌, length, map, slice_index, OnOk};
 ghost use Rattle.std.specs.List.{flat_map};
+ghost use Rattle.triple_sink.specs.Gains.{Gains};
 ghost use Rattle.statement_rdf.specs.Ranking.{is_best};
 ghost use Rattle.entity_rdf.specs.Statements.{judged_triples, statements_triples};
 
 use entity_model::{EntityId, Statement};
-use rdf_term::{List, OutOfMemory, Triple};
-use statement_rdf::{best, statement_triples};
-use std::alloc::Global;
+use rdf_term::{List, OutOfMemory};
+use rdf_vocabulary::Prefix;
+use statement_rdf::{best, emit_statement};
+use triple_sink::{Setting, TermRef, TripleSink};
 
-/// Appends the triples of the statements.
-pub(crate) fn push_statements(
-    alloc: Global,
+/// Emits the triples of the statements.
+pub(crate) fn emit_statements<S: TripleSink>(
+    setting: Setting,
     id: EntityId,
     statements: &List<Statement>,
-    out: &mut List<Triple>,
+    out: &mut S,
 ) -> Result<(), OutOfMemory>
-    ensures { OnOk result (out.new ≡ out.old ++ statements_triples id statements.now) }
+    ensures gains { OnOk result (Gains S.items S.keeps out.old out.new (statements_triples setting.version id statements.now)) }
+    ensures stays { S.rest out.new ≡ S.rest out.old }
 {
-    let best = best(alloc, statements)?;
-    push_judged(alloc, id, statements.as_slice(), best.as_slice(), out)
+    let best = best(setting.alloc, statements)?;
+    emit_judged(setting, id, statements.as_slice(), best.as_slice(), out)
 }
 
-// Appends the triples of the statements, of which these are best.
-fn push_judged(
-    alloc: Global,
+// Emits the triples of the statements, of which these are best.
+fn emit_judged<S: TripleSink>(
+    setting: Setting,
     id: EntityId,
     statements: &[Statement],
     best: &[bool],
-    out: &mut List<Triple>,
+    out: &mut S,
 ) -> Result<(), OutOfMemory>
     requires { best.now ≡ map (is_best statements.now) statements.now }
-    ensures { OnOk result (out.new ≡ out.old ++ statements_triples id statements.now) }
+    ensures gains { OnOk result (Gains S.items S.keeps out.old out.new (statements_triples setting.version id statements.now)) }
+    ensures stays { S.rest out.new ≡ S.rest out.old }
 {
+    let entity = TermRef::Id(Prefix::Wd, id);
     let mut place = 0;
     for statement in statements {
-        statement_triples(alloc, id, statement, best[place], out)?;
+        emit_statement(setting, &entity, statement, best[place], out)?;
         place += 1;
     }
     Ok(())

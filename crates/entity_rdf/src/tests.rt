@@ -1,43 +1,13 @@
-// The dump of small documents; whole pages are tried with the program.
+// The dump of a small document, which no output shows. The crate `cases` tries whole pages.
 
 use crate::dump_triples;
-use crate::property::{has_type, type_name};
 use entity_model::{Document, Entity, EntityId, Tagged};
-use rdf_term::{List, Text, write_triple};
+use rdf_term::{List, Piece, write_triple};
 use std::alloc::Global;
 use std::process::Abort;
 use std::str;
 use std::test::Fail;
-
-// A datatype and the type of its properties, if it has one.
-const TYPES: &str = "\
-string String
-wikibase-item WikibaseItem
-globe-coordinate GlobeCoordinate
-commonsMedia CommonsMedia
-external-id ExternalId
-geo-shape GeoShape
-a--b AB
--x X
-3d-file 3dFile
-- 
-wikibase_item none
-wikibase.item none
-größe none";
-
-#[test]
-fn types(rt: HostRuntime) -> Result<(), Fail> {
-    for line in TYPES.lines() {
-        let (datatype, want) = line.split_once(' ').ok_or("a space")?;
-        assert_eq!(rt; has_type(datatype.as_bytes()), want != "none", "{datatype}");
-        if want != "none" {
-            let name = type_name(rt.alloc(), datatype)?;
-            assert_eq!(rt; name.as_str(), want, "{datatype}");
-        }
-    }
-    assert_eq!(rt; has_type(b""), false);
-    Ok(())
-}
+use triple_sink::{MappingVersion, Setting};
 
 // Checks the lines of the dump of Q1 at revision 5.
 fn check_dump(
@@ -46,21 +16,17 @@ fn check_dump(
     want: &str,
 ) -> Result<(), Fail> {
     let id = EntityId::read("Q1").ok_or("an id")?;
-    let dump = dump_triples(rt.alloc(), id, 5, document)?;
+    let setting = Setting {
+        alloc: rt.alloc(),
+        version: MappingVersion::One,
+    };
+    let dump = dump_triples(setting, id, 5, document)?;
     let mut text = Vec::new(rt.alloc());
     for triple in dump.items() {
         write_triple(triple, &mut text)?;
     }
     assert_eq!(rt; str::from_utf8(text.as_slice()), Ok(want));
     Ok(())
-}
-
-#[test]
-fn redirect(rt: HostRuntime) -> Result<(), Fail> {
-    let target = EntityId::read("Q2").ok_or("an id")?;
-    let want =
-        "<http://www.wikidata.org/entity/Q1> <http://www.w3.org/2002/07/owl#sameAs> <http://www.wikidata.org/entity/Q2> .\n";
-    check_dump(&rt, &Document::Redirect(target), want)
 }
 
 // All that the page of Q1 says where it has one label.
@@ -80,10 +46,10 @@ const ITEM: &str = "\
 ";
 
 // An item with one label, and nothing else.
-fn labelled_item(alloc: Global, id: EntityId) -> Result<Entity, Fail> {
+fn labelled_item(alloc: Global, id: EntityId) -> Result<Entity<'static>, Fail> {
     let label = Tagged {
-        text: Text::new(alloc, "a")?,
-        language: Text::new(alloc, "en")?,
+        text: Piece::borrowed("a"),
+        language: Piece::borrowed("en"),
     };
     let mut labels = List::new(alloc);
     labels.push(label)?;

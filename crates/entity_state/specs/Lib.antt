@@ -1,4 +1,5 @@
 pub mod State
 pub mod Record
 pub mod Tabled
+pub mod Standing
 pub mod Table

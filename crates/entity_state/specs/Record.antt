@@ -27,3 +27,7 @@ is_held r (Some h) = h == r
 -- whether the state is of a page that is there at revision r, and r isn't held
 abbrev pub lacks : ℕ → State → Option ℕ → Bool
 lacks r s held = is_kept s.mode && s.rev == r && not (is_held r held)
+
+-- whether the state wants a revision that isn't held
+abbrev pub wants : State → Option ℕ → Bool
+wants s held = is_kept s.mode && not (is_held s.rev held)

@@ -5,19 +5,19 @@ use Rattle.serde_json.specs.Data.{Data, Items, no_items, item}
 use Rattle.serde_json.specs.Find.{get, as_str, as_number, as_u64, as_array}
 use Rattle.serde_json.specs.Read.{read}
 use Rattle.rdf_term.specs.declared.term.Term.{Term}
-use Rattle.rdf_term.specs.declared.triple.Pattern.{Pattern}
+use Rattle.rdf_term.specs.declared.pattern.Pattern.{Pattern}
 use Rattle.rdf_term.specs.Reader.{read as term_of}
 use Rattle.entity_model.specs.declared.id.EntityId.{EntityId}
 use Rattle.entity_model.specs.declared.event.Event.{Event}
 use Rattle.entity_model.specs.declared.event.Kind.{Kind}
 use Rattle.entity_model.specs.declared.event.Kind.TheVariants.{Edit, Delete, Undelete, ReconcileDeleted, ReconcileKept}
 use Rattle.entity_model.specs.IdOf.{id_of}
-use Rattle.event_line.specs.declared.deliveries.Delivery.{Delivery}
-use Rattle.event_line.specs.declared.deliveries.Delivery.TheVariants.{Event as Told, Watermark, Ask}
-use Rattle.event_line.specs.declared.deliveries.LineCause.{LineCause}
-use Rattle.event_line.specs.declared.deliveries.LineCause.TheVariants.{NotJson, NoForm, Kind as BadKind, Entity, Rev, Time, Mode, Pattern as BadPattern}
-use Rattle.event_line.specs.declared.deliveries.DeliveryFault.{DeliveryFault}
-use Rattle.event_line.specs.declared.deliveries.DeliveryFault.TheVariants.{Bad, OutOfMemory}
+use Rattle.entity_model.specs.declared.delivery.Delivery.{Delivery}
+use Rattle.entity_model.specs.declared.delivery.Delivery.TheVariants.{Event as Told, Watermark, Ask}
+use Rattle.event_line.specs.declared.faults.LineCause.{LineCause}
+use Rattle.event_line.specs.declared.faults.LineCause.TheVariants.{NotJson, NoForm, Kind as BadKind, Entity, Rev, Time, Mode, Pattern as BadPattern}
+use Rattle.event_line.specs.declared.faults.DeliveryFault.{DeliveryFault}
+use Rattle.event_line.specs.declared.faults.DeliveryFault.TheVariants.{Bad, OutOfMemory}
 use Rattle.event_line.specs.declared.line.KindName.{KindName}
 use Rattle.event_line.specs.declared.line.KindName.TheVariants.{Edit as EditName, Delete as DeleteName, Undelete as UndeleteName, Reconcile}
 use Rattle.event_line.specs.Time.{time_of}

@@ -4,12 +4,12 @@ ghost use Rattle.std.specs.Prelude.{◌≡◌, ◌⊎◌, None, Some, MatchResul
 ghost use Rattle.serde_json.specs.View.{view};
 ghost use Rattle.rdf_term.specs.Reader.{read as term_of};
 ghost use Rattle.event_line.specs.Line.{Answers, AnswersPart, data_of, delivery_in, else_cause, event_of, watermark_of, ask_of, pattern_of, pattern_with, place_in, kind_named, kind_name, entity_of, rev_of, time_at, whole_kind};
-ghost use Rattle.event_line.specs.declared.deliveries.DeliveryFault.TheVariants.{Bad as Refused, OutOfMemory as NoMemory};
-ghost use Rattle.event_line.specs.declared.deliveries.LineCause.TheVariants.{NotJson as NoJson};
+ghost use Rattle.event_line.specs.declared.faults.DeliveryFault.TheVariants.{Bad as Refused, OutOfMemory as NoMemory};
+ghost use Rattle.event_line.specs.declared.faults.LineCause.TheVariants.{NotJson as NoJson};
 
-use crate::deliveries::{Delivery, DeliveryFault, LineCause};
+use crate::faults::{DeliveryFault, LineCause};
 use crate::time;
-use entity_model::{EntityId, Event, Kind};
+use entity_model::{Delivery, EntityId, Event, Kind};
 use rdf_term::{OutOfMemory, Pattern, Term, read_term};
 use serde_json::Value;
 use std::alloc::Global;

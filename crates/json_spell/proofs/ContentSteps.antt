@@ -11,7 +11,7 @@ use Rattle.json_spell.proofs.Chars.{escape-sound, short-complete, unicode-comple
 use Rattle.json_spell.proofs.Contents.{high-unescaped, content-past, content_by-step}
 
 -- each byte of an unescaped character is one that stands for itself
-unescaped-bytes : (c : ℕ) → is_unescaped c ≡ true → Each is_unescaped (encode c)
+pub unescaped-bytes : (c : ℕ) → is_unescaped c ≡ true → Each is_unescaped (encode c)
 unfolding encode
 unescaped-bytes c h = at (ltb c 128) (ltb c 2048) (ltb c 65536)
   where

@@ -17,3 +17,6 @@ pub mod Members
 pub mod Names
 pub mod Utf8Texts
 pub mod Scans
+pub mod Shallow
+pub mod Levels
+pub mod Nested

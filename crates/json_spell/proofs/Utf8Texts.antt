@@ -49,7 +49,7 @@ short-letter x c e = ⊎_elim (λ l. l) (λ h. absurd (high h)) (cases_lt x 128)
 digit-low : (x : ℕ) → is_digit x 16 ≡ true → x < 128
 digit-low x h = grind (arith, nat_tests)
 
-all-four : (a b c d : Bool) → (a && b && c && d) ≡ true → (a ≡ true) × (b ≡ true) × (c ≡ true) × (d ≡ true)
+pub all-four : (a b c d : Bool) → (a && b && c && d) ≡ true → (a ≡ true) × (b ≡ true) × (c ≡ true) × (d ≡ true)
 all-four true true true true e = (refl, refl, refl, refl)
 all-four false b c d e = absurd cc
 all-four true false c d e = absurd cc

@@ -20,7 +20,7 @@ word-sound (c ∷ word) (x ∷ s) r e = at (x == c) refl e (λ f. word-sound wor
     at true z f behind = let x_is : x ≡ c = grind (arith, nat_tests, z) in let s_is = behind f in cc
     at false z f behind = absurd cc
 
-there : {A : Type 0} (a b : Option A) {y : A} → first_there a b ≡ Some y → (a ≡ Some y) ⊎ (b ≡ Some y)
+pub there : {A : Type 0} (a b : Option A) {y : A} → first_there a b ≡ Some y → (a ≡ Some y) ⊎ (b ≡ Some y)
 there None b e = inr e
 there (Some x) b e = inl e
 

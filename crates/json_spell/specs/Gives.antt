@@ -1,11 +1,11 @@
--- What a reader of a part answers: what is there at the front of the bytes, NotJson where nothing is, or want of memory at any time.
+-- What a reader of a part answers: what is there at the front of the bytes, NotJson where nothing is, or at any time Deep or want of memory.
 use Rattle.std.specs.Prelude.{Option, Some, None, Result, Ok, Err, ◌≡◌}
 use Rattle.json_spell.specs.declared.fault.JsonFault.{JsonFault}
 use Rattle.json_spell.specs.declared.fault.JsonFault.TheVariants.{Deep, NotJson, OutOfMemory}
 
--- a fault of a reader, which never counts brackets
+-- a fault of a reader; where it stops at a level that is too deep, the brackets of the whole text are counted
 abbrev pub Refuses : {A : Type 0} → JsonFault → Option A → Type 0
-Refuses Deep there = ⊥
+Refuses Deep there = Unit {0}
 Refuses NotJson there = there ≡ None
 Refuses OutOfMemory there = Unit {0}
 

@@ -5,6 +5,8 @@ pub mod Number
 pub mod Text
 pub mod Deep
 pub mod Answers
+pub mod Nesting
+pub mod Tells
 pub mod Reading
 pub mod Weight
 pub mod Gives

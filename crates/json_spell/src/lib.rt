@@ -1,9 +1,9 @@
-// JSON texts as RFC 8259 defines them, with the spelling of each number kept.
-//
-// `json` has the values and the look-up of a member, `fault` what a text is refused for, and `reader` the reader of
-// a whole text. It stands on `deep`, which counts brackets, and on `value`, which reads the value; `number` and
-// `string` read those two, and `bytes` steps over white space, digits and the like. `laws` has what holds of the
-// grammar itself.
+//! JSON texts as RFC 8259 defines them, with the spelling of each number kept.
+//!
+//! `json` has the values and the look-up of a member, `fault` what a text is refused for, and `reader` the reader of
+//! a whole text. It stands on `deep`, which counts brackets, and on `value`, which reads the value; `number` and
+//! `string` read those two, and `bytes` steps over white space, digits and the like. `laws` has what holds of the
+//! grammar itself.
 #![tactic(auto)]
 
 mod bytes;

@@ -1,6 +1,7 @@
 // Reads a whole text.
 
-ghost use Rattle.json_spell.specs.Answers.{Answers};
+ghost use Rattle.json_spell.specs.Answers.{Answers, Faults};
+ghost use Rattle.json_spell.specs.Tells.{Excuses, Tells};
 
 use crate::deep::is_deep;
 use crate::fault::JsonFault;
@@ -8,20 +9,44 @@ use crate::json::Json;
 use crate::value::read_spaced;
 use std::alloc::Global;
 
+// How many levels arrays and objects may nest.
+const LEVELS: usize = 64;
+
+// The value of a whole text that nests no deeper than allowed.
+fn read_whole<'a>(alloc: Global, bytes: &'a [u8]) -> Result<Json<'a>, JsonFault>
+    ensures { Tells bytes.now result }
+{
+    let (json, rest) = read_spaced(alloc, LEVELS, bytes)?;
+    if !rest.is_empty() {
+        return Err(JsonFault::NotJson);
+    }
+    Ok(json)
+}
+
+// The fault of a text that wasn't read: Deep comes first. A text that isn't deep nests no deeper than allowed.
+fn fault_of(bytes: &[u8], fault: JsonFault) -> JsonFault
+    requires { Excuses bytes.now fault }
+    ensures { Faults bytes.now result }
+{
+    if is_deep(bytes) {
+        return JsonFault::Deep;
+    }
+    match fault {
+        JsonFault::NotJson => JsonFault::NotJson,
+        JsonFault::Deep | JsonFault::OutOfMemory => JsonFault::OutOfMemory,
+    }
+}
+
 /// The value of a JSON text: RFC 8259, in UTF-8 without a byte order mark.
 ///
 /// A string may not escape a surrogate alone. Where, outside of strings, the `[` and `{` up to some byte exceed the
 /// `]` and `}` by more than 64, the answer is `Deep`, whatever else the bytes are; a string there starts and ends at
 /// `"`, and in it a `\` passes over the next byte.
-pub fn read(alloc: Global, bytes: &[u8]) -> Result<Json, JsonFault>
+pub fn read<'a>(alloc: Global, bytes: &'a [u8]) -> Result<Json<'a>, JsonFault>
     ensures { Answers bytes.now result }
 {
-    if is_deep(bytes) {
-        return Err(JsonFault::Deep);
+    match read_whole(alloc, bytes) {
+        Ok(json) => Ok(json),
+        Err(fault) => Err(fault_of(bytes, fault)),
     }
-    let (json, rest) = read_spaced(alloc, bytes)?;
-    if !rest.is_empty() {
-        return Err(JsonFault::NotJson);
-    }
-    Ok(json)
 }

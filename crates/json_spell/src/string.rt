@@ -6,9 +6,9 @@ ghost use Rattle.json_spell.specs.Text.{short_escape, code_unit, is_high_surroga
 ghost use Rattle.json_spell.specs.Reading.{before, run_at, low_half, unicode_at, escape_at, content_at};
 ghost use Rattle.json_spell.specs.Gives.{Gives};
 
-use crate::bytes::{before, next, skip_unescaped, utf8};
+use crate::bytes::{after_byte, before, next, skip_unescaped, utf8};
 use crate::fault::JsonFault;
-use rdf_term::Text;
+use rdf_term::{Piece, Text};
 use std::alloc::Global;
 
 // What a letter after a backslash stands for.
@@ -107,9 +107,9 @@ fn push_run<'a>(content: &mut String, bytes: &'a [u8]) -> Result<&'a [u8], JsonF
     Ok(rest)
 }
 
-// The content of a string after its opening quotation mark, and what follows the closing one.
+// The content of a string after its opening quotation mark, copied, and what follows the closing one.
 #[tactic(auto, using(crate::proofs::ContentSteps::content_steps))]
-pub(crate) fn read_content(alloc: Global, bytes: &[u8]) -> Result<(Text, &[u8]), JsonFault>
+fn read_content(alloc: Global, bytes: &[u8]) -> Result<(Text, &[u8]), JsonFault>
     ensures read { Gives (λ p. (p.0, p.1.now)) result (content_at bytes.now) }
     ensures no_longer { IfOk result (λ p. length p.1.now ≤ length bytes.now) }
 {
@@ -132,4 +132,24 @@ pub(crate) fn read_content(alloc: Global, bytes: &[u8]) -> Result<(Text, &[u8]),
         content.push(character)?;
         left = rest;
     }
+}
+
+// The content of a string after its opening quotation mark, and what follows the closing one. It is copied only where
+// the string has an escape.
+pub(crate) fn read_string<'a>(
+    alloc: Global,
+    bytes: &'a [u8],
+) -> Result<(Piece<'a>, &'a [u8]), JsonFault>
+    ensures read { Gives (λ p. (p.0, p.1.now)) result (content_at bytes.now) }
+    ensures no_longer { IfOk result (λ p. length p.1.now ≤ length bytes.now) }
+{
+    let end = skip_unescaped(bytes);
+    if let Some(rest) = after_byte(end, b'"') {
+        let Some(run) = utf8(before(bytes, end)) else {
+            return Err(JsonFault::NotJson);
+        };
+        return Ok((Piece::borrowed(run), rest));
+    }
+    let (content, rest) = read_content(alloc, bytes)?;
+    Ok((Piece::owned(content), rest))
 }

@@ -6,7 +6,7 @@ use std::alloc::{AllocError, Global};
 use std::test::Fail;
 
 // A value in short: `#` before a number, quotation marks round a string, members as name and value.
-fn show(json: &Json, out: &mut String) -> Result<(), AllocError> {
+fn show(json: &Json<'_>, out: &mut String) -> Result<(), AllocError> {
     match json {
         Json::Null => out.push_str("null"),
         Json::Bool(true) => out.push_str("true"),

@@ -5,18 +5,19 @@ ghost use Rattle.json_spell.specs.Tree.{no_trees, no_pairs};
 ghost use Rattle.json_spell.specs.View.{json_view, member_view, trees_of, pairs_of};
 ghost use Rattle.json_spell.specs.Reading.{spaced, list_by, name_at, member_by, literal_at, scalar_at, value_at, values_at, members_at};
 ghost use Rattle.json_spell.specs.Gives.{Gives};
+ghost use Rattle.json_spell.specs.Nesting.{Nests, AllNest, MembersNest};
 
 use crate::bytes::{after_byte, after_word, next, skip_ws};
 use crate::fault::JsonFault;
 use crate::json::{Json, Member};
 use crate::number::read_number;
-use crate::string::read_content;
-use rdf_term::Text;
+use crate::string::read_string;
+use rdf_term::Piece;
 use std::alloc::Global;
 
 // A literal name.
 #[tactic(auto, unfolding(crate::specs::Reading::literal_at))]
-fn read_literal(bytes: &[u8]) -> Option<(Json, &[u8])>
+fn read_literal<'a>(bytes: &'a [u8]) -> Option<(Json<'a>, &'a [u8])>
     ensures read { option_map (λ p. (json_view p.0, p.1.now)) result ≡ literal_at bytes.now }
     ensures no_longer { IfSome result (λ p. length p.1.now ≤ length bytes.now) }
 {
@@ -32,71 +33,92 @@ fn read_literal(bytes: &[u8]) -> Option<(Json, &[u8])>
 
 // A literal name or a number.
 #[tactic(auto, unfolding(crate::specs::Reading::scalar_at))]
-fn read_scalar(alloc: Global, bytes: &[u8]) -> Result<(Json, &[u8]), JsonFault>
+fn read_scalar<'a>(bytes: &'a [u8]) -> Result<(Json<'a>, &'a [u8]), JsonFault>
     ensures read { Gives (λ p. (json_view p.0, p.1.now)) result (scalar_at bytes.now) }
     ensures no_longer { IfOk result (λ p. length p.1.now ≤ length bytes.now) }
 {
     if let Some(literal) = read_literal(bytes) {
         return Ok(literal);
     }
-    let (spelling, rest) = read_number(alloc, bytes)?;
+    let (spelling, rest) = read_number(bytes)?;
     Ok((Json::Number(spelling), rest))
 }
 
 // A name with white space around it.
-fn read_name(alloc: Global, bytes: &[u8]) -> Result<(Text, &[u8]), JsonFault>
+fn read_name<'a>(alloc: Global, bytes: &'a [u8]) -> Result<(Piece<'a>, &'a [u8]), JsonFault>
     ensures read { Gives (λ p. (p.0, p.1.now)) result (spaced name_at bytes.now) }
     ensures no_longer { IfOk result (λ p. length p.1.now ≤ length bytes.now) }
 {
     let Some(rest) = after_byte(skip_ws(bytes), b'"') else {
         return Err(JsonFault::NotJson);
     };
-    let (name, rest) = read_content(alloc, rest)?;
+    let (name, rest) = read_string(alloc, rest)?;
     Ok((name, skip_ws(rest)))
 }
 
-// A value with white space around it.
+// A value with white space around it. Here and below, an array or object that opens where no level is left is Deep.
 #[cycle(read)]
-pub(crate) fn read_spaced(alloc: Global, bytes: &[u8]) -> Result<(Json, &[u8]), JsonFault>
+pub(crate) fn read_spaced<'a>(
+    alloc: Global,
+    levels: usize,
+    bytes: &'a [u8],
+) -> Result<(Json<'a>, &'a [u8]), JsonFault>
     ensures read { Gives (λ p. (json_view p.0, p.1.now)) result (spaced value_at bytes.now) }
     ensures no_longer { IfOk result (λ p. length p.1.now ≤ length bytes.now) }
+    ensures nests { IfOk result (λ p. Nests levels (json_view p.0)) }
 {
-    let (json, rest) = read_value(alloc, skip_ws(bytes))?;
+    let (json, rest) = read_value(alloc, levels, skip_ws(bytes))?;
     Ok((json, skip_ws(rest)))
 }
 
 // A value.
 #[cycle(read)]
-fn read_value(alloc: Global, bytes: &[u8]) -> Result<(Json, &[u8]), JsonFault>
+fn read_value<'a>(
+    alloc: Global,
+    levels: usize,
+    bytes: &'a [u8],
+) -> Result<(Json<'a>, &'a [u8]), JsonFault>
     ensures read { Gives (λ p. (json_view p.0, p.1.now)) result (value_at bytes.now) }
     ensures no_longer { IfOk result (λ p. length p.1.now ≤ length bytes.now) }
+    ensures nests { IfOk result (λ p. Nests levels (json_view p.0)) }
 {
     let Some((byte, rest)) = next(bytes) else {
         return Err(JsonFault::NotJson);
     };
     match byte {
         b'"' => {
-            let (content, rest) = read_content(alloc, rest)?;
+            let (content, rest) = read_string(alloc, rest)?;
             Ok((Json::Str(content), rest))
         }
         b'[' => {
-            let (items, rest) = read_items(alloc, rest)?;
+            if levels == 0 {
+                return Err(JsonFault::Deep);
+            }
+            let (items, rest) = read_items(alloc, levels - 1, rest)?;
             Ok((Json::Items(items), rest))
         }
         b'{' => {
-            let (members, rest) = read_members(alloc, rest)?;
+            if levels == 0 {
+                return Err(JsonFault::Deep);
+            }
+            let (members, rest) = read_members(alloc, levels - 1, rest)?;
             Ok((Json::Members(members), rest))
         }
-        _ => read_scalar(alloc, bytes),
+        _ => read_scalar(bytes),
     }
 }
 
 // The values of an array, after its opening bracket.
 #[cycle(read)]
-fn read_items(alloc: Global, bytes: &[u8]) -> Result<(Vec<Json>, &[u8]), JsonFault>
+fn read_items<'a>(
+    alloc: Global,
+    levels: usize,
+    bytes: &'a [u8],
+) -> Result<(Vec<Json<'a>>, &'a [u8]), JsonFault>
     ensures read { Gives (λ p. (trees_of (map json_view p.0.items), p.1.now)) result
         (list_by no_trees 0x5D values_at bytes.now) }
     ensures no_longer { IfOk result (λ p. length p.1.now ≤ length bytes.now) }
+    ensures nests { IfOk result (λ p. AllNest levels (trees_of (map json_view p.0.items))) }
 {
     let mut items = Vec::new(alloc);
     if let Some(rest) = after_byte(skip_ws(bytes), b']') {
@@ -104,7 +126,7 @@ fn read_items(alloc: Global, bytes: &[u8]) -> Result<(Vec<Json>, &[u8]), JsonFau
     }
     let mut left = bytes;
     loop {
-        let (item, rest) = read_spaced(alloc, left)?;
+        let (item, rest) = read_spaced(alloc, levels, left)?;
         items.push(item)?;
         let Some((byte, rest)) = next(rest) else {
             return Err(JsonFault::NotJson);
@@ -121,24 +143,34 @@ fn read_items(alloc: Global, bytes: &[u8]) -> Result<(Vec<Json>, &[u8]), JsonFau
 
 // A member of an object.
 #[cycle(read)]
-fn read_member(alloc: Global, bytes: &[u8]) -> Result<(Member, &[u8]), JsonFault>
+fn read_member<'a>(
+    alloc: Global,
+    levels: usize,
+    bytes: &'a [u8],
+) -> Result<(Member<'a>, &'a [u8]), JsonFault>
     ensures read { Gives (λ p. (member_view p.0, p.1.now)) result (member_by value_at bytes.now) }
     ensures no_longer { IfOk result (λ p. length p.1.now ≤ length bytes.now) }
+    ensures nests { IfOk result (λ p. Nests levels (member_view p.0).1) }
 {
     let (key, rest) = read_name(alloc, bytes)?;
     let Some(rest) = after_byte(rest, b':') else {
         return Err(JsonFault::NotJson);
     };
-    let (value, rest) = read_spaced(alloc, rest)?;
+    let (value, rest) = read_spaced(alloc, levels, rest)?;
     Ok((Member { key, value }, rest))
 }
 
 // The members of an object, after its opening brace.
 #[cycle(read)]
-fn read_members(alloc: Global, bytes: &[u8]) -> Result<(Vec<Member>, &[u8]), JsonFault>
+fn read_members<'a>(
+    alloc: Global,
+    levels: usize,
+    bytes: &'a [u8],
+) -> Result<(Vec<Member<'a>>, &'a [u8]), JsonFault>
     ensures read { Gives (λ p. (pairs_of (map member_view p.0.items), p.1.now)) result
         (list_by no_pairs 0x7D members_at bytes.now) }
     ensures no_longer { IfOk result (λ p. length p.1.now ≤ length bytes.now) }
+    ensures nests { IfOk result (λ p. MembersNest levels (pairs_of (map member_view p.0.items))) }
 {
     let mut members = Vec::new(alloc);
     if let Some(rest) = after_byte(skip_ws(bytes), b'}') {
@@ -146,7 +178,7 @@ fn read_members(alloc: Global, bytes: &[u8]) -> Result<(Vec<Member>, &[u8]), Jso
     }
     let mut left = bytes;
     loop {
-        let (member, rest) = read_member(alloc, left)?;
+        let (member, rest) = read_member(alloc, levels, left)?;
         members.push(member)?;
         let Some((byte, rest)) = next(rest) else {
             return Err(JsonFault::NotJson);

@@ -1,3 +1,5 @@
 pub mod Fit
 pub mod FlatMap
-pub mod Munged
+pub mod Joined
+pub mod Kept
+pub mod MungedList

@@ -1,13 +1,18 @@
-// Munging: what of the dump's triples of a page the store keeps, and under which subject, after the data
-// differences that the Wikidata Query Service documents for its Streaming Updater.
-//
-// `verdict` judges a triple, `naming` gives blank nodes IRIs, and `munging` does both to a set.
+//! Munging: what of the dump's triples of a page the store keeps, and under which subject, after the data
+//! differences that the Wikidata Query Service documents for its Streaming Updater.
+//!
+//! `iris` compares borrowed terms with IRIs, `verdict` judges a triple, and `naming` gives blank nodes IRIs. `sink`
+//! has the sink that munges what it hands on, and `munging` munges a set with it.
 #![tactic(auto)]
 
+mod iris;
 mod munging;
 mod naming;
+mod sink;
 #[cfg(test)]
 mod tests;
 mod verdict;
 
 pub use munging::munge;
+pub use sink::Munged;
+pub use verdict::Page;

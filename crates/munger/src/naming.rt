@@ -1,18 +1,23 @@
 // IRIs for blank nodes.
 
-ghost use Rattle.std.specs.Prelude.{◌≡◌, IfOk};
+ghost use Rattle.std.specs.Prelude.{◌≡◌};
+ghost use Rattle.triple_sink.specs.TermRef.{meant};
 ghost use Rattle.munger.specs.Naming.{named};
 
-use rdf_term::{OutOfMemory, Term};
 use rdf_vocabulary::Prefix;
-use std::alloc::Global;
+use triple_sink::TermRef;
 
 /// The term; in place of a blank node the IRI that its label names (RDF 1.1, section 3.5).
-pub(crate) fn named(alloc: Global, term: &Term) -> Result<Term, OutOfMemory>
-    ensures { IfOk result (λ name. name ≡ named term.now) }
+pub(crate) fn named<'a>(term: &TermRef<'a>) -> TermRef<'a>
+    ensures { meant result ≡ named (meant term.now) }
 {
     match term {
-        Term::Blank(label) => Prefix::Genid.term(alloc, label.as_str()),
-        Term::Iri(_) | Term::Plain(_) | Term::Lang(_, _) | Term::Typed(_, _) => term.copy(alloc),
+        TermRef::Blank(label) => TermRef::Named(Prefix::Genid, label),
+        TermRef::Named(_, _)
+        | TermRef::Id(_, _)
+        | TermRef::Iri(_)
+        | TermRef::Plain(_)
+        | TermRef::Lang(_, _)
+        | TermRef::Typed(_, _) => *term,
     }
 }

@@ -1,9 +1,10 @@
--- A character that may stand in an IRI is its own percent-encoding.
+-- A character that may stand in an IRI is its own percent-encoding, and so is a text of such.
 use Rattle.std.proofs.Common.{◌≡◌, ℕ, ◌==◌, ◌<◌, ◌≤◌, true, false, lit<, List, [], ◌∷◌, refl, ap, arith, ⊎_elim}
-use Rattle.std.proofs.lemmas.Bool.{cases_lt, lt-ltb, ne_eqb}
+use Rattle.std.proofs.lemmas.Bool.{and_parts, cases_lt, lt-ltb, ne_eqb}
 use Rattle.std.proofs.lemmas.Str.{encode_ascii}
 use Rattle.rising.specs.Rising.{Each}
-use Rattle.rdf_term.specs.Grammar.{is_iri_char, percent_encoded}
+use Rattle.rdf_term.specs.declared.term.Term.TheVariants.{Iri}
+use Rattle.rdf_term.specs.Grammar.{iri_of, is_iri, is_iri_char, percent_encoded}
 use Rattle.rdf_term.proofs.HighBytes.{encode_high}
 use lib.Utf8.{encode}
 
@@ -21,3 +22,13 @@ percent_encoded_char c e = ⊎_elim
     (λ low. rw (encode_ascii c low, e) refl)
     (λ high. percent_encoded-high (encode c) (encode_high c high))
     (cases_lt c 128)
+
+percent_encoded_same : (text : List ℕ) → is_iri text ≡ true → percent_encoded text ≡ text
+percent_encoded_same [] h = refl
+percent_encoded_same (b ∷ text) h =
+    let parts = and_parts (is_iri_char b) (is_iri text) h in
+    rw parts.0 (ap (λ rest. b ∷ rest) (percent_encoded_same text parts.1))
+
+-- the IRI of a text of such characters is the text
+pub iri_of_same : (text : List ℕ) → is_iri text ≡ true → iri_of text ≡ Iri text
+iri_of_same text h = ap Iri (percent_encoded_same text h)

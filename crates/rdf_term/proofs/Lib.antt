@@ -5,9 +5,12 @@ pub mod FitTerms
 pub mod Found
 pub mod HighBytes
 pub mod IriChars
+pub mod Members
 pub mod Pieces
 pub mod ReadBack
 pub mod Reading
 pub mod Tags
 pub mod Texts
+pub mod Unescaped
+pub mod Utf8Texts
 pub mod Words

@@ -103,3 +103,7 @@ fit_ok text (Err fault) h = tt
 pub back_ok : (text : List ℕ) (r : Result (Option Term) OutOfMemory) → IfOk r (λ found. found ≡ read text) → IfOk r (λ found. (term : Term) → is_fit term ≡ true → text ≡ term_text term → found ≡ Some term)
 back_ok text (Ok found) h = λ term fit is. h ∙ (reads text term).1 (subst (λ l. IsWritten l term) (sym is) (fit_written term fit))
 back_ok text (Err fault) h = tt
+
+-- reading the canonical text of a fit term gives the term
+pub reads_back : (term : Term) → is_fit term ≡ true → read (term_text term) ≡ Some term
+reads_back term fit = (reads (term_text term) term).1 (fit_written term fit)

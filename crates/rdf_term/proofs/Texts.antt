@@ -1,5 +1,5 @@
 -- Different terms have different canonical texts: a text can be undone.
-use Rattle.std.proofs.Common.{◌≡◌, ℕ, List, [], ◌∷◌, ◌++◌, Bool, true, false, refl, sym, ap, ◌∙◌, ⊎_elim, if◌then◌else◌, ◌==◌, Ordering, Less, Equal, Greater, ne_eqb}
+use Rattle.std.proofs.Common.{◌≡◌, ℕ, List, [], ◌∷◌, ◌++◌, false, refl, sym, ap, ◌∙◌, ⊎_elim, Ordering, Less, Equal, Greater, ne_eqb}
 use Rattle.std.specs.FinMap.{IsAntisymmetric, nat_cmp-IsAntisymmetric, slice_cmp-IsAntisymmetric}
 use Rattle.std.specs.Ordering.{ordering_then}
 use Rattle.rdf_term.specs.declared.term.Term.{Term}
@@ -7,16 +7,8 @@ use Rattle.rdf_term.specs.declared.term.Term.TheVariants.{Iri, Blank, Plain, Lan
 use Rattle.rdf_term.specs.declared.triple.Triple.{Triple}
 use Rattle.rdf_term.specs.Order.{term_cmp, triple_cmp}
 use Rattle.rdf_term.specs.Text.{escaped, in_brackets, term_text}
-use Rattle.rdf_term.proofs.Escapes.{kind, byte_of}
-
--- all but the last
-front_of : ℕ → List ℕ → List ℕ
-front_of x [] = []
-front_of x (y ∷ ys) = x ∷ front_of y ys
-
-front : List ℕ → List ℕ
-front [] = []
-front (x ∷ xs) = front_of x xs
+use Rattle.rdf_term.specs.Undo.{front, front_of, byte_of, put, split_quoted, literal, literal_of, undo}
+use Rattle.rdf_term.proofs.Escapes.{kind}
 
 front_of-push : (x : ℕ) (xs : List ℕ) (y : ℕ) → front_of x (xs ++ y ∷ []) ≡ x ∷ xs
 unfolding front_of
@@ -28,57 +20,23 @@ unfolding front front_of
 front-push [] y = refl
 front-push (x ∷ xs) y = front_of-push x xs y
 
--- a text up to its closing quote, and what follows; `true` is behind a backslash
-record Split : Type 0 where
-  text : List ℕ
-  rest : List ℕ
-
-put : ℕ → Split → Split
-put x s = record { text = x ∷ s.text; rest = s.rest }
-
-scan : Bool → List ℕ → Split
-scan behind [] = record { text = []; rest = [] }
-scan true (x ∷ xs) = put (byte_of x) (scan false xs)
-scan false (x ∷ xs) = if x == 34 then record { text = []; rest = xs } else (if x == 92 then scan true xs else put x (scan false xs))
-
-scan-escaped : (text rest : List ℕ) → scan false (escaped text ++ 34 ∷ rest) ≡ record { text = text; rest = rest }
-unfolding scan put
-scan-escaped [] rest = refl
-scan-escaped (x ∷ xs) rest =
+split-escaped : (text rest : List ℕ) → split_quoted false (escaped text ++ 34 ∷ rest) ≡ record { text = text; rest = rest }
+unfolding split_quoted put
+split-escaped [] rest = refl
+split-escaped (x ∷ xs) rest =
     ⊎_elim
-    (λ k. rw (k.is, ne_eqb x 34 k.not_quote, ne_eqb x 92 k.not_backslash) (ap (put x) (scan-escaped xs rest)))
-    (λ k. rw k.is (ap (put (byte_of k.letter)) (scan-escaped xs rest) ∙ ap (λ b. record { text = b ∷ xs; rest = rest }) k.byte))
+    (λ k. rw (k.is, ne_eqb x 34 k.not_quote, ne_eqb x 92 k.not_backslash) (ap (put x) (split-escaped xs rest)))
+    (λ k. rw k.is (ap (put (byte_of k.letter)) (split-escaped xs rest) ∙ ap (λ b. record { text = b ∷ xs; rest = rest }) k.byte))
     (kind x)
 
--- what a literal is, by its text and what stands behind the closing quote
-literal : List ℕ → List ℕ → Term
-literal text [] = Plain text
-literal text (x ∷ xs) = if x == 64 then Lang text xs else Typed text (front (after_two xs))
-  where
-    after_two : List ℕ → List ℕ
-    after_two [] = []
-    after_two (y ∷ []) = []
-    after_two (y ∷ z ∷ zs) = zs
-
-literal_of : Split → Term
-literal_of s = literal s.text s.rest
-
--- the term of a canonical text
-undo : List ℕ → Term
-undo [] = Plain []
-undo (x ∷ xs) = if x == 60 then Iri (front xs) else (if x == 34 then literal_of (scan false xs) else Blank (after_one xs))
-  where
-    after_one : List ℕ → List ℕ
-    after_one [] = []
-    after_one (y ∷ ys) = ys
-
-undo-term_text : (t : Term) → undo (term_text t) ≡ t
+-- a canonical text is read back
+pub undo-term_text : (t : Term) → undo (term_text t) ≡ t
 unfolding undo literal literal_of
 undo-term_text (Iri iri) = ap Iri (front-push iri 62)
 undo-term_text (Blank label) = refl
-undo-term_text (Plain text) = ap literal_of (scan-escaped text [])
-undo-term_text (Lang text tag) = ap literal_of (scan-escaped text (64 ∷ tag))
-undo-term_text (Typed text datatype) = ap literal_of (scan-escaped text (94 ∷ 94 ∷ in_brackets datatype)) ∙ ap (Typed text) (front-push datatype 62)
+undo-term_text (Plain text) = ap literal_of (split-escaped text [])
+undo-term_text (Lang text tag) = ap literal_of (split-escaped text (64 ∷ tag))
+undo-term_text (Typed text datatype) = ap literal_of (split-escaped text (94 ∷ 94 ∷ in_brackets datatype)) ∙ ap (Typed text) (front-push datatype 62)
 
 -- different terms have different texts
 pub same_text : (t u : Term) → term_text t ≡ term_text u → t ≡ u

@@ -2,7 +2,10 @@ pub mod Append
 pub mod Fit
 pub mod Grammar
 pub mod Order
+pub mod Pattern
+pub mod Piece
 pub mod Reader
 pub mod TagReader
 pub mod Text
+pub mod Undo
 pub mod Written

@@ -1,5 +1,5 @@
 -- The canonical texts of terms and triples, after N-Triples.
-use Rattle.std.specs.Prelude.{ℕ, List, [], ◌∷◌, ◌++◌, ◌==◌, if◌then◌else◌}
+use Rattle.std.specs.Prelude.{ℕ, Bool, ◌||◌, List, [], ◌∷◌, ◌++◌, ◌==◌, if◌then◌else◌}
 use Rattle.std.specs.List.{flat_map}
 use Rattle.rdf_term.specs.declared.term.Term.{Term}
 use Rattle.rdf_term.specs.declared.term.Term.TheVariants.{Iri, Blank, Plain, Lang, Typed}
@@ -13,6 +13,10 @@ escaped_byte b =
     else (if b == 10 then 92 ∷ 110 ∷ []
     else (if b == 13 then 92 ∷ 114 ∷ []
     else b ∷ [])))
+
+-- whether a byte of a literal's text is written by an escape
+abbrev pub is_escaped : ℕ → Bool
+is_escaped b = (b == 34) || (b == 92) || (b == 10) || (b == 13)
 
 -- a literal's text as it stands between the quotes
 abbrev pub escaped : List ℕ → List ℕ

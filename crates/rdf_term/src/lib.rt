@@ -1,19 +1,22 @@
-// RDF terms and triples, and the texts and lists that every crate above is built of.
-//
-// `text` and `list` have owned texts and lists that contracts see as lists; `memory` has the one fault
-// that every call which allocates shares. `term` and `triple` have the values of RDF, `write` and `escape`
-// their canonical texts in N-Triples, `order` the order by those texts, and `triple_set` the set that the
-// order makes. `read`, `content`, `label` and `tag` read terms by the grammar of N-Triples, and `tag` and
-// `percent` make fit terms of any texts.
+//! RDF terms and triples, and the texts and lists that every crate above is built of.
+//!
+//! `text` and `list` have owned texts and lists that contracts see as lists, and `piece` texts that are borrowed where they can be;
+//! `memory` has the one fault that every call which allocates shares. `term` and `triple` have the values of RDF, `write` and `escape`
+//! their canonical texts in N-Triples, `order` the order by those texts, `triple_set` the set that the order makes, and `pattern` the
+//! pattern that triples are asked for by. `read`, `content`, `label` and `tag` read terms by the grammar of N-Triples, and `tag` and
+//! `percent` make fit terms of any texts. `laws` has what holds of the definitions themselves.
 #![tactic(auto)]
 
 mod content;
 mod escape;
 mod label;
+mod laws;
 mod list;
 mod memory;
 mod order;
+mod pattern;
 mod percent;
+mod piece;
 mod read;
 mod tag;
 mod term;
@@ -24,14 +27,19 @@ mod triple;
 mod triple_set;
 mod write;
 
+pub use laws::{
+    canonical_text_reads_back, reading_is_by_the_grammar, sorted_triples_are_the_triples,
+};
 pub use list::List;
 pub use memory::OutOfMemory;
 pub use order::{compare, compare_terms};
-pub use percent::iri;
+pub use pattern::Pattern;
+pub use percent::{iri, is_iri};
+pub use piece::Piece;
 pub use read::read_term;
-pub use tag::tagged;
+pub use tag::{is_tag, tagged};
 pub use term::Term;
 pub use text::Text;
-pub use triple::{Pattern, Triple};
+pub use triple::Triple;
 pub use triple_set::TripleSet;
-pub use write::{write_term, write_triple};
+pub use write::{write_quoted, write_term, write_triple};

@@ -2,7 +2,7 @@
 
 ghost use Rattle.std.specs.Prelude.{◌≡◌, ◌<◌, ◌++◌, IfOk, OnOk, true, string_bytes, encode_utf8};
 ghost use Rattle.rdf_term.specs.Fit.{is_fit};
-ghost use Rattle.rdf_term.specs.Grammar.{hex_digit, iri_of, is_iri_char, percent_encoded};
+ghost use Rattle.rdf_term.specs.Grammar.{hex_digit, iri_of, is_iri, is_iri_char, percent_encoded};
 
 use crate::memory::OutOfMemory;
 use crate::term::Term;
@@ -38,6 +38,15 @@ fn push_encoded(c: char, encoded: &mut String) -> Result<(), OutOfMemory>
     encoded.push(hex_digit(byte / 16))?;
     encoded.push(hex_digit(byte % 16))?;
     Ok(())
+}
+
+/// Whether each character of the text may stand in an IRI as it is. Then the IRI of the text is the text.
+pub fn is_iri(text: &str) -> bool
+    ensures { result ≡ is_iri text.now }
+{
+    text.as_bytes()
+        .iter()
+        .all(|byte| is_iri_char(*byte as char))
 }
 
 /// Whether the character may stand in an IRI as it is.

@@ -24,8 +24,7 @@ pub fn tagged(alloc: Global, text: &str, tag: &str) -> Result<Term, OutOfMemory>
     Ok(Term::Plain(text))
 }
 
-/// Whether the bytes are a language tag.
-
+/// Whether the bytes are a language tag, by the grammar of N-Triples: `[a-zA-Z]+(-[a-zA-Z0-9]+)*`.
 pub fn is_tag(tag: &[u8]) -> bool
     ensures { result ≡ is_tag tag.now }
 {

@@ -1,4 +1,4 @@
-// A triple of RDF, and the pattern that triples are asked for by.
+// A triple of RDF.
 
 ghost use Rattle.std.specs.Prelude.{◌≡◌, IfOk, refl};
 ghost use Rattle.std.specs.Cmp.{partial_equiv_from_equiv, eq_by_cmp_equiv, partial_order_from_total};
@@ -71,15 +71,4 @@ impl PartialOrd for Triple {
     fn partial_cmp(&self, other: &Triple) -> Option<Ordering> {
         Some(compare(self, other))
     }
-}
-
-/// What triples are asked for: a place that is `None` agrees with every term.
-#[derive(Debug, Drop)]
-pub struct Pattern {
-    /// The subject that is wanted.
-    pub subject: Option<Term>,
-    /// The predicate that is wanted.
-    pub predicate: Option<Term>,
-    /// The object that is wanted.
-    pub object: Option<Term>,
 }

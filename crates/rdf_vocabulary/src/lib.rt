@@ -1,6 +1,6 @@
-// The vocabulary of Wikidata's RDF: the namespaces, predicates, classes and datatypes that the dump
-// is written in, each as an enum with the text of its IRI and the terms made of it; and how names in
-// it are made, by escapes or by hashes.
+//! The vocabulary of Wikidata's RDF: the namespaces, predicates, classes and datatypes that the dump
+//! is written in, each as an enum with the text of its IRI and the terms made of it; and how names in
+//! it are made, by escapes or by hashes.
 #![tactic(auto)]
 
 mod datatype;

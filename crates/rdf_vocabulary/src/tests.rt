@@ -1,7 +1,7 @@
 // Values from outside: the test suite of RFC 1321, escapes by RFC 3986, and IRIs of Wikidata's dumps.
 
 use super::*;
-use rdf_term::{Term, Text, write_term};
+use rdf_term::{Piece, Term, write_term};
 use std::alloc::Global;
 use std::process::Abort;
 use std::test::Fail;
@@ -46,7 +46,7 @@ fn fields_are_told_apart(rt: HostRuntime) -> Result<(), Fail> {
     let mut fields = String::new(rt.alloc());
     push_field("äb", &mut fields)?;
     push_optional_field(None, &mut fields)?;
-    let empty = Text::new(rt.alloc(), "")?;
+    let empty = Piece::borrowed("");
     push_optional_field(Some(&empty), &mut fields)?;
     assert_eq!(rt; fields.as_str(), "3:äb-0:");
     Ok(())

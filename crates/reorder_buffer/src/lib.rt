@@ -1,5 +1,5 @@
-// The reorder buffer: it takes events in whatever order they come, tells repeats and late ones, and
-// gives the events that are due by the watermarks back in their order.
+//! The reorder buffer: it takes events in whatever order they come, tells repeats and late ones, and
+//! gives the events that are due by the watermarks back in their order.
 #![tactic(auto)]
 
 mod buffer;

@@ -2,7 +2,7 @@
 use Rattle.std.proofs.Common.{◌≡◌, true, List, sym, ◌∙◌, ap, refl}
 use Rattle.entity_model.specs.declared.event.Event.{Event}
 use Rattle.entity_model.specs.Event.{event_cmp, event_cmp_total, event_cmp_same}
-use Rattle.event_line.specs.declared.deliveries.Delivery.{Delivery}
+use Rattle.entity_model.specs.declared.delivery.Delivery.{Delivery}
 use Rattle.reorder_buffer.specs.Watermarks.{is_due}
 use Rattle.rising.specs.Rising.{has}
 use Rattle.rising.proofs.Rising.{sorted_same}

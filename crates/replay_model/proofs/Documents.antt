@@ -5,11 +5,11 @@ use Rattle.entity_model.specs.declared.event.Event.{Event}
 use Rattle.entity_state.specs.declared.record.Held.{Held}
 use Rattle.entity_state.specs.declared.record.Record.{Record}
 use Rattle.entity_state.specs.State.{is_deleted, state_after}
-use Rattle.entity_state.specs.Record.{held_revision}
+use Rattle.entity_state.specs.Record.{held_revision, wants}
 use Rattle.side_output.specs.declared.entry.Cause.{Cause}
 use Rattle.replay_model.specs.Fate.{is_of}
 use Rattle.replay_model.specs.Play.{Played, apply, held_after_fetch, record_after}
-use Rattle.replay_model.specs.Records.{Bytes, record_of, wants}
+use Rattle.replay_model.specs.Records.{Bytes, record_of}
 use Rattle.replay_model.specs.Replies.{GivesDocument, HoldsDocument, Judgement}
 use Rattle.replay_model.proofs.RecordOf.{entity_of, record-after}
 

@@ -16,7 +16,8 @@ use Rattle.side_output.specs.declared.entry.Entry.{Entry}
 use Rattle.rising.specs.Rising.{has}
 use Rattle.rising.proofs.Bools.{or_none}
 use Rattle.replay_model.specs.Records.{Bytes, record_of}
-use Rattle.replay_model.specs.Play.{Replies, Played, held_after_fetch, reconciled_after, entry_of, entries_after}
+use Rattle.replay_model.specs.Play.{Replies, Played, held_after_fetch, entry_of, entries_after}
+use Rattle.entity_state.specs.Standing.{reconciled_after}
 use Rattle.replay_model.specs.Replies.{Judgement, judged, reply_there, failed_event, failed_events, missing_event, missing_events}
 use Rattle.replay_model.specs.ReplayState.{ReplayState, taken_entries, after_applying}
 use Rattle.replay_model.specs.Explained.{revision_wanted, is_fetching}

@@ -4,8 +4,8 @@ use Rattle.std.proofs.lemmas.List.Elements.{filter-append}
 use Rattle.entity_model.specs.declared.event.Event.{Event}
 use Rattle.entity_model.specs.Event.{event_cmp_total, event_cmp_same}
 use Rattle.side_output.specs.declared.entry.Entry.TheVariants.{Late as LateEntry}
-use Rattle.event_line.specs.declared.deliveries.Delivery.{Delivery}
-use Rattle.event_line.specs.declared.deliveries.Delivery.TheVariants.{Event as Told, Watermark, Ask}
+use Rattle.entity_model.specs.declared.delivery.Delivery.{Delivery}
+use Rattle.entity_model.specs.declared.delivery.Delivery.TheVariants.{Event as Told, Watermark, Ask}
 use Rattle.reorder_buffer.specs.declared.taken.Taken.{Taken}
 use Rattle.reorder_buffer.specs.declared.taken.Taken.TheVariants.{New, Repeat, Late}
 use Rattle.reorder_buffer.specs.Watermarks.{greater, reached, is_due}

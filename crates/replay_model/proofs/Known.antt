@@ -12,8 +12,8 @@ use Rattle.entity_model.specs.declared.event.Kind.TheVariants.{Edit, Delete, Und
 use Rattle.entity_model.specs.Event.{event_cmp, event_cmp_total, event_cmp_same}
 use Rattle.entity_state.specs.declared.state.State.{State}
 use Rattle.entity_state.specs.State.{state_after, after_kind, unknown}
-use Rattle.event_line.specs.declared.deliveries.Delivery.{Delivery}
-use Rattle.event_line.specs.declared.deliveries.Delivery.TheVariants.{Event as Told, Watermark, Ask}
+use Rattle.entity_model.specs.declared.delivery.Delivery.{Delivery}
+use Rattle.entity_model.specs.declared.delivery.Delivery.TheVariants.{Event as Told, Watermark, Ask}
 use Rattle.reorder_buffer.specs.Watermarks.{reached, is_due}
 use Rattle.rising.specs.Rising.{has}
 use Rattle.rising.proofs.Bools.{equal, or_none, or_true, or_false_left, or_false_right}
@@ -23,7 +23,7 @@ use Rattle.rising.proofs.Filtering.{has-filter}
 use Rattle.rising.proofs.Finding.{list_any-sorted, list_any-filter}
 use Rattle.replay_model.specs.Acceptance.{mark, events, is_repeat, is_late, is_accepted, accepted, late, due, known}
 use Rattle.replay_model.specs.Fate.{is_of, events_of, in_order, fate}
-use Rattle.replay_model.specs.Play.{is_reconciliation}
+use Rattle.entity_state.specs.Standing.{is_reconciliation}
 use Rattle.replay_model.specs.Entries.{is_later, is_open_late}
 use Rattle.replay_model.proofs.Times.{not_false, reached-greater}
 use Rattle.replay_model.proofs.Deliveries.{mark-kept, mark-watermark, events-kept, events-told, events_passing-kept, events_passing-told}

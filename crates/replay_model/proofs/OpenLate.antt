@@ -6,14 +6,15 @@ use Rattle.entity_model.specs.Event.{event_cmp, event_cmp_total, event_cmp_same}
 use Rattle.entity_state.specs.declared.record.Record.{Record}
 use Rattle.entity_state.specs.Record.{blank}
 use Rattle.side_output.specs.Entry.{is_before}
-use Rattle.event_line.specs.declared.deliveries.Delivery.{Delivery}
+use Rattle.entity_model.specs.declared.delivery.Delivery.{Delivery}
 use Rattle.rising.proofs.Bools.{or_none}
 use Rattle.rising.proofs.Rising.{turned}
 use Rattle.rising.proofs.Finding.{list_any-sorted, list_any-filter}
 use Rattle.replay_model.specs.Acceptance.{due}
 use Rattle.replay_model.specs.Fate.{is_of, events_of, in_order}
 use Rattle.replay_model.specs.Records.{Bytes, record_of}
-use Rattle.replay_model.specs.Play.{Replies, is_reconciliation, reconciled_after, played}
+use Rattle.replay_model.specs.Play.{Replies, played}
+use Rattle.entity_state.specs.Standing.{is_reconciliation, reconciled_after}
 use Rattle.replay_model.specs.Entries.{is_later, is_open_late}
 use Rattle.replay_model.proofs.RecordOf.{record-played, reconciled-applied_to}
 

@@ -8,13 +8,14 @@ use Rattle.entity_model.specs.Event.{event_cmp_total, event_cmp_same}
 use Rattle.entity_state.specs.declared.record.Record.{Record}
 use Rattle.entity_state.specs.State.{state_after}
 use Rattle.entity_state.specs.Record.{blank}
-use Rattle.event_line.specs.declared.deliveries.Delivery.{Delivery}
+use Rattle.entity_model.specs.declared.delivery.Delivery.{Delivery}
 use Rattle.rising.proofs.Bools.{equal}
 use Rattle.rising.proofs.Filtering.{sorted-filter}
 use Rattle.replay_model.specs.Acceptance.{due}
 use Rattle.replay_model.specs.Fate.{is_of, events_of, in_order, fate}
 use Rattle.replay_model.specs.Records.{Bytes, Records, record_of}
-use Rattle.replay_model.specs.Play.{Replies, record_after, records_after, reconciled_after, played}
+use Rattle.replay_model.specs.Play.{Replies, record_after, records_after, played}
+use Rattle.entity_state.specs.Standing.{reconciled_after}
 use Rattle.replay_model.proofs.PlayedRecords.{records_of, records-played}
 
 -- an event of the entity x names x

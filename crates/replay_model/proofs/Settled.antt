@@ -12,18 +12,18 @@ use Rattle.entity_state.specs.declared.state.State.{State}
 use Rattle.entity_state.specs.declared.record.Held.{Held}
 use Rattle.entity_state.specs.declared.record.Record.{Record}
 use Rattle.entity_state.specs.State.{state_after, after_kind, kept, deleted, is_kept, is_deleted}
-use Rattle.entity_state.specs.Record.{held_revision, is_held}
+use Rattle.entity_state.specs.Record.{held_revision, is_held, wants}
 use Rattle.side_output.specs.declared.entry.Cause.{Cause}
 use Rattle.side_output.specs.declared.entry.Entry.{Entry}
 use Rattle.side_output.specs.declared.entry.Entry.TheVariants.{Late, Revision}
-use Rattle.event_line.specs.declared.deliveries.Delivery.{Delivery}
-use Rattle.event_line.specs.declared.deliveries.Delivery.TheVariants.{Event as Told, Watermark, Ask}
+use Rattle.entity_model.specs.declared.delivery.Delivery.{Delivery}
+use Rattle.entity_model.specs.declared.delivery.Delivery.TheVariants.{Event as Told, Watermark, Ask}
 use Rattle.rising.proofs.Bools.{or_true, and_right, and_left, and_none, and_all}
 use Rattle.rising.proofs.Finding.{list_any_weaker, list_any_never}
 use Rattle.rising.proofs.Pushes.{by_pushes}
 use Rattle.replay_model.specs.Acceptance.{is_late}
 use Rattle.replay_model.specs.Fate.{is_of}
-use Rattle.replay_model.specs.Records.{Bytes, record_of, wants, settles_at, is_settled}
+use Rattle.replay_model.specs.Records.{Bytes, record_of, settles_at, is_settled}
 use Rattle.replay_model.specs.Play.{Replies, Played, nothing_played, held_after_fetch, record_after, entry_of, entries_after, apply, apply_all, newly_due, happens, play, played}
 use Rattle.replay_model.specs.Entries.{HoldsUnlessOpen, is_open_by, is_revision_of, has_open_revision}
 use Rattle.replay_model.proofs.Arrivals.{play-push}

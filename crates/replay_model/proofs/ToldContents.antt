@@ -8,17 +8,17 @@ use Rattle.entity_state.specs.declared.state.State.{State}
 use Rattle.entity_state.specs.declared.record.Held.{Held}
 use Rattle.entity_state.specs.declared.record.Record.{Record}
 use Rattle.entity_state.specs.State.{state_after, is_deleted}
-use Rattle.entity_state.specs.Record.{blank, held_revision}
+use Rattle.entity_state.specs.Record.{blank, held_revision, wants}
 use Rattle.side_output.specs.declared.entry.Cause.TheVariants.{Failed}
 use Rattle.side_output.specs.declared.entry.Entry.{Entry}
 use Rattle.side_output.specs.declared.entry.Entry.TheVariants.{Late}
-use Rattle.event_line.specs.declared.deliveries.Delivery.{Delivery}
-use Rattle.event_line.specs.declared.deliveries.Delivery.TheVariants.{Event as Told, Watermark, Ask}
+use Rattle.entity_model.specs.declared.delivery.Delivery.{Delivery}
+use Rattle.entity_model.specs.declared.delivery.Delivery.TheVariants.{Event as Told, Watermark, Ask}
 use Rattle.rising.specs.Rising.{has, Each}
 use Rattle.rising.proofs.Pushes.{by_pushes}
 use Rattle.replay_model.specs.Acceptance.{is_late, due}
 use Rattle.replay_model.specs.Fate.{is_of, events_of, in_order}
-use Rattle.replay_model.specs.Records.{Bytes, record_of, wants}
+use Rattle.replay_model.specs.Records.{Bytes, record_of}
 use Rattle.replay_model.specs.Play.{Played, held_after_fetch, record_after, entry_of, entries_after, apply, apply_all, newly_due, happens, play, played}
 use Rattle.replay_model.specs.Replies.{Judgement, judged, reply_there, source_replies, HoldsWhatIsThere, HasUnfit, TellsWhatIsThere}
 use Rattle.replay_model.proofs.Arrivals.{play-push}

@@ -3,8 +3,8 @@ use Rattle.std.specs.Prelude.{ℤ, Bool, not, ◌&&◌, cond, List, [], ◌∷�
 use Rattle.rising.specs.Rising.{has}
 use Rattle.entity_model.specs.declared.event.Event.{Event}
 use Rattle.entity_model.specs.Event.{event_cmp}
-use Rattle.event_line.specs.declared.deliveries.Delivery.{Delivery}
-use Rattle.event_line.specs.declared.deliveries.Delivery.TheVariants.{Event as Told, Watermark}
+use Rattle.entity_model.specs.declared.delivery.Delivery.{Delivery}
+use Rattle.entity_model.specs.declared.delivery.Delivery.TheVariants.{Event as Told, Watermark}
 use Rattle.reorder_buffer.specs.Watermarks.{greater, reached, is_due}
 
 -- a delivery and the deliveries before it

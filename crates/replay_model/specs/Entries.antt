@@ -10,10 +10,11 @@ use Rattle.entity_state.specs.Record.{held_revision}
 use Rattle.entity_state.specs.State.{is_kept}
 use Rattle.side_output.specs.declared.entry.Entry.{Entry}
 use Rattle.side_output.specs.declared.entry.Entry.TheVariants.{Late, Revision}
-use Rattle.side_output.specs.Entry.{is_open}
+use Rattle.side_output.specs.Entry.{entity_of, is_open}
 use Rattle.replay_model.specs.Fate.{is_of}
 use Rattle.replay_model.specs.Records.{Bytes, Records, is_settled, record_of}
-use Rattle.replay_model.specs.Play.{Played, is_reconciliation}
+use Rattle.replay_model.specs.Play.{Played}
+use Rattle.entity_state.specs.Standing.{is_reconciliation}
 
 -- the event of a late entry
 abbrev pub late_event : Entry → Option Event
@@ -39,11 +40,6 @@ is_open_late due e = not (list_any (settles e) due)
 -- whether an entry is open, by the record of its entity
 abbrev pub is_open_by : Record Bytes → Entry → Bool
 is_open_by r entry = is_open entry r.state (held_revision r.held) r.reconciled
-
--- the entity of an entry's event
-abbrev pub entity_of : Entry → EntityId
-entity_of (Late e) = e.entity
-entity_of (Revision e r cause) = e.entity
 
 -- whether an entry is open, by the record of its entity among these
 abbrev pub is_open_in : Records → Entry → Bool

@@ -6,12 +6,12 @@ use Rattle.entity_model.specs.Event.{event_cmp}
 use Rattle.side_output.specs.declared.entry.Cause.{Cause}
 use Rattle.side_output.specs.declared.entry.Cause.TheVariants.{Failed}
 use Rattle.entity_state.specs.State.{state_after}
-use Rattle.entity_state.specs.Record.{held_revision}
+use Rattle.entity_state.specs.Record.{held_revision, wants}
 use Rattle.replay_model.specs.Entries.{late_events}
 use Rattle.replay_model.specs.Play.{Replies, Fetch, fetches, fetches_to_end}
-use Rattle.replay_model.specs.Records.{Bytes, record_of, wants}
+use Rattle.replay_model.specs.Records.{Bytes, record_of}
 use Rattle.replay_model.specs.Replies.{Judgement, reply_there, source_replies, failed_events}
-use Rattle.event_line.specs.declared.deliveries.Delivery.{Delivery}
+use Rattle.entity_model.specs.declared.delivery.Delivery.{Delivery}
 use Rattle.replay_model.specs.ReplayState.{ReplayState, after_due, fetches_due, following, following_to_end}
 
 -- whether the event was applied: it was taken, doesn't wait and wasn't late

@@ -10,16 +10,17 @@ use Rattle.entity_state.specs.declared.state.State.{State}
 use Rattle.entity_state.specs.declared.record.Held.{Held}
 use Rattle.entity_state.specs.declared.record.Record.{Record}
 use Rattle.entity_state.specs.State.{state_after, is_deleted}
-use Rattle.entity_state.specs.Record.{held_revision}
+use Rattle.entity_state.specs.Record.{held_revision, wants}
+use Rattle.entity_state.specs.Standing.{reconciled_after}
 use Rattle.side_output.specs.declared.entry.Cause.{Cause}
 use Rattle.side_output.specs.declared.entry.Entry.{Entry}
 use Rattle.side_output.specs.declared.entry.Entry.TheVariants.{Late, Revision}
-use Rattle.event_line.specs.declared.deliveries.Delivery.{Delivery}
-use Rattle.event_line.specs.declared.deliveries.Delivery.TheVariants.{Event as Told, Watermark, Ask}
+use Rattle.entity_model.specs.declared.delivery.Delivery.{Delivery}
+use Rattle.entity_model.specs.declared.delivery.Delivery.TheVariants.{Event as Told, Watermark, Ask}
 use Rattle.reorder_buffer.specs.Watermarks.{is_due}
 use Rattle.replay_model.specs.Acceptance.{Arrival, arrivals, mark, is_late, due}
 use Rattle.replay_model.specs.Fate.{in_order}
-use Rattle.replay_model.specs.Records.{Bytes, Records, record_of, wants}
+use Rattle.replay_model.specs.Records.{Bytes, Records, record_of}
 
 -- what the fetch that the application of an event makes of a revision gives: a document's bytes, or the cause of an entry
 abbrev pub Replies : Type 0
@@ -42,19 +43,6 @@ held_after_fetch r (Err cause) held = held
 -- what is held in a new state: what a fetch gives where the state wants one, nothing where the page was deleted, and else what was held
 abbrev pub held_after : State → Result Bytes Cause → Option (Held Bytes) → Option (Held Bytes)
 held_after s reply held = cond (wants s (held_revision held)) (held_after_fetch s.rev reply held) (cond (is_deleted s.mode) None held)
-
--- whether the event says what the wiki has
-abbrev pub is_reconciliation : Kind → Bool
-is_reconciliation Edit = false
-is_reconciliation Delete = false
-is_reconciliation Undelete = false
-is_reconciliation ReconcileDeleted = true
-is_reconciliation ReconcileKept = true
-
--- the greatest reconciliation so far and an event
-abbrev pub reconciled_after : Option Event → Event → Option Event
-reconciled_after None e = cond (is_reconciliation e.kind) (Some e) None
-reconciled_after (Some r) e = cond (is_reconciliation e.kind && is_lt (event_cmp r e)) (Some e) (Some r)
 
 -- the record of the event's entity after the event is applied
 abbrev pub record_after : Replies → Event → Record Bytes → Record Bytes

@@ -22,10 +22,6 @@ Records = map.FinMap entity_cmp (Record Bytes)
 abbrev pub record_of : Records → EntityId → Record Bytes
 record_of records x = unwrap_or (map.get records x) blank
 
--- whether the state wants a revision that isn't held
-abbrev pub wants : State → Option ℕ → Bool
-wants s held = is_kept s.mode && not (is_held s.rev held)
-
 -- whether what is held is what a state of this mode and revision wants: the revision of a page that is kept, and else nothing
 abbrev pub settles_at : Mode → ℕ → Option ℕ → Bool
 settles_at Unknown r held = is_none held

@@ -2,11 +2,11 @@
 use Rattle.std.specs.Prelude.{ℕ, ◌+◌, Bool, true, false, cond, List, [], ◌++◌, Option, None, Some, filter_map, flat_map, length, decimal, codes}
 use Rattle.std.specs.FinMap as map
 use Rattle.std.specs.Fmt.{signed_decimal}
-use Rattle.rdf_term.specs.declared.triple.Pattern.{Pattern}
+use Rattle.rdf_term.specs.declared.pattern.Pattern.{Pattern}
 use Rattle.rdf_term.specs.declared.triple.Triple.{Triple}
 use Rattle.rdf_term.specs.Order.{triple_cmp}
 use Rattle.rdf_term.specs.Text.{triple_text}
-use Rattle.triple_store.specs.Agreeing.{rows}
+use Rattle.rdf_term.specs.Pattern.{rows}
 use Rattle.entity_model.specs.declared.id.EntityId.{EntityId}
 use Rattle.entity_model.specs.declared.event.Event.{Event}
 use Rattle.entity_model.specs.declared.event.Kind.{Kind}
@@ -21,10 +21,11 @@ use Rattle.side_output.specs.declared.entry.Cause.{Cause}
 use Rattle.side_output.specs.declared.entry.Cause.TheVariants.{Missing, Failed, Unfit as NoDocument}
 use Rattle.side_output.specs.declared.entry.Entry.{Entry}
 use Rattle.side_output.specs.declared.entry.Entry.TheVariants.{Late, Revision}
-use Rattle.event_line.specs.declared.deliveries.Delivery.{Delivery}
-use Rattle.event_line.specs.declared.deliveries.Delivery.TheVariants.{Ask}
+use Rattle.entity_model.specs.declared.delivery.Delivery.{Delivery}
+use Rattle.entity_model.specs.declared.delivery.Delivery.TheVariants.{Ask}
 use Rattle.replay_model.specs.Acceptance.{Arrival, arrivals}
-use Rattle.replay_model.specs.Entries.{entity_of, is_open_in}
+use Rattle.replay_model.specs.Entries.{is_open_in}
+use Rattle.side_output.specs.Entry.{entity_of}
 use Rattle.replay_model.specs.Play.{Replies, Played, play, play_to_end}
 use Rattle.replay_model.specs.Records.{Records}
 use Rattle.replay_model.specs.Union.{Meaning, union}

@@ -2,7 +2,7 @@
 
 ghost use Rattle.std.specs.Prelude.{◌≡◌, ℕ, ◌+◌, [], ◌∷◌, ◌++◌, List, None};
 ghost use Rattle.rdf_term.specs.declared.triple.Triple.{Triple};
-ghost use Rattle.event_line.specs.declared.deliveries.Delivery.{Delivery};
+ghost use Rattle.entity_model.specs.declared.delivery.Delivery.{Delivery};
 ghost use Rattle.reorder_buffer.specs.Buffered.{first_due};
 ghost use Rattle.replay_model.specs.Play.{Replies, fetches, fetches_to_end, risen_by};
 ghost use Rattle.replay_model.specs.ReplayState.{ReplayState, nothing_delivered, after_end, after_next, after_due, delivered, ended, following, following_to_end, fetches_next, fetches_due, fetches_delivered};

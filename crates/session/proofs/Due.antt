@@ -11,10 +11,10 @@ use Rattle.side_output.specs.declared.entry.Cause.TheVariants.{Missing, Failed, 
 use Rattle.revisions.specs.Revisions.{Contents, counted}
 use Rattle.reorder_buffer.specs.Buffered.{first_due}
 use Rattle.replay_model.specs.Records.{Bytes, record_of}
-use Rattle.replay_model.specs.Play.{Fetch, Replies}
-use Rattle.replay_model.specs.Replies.{GivesDocument, HasUnfit, failed_events, missing_events, reply_there, source_replies}
+use Rattle.replay_model.specs.Play.{Replies}
+use Rattle.replay_model.specs.Replies.{GivesDocument, HasUnfit, failed_events, missing_events, reply_there}
 use Rattle.replay_model.specs.ReplayState.{ReplayState, after_next}
-use Rattle.replay_model.specs.Explained.{is_fetching}
+use Rattle.replay_model.specs.Explained.{AgreeOnApplied, is_fetching}
 use Rattle.replay_model.proofs.Documents.{documents-apply}
 use Rattle.replay_model.proofs.Explaining.{Explained-next, Next, next_by}
 use Rattle.replay_model.proofs.FetchCounts.{risen_by-more}
@@ -23,15 +23,14 @@ use Rattle.world.specs.Applying.{Applies, IsReply, IsShown, calls_after, outcome
 use Rattle.world.specs.declared.applied.Applied.{Applied}
 use Rattle.world.specs.declared.applied.Outcome.{Outcome}
 use Rattle.world.specs.declared.applied.Outcome.TheVariants.{Same, Dropped}
-use Rattle.session.specs.Counts.{Counts, HasCounted, RoseBy}
-use Rattle.session.specs.Running.{IsUnderWay, IsWithin, Leads, judgement, told_at}
-use Rattle.session.specs.Stops.{Settles, StillLeads}
+use Rattle.session.specs.Counts.{Counts, HasCounted, HasGoneOn, RoseBy}
+use Rattle.revisions.specs.declared.revisions.Revisions.{Ghosts as RevisionsOf}
+use Rattle.session.specs.Moment.{Setting, Stage, onward, setting}
+use Rattle.session.specs.Taking.{AppliesDue, Course, IsUnderWay, IsWithin, Leads, StaysWithin, judgement, replies_there}
 
--- events are applied: what is told stays, and the world leads where it led
-pub record Goes (contents_start contents : Option Contents) (place : List ℕ) (before now : Counts) (start world : ReplayState) : Type 0 where
-  pub told : contents ≡ contents_start
-  pub leads : (play_of : Replies → ReplayState) (fetches_of : Replies → List Fetch) (said_of : Replies → Option (List ℕ)) (said : Option (List ℕ)) (begun_of : Replies → ReplayState) (first : Counts) →
-      IsUnderWay (told_at contents_start place) play_of fetches_of said_of said begun_of first before start → IsUnderWay (told_at contents_start place) play_of fetches_of said_of said begun_of first now world
+-- events are applied: the world leads where it led
+pub record Goes (setting : Setting) (before now : Counts) (old new : ReplayState) : Type 0 where
+  pub leads : (course : Course) (begun : Replies → ReplayState) (start s : Stage) → IsUnderWay setting course begun start (onward s before old) → IsUnderWay setting course begun start (onward s now new)
 
 -- the counts after an application, as its outcome shows
 pub record Rises (outcome : Outcome) (before now : Counts) : Type 0 where
@@ -44,23 +43,23 @@ unfit_there : (x : EntityId) (unfit : Unfit) (there : Option Bytes) → HasUnfit
 unfit_there x unfit None has = absurd has
 unfit_there x unfit (Some bytes) has = rw has refl
 
--- a reply that agrees with what is told is honest
-pub reply_is_honest : (contents : Option Contents) (place : List ℕ) (x : EntityId) (r : ℕ) (reply : Result Bytes Cause) →
-    IsReply contents place x r reply → (there : ℕ → Option Bytes) → told_at contents place ≡ Some there →
+-- a reply that agrees with what the source has is honest
+pub reply_is_honest : (contents : Option Contents) (directory : List ℕ) (x : EntityId) (r : ℕ) (reply : Result Bytes Cause) →
+    IsReply contents directory x r reply → (there : ℕ → Option Bytes) → (setting contents directory).known ≡ Some there →
     (reply ≡ Err Failed) ⊎ (reply ≡ reply_there judgement x (there r))
-reply_is_honest None place x r reply is there told = cc
-reply_is_honest (Some c) place x r (Ok bytes) is there told =
-    let same : c place ≡ there = cc in
+reply_is_honest None directory x r reply is there known = cc
+reply_is_honest (Some c) directory x r (Ok bytes) is there known =
+    let same : c directory ≡ there = cc in
     let found : there r ≡ Some bytes = ap (λ (f : ℕ → Option Bytes). f r) (sym same) ∙ is.1 in
     inr (rw (found, is.0) refl)
-reply_is_honest (Some c) place x r (Err Missing) is there told =
-    let same : c place ≡ there = cc in
+reply_is_honest (Some c) directory x r (Err Missing) is there known =
+    let same : c directory ≡ there = cc in
     let found : there r ≡ None = ap (λ (f : ℕ → Option Bytes). f r) (sym same) ∙ is in
     inr (rw found refl)
-reply_is_honest (Some c) place x r (Err Failed) is there told = inl refl
-reply_is_honest (Some c) place x r (Err (NoDocument unfit)) is there told =
-    let same : c place ≡ there = cc in
-    inr (unfit_there x unfit (c place r) is ∙ ap (λ (f : ℕ → Option Bytes). reply_there judgement x (f r)) same)
+reply_is_honest (Some c) directory x r (Err Failed) is there known = inl refl
+reply_is_honest (Some c) directory x r (Err (NoDocument unfit)) is there known =
+    let same : c directory ≡ there = cc in
+    inr (unfit_there x unfit (c directory r) is ∙ ap (λ (f : ℕ → Option Bytes). reply_there judgement x (f r)) same)
 
 -- what an application leads to, by whether it fetches
 abbrev outcome_by : Bool → Bool → Result Bytes Cause → Outcome
@@ -96,9 +95,9 @@ rose_twice m n first before now rose then_rose more = λ below.
     let earlier : before < 2 ^ 64 - 1 = omega arith in
     omega (arith, rose earlier, then_rose below)
 
-counted_applying : (contents : Option Contents) (place : List ℕ) (start before now : Counts) (made : ℕ) (old new : ReplayState) (applied : Applied) → Applies contents place old new applied →
+counted_applying : (contents : Option Contents) (directory : List ℕ) (start before now : Counts) (made : ℕ) (old new : ReplayState) (applied : Applied) → Applies contents directory old new applied →
     Rises applied.outcome before now → HasCounted start before made old.played.side → HasCounted start now (made + cond (is_fetching old applied.event) 1 0) new.played.side
-counted_applying contents place start before now made old new applied a rises so_far =
+counted_applying contents directory start before now made old new applied a rises so_far =
     let e : Event = applied.event in
     let fetching : Bool = is_fetching old e in
     let deleting : Bool = is_deleted (state_after (record_of old.played.records e.entity).state e).mode in
@@ -119,36 +118,37 @@ counted_applying contents place start before now made old new applied a rises so
     }
 
 -- a reply that gives bytes gives a document
-reply_gives : (contents : Option Contents) (place : List ℕ) (x : EntityId) (r : ℕ) (reply : Result Bytes Cause) → IsReply contents place x r reply → GivesDocument judgement x reply
-reply_gives contents place x r (Ok bytes) is = is.0
-reply_gives contents place x r (Err cause) is = tt
+reply_gives : (contents : Option Contents) (directory : List ℕ) (x : EntityId) (r : ℕ) (reply : Result Bytes Cause) → IsReply contents directory x r reply → GivesDocument judgement x reply
+reply_gives contents directory x r (Ok bytes) is = is.0
+reply_gives contents directory x r (Err cause) is = tt
 
 -- the world still leads to its play, one application further
-pub applies-leads : (contents : Option Contents) (place : List ℕ) (before now : Counts) (old new : ReplayState) (applied : Applied) → Applies contents place old new applied → Rises applied.outcome before now →
-    (play_of : Replies → ReplayState) (fetches_of : Replies → List Fetch) (said_of : Replies → Option (List ℕ)) (said : Option (List ℕ)) (begun_of : Replies → ReplayState) (first : Counts) →
-    IsUnderWay (told_at contents place) play_of fetches_of said_of said begun_of first before old → IsUnderWay (told_at contents place) play_of fetches_of said_of said begun_of first now new
-applies-leads contents place before now old new applied a rises play_of fetches_of said_of said begun_of first under_way =
-    let told : Option (ℕ → Option Bytes) = told_at contents place in
-    let e : Event = applied.event in
-    let leads : Leads told play_of fetches_of said_of said first before old = under_way.leads in
-    let made : ℕ = leads.made + cond (is_fetching old e) 1 0 in
-    let next : Next judgement told play_of fetches_of leads.made old e a.reply leads.explained =
-    Explained-next judgement told play_of fetches_of leads.made old e a.reply leads.explained a.due
-    (λ there known _. reply_is_honest contents place e.entity _ a.reply a.is_reply there known) in
-    let Counted : ReplayState → Type 0 = λ w. HasCounted first now made w.played.side in
-    let There : ReplayState → Type 0 = λ w. IsUnderWay told play_of fetches_of said_of said begun_of first now w in
-    let there : There (next_by old e a.reply) = record {
-      leads = record {
-        made = made;
-        explained = next.explained;
-        counted = subst Counted a.new_is (counted_applying contents place first before now leads.made old new applied a rises leads.counted);
-        documents = documents-apply judgement e a.reply (reply_gives contents place e.entity _ a.reply a.is_reply) old.played leads.documents;
-        says = λ others agree. leads.says others (next.agree_before others agree);
-      };
-      steps = suc under_way.steps;
-      is = λ others agree. next.is_next others agree ∙ ap (after_next others) (under_way.is others (next.agree_before others agree));
-    } in
-    subst There (sym a.new_is) there
+pub applies-leads : (contents : Option Contents) (directory : List ℕ) (before now : Counts) (old new : ReplayState) (applied : Applied) → Applies contents directory old new applied → Rises applied.outcome before now →
+    Goes (setting contents directory) before now old new
+applies-leads contents directory before now old new applied a rises = record {
+  leads = λ course begun start s under_way.
+      let known : Option (ℕ → Option Bytes) = (setting contents directory).known in
+      let e : Event = applied.event in
+      let leads : Leads (setting contents directory) course start (onward s before old) = under_way.leads in
+      let made : ℕ = leads.made + cond (is_fetching old e) 1 0 in
+      let next : Next judgement known course.state course.fetched leads.made old e a.reply leads.explained =
+      Explained-next judgement known course.state course.fetched leads.made old e a.reply leads.explained a.due
+      (λ there is _. reply_is_honest contents directory e.entity _ a.reply a.is_reply there is) in
+      let Counted : ReplayState → Type 0 = λ w. HasCounted start.counts now made w.played.side in
+      let There : ReplayState → Type 0 = λ w. IsUnderWay (setting contents directory) course begun start (onward s now w) in
+      let there : There (next_by old e a.reply) = record {
+        leads = record {
+          made = made;
+          explained = next.explained;
+          counted = subst Counted a.new_is (counted_applying contents directory start.counts before now leads.made old new applied a rises leads.counted);
+          documents = documents-apply judgement e a.reply (reply_gives contents directory e.entity _ a.reply a.is_reply) old.played leads.documents;
+          says = λ others agree. leads.says others (next.agree_before others agree);
+        };
+        steps = suc under_way.steps;
+        is = λ others agree. next.is_next others agree ∙ ap (after_next others) (under_way.is others (next.agree_before others agree));
+      } in
+      subst There (sym a.new_is) there;
+}
 
 removed : {K : Type 0} (p : K → Bool) (e : K) (xs : List K) → find p xs ≡ Some e → length (remove_key p xs) < length xs
 removed p e [] found = cc
@@ -158,28 +158,31 @@ removed {K} p e (x ∷ xs) found =
     cases (p x) found
 
 -- fewer events wait
-pub applies-fewer : (contents : Option Contents) (place : List ℕ) (old new : ReplayState) (applied : Applied) → Applies contents place old new applied →
+pub applies-fewer : (contents : Option Contents) (directory : List ℕ) (old new : ReplayState) (applied : Applied) → Applies contents directory old new applied →
     length new.buffer.waiting < length old.buffer.waiting
-applies-fewer contents place old new applied a =
+applies-fewer contents directory old new applied a =
     rw a.new_is (removed _ applied.event old.buffer.waiting a.due)
 
--- one event more
-pub goes-next : (contents_start contents contents_next : Option Contents) (place : List ℕ) (before now after : Counts) (start world next : ReplayState) (applied : Applied) →
-    Goes contents_start contents place before now start world → Applies contents place world next applied → Rises applied.outcome now after → contents_next ≡ contents →
-    Goes contents_start contents_next place before after start next
-goes-next contents_start contents contents_next place before now after start world next applied goes applies rises same = record {
-  told = same ∙ goes.told;
-  leads = λ play_of fetches_of said_of said begun_of first under_way.
-      applies-leads contents_start place now after world next applied (rw goes.told at applies) rises play_of fetches_of said_of said begun_of first (goes.leads play_of fetches_of said_of said begun_of first under_way);
+-- before the first event
+pub goes-nowhere : (setting : Setting) (now : Counts) (world : ReplayState) → Goes setting now now world world
+goes-nowhere setting now world = record { leads = λ course begun start s under_way. under_way }
+
+-- some events, and then more
+pub goes-further : (setting : Setting) (before between now : Counts) (old middle new : ReplayState) → Goes setting before between old middle → Goes setting between now middle new → Goes setting before now old new
+goes-further setting before between now old middle new first second = record {
+  leads = λ course begun start s under_way. second.leads course begun start s (first.leads course begun start s under_way);
 }
 
+-- a source was asked further, twice
+pub gone-on : {R : Type 0} (members : RevisionsOf R) (old between new : R) → HasGoneOn members old between → HasGoneOn members between new → HasGoneOn members old new
+gone-on members old between new x y = record { known = y.known ∙ x.known; faults = omega (arith, x.faults, y.faults); misses = omega (arith, x.misses, y.misses) }
+
 -- no event is left: the last call has made no fetch
-pub settled : (contents_start contents : Option Contents) (place : List ℕ) (before now last : Counts) (start world world_now : ReplayState) →
-    Goes contents_start contents place before now start world → last.calls ≡ now.calls → now.faults ≤ last.faults → now.misses ≤ last.misses →
-    world_now ≡ world → first_due world.buffer ≡ None → Settles (told_at contents_start place) before last start world_now
-settled contents_start contents place before now last start world world_now goes calls faults misses same none = rw same (record {
-  leads = λ play_of fetches_of said_of said first leads.
-      let there = (goes.leads play_of fetches_of said_of said (λ replies. start) first (record { leads = leads; steps = 0; is = λ others agree. refl })).leads in
+pub none_due : (setting : Setting) (before now last : Counts) (old world new : ReplayState) → Goes setting before now old world → last.calls ≡ now.calls → now.faults ≤ last.faults → now.misses ≤ last.misses →
+    new ≡ world → first_due world.buffer ≡ None → AppliesDue setting before last old new
+none_due setting before now last old world new goes calls faults misses same none = rw same (record {
+  leads = λ course start s leads.
+      let there = (goes.leads course (λ replies. old) start s (record { leads = leads; steps = 0; is = λ others agree. refl })).leads in
       record {
         made = there.made;
         explained = there.explained;
@@ -194,21 +197,21 @@ settled contents_start contents place before now last start world world_now goes
   rests = none;
 })
 
--- a world that is under way in a play is where some of its due events were applied
-pub within : (told : Option (ℕ → Option Bytes)) (play_of : Replies → ReplayState) (fetches_of : Replies → List Fetch) (said_of : Replies → Option (List ℕ)) (said : Option (List ℕ)) (begun_of : Replies → ReplayState) (start now : Counts) (world : ReplayState) →
-    IsUnderWay told play_of fetches_of said_of said begun_of start now world → IsWithin told said_of said begun_of world
-within told play_of fetches_of said_of said begun_of start now world under_way = record {
-  steps = under_way.steps;
-  replies = under_way.leads.explained.replies;
-  is = under_way.is under_way.leads.explained.replies (λ q r h. refl);
-  says = under_way.leads.says under_way.leads.explained.replies (λ q r h. refl);
-  source = λ contents known. under_way.is (source_replies judgement contents (failed_events world.played.side)) (λ q r h. sym (under_way.leads.explained.honest contents known q r h));
-  source_says = λ contents known. under_way.leads.says (source_replies judgement contents (failed_events world.played.side)) (λ q r h. sym (under_way.leads.explained.honest contents known q r h));
-  documents = under_way.leads.documents;
-}
+-- a world that is under way in a play is where some of its due events were applied, whatever the counts are
+pub within : (setting : Setting) (course : Course) (begun : Replies → ReplayState) (start now : Stage) (counts : Counts) → IsUnderWay setting course begun start now → IsWithin setting course.bytes begun (onward now counts now.world)
+within setting course begun start now counts under_way =
+    let honest : (contents : ℕ → Option Bytes) → setting.known ≡ Some contents → AgreeOnApplied now.world under_way.leads.explained.replies (replies_there contents now.world) =
+    λ contents is q r h. sym (under_way.leads.explained.honest contents is q r h) in
+    record {
+      steps = under_way.steps;
+      replies = under_way.leads.explained.replies;
+      is = under_way.is under_way.leads.explained.replies (λ q r h. refl);
+      says = under_way.leads.says under_way.leads.explained.replies (λ q r h. refl);
+      source = λ contents is. under_way.is (replies_there contents now.world) (honest contents is);
+      source_says = λ contents is. under_way.leads.says (replies_there contents now.world) (honest contents is);
+      documents = under_way.leads.documents;
+    }
 
 -- memory was refused: the world is that before
-pub starved : (contents_start contents : Option Contents) (place : List ℕ) (before now : Counts) (start world world_now : ReplayState) →
-    Goes contents_start contents place before now start world → world_now ≡ world → StillLeads (told_at contents_start place) before start world_now
-starved contents_start contents place before now start world world_now goes same = rw same (λ play_of fetches_of said_of said begun_of first under_way.
-    within (told_at contents_start place) play_of fetches_of said_of said begun_of first now world (goes.leads play_of fetches_of said_of said begun_of first under_way))
+pub starved : (setting : Setting) (before now last : Counts) (old world new : ReplayState) → Goes setting before now old world → new ≡ world → StaysWithin setting before last old new
+starved setting before now last old world new goes same = rw same (λ course begun start s under_way. within setting course begun start (onward s now world) last (goes.leads course begun start s under_way))

@@ -1,9 +1,5 @@
 mod Deliveries
 mod Due
 mod Ends
-mod Items
-mod Matched
-mod Numbers
-mod Parts
+mod Progress
 mod Reading
-mod States

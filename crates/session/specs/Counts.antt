@@ -1,5 +1,6 @@
 -- The counts of a source of revisions, and how they rise with a replay.
 use Rattle.std.specs.Prelude.{◌≡◌, ℕ, ◌+◌, ◌-◌, ◌^◌, ◌<◌, ◌≤◌, List, length}
+use Rattle.revisions.specs.declared.revisions.Revisions.{Ghosts as RevisionsOf}
 use Rattle.side_output.specs.declared.entry.Entry.{Entry}
 use Rattle.replay_model.specs.Play.{risen_by}
 use Rattle.replay_model.specs.Replies.{failed_events, missing_events}
@@ -10,9 +11,9 @@ pub record Counts : Type 0 where
   pub misses : ℕ
   pub faults : ℕ
 
--- these counts
-abbrev pub counts : ℕ → ℕ → ℕ → Counts
-counts calls misses faults = record { calls = calls; misses = misses; faults = faults }
+-- the counts of a source of revisions
+abbrev pub counts : {R : Type 0} → RevisionsOf R → R → Counts
+counts members revisions = record { calls = members.calls revisions; misses = members.misses revisions; faults = members.faults revisions }
 
 -- a count of 64 bits rose by at least n; at its last value it says nothing
 abbrev pub RoseBy : ℕ → ℕ → ℕ → Type 0
@@ -24,3 +25,9 @@ pub record HasCounted (start now : Counts) (made : ℕ) (side : List Entry) : Ty
   pub calls : start.calls < 2 ^ 64 → now.calls ≡ risen_by made start.calls
   pub failed : RoseBy (length (failed_events side)) start.faults now.faults
   pub missing : RoseBy (length (missing_events side)) start.misses now.misses
+
+-- a source was asked further: its contents are the same, and no count of what went wrong fell
+pub record HasGoneOn {R : Type 0} (members : RevisionsOf R) (old new : R) : Type 0 where
+  pub known : members.contents new ≡ members.contents old
+  pub faults : members.faults old ≤ members.faults new
+  pub misses : members.misses old ≤ members.misses new

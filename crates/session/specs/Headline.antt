@@ -1,49 +1,55 @@
--- What a run that ended leaves: the states, what is held, the side output and what was printed.
-use Rattle.std.specs.Prelude.{◌≡◌, ◌⊎◌, ℕ, ◌-◌, ◌^◌, ◌<◌, true, false, not, List, [], ◌∷◌, ◌++◌, Option, None, Some, IfSome, length, ⊤}
+-- What a run leaves: the states, what is held, the side output and what was printed.
+use Rattle.std.specs.Prelude.{◌≡◌, ◌⊎◌, ℕ, ◌-◌, ◌^◌, ◌+◌, ◌<◌, true, false, not, List, [], ◌∷◌, ◌++◌, Option, None, Some, IfSome, length}
 use Rattle.std.specs.List.{list_any}
 use Rattle.rising.specs.Rising.{Each}
 use Rattle.wq_io.specs.Streams.{Rose, after_known}
-use Rattle.rdf_term.specs.declared.triple.Pattern.{Pattern}
+use Rattle.rdf_term.specs.declared.pattern.Pattern.{Pattern}
+use Rattle.rdf_term.specs.Order.{triple_cmp}
 use Rattle.entity_model.specs.declared.id.EntityId.{EntityId}
 use Rattle.entity_state.specs.State.{is_kept}
-use Rattle.event_line.specs.declared.deliveries.Delivery.{Delivery}
-use Rattle.event_line.specs.declared.deliveries.Delivery.TheVariants.{Ask}
-use Rattle.event_line.specs.declared.deliveries.LineCause.{LineCause}
+use Rattle.entity_model.specs.declared.delivery.Delivery.{Delivery}
+use Rattle.entity_model.specs.declared.delivery.Delivery.TheVariants.{Ask}
+use Rattle.event_line.specs.declared.faults.LineCause.{LineCause}
 use Rattle.replay_model.specs.Acceptance.{due, known, late}
 use Rattle.replay_model.specs.Entries.{has_open_revision, is_open_late, late_events}
 use Rattle.replay_model.specs.Fate.{events_of, fate, in_order}
 use Rattle.replay_model.specs.Records.{Bytes, is_settled, record_of}
-use Rattle.replay_model.specs.Play.{Fetch, Replies, fetches, fetches_to_end}
+use Rattle.replay_model.specs.Play.{Replies}
 use Rattle.replay_model.specs.Replies.{HoldsWhatIsThere, TellsWhatIsThere, failed_events, source_replies}
-use Rattle.replay_model.specs.ReplayState.{ReplayState, following, following_to_end}
-use Rattle.replay_model.specs.Transcript.{closing, transcript}
+use Rattle.replay_model.specs.ReplayState.{ReplayState, following_to_end}
+use Rattle.replay_model.specs.Transcript.{Sections, ask_section, asks, closing, transcript}
+use Rattle.replay_model.specs.Union.{union}
+use Rattle.rdf_term.specs.Pattern.{rows}
 use Rattle.world.specs.Meaning.{meaning}
-use Rattle.session.specs.Words.{Choices, limit_of}
-use Rattle.session.specs.declared.status.Status.{Status}
-use Rattle.session.specs.declared.status.Status.TheVariants.{Ok as Ended, BadWords, BadLine, ReadFault, WriteFault, TooLong, OutOfMemory}
-use Rattle.session.specs.Counts.{Counts, HasCounted}
-use Rattle.session.specs.Running.{AreDeliveries, AreFirst, AreWhole, HoldsDocuments, IsPastLimit, IsRefusedLine, judgement, said_behind}
-use Rattle.session.specs.Stops.{HasBegunAnswer, StopsStarved}
-use Rattle.session.specs.Printing.{Wrote, sections_of}
+use Rattle.transcript.specs.declared.write.Unwritten.{Unwritten}
+use Rattle.transcript.specs.declared.write.Unwritten.TheVariants.{WriteFault as NotWritten, OutOfMemory as Refused}
+use Rattle.transcript.specs.Printing.{IsCutShort, Output}
+use Rattle.words.specs.Options.{limit_of}
+use Rattle.session.specs.declared.stop.Stop.{Stop}
+use Rattle.session.specs.declared.stop.Stop.TheVariants.{BadLine, ReadFault, WriteFault, TooLong, OutOfMemory}
+use Rattle.session.specs.Counts.{HasCounted}
+use Rattle.session.specs.Moment.{Moment, Run, Setting, Stage, with_output}
+use Rattle.session.specs.Reading.{AreDeliveries, AreFirst, AreWhole, IsPastLimit, IsRefusedLine}
+use Rattle.session.specs.Sections.{sections_of}
+use Rattle.session.specs.Stops.{IsStarved}
+use Rattle.session.specs.Taking.{Course, HoldsDocuments, course_after, course_printed, course_to_end, judgement, replies_there}
 
--- the world is where a play leads, with some replies to its fetches, and the counts of the source rose by these
--- fetches; where the source tells what it has, the replies are those of what is there, but for the events whose fetches
--- failed, which the side output names
-pub record IsPlayed (told : Option (ℕ → Option Bytes)) (play_of : Replies → ReplayState) (fetches_of : Replies → List Fetch) (start now : Counts) (world : ReplayState) : Type 0 where
+-- the world is where a play leads, with some replies to its fetches, the output has what the play says, and the counts of the
+-- source rose by these fetches; where it is known what the source has, the replies are those of what is there, but for the
+-- events whose fetches failed, which the side output names
+pub record IsPlayed (setting : Setting) (course : Course) (start now : Stage) : Type 0 where
   pub replies : Replies
-  pub is : world ≡ play_of replies
-  pub counted : HasCounted start now (length (fetches_of replies)) world.played.side
-  pub source : (contents : ℕ → Option Bytes) → told ≡ Some contents → world ≡ play_of (source_replies judgement contents (failed_events world.played.side))
-  pub source_counted : (contents : ℕ → Option Bytes) → told ≡ Some contents →
-      HasCounted start now (length (fetches_of (source_replies judgement contents (failed_events world.played.side)))) world.played.side
+  pub is : now.world ≡ course.state replies
+  pub says : now.output.bytes ≡ course.bytes replies
+  pub counted : HasCounted start.counts now.counts (length (course.fetched replies)) now.world.played.side
+  pub source : (contents : ℕ → Option Bytes) → setting.known ≡ Some contents → now.world ≡ course.state (replies_there contents now.world)
+  pub source_says : (contents : ℕ → Option Bytes) → setting.known ≡ Some contents → now.output.bytes ≡ course.bytes (replies_there contents now.world)
+  pub source_counted : (contents : ℕ → Option Bytes) → setting.known ≡ Some contents →
+      HasCounted start.counts now.counts (length (course.fetched (replies_there contents now.world))) now.world.played.side
 
--- the world has taken these deliveries
-abbrev pub IsPlayedAfter : Option (ℕ → Option Bytes) → List Delivery → Counts → Counts → ReplayState → Type 0
-IsPlayedAfter told ds start now world = IsPlayed told (λ replies. following replies ds) (λ replies. fetches replies ds) start now world
-
--- the world has taken these deliveries and the end of the input
-abbrev pub IsPlayedToEnd : Option (ℕ → Option Bytes) → List Delivery → Counts → Counts → ReplayState → Type 0
-IsPlayedToEnd told ds start now world = IsPlayed told (λ replies. following_to_end replies ds) (λ replies. fetches_to_end replies ds) start now world
+-- the world has taken these deliveries, and the answers to their questions were printed, and nothing else
+abbrev pub IsPlayedAfter : Setting → List Delivery → Stage → Stage → Type 0
+IsPlayedAfter setting ds start now = IsPlayed setting (course_after ds start) start now
 
 -- the states: each is the fate of the entity's due events in their order; where no late event of the entity is open,
 -- also the fate of all its events, late ones included
@@ -53,125 +59,91 @@ pub record HasFates (ds : List Delivery) (world : ReplayState) : Type 0 where
       (record_of world.played.records x).state ≡ fate (in_order (events_of x (known true ds)))
 
 -- what is held: what the state wants, exactly where no revision entry of the entity is open; nothing of a page that
--- isn't kept; a document of the entity; and what the source tells
-pub record HoldsRightly (told : Option (ℕ → Option Bytes)) (world : ReplayState) : Type 0 where
+-- isn't kept; a document of the entity; and what the source has, where it is known
+pub record HoldsRightly (setting : Setting) (world : ReplayState) : Type 0 where
   pub settled : (x : EntityId) → is_settled (record_of world.played.records x) ≡ not (has_open_revision world.played.records world.played.side x)
   pub empty : (x : EntityId) → is_kept (record_of world.played.records x).state.mode ≡ false → (record_of world.played.records x).held ≡ None
   pub documents : HoldsDocuments world
-  pub there : (contents : ℕ → Option Bytes) → told ≡ Some contents → (x : EntityId) → HoldsWhatIsThere judgement contents x (record_of world.played.records x).held
+  pub there : (contents : ℕ → Option Bytes) → setting.known ≡ Some contents → (x : EntityId) → HoldsWhatIsThere judgement contents x (record_of world.played.records x).held
 
 -- the side output: each late event once, in the order of their first deliveries, and revision entries that say what the
--- source tells
-pub record NamesRightly (told : Option (ℕ → Option Bytes)) (ds : List Delivery) (world : ReplayState) : Type 0 where
+-- source has
+pub record NamesRightly (setting : Setting) (ds : List Delivery) (world : ReplayState) : Type 0 where
   pub late_ones : late_events world.played.side ≡ late ds
-  pub there : (contents : ℕ → Option Bytes) → told ≡ Some contents → Each (TellsWhatIsThere judgement contents (failed_events world.played.side)) world.played.side
+  pub there : (contents : ℕ → Option Bytes) → setting.known ≡ Some contents → Each (TellsWhatIsThere judgement contents (failed_events world.played.side)) world.played.side
 
--- the whole input was read, its lines are deliveries, and the world has played them to the end
-pub record Replayed (limit : ℕ) (left : Option (List ℕ)) (told : Option (ℕ → Option Bytes)) (start now : Counts) (world : ReplayState) : Type 0 where
+-- a play of these deliveries to their end: the world is where it leads, and has the states, holds and names what it should
+pub record IsReplayed (setting : Setting) (course : Course) (ds : List Delivery) (start now : Stage) : Type 0 where
+  pub played : IsPlayed setting course start now
+  pub fates : HasFates ds now.world
+  pub holds : HoldsRightly setting now.world
+  pub names : NamesRightly setting ds now.world
+
+-- where no fetch failed, the world and what was printed are functions of the sections, the deliveries and the contents
+pub record IsFunction (setting : Setting) (sections : Sections) (ds : List Delivery) (start now : Stage) : Type 0 where
+  pub world_is : (contents : ℕ → Option Bytes) → setting.known ≡ Some contents → now.counts.faults ≡ start.counts.faults → now.counts.faults < 2 ^ 64 - 1 →
+      now.world ≡ following_to_end (source_replies judgement contents []) ds
+  pub output_is : (contents : ℕ → Option Bytes) → setting.known ≡ Some contents → now.counts.faults ≡ start.counts.faults → now.counts.faults < 2 ^ 64 - 1 →
+      now.output.bytes ≡ after_known start.output.bytes (transcript meaning sections (source_replies judgement contents []) ds)
+
+-- the whole input was read, its lines are deliveries, and they were replayed; the output has what this play of them says
+pub record Replayed (run : Run) (course : List Delivery → Stage → Course) (before now : Moment) : Type 0 where
   pub deliveries : List Delivery
-  pub are : IfSome left (λ bytes. AreDeliveries limit bytes deliveries)
-  pub played : IsPlayedToEnd told deliveries start now world
-  pub fates : HasFates deliveries world
-  pub holds : HoldsRightly told world
-  pub names : NamesRightly told deliveries world
+  pub are : IfSome before.input.left (λ bytes. AreDeliveries (limit_of run.choices) bytes deliveries)
+  pub replay : IsReplayed run.setting (course deliveries before.stage) deliveries before.stage now.stage
 
--- the answers to the questions were printed, and nothing else: those of the play with these replies; where the source tells
--- what it has, those of the play with the replies of what is there and of the events whose fetches failed
-pub record HasAnswered (told : Option (ℕ → Option Bytes)) (ds : List Delivery) (replies : Replies) (world : ReplayState) (held held_now : Option (List ℕ)) : Type 0 where
-  pub some : held_now ≡ said_behind ds held replies
-  pub all : (contents : ℕ → Option Bytes) → told ≡ Some contents → held_now ≡ said_behind ds held (source_replies judgement contents (failed_events world.played.side))
+-- the whole input was replayed, and the answers were printed, and nothing else
+abbrev pub HasReplayed : Run → Moment → Moment → Type 0
+HasReplayed run before now = Replayed run course_to_end before now
 
--- the whole input was replayed, and the answers were printed
-pub record HasReplayed (limit : ℕ) (left : Option (List ℕ)) (told : Option (ℕ → Option Bytes)) (start now : Counts) (world : ReplayState) (held held_now : Option (List ℕ)) : Type 0 where
-  pub replayed : Replayed limit left told start now world
-  pub answered : HasAnswered told replayed.deliveries replayed.played.replies world held held_now
+-- all that a run leaves that ended well: the input was replayed, and the output has the transcript of the play
+pub record Ending (run : Run) (before now : Moment) : Type 0 where
+  pub replayed : Replayed run (course_printed (sections_of run.choices)) before now
+  pub function : IsFunction run.setting (sections_of run.choices) replayed.deliveries before.stage now.stage
 
--- all was printed: the answers and the sections of the world; where the source tells what it has, this is the transcript of
--- the play
-pub record HasPrinted (plan : Choices) (told : Option (ℕ → Option Bytes)) (ds : List Delivery) (replies : Replies) (world : ReplayState) (held held_now : Option (List ℕ)) : Type 0 where
-  pub some : held_now ≡ after_known held (transcript meaning (sections_of plan) replies ds)
-  pub all : (contents : ℕ → Option Bytes) → told ≡ Some contents →
-      held_now ≡ after_known held (transcript meaning (sections_of plan) (source_replies judgement contents (failed_events world.played.side)) ds)
-
--- the answers were printed and then a front of the sections of the world, and nothing else; where the sink failed, not all of
--- them
-pub record HasBegun (status : Status) (plan : Choices) (told : Option (ℕ → Option Bytes)) (ds : List Delivery) (replies : Replies) (world : ReplayState) (held held_now : Option (List ℕ)) : Type 0 where
-  pub between : Option (List ℕ)
-  pub answered : HasAnswered told ds replies world held between
-  pub sections : Wrote status between held_now (closing meaning (sections_of plan) world.played)
+-- what a run leaves that stopped while it printed the sections: the answers were printed and then a prefix of the sections of
+-- the world, and nothing else; where a write failed, not all of them
+pub record BrokenOff (why : Unwritten) (run : Run) (before now : Moment) : Type 0 where
+  pub between : Output
+  pub replayed : HasReplayed run before (record now { stage = with_output now.stage between })
+  pub cut_short : IsCutShort why (closing meaning (sections_of run.choices) now.stage.world.played) between now.stage.output
 
 -- the world has taken the deliveries of all whole lines of the bytes that were read before a read failed
-pub record StandsAfter (limit : ℕ) (left left_now : Option (List ℕ)) (told : Option (ℕ → Option Bytes)) (start now : Counts) (world : ReplayState) (held held_now : Option (List ℕ)) : Type 0 where
+pub record StandsAfter (run : Run) (before now : Moment) : Type 0 where
   pub deliveries : List Delivery
-  pub played : IsPlayedAfter told deliveries start now world
-  pub answered : HasAnswered told deliveries played.replies world held held_now
-  pub whole : AreWhole limit left left_now deliveries
+  pub played : IsPlayedAfter run.setting deliveries before.stage now.stage
+  pub whole : AreWhole (limit_of run.choices) before.input.left now.input.left deliveries
 
 -- the world has taken the deliveries before the line in which the input goes past the limit
-pub record StandsAtLimit (limit : ℕ) (left : Option (List ℕ)) (told : Option (ℕ → Option Bytes)) (start now : Counts) (world : ReplayState) (held held_now : Option (List ℕ)) : Type 0 where
+pub record StandsAtLimit (run : Run) (before now : Moment) : Type 0 where
   pub deliveries : List Delivery
-  pub played : IsPlayedAfter told deliveries start now world
-  pub answered : HasAnswered told deliveries played.replies world held held_now
-  pub past : IfSome left (λ bytes. IsPastLimit limit bytes deliveries)
+  pub played : IsPlayedAfter run.setting deliveries before.stage now.stage
+  pub past : IfSome before.input.left (λ bytes. IsPastLimit (limit_of run.choices) bytes deliveries)
 
 -- the world has taken the deliveries before the line with this number, which is refused
-pub record StandsBeforeLine (limit : ℕ) (left : Option (List ℕ)) (told : Option (ℕ → Option Bytes)) (start now : Counts) (number : ℕ) (cause : LineCause) (world : ReplayState) (held held_now : Option (List ℕ)) : Type 0 where
+pub record StandsBeforeLine (number : ℕ) (cause : LineCause) (run : Run) (before now : Moment) : Type 0 where
   pub deliveries : List Delivery
-  pub played : IsPlayedAfter told deliveries start now world
-  pub answered : HasAnswered told deliveries played.replies world held held_now
-  pub bad : IfSome left (λ bytes. IsRefusedLine limit bytes deliveries number cause)
+  pub played : IsPlayedAfter run.setting deliveries before.stage now.stage
+  pub bad : IfSome before.input.left (λ bytes. IsRefusedLine (limit_of run.choices) bytes deliveries number cause)
 
--- the world has taken the deliveries before a question; the answers before it were printed and then a front of its own, and
--- nothing else; where the sink failed, not all of it
-pub record StandsAtQuestion (status : Status) (limit : ℕ) (left : Option (List ℕ)) (told : Option (ℕ → Option Bytes)) (start now : Counts) (world : ReplayState) (held held_now : Option (List ℕ)) : Type 0 where
+-- the world has taken the deliveries before a question; the answers before it were printed and then a prefix of its own, and
+-- nothing else; where a write failed, not all of it
+pub record StandsAtQuestion (why : Unwritten) (run : Run) (before now : Moment) : Type 0 where
   pub deliveries : List Delivery
   pub pattern : Pattern
-  pub played : IsPlayedAfter told deliveries start now world
-  pub between : Option (List ℕ)
-  pub answered : HasAnswered told deliveries played.replies world held between
-  pub begun : HasBegunAnswer status pattern deliveries world between held_now
-  pub first : IfSome left (λ bytes. AreFirst limit bytes (deliveries ++ Ask pattern ∷ []))
-
--- where no fetch failed, the world and what was printed are functions of the words, the lines and the contents
-pub record IsFunction (plan : Choices) (told : Option (ℕ → Option Bytes)) (ds : List Delivery) (start now : Counts) (world : ReplayState) (held held_now : Option (List ℕ)) : Type 0 where
-  pub world_is : (contents : ℕ → Option Bytes) → told ≡ Some contents → now.faults ≡ start.faults → now.faults < 2 ^ 64 - 1 →
-      world ≡ following_to_end (source_replies judgement contents []) ds
-  pub output_is : (contents : ℕ → Option Bytes) → told ≡ Some contents → now.faults ≡ start.faults → now.faults < 2 ^ 64 - 1 →
-      held_now ≡ after_known held (transcript meaning (sections_of plan) (source_replies judgement contents []) ds)
-
--- all that a run of these words over this input and source leaves, where it ended well
-pub record Ending (plan : Choices) (left : Option (List ℕ)) (told : Option (ℕ → Option Bytes)) (start now : Counts) (world : ReplayState) (held held_now : Option (List ℕ)) : Type 0 where
-  pub replayed : Replayed (limit_of plan) left told start now world
-  pub printed : HasPrinted plan told replayed.deliveries replayed.played.replies world held held_now
-  pub function : IsFunction plan told replayed.deliveries start now world held held_now
-
--- what a run leaves that stopped while it printed the sections
-pub record BrokenOff (status : Status) (plan : Choices) (left : Option (List ℕ)) (told : Option (ℕ → Option Bytes)) (start now : Counts) (world : ReplayState) (held held_now : Option (List ℕ)) : Type 0 where
-  pub replayed : Replayed (limit_of plan) left told start now world
-  pub begun : HasBegun status plan told replayed.deliveries replayed.played.replies world held held_now
+  pub between : Output
+  pub played : IsPlayedAfter run.setting deliveries before.stage (with_output now.stage between)
+  pub cut_short : IsCutShort why (ask_section (asks deliveries + 1) (rows (union triple_cmp meaning now.stage.world.played.records) pattern)) between now.stage.output
+  pub first : IfSome before.input.left (λ bytes. AreFirst (limit_of run.choices) bytes (deliveries ++ Ask pattern ∷ []))
 
 -- what a run leaves that stopped while it printed: in the answer to a question, or in the sections
-abbrev pub IsInterrupted : Status → Choices → Option (List ℕ) → Option (ℕ → Option Bytes) → Counts → Counts → ReplayState → Option (List ℕ) → Option (List ℕ) → Type 0
-IsInterrupted status plan left told start now world held held_now =
-    StandsAtQuestion status (limit_of plan) left told start now world held held_now ⊎ BrokenOff status plan left told start now world held held_now
+abbrev pub IsInterrupted : Unwritten → Run → Moment → Moment → Type 0
+IsInterrupted why run before now = StandsAtQuestion why run before now ⊎ BrokenOff why run before now
 
 -- why a run stopped, and what stands then
-abbrev pub Stopped : Status → Choices → Option (List ℕ) → Option (List ℕ) → Option (ℕ → Option Bytes) → Counts → Counts → ReplayState → Option (List ℕ) → Option (List ℕ) → ℕ → ℕ → ℕ → ℕ → Type 0
-Stopped Ended plan left left_now told start now world held held_now reads reads_now writes writes_now = ⊥
-Stopped BadWords plan left left_now told start now world held held_now reads reads_now writes writes_now = ⊥
-Stopped (BadLine number cause) plan left left_now told start now world held held_now reads reads_now writes writes_now = StandsBeforeLine (limit_of plan) left told start now number cause world held held_now
-Stopped ReadFault plan left left_now told start now world held held_now reads reads_now writes writes_now = Rose reads reads_now × StandsAfter (limit_of plan) left left_now told start now world held held_now
-Stopped WriteFault plan left left_now told start now world held held_now reads reads_now writes writes_now = Rose writes writes_now × IsInterrupted WriteFault plan left told start now world held held_now
-Stopped TooLong plan left left_now told start now world held held_now reads reads_now writes writes_now = StandsAtLimit (limit_of plan) left told start now world held held_now
-Stopped OutOfMemory plan left left_now told start now world held held_now reads reads_now writes writes_now =
-    StopsStarved (limit_of plan) left told held held_now world ⊎ IsInterrupted OutOfMemory plan left told start now world held held_now
-
--- the run was begun and stopped
-abbrev pub IsStop : Status → Type 0
-IsStop Ended = ⊥
-IsStop BadWords = ⊥
-IsStop (BadLine number cause) = ⊤
-IsStop ReadFault = ⊤
-IsStop WriteFault = ⊤
-IsStop TooLong = ⊤
-IsStop OutOfMemory = ⊤
+abbrev pub Stopped : Stop → Run → Moment → Moment → Type 0
+Stopped (BadLine number cause) run before now = StandsBeforeLine number cause run before now
+Stopped ReadFault run before now = Rose before.input.faults now.input.faults × StandsAfter run before now
+Stopped WriteFault run before now = Rose before.stage.output.faults now.stage.output.faults × IsInterrupted NotWritten run before now
+Stopped TooLong run before now = StandsAtLimit run before now
+Stopped OutOfMemory run before now = IsStarved run before now ⊎ IsInterrupted Refused run before now

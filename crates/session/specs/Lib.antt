@@ -1,9 +1,9 @@
-pub mod Arguments
 pub mod Counts
-pub mod Faults
 pub mod Headline
-pub mod Printing
-pub mod Running
+pub mod Moment
+pub mod Reading
+pub mod Sections
 pub mod Status
+pub mod Stop
 pub mod Stops
-pub mod Words
+pub mod Taking

@@ -1,7 +1,7 @@
 -- The text and the number of each status.
 use Rattle.std.specs.Prelude.{ℕ, List, [], ◌++◌, decimal, codes}
-use Rattle.event_line.specs.declared.deliveries.LineCause.{LineCause}
-use Rattle.event_line.specs.declared.deliveries.LineCause.TheVariants.{LineLong, NotJson, NoForm, Kind, Entity, Rev, Time, Mode, Pattern}
+use Rattle.event_line.specs.declared.faults.LineCause.{LineCause}
+use Rattle.event_line.specs.declared.faults.LineCause.TheVariants.{LineLong, NotJson, NoForm, Kind, Entity, Rev, Time, Mode, Pattern}
 use Rattle.session.specs.declared.status.Status.{Status}
 use Rattle.session.specs.declared.status.Status.TheVariants.{Ok as Ended, BadWords, BadLine, ReadFault, WriteFault, TooLong, OutOfMemory}
 

@@ -1,21 +1,25 @@
 // The top call.
 
-ghost use Rattle.std.specs.Prelude.{◌≡◌, ◌↔◌, ◌≤◌, None, Some, map, string_bytes, IfErr, OnOk};
+ghost use Rattle.std.specs.Prelude.{◌≡◌, ◌↔◌, ◌≤◌, None, Some, map, string_bytes, IfErr, IfSome, OnOk};
 ghost use Rattle.wq_io.specs.Streams.{IsAtEnd};
 ghost use Rattle.replay_model.specs.ReplayState.{nothing_delivered};
-ghost use Rattle.session.specs.Counts.{counts};
-ghost use Rattle.session.specs.Headline.{Ending, HasReplayed, IsStop, Stopped};
-ghost use Rattle.session.specs.Running.{told_at};
-ghost use Rattle.session.specs.Stops.{Stops};
-ghost use Rattle.session.specs.Words.{Choices, limit_of, place_of, plan_of};
+ghost use Rattle.transcript.specs.Sections.{chosen};
+ghost use Rattle.session.specs.Counts.{HasGoneOn};
+ghost use Rattle.session.specs.Headline.{Ending, HasReplayed, Stopped};
+ghost use Rattle.session.specs.Moment.{moment, run_of};
+ghost use Rattle.session.specs.Sections.{sections_of};
+ghost use Rattle.session.specs.Stop.{stop_of};
+ghost use Rattle.words.specs.Options.{Choices};
+ghost use Rattle.words.specs.Plan.{replay_of as plan_of};
 
-use crate::arguments::{Arguments, take_arguments};
-use crate::printing::print_closing;
+use crate::delivering::take_end;
 use crate::status::Status;
-use crate::taking::{take_end, take_lines};
-use crate::words::{Plan, read_plan};
+use crate::stop::Stop;
+use crate::taking::take_lines;
 use revisions::Revisions;
 use std::alloc::Global;
+use transcript::{Sections, print_closing};
+use words::{Arguments, ReplayOptions as Plan, read_replay as read_plan, take_arguments};
 use world::World;
 use wq_io::{Sink, Source};
 
@@ -37,19 +41,17 @@ pub fn run<S: Source, R: Revisions, K: Sink>(
 
     // The input was read to its end, everything was applied, and every answer and section was written.
     ensures ok { result ≡ Status.Ok → (plan : Choices) → plan_of (map (λ w. string_bytes w) words.now) ≡ Some plan →
-        Ending plan (S.left events.old) (told_at (R.contents revisions.old) (place_of plan))
-        (counts (R.calls revisions.old) (R.misses revisions.old) (R.faults revisions.old))
-        (counts (R.calls revisions.new) (R.misses revisions.new) (R.faults revisions.new))
-        world.new (K.held out.old) (K.held out.new) }
+        Ending (run_of (R.contents revisions.old) plan)
+        (moment S.Source R.Revisions K.Sink events.old revisions.old out.old world.old)
+        (moment S.Source R.Revisions K.Sink events.new revisions.new out.new world.new) }
 
     ensures read { result ≡ Status.Ok → IsAtEnd (S.left events.new) }
 
     // Each other ending has its cause, and leaves the world of the lines before, with the answers to their questions.
-    ensures stopped { IsStop result → (plan : Choices) → plan_of (map (λ w. string_bytes w) words.now) ≡ Some plan →
-        Stopped result plan (S.left events.old) (S.left events.new) (told_at (R.contents revisions.old) (place_of plan))
-        (counts (R.calls revisions.old) (R.misses revisions.old) (R.faults revisions.old))
-        (counts (R.calls revisions.new) (R.misses revisions.new) (R.faults revisions.new))
-        world.new (K.held out.old) (K.held out.new) (S.faults events.old) (S.faults events.new) (K.faults out.old) (K.faults out.new) }
+    ensures stopped { IfSome (stop_of result) (λ stop. (plan : Choices) → plan_of (map (λ w. string_bytes w) words.now) ≡ Some plan →
+        Stopped stop (run_of (R.contents revisions.old) plan)
+        (moment S.Source R.Revisions K.Sink events.old revisions.old out.old world.old)
+        (moment S.Source R.Revisions K.Sink events.new revisions.new out.new world.new)) }
     ensures told { R.contents revisions.new ≡ R.contents revisions.old }
     ensures more_faults { R.faults revisions.old ≤ R.faults revisions.new }
     ensures more_misses { R.misses revisions.old ≤ R.misses revisions.new }
@@ -59,7 +61,7 @@ pub fn run<S: Source, R: Revisions, K: Sink>(
     };
     match replay(alloc, &plan, events, revisions, out, world) {
         Ok(()) => Status::Ok,
-        Err(status) => status,
+        Err(stop) => stop.status(),
     }
 }
 
@@ -71,24 +73,31 @@ fn replay<S: Source, R: Revisions, K: Sink>(
     revisions: &mut R,
     out: &mut K,
     world: &mut World,
-) -> Result<(), Status>
+) -> Result<(), Stop>
     requires { world.old ≡ nothing_delivered }
-    ensures ok { OnOk result (Ending plan.now (S.left events.old) (told_at (R.contents revisions.old) (place_of plan.now))
-        (counts (R.calls revisions.old) (R.misses revisions.old) (R.faults revisions.old))
-        (counts (R.calls revisions.new) (R.misses revisions.new) (R.faults revisions.new))
-        world.new (K.held out.old) (K.held out.new)) }
+    ensures ok { OnOk result (Ending (run_of (R.contents revisions.old) plan.now)
+        (moment S.Source R.Revisions K.Sink events.old revisions.old out.old world.old)
+        (moment S.Source R.Revisions K.Sink events.new revisions.new out.new world.new)) }
     ensures read { OnOk result (IsAtEnd (S.left events.new)) }
-    ensures err { IfErr result (λ status. Stopped status plan.now (S.left events.old) (S.left events.new) (told_at (R.contents revisions.old) (place_of plan.now))
-        (counts (R.calls revisions.old) (R.misses revisions.old) (R.faults revisions.old))
-        (counts (R.calls revisions.new) (R.misses revisions.new) (R.faults revisions.new))
-        world.new (K.held out.old) (K.held out.new) (S.faults events.old) (S.faults events.new) (K.faults out.old) (K.faults out.new)) }
-    ensures told { R.contents revisions.new ≡ R.contents revisions.old }
-    ensures more_faults { R.faults revisions.old ≤ R.faults revisions.new }
-    ensures more_misses { R.misses revisions.old ≤ R.misses revisions.new }
+    ensures err { IfErr result (λ stop. Stopped stop (run_of (R.contents revisions.old) plan.now)
+        (moment S.Source R.Revisions K.Sink events.old revisions.old out.old world.old)
+        (moment S.Source R.Revisions K.Sink events.new revisions.new out.new world.new)) }
+    ensures source { HasGoneOn R.Revisions revisions.old revisions.new }
 {
     let arguments = take_arguments(alloc, plan)?;
     take_all(alloc, &arguments, events, revisions, out, world)?;
-    print_closing(alloc, &arguments, world, out)
+    Ok(print_closing(alloc, sections(&arguments), world, out)?)
+}
+
+// Which sections are asked for.
+fn sections(arguments: &Arguments) -> Sections
+    ensures { chosen result ≡ sections_of arguments.now }
+{
+    Sections {
+        export: arguments.export(),
+        state: arguments.state(),
+        side: arguments.side(),
+    }
 }
 
 // Takes the lines, with the answers to their questions, and the end.
@@ -99,24 +108,19 @@ fn take_all<S: Source, R: Revisions, K: Sink>(
     revisions: &mut R,
     out: &mut K,
     world: &mut World,
-) -> Result<(), Status>
+) -> Result<(), Stop>
     requires { world.old ≡ nothing_delivered }
-    ensures ok { OnOk result (HasReplayed (limit_of plan.now) (S.left events.old) (told_at (R.contents revisions.old) (place_of plan.now))
-        (counts (R.calls revisions.old) (R.misses revisions.old) (R.faults revisions.old))
-        (counts (R.calls revisions.new) (R.misses revisions.new) (R.faults revisions.new)) world.new (K.held out.old) (K.held out.new)) }
+    ensures ok { OnOk result (HasReplayed (run_of (R.contents revisions.old) plan.now)
+        (moment S.Source R.Revisions K.Sink events.old revisions.old out.old world.old)
+        (moment S.Source R.Revisions K.Sink events.new revisions.new out.new world.new)) }
     ensures read { OnOk result (IsAtEnd (S.left events.new)) }
-    ensures err { IfErr result (λ status. Stops status (limit_of plan.now) (S.left events.old) (S.left events.new) (told_at (R.contents revisions.old) (place_of plan.now))
-        (K.held out.old) (K.held out.new)
-        (counts (R.calls revisions.old) (R.misses revisions.old) (R.faults revisions.old))
-        (counts (R.calls revisions.new) (R.misses revisions.new) (R.faults revisions.new))
-        world.new (S.faults events.old) (S.faults events.new) (K.faults out.old) (K.faults out.new)) }
-    ensures told { R.contents revisions.new ≡ R.contents revisions.old }
-    ensures more_faults { R.faults revisions.old ≤ R.faults revisions.new }
-    ensures more_misses { R.misses revisions.old ≤ R.misses revisions.new }
-    ensures later { K.faults out.old ≤ K.faults out.new }
+    ensures err { IfErr result (λ stop. Stopped stop (run_of (R.contents revisions.old) plan.now)
+        (moment S.Source R.Revisions K.Sink events.old revisions.old out.old world.old)
+        (moment S.Source R.Revisions K.Sink events.new revisions.new out.new world.new)) }
+    ensures source { HasGoneOn R.Revisions revisions.old revisions.new }
+    ensures later { OnOk result (K.faults out.old ≤ K.faults out.new) }
 {
-    let place = plan.place();
-    take_lines(alloc, plan.limit(), place, events, revisions, out, world)?;
-    take_end(place, revisions, world)?;
+    take_lines(alloc, plan, events, revisions, out, world)?;
+    take_end(plan.place(), revisions, world)?;
     Ok(())
 }

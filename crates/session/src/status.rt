@@ -2,12 +2,10 @@
 
 ghost use Rattle.std.specs.Prelude.{◌≡◌, IfOk};
 ghost use Rattle.session.specs.Status.{bad_line_text, cause_name as name_of, number_of, text_of};
-ghost use Rattle.session.specs.declared.status.Status.TheVariants.{OutOfMemory as Refused};
 
 use event_line::LineCause;
 use rdf_term::{OutOfMemory, Text};
 use std::alloc::Global;
-use wq_io::LineFault;
 
 /// How a run ended.
 #[derive(Clone, Copy, Debug, PartialEq, Eq)]
@@ -26,30 +24,6 @@ pub enum Status {
     TooLong,
     /// A request for memory was refused.
     OutOfMemory,
-}
-
-impl From<OutOfMemory> for Status {
-    ghost from_gives = { λ _ e. e ≡ Refused };
-
-    fn from(_refused: OutOfMemory) -> Status {
-        Status::OutOfMemory
-    }
-}
-
-impl From<LineFault> for Status {
-    ghost use Rattle.std.specs.Prelude.{◌≡◌};
-    ghost use Rattle.session.specs.Faults.{fault_status};
-
-    ghost from_gives = { λ fault status. status ≡ fault_status fault };
-
-    fn from(fault: LineFault) -> Status {
-        match fault {
-            LineFault::ReadFault => Status::ReadFault,
-            LineFault::TooLong => Status::TooLong,
-            LineFault::LineLong(number) => Status::BadLine(number, LineCause::LineLong),
-            LineFault::OutOfMemory => Status::OutOfMemory,
-        }
-    }
 }
 
 /// The line that says how a run ended, without its line feed; empty where it ended well.

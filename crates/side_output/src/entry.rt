@@ -1,9 +1,9 @@
 // The entries of the side output, and which of them still matter.
 
 ghost use Rattle.std.specs.Prelude.{◌≡◌};
-ghost use Rattle.side_output.specs.Entry.{is_open};
+ghost use Rattle.side_output.specs.Entry.{entity_of, is_open};
 
-use entity_model::{Event, Unfit};
+use entity_model::{EntityId, Event, Unfit};
 use entity_state::{Mode, State};
 
 /// Why a revision is not held although the state of its entity wants it.
@@ -24,6 +24,17 @@ pub enum Entry {
     Late(Event),
     /// An applied event, the revision that was fetched for it, and why it is not held.
     Revision(Event, u64, Cause),
+}
+
+impl Entry {
+    /// The entity of the entry's event.
+    pub fn entity(&self) -> EntityId
+        ensures { result ≡ entity_of self.now }
+    {
+        match self {
+            Entry::Late(event) | Entry::Revision(event, _, _) => event.entity,
+        }
+    }
 }
 
 /// Says whether an entry still matters, given what is known of its event's entity: its state, the

@@ -1,5 +1,5 @@
-// The side output: a list of what could not be applied as it came, late events and revisions that
-// could not be fetched or used.
+//! The side output: a list of what could not be applied as it came, late events and revisions that
+//! could not be fetched or used.
 #![tactic(auto)]
 
 mod entry;

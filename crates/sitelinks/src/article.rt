@@ -1,137 +1,149 @@
 // What a link to an article becomes.
 
-ghost use Rattle.std.specs.Prelude.{◌≡◌, [], ◌∷◌, ◌++◌, IfOk, OnOk, OnErr, map};
+ghost use Rattle.std.specs.Prelude.{◌≡◌, [], ◌∷◌, ◌++◌, IfOk, OnOk, map, string_bytes};
 ghost use Rattle.std.specs.List.{AllByRecursion};
 ghost use Rattle.rdf_term.specs.Fit.{HasFitAndShortTerms};
 ghost use Rattle.entity_model.specs.Document.{IsSmallLink};
-ghost use Rattle.sitelinks.specs.Article.{article_iri, article_triples, badge_triple, entity_term, group_triple, head_triples, said, site_triples};
+ghost use Rattle.triple_sink.specs.Gains.{Gains};
+ghost use Rattle.triple_sink.specs.TermRef.{meant};
+ghost use Rattle.sitelinks.specs.Article.{article_iri, article_triples, badge_triple, group_triple, head_triples, said, site_triples};
+ghost use Rattle.rdf_term.specs.Grammar.{tagged_of};
 
 use crate::lookup::site;
 use crate::replaced::replaced;
 use crate::sites::Site;
 use entity_model::{EntityId, Link};
-use rdf_term::{List, OutOfMemory, Term, Text, Triple, tagged};
+use rdf_term::OutOfMemory;
 use rdf_vocabulary::{Predicate, Prefix, Resource, push_escaped_name};
 use std::alloc::Global;
+use triple_sink::{Setting, TermRef, TripleSink};
 
-/// Appends the triples of the article that a link of the entity names, and of its site. A link to a site
-/// without a rule has none. After `OutOfMemory` the list is as it was.
-pub fn article_triples(
-    alloc: Global,
+// Room for most IRIs of articles, in bytes.
+const IRI_ROOM: usize = 96;
+
+/// Emits the triples of the article that a link of the entity names, and of its site. A link to a site
+/// without a rule has none.
+pub fn emit_article<S: TripleSink>(
+    setting: Setting,
     entity: EntityId,
     link: &Link,
-    out: &mut List<Triple>,
+    out: &mut S,
 ) -> Result<(), OutOfMemory>
-    ensures ok { OnOk result (out.new ≡ out.old ++ article_triples entity link.now) }
-    ensures err { OnErr result (out.new ≡ out.old) }
+    ensures gains { OnOk result (Gains S.items S.keeps out.old out.new (article_triples entity link.now)) }
+    ensures stays { S.rest out.new ≡ S.rest out.old }
     ensures fit { IsSmallLink link.now → AllByRecursion HasFitAndShortTerms (article_triples entity link.now) }
 {
-    let triples = link_triples(alloc, entity, link)?;
-    out.append(triples)
-}
-
-fn link_triples(alloc: Global, entity: EntityId, link: &Link) -> Result<List<Triple>, OutOfMemory>
-    ensures { IfOk result (λ triples. triples ≡ article_triples entity link.now) }
-{
-    let mut triples = List::new(alloc);
-    if let Some(site) = site(alloc, link.site.as_str())? {
-        push_article(alloc, entity, link, &site, &mut triples)?;
+    match site(setting.alloc, link.site.as_str())? {
+        Some(site) => emit_at_site(setting, entity, link, &site, out),
+        None => Ok(()),
     }
-    Ok(triples)
 }
 
-fn push_article(
-    alloc: Global,
+// Emits the triples of the article at its site.
+fn emit_at_site<S: TripleSink>(
+    setting: Setting,
     entity: EntityId,
     link: &Link,
     site: &Site,
-    out: &mut List<Triple>,
+    out: &mut S,
 ) -> Result<(), OutOfMemory>
-    ensures { OnOk result (out.new ≡ out.old ++ site_triples entity link.now site.now) }
+    ensures gains { OnOk result (Gains S.items S.keeps out.old out.new (site_triples entity link.now site.now)) }
+    ensures stays { S.rest out.new ≡ S.rest out.old }
 {
-    let article = article_term(alloc, site, link.title.as_str())?;
-    push_head(alloc, &article, entity, site, out)?;
-    let name = tagged(alloc, link.title.as_str(), site.language.as_str())?;
-    push(alloc, &article, Predicate::Name, name, out)?;
-    push_badges(alloc, &article, link.badges.as_slice(), out)?;
-    push_group(alloc, site, out)
+    let iri = article_iri(setting.alloc, site, link.title.as_str())?;
+    let article = TermRef::Iri(iri.as_str());
+    emit_head(setting, &article, entity, site, out)?;
+    emit_name(setting, &article, link.title.as_str(), site, out)?;
+    emit_badges(setting, &article, link.badges.as_slice(), out)?;
+    emit_group(setting, site, out)
 }
 
 // The IRI of the article with this title.
-fn article_term(alloc: Global, site: &Site, title: &str) -> Result<Term, OutOfMemory>
-    ensures { IfOk result (λ term. term ≡ Term.Iri (article_iri site.now title.now)) }
+fn article_iri(alloc: Global, site: &Site, title: &str) -> Result<String, OutOfMemory>
+    ensures { IfOk result (λ iri. string_bytes iri ≡ article_iri site.now title.now) }
 {
     let title = replaced(alloc, title, ' ', '_')?;
-    let mut iri = String::from_str(alloc, site.base.as_str())?;
+    let mut iri = String::with_capacity(alloc, IRI_ROOM)?;
+    iri.push_str(site.base.as_str())?;
     iri.push_str("wiki/")?;
     push_escaped_name(title.as_str(), &mut iri)?;
-    Ok(Term::Iri(Text::from_string(iri)))
+    Ok(iri)
 }
 
-// What the article is, and where.
-fn push_head(
-    alloc: Global,
-    article: &Term,
+// Emits what the article is, and where.
+fn emit_head<S: TripleSink>(
+    setting: Setting,
+    article: &TermRef<'_>,
     entity: EntityId,
     site: &Site,
-    out: &mut List<Triple>,
+    out: &mut S,
 ) -> Result<(), OutOfMemory>
-    ensures { OnOk result (out.new ≡ out.old ++ head_triples article.now entity site.now) }
+    ensures gains { OnOk result (Gains S.items S.keeps out.old out.new (head_triples (meant article.now) entity site.now)) }
+    ensures stays { S.rest out.new ≡ S.rest out.old }
 {
-    let class = Resource::Article.term(alloc)?;
-    push(alloc, article, Predicate::RdfType, class, out)?;
-    let entity = entity_term(alloc, entity)?;
-    push(alloc, article, Predicate::About, entity, out)?;
-    let language = Term::Plain(site.language.copy(alloc)?);
-    push(alloc, article, Predicate::InLanguage, language, out)?;
-    let base = Term::Iri(site.base.copy(alloc)?);
-    push(alloc, article, Predicate::IsPartOf, base, out)
+    let class = TermRef::Iri(Resource::Article.text());
+    emit(setting, article, Predicate::RdfType, &class, out)?;
+    let entity = TermRef::Id(Prefix::Wd, entity);
+    emit(setting, article, Predicate::About, &entity, out)?;
+    let language = TermRef::Plain(site.language.as_str());
+    emit(setting, article, Predicate::InLanguage, &language, out)?;
+    let base = TermRef::Iri(site.base.as_str());
+    emit(setting, article, Predicate::IsPartOf, &base, out)
 }
 
-fn push_badges(
-    alloc: Global,
-    article: &Term,
-    badges: &[EntityId],
-    out: &mut List<Triple>,
+// Emits the article's name, which is its title.
+fn emit_name<S: TripleSink>(
+    setting: Setting,
+    article: &TermRef<'_>,
+    title: &str,
+    site: &Site,
+    out: &mut S,
 ) -> Result<(), OutOfMemory>
-    ensures { OnOk result (out.new ≡ out.old ++ map (badge_triple article.now) badges.now) }
+    ensures gains { OnOk result (Gains S.items S.keeps out.old out.new (said (meant article.now) Predicate.Name (tagged_of title.now site.now.language) ∷ [])) }
+    ensures stays { S.rest out.new ≡ S.rest out.old }
+{
+    let name = TermRef::tagged(title, site.language.as_str());
+    emit(setting, article, Predicate::Name, &name, out)
+}
+
+// Emits the badges of the article.
+fn emit_badges<S: TripleSink>(
+    setting: Setting,
+    article: &TermRef<'_>,
+    badges: &[EntityId],
+    out: &mut S,
+) -> Result<(), OutOfMemory>
+    ensures gains { OnOk result (Gains S.items S.keeps out.old out.new (map (badge_triple (meant article.now)) badges.now)) }
+    ensures stays { S.rest out.new ≡ S.rest out.old }
 {
     for badge in badges {
-        let badge = entity_term(alloc, *badge)?;
-        push(alloc, article, Predicate::Badge, badge, out)?;
+        let badge = TermRef::Id(Prefix::Wd, *badge);
+        emit(setting, article, Predicate::Badge, &badge, out)?;
     }
     Ok(())
 }
 
-fn push_group(alloc: Global, site: &Site, out: &mut List<Triple>) -> Result<(), OutOfMemory>
-    ensures { OnOk result (out.new ≡ out.old ++ group_triple site.now ∷ []) }
+// Emits the group of the site.
+fn emit_group<S: TripleSink>(setting: Setting, site: &Site, out: &mut S) -> Result<(), OutOfMemory>
+    ensures gains { OnOk result (Gains S.items S.keeps out.old out.new (group_triple site.now ∷ [])) }
+    ensures stays { S.rest out.new ≡ S.rest out.old }
 {
-    let base = Term::Iri(site.base.copy(alloc)?);
-    let group = Term::Plain(site.group.copy(alloc)?);
-    push(alloc, &base, Predicate::WikiGroup, group, out)
+    let base = TermRef::Iri(site.base.as_str());
+    let group = TermRef::Plain(site.group.as_str());
+    emit(setting, &base, Predicate::WikiGroup, &group, out)
 }
 
-fn entity_term(alloc: Global, id: EntityId) -> Result<Term, OutOfMemory>
-    ensures { IfOk result (λ term. term ≡ entity_term id) }
-{
-    let text = id.text(alloc)?;
-    Prefix::Wd.term(alloc, text.as_str())
-}
-
-fn push(
-    alloc: Global,
-    subject: &Term,
+// Emits one triple.
+fn emit<S: TripleSink>(
+    setting: Setting,
+    subject: &TermRef<'_>,
     predicate: Predicate,
-    object: Term,
-    out: &mut List<Triple>,
+    object: &TermRef<'_>,
+    out: &mut S,
 ) -> Result<(), OutOfMemory>
-    ensures { OnOk result (out.new ≡ out.old ++ said subject.now predicate object ∷ []) }
+    ensures gains { OnOk result (Gains S.items S.keeps out.old out.new (said (meant subject.now) predicate (meant object.now) ∷ [])) }
+    ensures stays { S.rest out.new ≡ S.rest out.old }
 {
-    let subject = subject.copy(alloc)?;
-    let predicate = predicate.term(alloc)?;
-    out.push(Triple {
-        subject,
-        predicate,
-        object,
-    })
+    let predicate = TermRef::Iri(predicate.text());
+    out.emit(setting.alloc, subject, &predicate, object)
 }

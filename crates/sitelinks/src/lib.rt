@@ -1,8 +1,8 @@
-// The sites that the pages of Wikidata link to, and what a link to an article becomes in RDF ("Wikibase RDF
-// Dump Format", Sitelinks).
-//
-// `special` and `project` name the sites, `language` reads a site's language, `lookup` puts these together to a
-// site of `sites`; `replaced` writes names with one character for another, and `article` has the triples of a link.
+//! The sites that the pages of Wikidata link to, and what a link to an article becomes in RDF ("Wikibase RDF
+//! Dump Format", Sitelinks).
+//!
+//! `special` and `project` name the sites, `language` reads a site's language, `lookup` puts these together to a
+//! site of `sites`; `replaced` writes names with one character for another, and `article` has the triples of a link.
 #![tactic(auto)]
 
 mod article;
@@ -12,9 +12,7 @@ mod project;
 mod replaced;
 mod sites;
 mod special;
-#[cfg(test)]
-mod tests;
 
-pub use article::article_triples;
+pub use article::emit_article;
 pub use lookup::site;
 pub use sites::Site;

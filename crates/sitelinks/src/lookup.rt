@@ -12,6 +12,9 @@ use crate::special::SpecialSite;
 use rdf_term::{OutOfMemory, Text};
 use std::alloc::Global;
 
+// Room for what most IRIs of sites begin with, in bytes.
+const BASE_ROOM: usize = 40;
+
 /// The site with this id, as `enwiki`: one of eight special sites, or the site of a project in a language.
 pub fn site(alloc: Global, id: &str) -> Result<Option<Site>, OutOfMemory>
     ensures value { IfOk result (λ site. site ≡ site_of id.now) }
@@ -56,7 +59,8 @@ fn language_site(alloc: Global, code: &str, project: Project) -> Result<Option<S
 fn language_base(alloc: Global, language: &str, project: Project) -> Result<Text, OutOfMemory>
     ensures { IfOk result (λ base. base ≡ language_base language.now project) }
 {
-    let mut base = String::from_str(alloc, "https://")?;
+    let mut base = String::with_capacity(alloc, BASE_ROOM)?;
+    base.push_str("https://")?;
     base.push_str(language)?;
     base.push_str(".")?;
     base.push_str(project.group())?;

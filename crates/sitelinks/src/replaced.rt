@@ -17,7 +17,7 @@ pub(crate) fn replaced(
     requires to { to < 128 }
     ensures { IfOk result (λ out. string_bytes out ≡ replaced from to text.now) }
 {
-    let mut out = String::new(alloc);
+    let mut out = String::with_capacity(alloc, text.len())?;
     let mut left = text.chars();
     while let Some(c) = left.next() {
         push_replaced(c, from, to, &mut out)?;

@@ -5,7 +5,6 @@ use Rattle.std.specs.List.{flat_map}
 use Rattle.rising.specs.Rising.{In}
 use Rattle.rdf_term.specs.declared.term.Term.{Term}
 use Rattle.rdf_term.specs.declared.triple.Triple.{Triple}
-use Rattle.entity_model.specs.declared.id.EntityId.{EntityId}
 use Rattle.entity_model.specs.declared.snak.Snak.{Snak}
 use Rattle.entity_model.specs.declared.snak.Content.{Content}
 use Rattle.entity_model.specs.declared.snak.Content.TheVariants as Contents
@@ -16,35 +15,37 @@ use Rattle.rdf_vocabulary.specs.declared.prefix.Prefix.TheVariants.{Wdt}
 use Rattle.rdf_vocabulary.specs.declared.resource.Resource.TheVariants as Resources
 use Rattle.value_nodes.specs.Name.{node_name}
 use Rattle.value_nodes.specs.Nodes.{node_triples}
+use Rattle.value_nodes.specs.Said.{object_triples}
 use Rattle.value_nodes.specs.Terms.{simple_term}
+use Rattle.triple_sink.specs.declared.setting.MappingVersion.{MappingVersion}
 use Rattle.statement_rdf.specs.declared.role.Role.{Role}
 use Rattle.statement_rdf.specs.declared.role.Role.TheVariants as Roles
 use Rattle.statement_rdf.specs.Gives.{SnakGives, simple_value, value_node, node_part, no_value, unknown_value, DirectGives, direct_value, direct_no_value, direct_unknown, StatementGives, claim, statement_class, statement_rank, best_rank, main_snak, best_snak, qualifier_snak, derived, source_class, source_snak}
-use Rattle.statement_rdf.specs.Node.{id_term, entity_term, statement_node, reference_node}
+use Rattle.statement_rdf.specs.Node.{id_term, statement_node, reference_node}
 use Rattle.statement_rdf.specs.Role.{value_prefix, node_prefix}
-use Rattle.statement_rdf.specs.Snak.{object_triples, link_triples, content_triples, snak_triples}
+use Rattle.statement_rdf.specs.Snak.{link_triples, content_triples, snak_triples}
 use Rattle.statement_rdf.specs.Statement.{class_triple, direct_content, direct_triples, head_triples, main_triples, qualifier_triples, reference_triples, statement_triples, where_best}
 use Rattle.statement_rdf.proofs.Members.{in_front, in_back, in_either, in_flat_map, flat_map_in}
 
-module _ (subject : Term) (id : List ℕ) (role : Role) (snak : Snak) (t : Triple) where
-  by_object : (value : Value) (found : Option Term) → snak.content ≡ Contents.Value value → simple_term snak.datatype value ≡ found → In t (object_triples subject (id_term (value_prefix role) snak.property) found) → SnakGives subject id role snak t
+module _ (version : MappingVersion) (subject : Term) (id : List ℕ) (role : Role) (snak : Snak) (t : Triple) where
+  by_object : (value : Value) (found : Option Term) → snak.content ≡ Contents.Value value → simple_term snak.datatype value ≡ found → In t (object_triples subject (id_term (value_prefix role) snak.property) found) → SnakGives version subject id role snak t
   by_object value None is found h = absurd h
   by_object value (Some term) is found (inl e) = simple_value value term is found e
   by_object value (Some term) is found (inr h) = absurd h
 
-  by_link : (value : Value) (found : Option (List ℕ)) → snak.content ≡ Contents.Value value → node_name value ≡ found → In t (link_triples subject (id_term (node_prefix role) snak.property) found) → SnakGives subject id role snak t
+  by_link : (value : Value) (found : Option (List ℕ)) → snak.content ≡ Contents.Value value → node_name version value ≡ found → In t (link_triples subject (id_term (node_prefix role) snak.property) found) → SnakGives version subject id role snak t
   by_link value None is found h = absurd h
   by_link value (Some name) is found (inl e) = value_node value name is found e
   by_link value (Some name) is found (inr h) = absurd h
 
-  by_content : (content : Content) → snak.content ≡ content → In t (content_triples subject id role snak content) → SnakGives subject id role snak t
+  by_content : (content : Content) → snak.content ≡ content → In t (content_triples version subject id role snak content) → SnakGives version subject id role snak t
   by_content (Contents.Value value) is h =
       let object = object_triples subject (id_term (value_prefix role) snak.property) (simple_term snak.datatype value) in
-      let link = link_triples subject (id_term (node_prefix role) snak.property) (node_name value) in
-      elim (in_either t (object ++ link) (node_triples value) h) [
+      let link = link_triples subject (id_term (node_prefix role) snak.property) (node_name version value) in
+      elim (in_either t (object ++ link) (node_triples version value) h) [
         | inl front ↦ elim (in_either t object link front) [
           | inl said ↦ by_object value (simple_term snak.datatype value) is refl said
-          | inr linked ↦ by_link value (node_name value) is refl linked
+          | inr linked ↦ by_link value (node_name version value) is refl linked
         ]
         | inr part ↦ node_part value is part
       ]
@@ -54,30 +55,30 @@ module _ (subject : Term) (id : List ℕ) (role : Role) (snak : Snak) (t : Tripl
   by_content Contents.SomeValue is (inr h) = absurd h
 
   -- a triple of the list is given
-  pub snak_gives : In t (snak_triples subject id role snak) → SnakGives subject id role snak t
+  pub snak_gives : In t (snak_triples version subject id role snak) → SnakGives version subject id role snak t
   snak_gives h = by_content snak.content refl h
 
-  content_is : (content : Content) → snak.content ≡ content → In t (content_triples subject id role snak content) → In t (snak_triples subject id role snak)
-  content_is content is h = subst (λ c. In t (content_triples subject id role snak c)) (sym is) h
+  content_is : (content : Content) → snak.content ≡ content → In t (content_triples version subject id role snak content) → In t (snak_triples version subject id role snak)
+  content_is content is h = subst (λ c. In t (content_triples version subject id role snak c)) (sym is) h
 
   -- and each triple that is given is in the list
-  pub snak_given : SnakGives subject id role snak t → In t (snak_triples subject id role snak)
+  pub snak_given : SnakGives version subject id role snak t → In t (snak_triples version subject id role snak)
   snak_given (simple_value value term is found e) =
       let object = object_triples subject (id_term (value_prefix role) snak.property) in
-      let link = link_triples subject (id_term (node_prefix role) snak.property) (node_name value) in
+      let link = link_triples subject (id_term (node_prefix role) snak.property) (node_name version value) in
       let said : In t (object (simple_term snak.datatype value)) = subst (λ o. In t (object o)) (sym found) (inl e) in
       content_is (Contents.Value value) is
-      (in_front t (object (simple_term snak.datatype value) ++ link) (node_triples value) (in_front t (object (simple_term snak.datatype value)) link said))
+      (in_front t (object (simple_term snak.datatype value) ++ link) (node_triples version value) (in_front t (object (simple_term snak.datatype value)) link said))
   snak_given (value_node value name is found e) =
       let object = object_triples subject (id_term (value_prefix role) snak.property) (simple_term snak.datatype value) in
       let link = link_triples subject (id_term (node_prefix role) snak.property) in
-      let linked : In t (link (node_name value)) = subst (λ o. In t (link o)) (sym found) (inl e) in
+      let linked : In t (link (node_name version value)) = subst (λ o. In t (link o)) (sym found) (inl e) in
       content_is (Contents.Value value) is
-      (in_front t (object ++ link (node_name value)) (node_triples value) (in_back t object (link (node_name value)) linked))
+      (in_front t (object ++ link (node_name version value)) (node_triples version value) (in_back t object (link (node_name version value)) linked))
   snak_given (node_part value is part) =
       let object = object_triples subject (id_term (value_prefix role) snak.property) (simple_term snak.datatype value) in
-      let link = link_triples subject (id_term (node_prefix role) snak.property) (node_name value) in
-      content_is (Contents.Value value) is (in_back t (object ++ link) (node_triples value) part)
+      let link = link_triples subject (id_term (node_prefix role) snak.property) (node_name version value) in
+      content_is (Contents.Value value) is (in_back t (object ++ link) (node_triples version value) part)
   snak_given (no_value is e) = content_is Contents.NoValue is (inl e)
   snak_given (unknown_value is e) = content_is Contents.SomeValue is (inl e)
 
@@ -120,8 +121,8 @@ only : (t u : Triple) → In t (u ∷ []) → t ≡ u
 only t u (inl e) = e
 only t u (inr h) = absurd h
 
-module _ (x : EntityId) (s : Statement) (best : Bool) (t : Triple) where
-  by_head : In t (head_triples (entity_term x) (statement_node s.id) s best) → StatementGives x s best t
+module _ (version : MappingVersion) (entity : Term) (s : Statement) (best : Bool) (t : Triple) where
+  by_head : In t (head_triples entity (statement_node s.id) s best) → StatementGives version entity s best t
   by_head (inl e) = claim e
   by_head (inr (inl e)) = statement_class e
   by_head (inr (inr (inl e))) = statement_rank e
@@ -130,40 +131,40 @@ module _ (x : EntityId) (s : Statement) (best : Bool) (t : Triple) where
       let found = best_in t best (class ∷ []) h in
       best_rank found.0 (only t class found.1)
 
-  by_main : In t (main_triples (entity_term x) (statement_node s.id) s best) → StatementGives x s best t
+  by_main : In t (main_triples version entity (statement_node s.id) s best) → StatementGives version entity s best t
   by_main h =
-      let said = snak_triples (statement_node s.id) s.id Roles.Main s.main in
-      let direct = direct_triples (entity_term x) s.id s.main in
+      let said = snak_triples version (statement_node s.id) s.id Roles.Main s.main in
+      let direct = direct_triples entity s.id s.main in
       elim (in_either t said (where_best best direct) h) [
-        | inl front ↦ main_snak (snak_gives (statement_node s.id) s.id Roles.Main s.main t front)
-        | inr back ↦ let found = best_in t best direct back in best_snak found.0 (direct_gives (entity_term x) s.id s.main t found.1)
+        | inl front ↦ main_snak (snak_gives version (statement_node s.id) s.id Roles.Main s.main t front)
+        | inr back ↦ let found = best_in t best direct back in best_snak found.0 (direct_gives entity s.id s.main t found.1)
       ]
 
-  by_qualifiers : In t (qualifier_triples (statement_node s.id) s) → StatementGives x s best t
+  by_qualifiers : In t (qualifier_triples version (statement_node s.id) s) → StatementGives version entity s best t
   by_qualifiers h =
-      let found = flat_map_in (snak_triples (statement_node s.id) s.id Roles.Qualifier) t s.qualifiers h in
-      qualifier_snak found.0 found.1 (snak_gives (statement_node s.id) s.id Roles.Qualifier found.0 t found.2)
+      let found = flat_map_in (snak_triples version (statement_node s.id) s.id Roles.Qualifier) t s.qualifiers h in
+      qualifier_snak found.0 found.1 (snak_gives version (statement_node s.id) s.id Roles.Qualifier found.0 t found.2)
 
-  by_reference : (r : Reference) → In r s.references → In t (reference_triples (statement_node s.id) s.id r) → StatementGives x s best t
+  by_reference : (r : Reference) → In r s.references → In t (reference_triples version (statement_node s.id) s.id r) → StatementGives version entity s best t
   by_reference r among (inl e) = derived r among e
   by_reference r among (inr (inl e)) = source_class r among e
   by_reference r among (inr (inr h)) =
       let role = Roles.Reference r.hash in
-      let found = flat_map_in (snak_triples (reference_node r.hash) s.id role) t r.snaks h in
-      source_snak r found.0 among found.1 (snak_gives (reference_node r.hash) s.id role found.0 t found.2)
+      let found = flat_map_in (snak_triples version (reference_node r.hash) s.id role) t r.snaks h in
+      source_snak r found.0 among found.1 (snak_gives version (reference_node r.hash) s.id role found.0 t found.2)
 
-  by_references : In t (flat_map (reference_triples (statement_node s.id) s.id) s.references) → StatementGives x s best t
+  by_references : In t (flat_map (reference_triples version (statement_node s.id) s.id) s.references) → StatementGives version entity s best t
   by_references h =
-      let found = flat_map_in (reference_triples (statement_node s.id) s.id) t s.references h in
+      let found = flat_map_in (reference_triples version (statement_node s.id) s.id) t s.references h in
       by_reference found.0 found.1 found.2
 
   -- a triple of the list is given
-  pub statement_gives : In t (statement_triples x s best) → StatementGives x s best t
+  pub statement_gives : In t (statement_triples version entity s best) → StatementGives version entity s best t
   statement_gives h =
-      let head = head_triples (entity_term x) (statement_node s.id) s best in
-      let main = main_triples (entity_term x) (statement_node s.id) s best in
-      let qualifiers = qualifier_triples (statement_node s.id) s in
-      let references = flat_map (reference_triples (statement_node s.id) s.id) s.references in
+      let head = head_triples entity (statement_node s.id) s best in
+      let main = main_triples version entity (statement_node s.id) s best in
+      let qualifiers = qualifier_triples version (statement_node s.id) s in
+      let references = flat_map (reference_triples version (statement_node s.id) s.id) s.references in
       elim (in_either t (head ++ main ++ qualifiers) references h) [
         | inl a ↦ elim (in_either t (head ++ main) qualifiers a) [
           | inl b ↦ elim (in_either t head main b) [ inl c ↦ by_head c | inr c ↦ by_main c ]
@@ -172,40 +173,40 @@ module _ (x : EntityId) (s : Statement) (best : Bool) (t : Triple) where
         | inr a ↦ by_references a
       ]
 
-  in_head : In t (head_triples (entity_term x) (statement_node s.id) s best) → In t (statement_triples x s best)
+  in_head : In t (head_triples entity (statement_node s.id) s best) → In t (statement_triples version entity s best)
   in_head h =
-      let head = head_triples (entity_term x) (statement_node s.id) s best in
-      let main = main_triples (entity_term x) (statement_node s.id) s best in
-      let qualifiers = qualifier_triples (statement_node s.id) s in
-      let references = flat_map (reference_triples (statement_node s.id) s.id) s.references in
+      let head = head_triples entity (statement_node s.id) s best in
+      let main = main_triples version entity (statement_node s.id) s best in
+      let qualifiers = qualifier_triples version (statement_node s.id) s in
+      let references = flat_map (reference_triples version (statement_node s.id) s.id) s.references in
       in_front t (head ++ main ++ qualifiers) references (in_front t (head ++ main) qualifiers (in_front t head main h))
 
-  in_main : In t (main_triples (entity_term x) (statement_node s.id) s best) → In t (statement_triples x s best)
+  in_main : In t (main_triples version entity (statement_node s.id) s best) → In t (statement_triples version entity s best)
   in_main h =
-      let head = head_triples (entity_term x) (statement_node s.id) s best in
-      let main = main_triples (entity_term x) (statement_node s.id) s best in
-      let qualifiers = qualifier_triples (statement_node s.id) s in
-      let references = flat_map (reference_triples (statement_node s.id) s.id) s.references in
+      let head = head_triples entity (statement_node s.id) s best in
+      let main = main_triples version entity (statement_node s.id) s best in
+      let qualifiers = qualifier_triples version (statement_node s.id) s in
+      let references = flat_map (reference_triples version (statement_node s.id) s.id) s.references in
       in_front t (head ++ main ++ qualifiers) references (in_front t (head ++ main) qualifiers (in_back t head main h))
 
-  in_qualifiers : In t (qualifier_triples (statement_node s.id) s) → In t (statement_triples x s best)
+  in_qualifiers : In t (qualifier_triples version (statement_node s.id) s) → In t (statement_triples version entity s best)
   in_qualifiers h =
-      let head = head_triples (entity_term x) (statement_node s.id) s best in
-      let main = main_triples (entity_term x) (statement_node s.id) s best in
-      let qualifiers = qualifier_triples (statement_node s.id) s in
-      let references = flat_map (reference_triples (statement_node s.id) s.id) s.references in
+      let head = head_triples entity (statement_node s.id) s best in
+      let main = main_triples version entity (statement_node s.id) s best in
+      let qualifiers = qualifier_triples version (statement_node s.id) s in
+      let references = flat_map (reference_triples version (statement_node s.id) s.id) s.references in
       in_front t (head ++ main ++ qualifiers) references (in_back t (head ++ main) qualifiers h)
 
-  in_references : (r : Reference) → In r s.references → In t (reference_triples (statement_node s.id) s.id r) → In t (statement_triples x s best)
+  in_references : (r : Reference) → In r s.references → In t (reference_triples version (statement_node s.id) s.id r) → In t (statement_triples version entity s best)
   in_references r among h =
-      let head = head_triples (entity_term x) (statement_node s.id) s best in
-      let main = main_triples (entity_term x) (statement_node s.id) s best in
-      let qualifiers = qualifier_triples (statement_node s.id) s in
-      let references = flat_map (reference_triples (statement_node s.id) s.id) s.references in
-      in_back t (head ++ main ++ qualifiers) references (in_flat_map (reference_triples (statement_node s.id) s.id) t r s.references among h)
+      let head = head_triples entity (statement_node s.id) s best in
+      let main = main_triples version entity (statement_node s.id) s best in
+      let qualifiers = qualifier_triples version (statement_node s.id) s in
+      let references = flat_map (reference_triples version (statement_node s.id) s.id) s.references in
+      in_back t (head ++ main ++ qualifiers) references (in_flat_map (reference_triples version (statement_node s.id) s.id) t r s.references among h)
 
   -- and each triple that is given is in the list
-  pub statement_given : StatementGives x s best t → In t (statement_triples x s best)
+  pub statement_given : StatementGives version entity s best t → In t (statement_triples version entity s best)
   statement_given (claim e) = in_head (inl e)
   statement_given (statement_class e) = in_head (inr (inl e))
   statement_given (statement_rank e) = in_head (inr (inr (inl e)))
@@ -213,21 +214,21 @@ module _ (x : EntityId) (s : Statement) (best : Bool) (t : Triple) where
       let class = class_triple (statement_node s.id) Resources.BestRank in
       in_head (inr (inr (inr (in_best t best (class ∷ []) is (inl e)))))
   statement_given (main_snak gives) =
-      let said = snak_triples (statement_node s.id) s.id Roles.Main s.main in
-      let direct = where_best best (direct_triples (entity_term x) s.id s.main) in
-      in_main (in_front t said direct (snak_given (statement_node s.id) s.id Roles.Main s.main t gives))
+      let said = snak_triples version (statement_node s.id) s.id Roles.Main s.main in
+      let direct = where_best best (direct_triples entity s.id s.main) in
+      in_main (in_front t said direct (snak_given version (statement_node s.id) s.id Roles.Main s.main t gives))
   statement_given (best_snak is gives) =
-      let said = snak_triples (statement_node s.id) s.id Roles.Main s.main in
-      let direct = direct_triples (entity_term x) s.id s.main in
-      in_main (in_back t said (where_best best direct) (in_best t best direct is (direct_given (entity_term x) s.id s.main t gives)))
+      let said = snak_triples version (statement_node s.id) s.id Roles.Main s.main in
+      let direct = direct_triples entity s.id s.main in
+      in_main (in_back t said (where_best best direct) (in_best t best direct is (direct_given entity s.id s.main t gives)))
   statement_given (qualifier_snak snak among gives) =
-      in_qualifiers (in_flat_map (snak_triples (statement_node s.id) s.id Roles.Qualifier) t snak s.qualifiers among (snak_given (statement_node s.id) s.id Roles.Qualifier snak t gives))
+      in_qualifiers (in_flat_map (snak_triples version (statement_node s.id) s.id Roles.Qualifier) t snak s.qualifiers among (snak_given version (statement_node s.id) s.id Roles.Qualifier snak t gives))
   statement_given (derived r among e) = in_references r among (inl e)
   statement_given (source_class r among e) = in_references r among (inr (inl e))
   statement_given (source_snak r snak among within gives) =
       let role = Roles.Reference r.hash in
-      in_references r among (inr (inr (in_flat_map (snak_triples (reference_node r.hash) s.id role) t snak r.snaks within (snak_given (reference_node r.hash) s.id role snak t gives))))
+      in_references r among (inr (inr (in_flat_map (snak_triples version (reference_node r.hash) s.id role) t snak r.snaks within (snak_given version (reference_node r.hash) s.id role snak t gives))))
 
 -- the list and the rules say the same
-pub statement_rules : (x : EntityId) (s : Statement) (best : Bool) (t : Triple) → In t (statement_triples x s best) ↔ StatementGives x s best t
-statement_rules x s best t = (statement_gives x s best t, statement_given x s best t)
+pub statement_rules : (version : MappingVersion) (entity : Term) (s : Statement) (best : Bool) (t : Triple) → In t (statement_triples version entity s best) ↔ StatementGives version entity s best t
+statement_rules version entity s best t = (statement_gives version entity s best t, statement_given version entity s best t)

@@ -16,14 +16,12 @@ use Rattle.rdf_vocabulary.specs.Predicate.{predicate_term}
 use Rattle.rdf_vocabulary.specs.Prefix.{prefixed}
 use Rattle.value_nodes.specs.Name.{node_name}
 use Rattle.value_nodes.specs.Nodes.{node_triples}
+use Rattle.value_nodes.specs.Said.{triple, object_triples}
 use Rattle.value_nodes.specs.Terms.{simple_term}
+use Rattle.triple_sink.specs.declared.setting.MappingVersion.{MappingVersion}
 use Rattle.statement_rdf.specs.declared.role.Role.{Role}
 use Rattle.statement_rdf.specs.Node.{id_term}
 use Rattle.statement_rdf.specs.Role.{value_prefix, node_prefix, role_text}
-
--- a triple of three terms
-abbrev pub triple : Term → Term → Term → Triple
-triple subject predicate object = record { subject = subject; predicate = predicate; object = object }
 
 -- the label of the node that stands for an unknown value: the hash of the statement's id, the property, the role and the snak's place
 abbrev pub unknown_label : List ℕ → Role → Snak → List ℕ
@@ -33,11 +31,6 @@ unknown_label id role snak =
 -- the node that stands for an unknown value in the statement with this id
 abbrev pub unknown_node : List ℕ → Role → Snak → Term
 unknown_node id role snak = Blank (unknown_label id role snak)
-
--- the triple with this object, where it is there
-abbrev pub object_triples : Term → Term → Option Term → List Triple
-object_triples subject predicate None = []
-object_triples subject predicate (Some object) = triple subject predicate object ∷ []
 
 -- the triple that leads to the node of this name, where it is there
 abbrev pub link_triples : Term → Term → Option (List ℕ) → List Triple
@@ -49,19 +42,19 @@ abbrev pub no_value_triple : Term → EntityId → Triple
 no_value_triple subject property = triple subject (predicate_term RdfType) (id_term Wdno property)
 
 -- a value in this role: its simple term, its node and the node's own triples
-abbrev pub value_triples : Term → Role → Snak → Value → List Triple
-value_triples subject role snak value =
+abbrev pub value_triples : MappingVersion → Term → Role → Snak → Value → List Triple
+value_triples version subject role snak value =
     object_triples subject (id_term (value_prefix role) snak.property) (simple_term snak.datatype value)
-    ++ link_triples subject (id_term (node_prefix role) snak.property) (node_name value)
-    ++ node_triples value
+    ++ link_triples subject (id_term (node_prefix role) snak.property) (node_name version value)
+    ++ node_triples version value
 
 -- the triples of what a snak in this role says of its subject
-abbrev pub content_triples : Term → List ℕ → Role → Snak → Content → List Triple
-content_triples subject id role snak (Contents.Value value) = value_triples subject role snak value
-content_triples subject id role snak Contents.NoValue = no_value_triple subject snak.property ∷ []
-content_triples subject id role snak Contents.SomeValue =
+abbrev pub content_triples : MappingVersion → Term → List ℕ → Role → Snak → Content → List Triple
+content_triples version subject id role snak (Contents.Value value) = value_triples version subject role snak value
+content_triples version subject id role snak Contents.NoValue = no_value_triple subject snak.property ∷ []
+content_triples version subject id role snak Contents.SomeValue =
     triple subject (id_term (value_prefix role) snak.property) (unknown_node id role snak) ∷ []
 
 -- the triples of a snak in this role of the statement with this id
-abbrev pub snak_triples : Term → List ℕ → Role → Snak → List Triple
-snak_triples subject id role snak = content_triples subject id role snak snak.content
+abbrev pub snak_triples : MappingVersion → Term → List ℕ → Role → Snak → List Triple
+snak_triples version subject id role snak = content_triples version subject id role snak snak.content

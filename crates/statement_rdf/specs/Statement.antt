@@ -3,7 +3,6 @@ use Rattle.std.specs.Prelude.{ℕ, Bool, if◌then◌else◌, List, [], ◌∷�
 use Rattle.std.specs.List.{flat_map}
 use Rattle.rdf_term.specs.declared.term.Term.{Term}
 use Rattle.rdf_term.specs.declared.triple.Triple.{Triple}
-use Rattle.entity_model.specs.declared.id.EntityId.{EntityId}
 use Rattle.entity_model.specs.declared.snak.Snak.{Snak}
 use Rattle.entity_model.specs.declared.snak.Content.{Content}
 use Rattle.entity_model.specs.declared.snak.Content.TheVariants.{Value, NoValue, SomeValue}
@@ -17,10 +16,12 @@ use Rattle.rdf_vocabulary.specs.declared.resource.Resource.{Resource}
 use Rattle.rdf_vocabulary.specs.declared.resource.Resource.TheVariants as Resources
 use Rattle.rdf_vocabulary.specs.Predicate.{predicate_term}
 use Rattle.rdf_vocabulary.specs.Resource.{resource_term}
+use Rattle.value_nodes.specs.Said.{triple, object_triples}
 use Rattle.value_nodes.specs.Terms.{simple_term}
+use Rattle.triple_sink.specs.declared.setting.MappingVersion.{MappingVersion}
 use Rattle.statement_rdf.specs.declared.role.Role.TheVariants as Roles
-use Rattle.statement_rdf.specs.Node.{id_term, entity_term, statement_node, reference_node}
-use Rattle.statement_rdf.specs.Snak.{triple, unknown_node, object_triples, no_value_triple, snak_triples}
+use Rattle.statement_rdf.specs.Node.{id_term, statement_node, reference_node}
+use Rattle.statement_rdf.specs.Snak.{unknown_node, no_value_triple, snak_triples}
 
 -- the term of a rank
 abbrev pub rank_resource : Rank → Resource
@@ -56,13 +57,13 @@ abbrev pub direct_triples : Term → List ℕ → Snak → List Triple
 direct_triples entity id snak = direct_content entity id snak snak.content
 
 -- what is stated, said of the statement, and where it is best of the entity too
-abbrev pub main_triples : Term → Term → Statement → Bool → List Triple
-main_triples entity node s best =
-    snak_triples node s.id Roles.Main s.main ++ where_best best (direct_triples entity s.id s.main)
+abbrev pub main_triples : MappingVersion → Term → Term → Statement → Bool → List Triple
+main_triples version entity node s best =
+    snak_triples version node s.id Roles.Main s.main ++ where_best best (direct_triples entity s.id s.main)
 
 -- the qualifiers, said of the statement
-abbrev pub qualifier_triples : Term → Statement → List Triple
-qualifier_triples node s = flat_map (snak_triples node s.id Roles.Qualifier) s.qualifiers
+abbrev pub qualifier_triples : MappingVersion → Term → Statement → List Triple
+qualifier_triples version node s = flat_map (snak_triples version node s.id Roles.Qualifier) s.qualifiers
 
 -- the statement is from the source; the source's class
 abbrev pub source_triples : Term → Term → List Triple
@@ -70,15 +71,19 @@ source_triples node source =
     triple node (predicate_term Predicates.WasDerivedFrom) source ∷ class_triple source Resources.Reference ∷ []
 
 -- a reference of the statement with this id, and what it says of the source
-abbrev pub reference_triples : Term → List ℕ → Reference → List Triple
-reference_triples node id r =
+abbrev pub reference_triples : MappingVersion → Term → List ℕ → Reference → List Triple
+reference_triples version node id r =
     source_triples node (reference_node r.hash)
-    ++ flat_map (snak_triples (reference_node r.hash) id (Roles.Reference r.hash)) r.snaks
+    ++ flat_map (snak_triples version (reference_node r.hash) id (Roles.Reference r.hash)) r.snaks
 
--- the triples of a statement of an entity
-abbrev pub statement_triples : EntityId → Statement → Bool → List Triple
-statement_triples x s best =
-    head_triples (entity_term x) (statement_node s.id) s best
-    ++ main_triples (entity_term x) (statement_node s.id) s best
-    ++ qualifier_triples (statement_node s.id) s
-    ++ flat_map (reference_triples (statement_node s.id) s.id) s.references
+-- the triples of a statement that has this node
+abbrev pub part_triples : MappingVersion → Term → Term → Statement → Bool → List Triple
+part_triples version entity node s best =
+    head_triples entity node s best
+    ++ main_triples version entity node s best
+    ++ qualifier_triples version node s
+    ++ flat_map (reference_triples version node s.id) s.references
+
+-- the triples of a statement of an entity, which may be any subject
+abbrev pub statement_triples : MappingVersion → Term → Statement → Bool → List Triple
+statement_triples version entity s best = part_triples version entity (statement_node s.id) s best

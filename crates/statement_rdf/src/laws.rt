@@ -3,8 +3,12 @@
 ghost use Rattle.std.specs.Prelude.{◌≡◌, ℕ, Bool, IsTrue, List, map, ◌↔◌};
 ghost use Rattle.std.specs.Str.{encode_utf8_all};
 ghost use Rattle.rising.specs.Rising.{In};
+ghost use Rattle.std.specs.List.{AllByRecursion};
+ghost use Rattle.rdf_term.specs.declared.term.Term.{Term};
 ghost use Rattle.rdf_term.specs.declared.triple.Triple.{Triple};
-ghost use Rattle.entity_model.specs.declared.id.EntityId.{EntityId};
+ghost use Rattle.rdf_term.specs.Fit.{HasFitAndShortTerms, IsFitAndShort};
+ghost use Rattle.entity_model.specs.Statement.{IsSmallStatement};
+ghost use Rattle.triple_sink.specs.declared.setting.MappingVersion.{MappingVersion};
 ghost use Rattle.entity_model.specs.declared.statement.Statement.{Statement};
 ghost use Rattle.statement_rdf.specs.Gives.{StatementGives};
 ghost use Rattle.statement_rdf.specs.Node.{name_char, statement_name};
@@ -19,7 +23,15 @@ pub fn best_is_ranked_highest()
 
 /// The triples of a statement are exactly those that a rule of the dump format gives.
 pub fn statement_triples_are_given()
-    ensures { (x : EntityId) (s : Statement) (best : Bool) (t : Triple) → In t (statement_triples x s best) ↔ StatementGives x s best t }
+    ensures { (version : MappingVersion) (entity : Term) (s : Statement) (best : Bool) (t : Triple) →
+        In t (statement_triples version entity s best) ↔ StatementGives version entity s best t }
+{}
+
+/// The triples of a small statement of a subject whose term is fit and short have fit and short terms.
+#[tactic(auto, using(crate::proofs::Fit::statement_triples_fit))]
+pub fn statement_terms_are_fit()
+    ensures { (version : MappingVersion) (entity : Term) (s : Statement) (best : Bool) → IsFitAndShort entity
+        → IsSmallStatement s → AllByRecursion HasFitAndShortTerms (statement_triples version entity s best) }
 {}
 
 /// Each character of a statement's id becomes one character in the name of its node.

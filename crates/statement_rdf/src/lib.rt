@@ -1,7 +1,7 @@
-// What the statements of an entity become in RDF ("Wikibase RDF Dump Format", Statement types): which of
-// them are best, and the triples of each, of its qualifiers and of its references.
-//
-// `best` judges the statements of a list, and `statement_triples` has the triples of one.
+//! What the statements of an entity become in RDF ("Wikibase RDF Dump Format", Statement types): which of
+//! them are best, and the triples of each, of its qualifiers and of its references.
+//!
+//! `best` judges the statements of a list, and `emit_statement` hands on the triples of one.
 #![tactic(auto)]
 
 mod laws;
@@ -14,7 +14,8 @@ mod statement;
 mod tests;
 
 pub use laws::{
-    best_is_ranked_highest, statement_names_keep_characters, statement_triples_are_given,
+    best_is_ranked_highest, statement_names_keep_characters, statement_terms_are_fit,
+    statement_triples_are_given,
 };
 pub use ranking::best;
-pub use statement::statement_triples;
+pub use statement::emit_statement;

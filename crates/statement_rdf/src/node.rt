@@ -1,28 +1,18 @@
-// The terms for entities, statements, references and properties.
+// The names of the nodes of statements.
 
 ghost use Rattle.std.specs.Prelude.{◌≡◌, ◌++◌, IfOk, OnOk, string_bytes};
-ghost use Rattle.statement_rdf.specs.Node.{id_term, name_byte, statement_name, statement_node};
+ghost use Rattle.statement_rdf.specs.Node.{name_byte, statement_name};
 
-use entity_model::EntityId;
-use rdf_term::{OutOfMemory, Term};
-use rdf_vocabulary::Prefix;
+use rdf_term::{OutOfMemory, Text};
 use std::alloc::Global;
 
-/// The IRI of an entity's id in a namespace.
-pub fn id_term(alloc: Global, prefix: Prefix, id: EntityId) -> Result<Term, OutOfMemory>
-    ensures { IfOk result (λ term. term ≡ id_term prefix id) }
-{
-    let name = id.text(alloc)?;
-    prefix.term(alloc, name.as_str())
-}
-
-/// The node of the statement with this id.
-pub fn statement_node(alloc: Global, id: &str) -> Result<Term, OutOfMemory>
-    ensures { IfOk result (λ term. term ≡ statement_node id.now) }
+/// The name of the node of the statement with this id.
+pub fn statement_name(alloc: Global, id: &str) -> Result<Text, OutOfMemory>
+    ensures { IfOk result (λ name. name ≡ statement_name id.now) }
 {
     let mut name = String::new(alloc);
     push_statement_name(id.as_bytes(), &mut name)?;
-    Prefix::Wds.term(alloc, name.as_str())
+    Ok(Text::from_string(name))
 }
 
 // Appends the name of the node of the statement with this id.

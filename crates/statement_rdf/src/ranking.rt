@@ -1,9 +1,8 @@
 // Which statements of a list are best.
 
 ghost use Rattle.std.specs.Prelude.{◌≡◌, ℕ, ◌||◌, map, IfOk, OnOk};
-ghost use Rattle.std.specs.HashMap.{get};
+ghost use Rattle.std.specs.BTreeMap.{get};
 ghost use Rattle.std.specs.List.{list_any};
-ghost use Rattle.std.specs.Ordering.{eq_by_cmp};
 ghost use Rattle.entity_model.specs.declared.id.EntityId.{EntityId as Id};
 ghost use Rattle.entity_model.specs.EntityId.{entity_cmp};
 ghost use Rattle.statement_rdf.specs.Ranking.{has_rank_above, is_above, is_best, is_highest, is_ranked_above};
@@ -11,7 +10,7 @@ ghost use Rattle.statement_rdf.specs.Ranking.{has_rank_above, is_above, is_best,
 use entity_model::{EntityId, Rank, Statement};
 use rdf_term::{List, OutOfMemory};
 use std::alloc::Global;
-use std::collections::HashMap;
+use std::collections::BTreeMap;
 
 /// Says of each statement whether it is best: it isn't deprecated, and no statement of its property is
 /// ranked higher.
@@ -27,11 +26,11 @@ pub fn best(alloc: Global, statements: &List<Statement>) -> Result<List<bool>, O
 fn highest_ranks(
     alloc: Global,
     statements: &[Statement],
-) -> Result<HashMap<EntityId, Rank>, OutOfMemory>
+) -> Result<BTreeMap<EntityId, Rank>, OutOfMemory>
     ensures { IfOk result (λ highest. (property : Id) (place : ℕ) →
-        has_rank_above place (get (eq_by_cmp entity_cmp) highest property) ≡ list_any (is_ranked_above property place) statements.now) }
+        has_rank_above place (get entity_cmp highest property) ≡ list_any (is_ranked_above property place) statements.now) }
 {
-    let mut highest = HashMap::new(alloc);
+    let mut highest = BTreeMap::new(alloc);
     for statement in statements {
         raise(&mut highest, statement)?;
     }
@@ -39,10 +38,10 @@ fn highest_ranks(
 }
 
 // Takes a statement into account.
-fn raise(highest: &mut HashMap<EntityId, Rank>, statement: &Statement) -> Result<(), OutOfMemory>
+fn raise(highest: &mut BTreeMap<EntityId, Rank>, statement: &Statement) -> Result<(), OutOfMemory>
     ensures { OnOk result ((property : Id) (place : ℕ) →
-        has_rank_above place (get (eq_by_cmp entity_cmp) highest.new property)
-        ≡ has_rank_above place (get (eq_by_cmp entity_cmp) highest.old property) || is_ranked_above property place statement.now) }
+        has_rank_above place (get entity_cmp highest.new property)
+        ≡ has_rank_above place (get entity_cmp highest.old property) || is_ranked_above property place statement.now) }
 {
     let known = highest.get(&statement.property).copied();
     if is_above(statement.rank, known) {
@@ -64,11 +63,11 @@ fn is_above(rank: Rank, known: Option<Rank>) -> bool
 // Says of each statement whether it is best, by the highest rank of each property.
 fn judge_all(
     alloc: Global,
-    highest: &HashMap<EntityId, Rank>,
+    highest: &BTreeMap<EntityId, Rank>,
     statements: &[Statement],
 ) -> Result<List<bool>, OutOfMemory>
     ensures { IfOk result (λ answers. answers
-        ≡ map (λ s. is_highest s.rank (get (eq_by_cmp entity_cmp) highest.now s.property)) statements.now) }
+        ≡ map (λ s. is_highest s.rank (get entity_cmp highest.now s.property)) statements.now) }
 {
     let mut answers = List::new(alloc);
     for statement in statements {

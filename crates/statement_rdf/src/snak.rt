@@ -3,137 +3,167 @@
 ghost use Rattle.std.specs.Prelude.{◌≡◌, [], ◌∷◌, ◌++◌, IfOk, OnOk, decimal, string_bytes};
 ghost use Rattle.std.specs.List.{flat_map};
 ghost use Rattle.rdf_vocabulary.specs.Fields.{field};
+ghost use Rattle.triple_sink.specs.Gains.{Gains};
+ghost use Rattle.triple_sink.specs.TermRef.{meant};
 ghost use Rattle.value_nodes.specs.Name.{node_name};
+ghost use Rattle.value_nodes.specs.Nodes.{node_triples};
+ghost use Rattle.value_nodes.specs.Said.{object_triples};
 ghost use Rattle.value_nodes.specs.Terms.{simple_term};
 ghost use Rattle.statement_rdf.specs.Node.{id_term};
-ghost use Rattle.statement_rdf.specs.Snak.{link_triples, no_value_triple, object_triples, snak_triples, triple, unknown_node, value_triples};
+ghost use Rattle.statement_rdf.specs.Snak.{link_triples, no_value_triple, snak_triples, unknown_label, value_triples};
 
-use crate::node::id_term;
 use crate::role::Role;
 use entity_model::{Content, EntityId, Snak, Value};
 use itoa::Buffer;
-use rdf_term::{List, OutOfMemory, Term, Triple};
+use rdf_term::{OutOfMemory, Text};
 use rdf_vocabulary::{Predicate, Prefix, hashed_name, push_field};
 use std::alloc::Global;
-use value_nodes::{node_name, node_triples, simple};
+use triple_sink::{Setting, TermRef, TripleSink};
+use value_nodes::{emit_parts, emit_simple, node_name};
 
-/// Appends the triples of snaks in this role of the statement with this id.
-pub fn push_snaks(
-    alloc: Global,
-    subject: &Term,
+/// Hands on the triples of snaks in this role of the statement with this id.
+pub fn emit_snaks<S: TripleSink>(
+    setting: Setting,
+    subject: &TermRef<'_>,
     id: &str,
     role: &Role,
     snaks: &[Snak],
-    out: &mut List<Triple>,
+    out: &mut S,
 ) -> Result<(), OutOfMemory>
-    ensures { OnOk result (out.new ≡ out.old ++ flat_map (snak_triples subject.now id.now role.now) snaks.now) }
+    ensures gains { OnOk result (Gains S.items S.keeps out.old out.new
+        (flat_map (snak_triples setting.version (meant subject.now) id.now role.now) snaks.now)) }
+    ensures stays { S.rest out.new ≡ S.rest out.old }
 {
     for snak in snaks {
-        push_snak(alloc, subject, id, role, snak, out)?;
+        emit_snak(setting, subject, id, role, snak, out)?;
     }
     Ok(())
 }
 
-/// Appends the triples of a snak in this role of the statement with this id.
-pub fn push_snak(
-    alloc: Global,
-    subject: &Term,
+/// Hands on the triples of a snak in this role of the statement with this id.
+pub fn emit_snak<S: TripleSink>(
+    setting: Setting,
+    subject: &TermRef<'_>,
     id: &str,
     role: &Role,
     snak: &Snak,
-    out: &mut List<Triple>,
+    out: &mut S,
 ) -> Result<(), OutOfMemory>
-    ensures { OnOk result (out.new ≡ out.old ++ snak_triples subject.now id.now role.now snak.now) }
+    ensures gains { OnOk result (Gains S.items S.keeps out.old out.new
+        (snak_triples setting.version (meant subject.now) id.now role.now snak.now)) }
+    ensures stays { S.rest out.new ≡ S.rest out.old }
 {
     match &snak.content {
-        Content::Value(value) => push_value(alloc, subject, role, snak, value, out),
-        Content::NoValue => push_no_value(alloc, subject, snak.property, out),
+        Content::Value(value) => emit_value(setting, subject, role, snak, value, out),
+        Content::NoValue => emit_no_value(setting.alloc, subject, snak.property, out),
         Content::SomeValue => {
-            let predicate = id_term(alloc, role.value_prefix(), snak.property)?;
-            let node = unknown_node(alloc, id, role, snak)?;
-            push(alloc, subject, predicate, node, out)
+            let label = unknown_label(setting.alloc, id, role, snak)?;
+            let predicate = TermRef::Id(role.value_prefix(), snak.property);
+            let object = TermRef::Blank(label.as_str());
+            out.emit(setting.alloc, subject, &predicate, &object)
         }
     }
 }
 
-// Appends the triples of a value: its simple term, and its node.
-fn push_value(
-    alloc: Global,
-    subject: &Term,
+// Hands on the triples of a value: its simple term, and its node.
+fn emit_value<S: TripleSink>(
+    setting: Setting,
+    subject: &TermRef<'_>,
     role: &Role,
     snak: &Snak,
     value: &Value,
-    out: &mut List<Triple>,
+    out: &mut S,
 ) -> Result<(), OutOfMemory>
-    ensures { OnOk result (out.new ≡ out.old ++ value_triples subject.now role.now snak.now value.now) }
+    ensures gains { OnOk result (Gains S.items S.keeps out.old out.new
+        (value_triples setting.version (meant subject.now) role.now snak.now value.now)) }
+    ensures stays { S.rest out.new ≡ S.rest out.old }
 {
-    push_object(alloc, subject, role.value_prefix(), snak, value, out)?;
-    push_link(alloc, subject, role.node_prefix(), snak, value, out)?;
-    node_triples(alloc, value, out)
+    emit_object(
+        setting.alloc,
+        subject,
+        role.value_prefix(),
+        snak,
+        value,
+        out,
+    )?;
+    emit_node(setting, subject, role.node_prefix(), snak, value, out)
 }
 
-/// Appends the triple of a value's simple term, where it has one.
-pub fn push_object(
+/// Hands on the triple of a value's simple term, where it has one.
+pub fn emit_object<S: TripleSink>(
     alloc: Global,
-    subject: &Term,
+    subject: &TermRef<'_>,
     prefix: Prefix,
     snak: &Snak,
     value: &Value,
-    out: &mut List<Triple>,
+    out: &mut S,
 ) -> Result<(), OutOfMemory>
-    ensures { OnOk result (out.new ≡ out.old
-        ++ object_triples subject.now (id_term prefix snak.now.property) (simple_term snak.now.datatype value.now)) }
+    ensures gains { OnOk result (Gains S.items S.keeps out.old out.new
+        (object_triples (meant subject.now) (id_term prefix snak.now.property) (simple_term snak.now.datatype value.now))) }
+    ensures stays { S.rest out.new ≡ S.rest out.old }
 {
-    if let Some(object) = simple(alloc, snak.datatype.as_str(), value)? {
-        let predicate = id_term(alloc, prefix, snak.property)?;
-        push(alloc, subject, predicate, object, out)?;
-    }
-    Ok(())
+    let predicate = TermRef::Id(prefix, snak.property);
+    emit_simple(
+        alloc,
+        subject,
+        &predicate,
+        snak.datatype.as_str(),
+        value,
+        out,
+    )
 }
 
-// Appends the triple that leads to a value's node, where it has one.
-fn push_link(
-    alloc: Global,
-    subject: &Term,
+// Hands on the triple that leads to a value's node, and the node's own triples, where it has one.
+fn emit_node<S: TripleSink>(
+    setting: Setting,
+    subject: &TermRef<'_>,
     prefix: Prefix,
     snak: &Snak,
     value: &Value,
-    out: &mut List<Triple>,
+    out: &mut S,
 ) -> Result<(), OutOfMemory>
-    ensures { OnOk result (out.new ≡ out.old
-        ++ link_triples subject.now (id_term prefix snak.now.property) (node_name value.now)) }
+    ensures gains { OnOk result (Gains S.items S.keeps out.old out.new
+        (link_triples (meant subject.now) (id_term prefix snak.now.property) (node_name setting.version value.now)
+        ++ node_triples setting.version value.now)) }
+    ensures stays { S.rest out.new ≡ S.rest out.old }
 {
-    if let Some(name) = node_name(alloc, value)? {
-        let predicate = id_term(alloc, prefix, snak.property)?;
-        let node = Prefix::Wdv.term(alloc, name.as_str())?;
-        push(alloc, subject, predicate, node, out)?;
+    match node_name(setting, value)? {
+        Some(name) => {
+            let predicate = TermRef::Id(prefix, snak.property);
+            let node = TermRef::Named(Prefix::Wdv, name.as_str());
+            out.emit(setting.alloc, subject, &predicate, &node)?;
+            emit_parts(setting.alloc, &node, value, out)
+        }
+        None => Ok(()),
     }
-    Ok(())
 }
 
-/// Appends that the subject has no value of the property.
-pub fn push_no_value(
+/// Hands on that the subject has no value of the property.
+pub fn emit_no_value<S: TripleSink>(
     alloc: Global,
-    subject: &Term,
+    subject: &TermRef<'_>,
     property: EntityId,
-    out: &mut List<Triple>,
+    out: &mut S,
 ) -> Result<(), OutOfMemory>
-    ensures { OnOk result (out.new ≡ out.old ++ no_value_triple subject.now property ∷ []) }
+    ensures gains { OnOk result (Gains S.items S.keeps out.old out.new
+        (no_value_triple (meant subject.now) property ∷ [])) }
+    ensures stays { S.rest out.new ≡ S.rest out.old }
 {
-    let class = id_term(alloc, Prefix::Wdno, property)?;
-    push(alloc, subject, Predicate::RdfType.term(alloc)?, class, out)
+    let predicate = TermRef::Iri(Predicate::RdfType.text());
+    let class = TermRef::Id(Prefix::Wdno, property);
+    out.emit(alloc, subject, &predicate, &class)
 }
 
-/// The node that stands for an unknown value.
-pub fn unknown_node(alloc: Global, id: &str, role: &Role, snak: &Snak) -> Result<Term, OutOfMemory>
-    ensures { IfOk result (λ term. term ≡ unknown_node id.now role.now snak.now) }
+/// The label of the node that stands for an unknown value.
+pub fn unknown_label(alloc: Global, id: &str, role: &Role, snak: &Snak) -> Result<Text, OutOfMemory>
+    ensures { IfOk result (λ label. label ≡ unknown_label id.now role.now snak.now) }
 {
     let mut fields = String::new(alloc);
     push_field(id, &mut fields)?;
     push_field(snak.property.text(alloc)?.as_str(), &mut fields)?;
     push_field(role.text(alloc)?.as_str(), &mut fields)?;
     push_decimal(snak.place, &mut fields)?;
-    Ok(Term::Blank(hashed_name(alloc, fields.as_str())?))
+    hashed_name(alloc, fields.as_str())
 }
 
 // Appends the field of a number in decimal.
@@ -142,22 +172,4 @@ fn push_decimal(number: u32, fields: &mut String) -> Result<(), OutOfMemory>
 {
     let mut buffer = Buffer::new();
     push_field(buffer.format(number), fields)
-}
-
-/// Appends a triple.
-pub fn push(
-    alloc: Global,
-    subject: &Term,
-    predicate: Term,
-    object: Term,
-    out: &mut List<Triple>,
-) -> Result<(), OutOfMemory>
-    ensures { OnOk result (out.new ≡ out.old ++ triple subject.now predicate object ∷ []) }
-{
-    let subject = subject.copy(alloc)?;
-    out.push(Triple {
-        subject,
-        predicate,
-        object,
-    })
 }

@@ -1,80 +1,80 @@
 // The triples of statements.
 
-ghost use Rattle.std.specs.Prelude.{◌≡◌, [], ◌∷◌, ◌++◌, IfOk, OnOk, OnErr};
-ghost use Rattle.std.specs.List.{AllByRecursion, flat_map};
-ghost use Rattle.rdf_term.specs.Fit.{HasFitAndShortTerms};
-ghost use Rattle.entity_model.specs.Statement.{IsSmallStatement};
-ghost use Rattle.statement_rdf.specs.Statement.{class_triple, direct_triples, head_triples, main_triples, qualifier_triples, rank_resource, reference_triples, source_triples, statement_triples, where_best};
+ghost use Rattle.std.specs.Prelude.{◌≡◌, [], ◌∷◌, OnOk};
+ghost use Rattle.std.specs.List.{flat_map};
+ghost use Rattle.triple_sink.specs.Gains.{Gains};
+ghost use Rattle.triple_sink.specs.TermRef.{meant};
+ghost use Rattle.statement_rdf.specs.Statement.{class_triple, direct_triples, head_triples, main_triples, part_triples, qualifier_triples, rank_resource, reference_triples, source_triples, statement_triples};
 
-use crate::node::{id_term, statement_node};
+use crate::node::statement_name;
 use crate::role::Role;
-use crate::snak::{push, push_no_value, push_object, push_snak, push_snaks, unknown_node};
-use entity_model::{Content, EntityId, Rank, Reference, Snak, Statement};
-use rdf_term::{List, OutOfMemory, Term, Triple};
+use crate::snak::{emit_no_value, emit_object, emit_snak, emit_snaks, unknown_label};
+use entity_model::{Content, Rank, Reference, Snak, Statement};
+use rdf_term::{OutOfMemory, Text};
 use rdf_vocabulary::{Predicate, Prefix, Resource};
 use std::alloc::Global;
+use triple_sink::{Setting, TermRef, TripleSink};
 
-/// Appends the triples of a statement of the entity: its node with its class and rank, what it states, its
-/// qualifiers and its references. A best statement's node also has the class of such, and what it states
-/// is also said of the entity itself. After `OutOfMemory` the list is as it was.
-pub fn statement_triples(
-    alloc: Global,
-    entity: EntityId,
+/// Hands on the triples of a statement of the entity, which may be any subject: the statement's node with its
+/// class and rank, what it states, its qualifiers and its references. A best statement's node also has the
+/// class of such, and what it states is also said of the entity itself.
+pub fn emit_statement<S: TripleSink>(
+    setting: Setting,
+    entity: &TermRef<'_>,
     statement: &Statement,
     best: bool,
-    out: &mut List<Triple>,
+    out: &mut S,
 ) -> Result<(), OutOfMemory>
-    ensures ok { OnOk result (out.new ≡ out.old ++ statement_triples entity statement.now best) }
-    ensures err { OnErr result (out.new ≡ out.old) }
-    ensures fit { IsSmallStatement statement.now → AllByRecursion HasFitAndShortTerms (statement_triples entity statement.now best) }
+    ensures gains { OnOk result (Gains S.items S.keeps out.old out.new
+        (statement_triples setting.version (meant entity.now) statement.now best)) }
+    ensures stays { S.rest out.new ≡ S.rest out.old }
 {
-    let triples = all_triples(alloc, entity, statement, best)?;
-    out.append(triples)
+    let name = statement_name(setting.alloc, statement.id.as_str())?;
+    let node = TermRef::Named(Prefix::Wds, name.as_str());
+    emit_all_parts(setting, entity, &node, statement, best, out)
 }
 
-// The triples of a statement of the entity.
-fn all_triples(
-    alloc: Global,
-    entity: EntityId,
+// Hands on the triples of a statement that has this node.
+fn emit_all_parts<S: TripleSink>(
+    setting: Setting,
+    entity: &TermRef<'_>,
+    node: &TermRef<'_>,
     statement: &Statement,
     best: bool,
-) -> Result<List<Triple>, OutOfMemory>
-    ensures { IfOk result (λ triples. triples ≡ statement_triples entity statement.now best) }
+    out: &mut S,
+) -> Result<(), OutOfMemory>
+    ensures gains { OnOk result (Gains S.items S.keeps out.old out.new
+        (part_triples setting.version (meant entity.now) (meant node.now) statement.now best)) }
+    ensures stays { S.rest out.new ≡ S.rest out.old }
 {
-    let mut triples = List::new(alloc);
-    let entity = id_term(alloc, Prefix::Wd, entity)?;
-    let node = statement_node(alloc, statement.id.as_str())?;
-    push_head(alloc, &entity, &node, statement, best, &mut triples)?;
-    push_main(alloc, &entity, &node, statement, best, &mut triples)?;
-    push_qualifiers(alloc, &node, statement, &mut triples)?;
-    push_references(
-        alloc,
-        &node,
-        statement.id.as_str(),
-        statement.references.as_slice(),
-        &mut triples,
-    )?;
-    Ok(triples)
+    emit_head(setting.alloc, entity, node, statement, best, out)?;
+    emit_main(setting, entity, node, statement, best, out)?;
+    emit_qualifiers(setting, node, statement, out)?;
+    let references = statement.references.as_slice();
+    emit_references(setting, node, statement.id.as_str(), references, out)
 }
 
-// Appends that the entity has the statement, the statement's class and rank, and whether it is best.
-fn push_head(
+// Hands on that the entity has the statement, the statement's class and rank, and whether it is best.
+fn emit_head<S: TripleSink>(
     alloc: Global,
-    entity: &Term,
-    node: &Term,
+    entity: &TermRef<'_>,
+    node: &TermRef<'_>,
     statement: &Statement,
     best: bool,
-    out: &mut List<Triple>,
+    out: &mut S,
 ) -> Result<(), OutOfMemory>
-    ensures { OnOk result (out.new ≡ out.old ++ head_triples entity.now node.now statement.now best) }
+    ensures gains { OnOk result (Gains S.items S.keeps out.old out.new
+        (head_triples (meant entity.now) (meant node.now) statement.now best)) }
+    ensures stays { S.rest out.new ≡ S.rest out.old }
 {
-    let claim = id_term(alloc, Prefix::P, statement.property)?;
-    push(alloc, entity, claim, node.copy(alloc)?, out)?;
-    push_class(alloc, node, Resource::Statement, out)?;
-    let rank = rank_resource(statement.rank).term(alloc)?;
-    push(alloc, node, Predicate::Rank.term(alloc)?, rank, out)?;
+    let claim = TermRef::Id(Prefix::P, statement.property);
+    out.emit(alloc, entity, &claim, node)?;
+    emit_class(alloc, node, Resource::Statement, out)?;
+    let predicate = TermRef::Iri(Predicate::Rank.text());
+    let rank = TermRef::Iri(rank_resource(statement.rank).text());
+    out.emit(alloc, node, &predicate, &rank)?;
     if best {
-        push_class(alloc, node, Resource::BestRank, out)?;
+        emit_class(alloc, node, Resource::BestRank, out)?;
     }
     Ok(())
 }
@@ -90,115 +90,129 @@ fn rank_resource(rank: Rank) -> Resource
     }
 }
 
-// Appends what is stated, said of the statement, and where it is best of the entity too.
-fn push_main(
-    alloc: Global,
-    entity: &Term,
-    node: &Term,
+// Hands on what is stated, said of the statement, and where it is best of the entity too.
+fn emit_main<S: TripleSink>(
+    setting: Setting,
+    entity: &TermRef<'_>,
+    node: &TermRef<'_>,
     statement: &Statement,
     best: bool,
-    out: &mut List<Triple>,
+    out: &mut S,
 ) -> Result<(), OutOfMemory>
-    ensures { OnOk result (out.new ≡ out.old ++ main_triples entity.now node.now statement.now best) }
+    ensures gains { OnOk result (Gains S.items S.keeps out.old out.new
+        (main_triples setting.version (meant entity.now) (meant node.now) statement.now best)) }
+    ensures stays { S.rest out.new ≡ S.rest out.old }
 {
     let id = statement.id.as_str();
-    push_snak(alloc, node, id, &Role::Main, &statement.main, out)?;
+    emit_snak(setting, node, id, &Role::Main, &statement.main, out)?;
     if best {
-        push_direct(alloc, entity, id, &statement.main, out)?;
+        emit_direct(setting.alloc, entity, id, &statement.main, out)?;
     }
     Ok(())
 }
 
-// Appends what the main snak of a best statement says of the entity.
-fn push_direct(
+// Hands on what the main snak of a best statement says of the entity.
+fn emit_direct<S: TripleSink>(
     alloc: Global,
-    entity: &Term,
+    entity: &TermRef<'_>,
     id: &str,
     snak: &Snak,
-    out: &mut List<Triple>,
+    out: &mut S,
 ) -> Result<(), OutOfMemory>
-    ensures { OnOk result (out.new ≡ out.old ++ direct_triples entity.now id.now snak.now) }
+    ensures gains { OnOk result (Gains S.items S.keeps out.old out.new
+        (direct_triples (meant entity.now) id.now snak.now)) }
+    ensures stays { S.rest out.new ≡ S.rest out.old }
 {
     match &snak.content {
-        Content::Value(value) => push_object(alloc, entity, Prefix::Wdt, snak, value, out),
-        Content::NoValue => push_no_value(alloc, entity, snak.property, out),
+        Content::Value(value) => emit_object(alloc, entity, Prefix::Wdt, snak, value, out),
+        Content::NoValue => emit_no_value(alloc, entity, snak.property, out),
         Content::SomeValue => {
-            let predicate = id_term(alloc, Prefix::Wdt, snak.property)?;
-            let node = unknown_node(alloc, id, &Role::Main, snak)?;
-            push(alloc, entity, predicate, node, out)
+            let label = unknown_label(alloc, id, &Role::Main, snak)?;
+            let predicate = TermRef::Id(Prefix::Wdt, snak.property);
+            out.emit(alloc, entity, &predicate, &TermRef::Blank(label.as_str()))
         }
     }
 }
 
-// Appends the qualifiers, said of the statement.
-fn push_qualifiers(
-    alloc: Global,
-    node: &Term,
+// Hands on the qualifiers, said of the statement.
+fn emit_qualifiers<S: TripleSink>(
+    setting: Setting,
+    node: &TermRef<'_>,
     statement: &Statement,
-    out: &mut List<Triple>,
+    out: &mut S,
 ) -> Result<(), OutOfMemory>
-    ensures { OnOk result (out.new ≡ out.old ++ qualifier_triples node.now statement.now) }
+    ensures gains { OnOk result (Gains S.items S.keeps out.old out.new
+        (qualifier_triples setting.version (meant node.now) statement.now)) }
+    ensures stays { S.rest out.new ≡ S.rest out.old }
 {
     let id = statement.id.as_str();
     let qualifiers = statement.qualifiers.as_slice();
-    push_snaks(alloc, node, id, &Role::Qualifier, qualifiers, out)
+    emit_snaks(setting, node, id, &Role::Qualifier, qualifiers, out)
 }
 
-// Appends the references of the statement with this id.
-fn push_references(
-    alloc: Global,
-    node: &Term,
+// Hands on the references of the statement with this id.
+fn emit_references<S: TripleSink>(
+    setting: Setting,
+    node: &TermRef<'_>,
     id: &str,
     references: &[Reference],
-    out: &mut List<Triple>,
+    out: &mut S,
 ) -> Result<(), OutOfMemory>
-    ensures { OnOk result (out.new ≡ out.old ++ flat_map (reference_triples node.now id.now) references.now) }
+    ensures gains { OnOk result (Gains S.items S.keeps out.old out.new
+        (flat_map (reference_triples setting.version (meant node.now) id.now) references.now)) }
+    ensures stays { S.rest out.new ≡ S.rest out.old }
 {
     for reference in references {
-        push_reference(alloc, node, id, reference, out)?;
+        emit_reference(setting, node, id, reference, out)?;
     }
     Ok(())
 }
 
-// Appends a reference of the statement with this id, and what it says of the source.
-fn push_reference(
-    alloc: Global,
-    node: &Term,
+// Hands on a reference of the statement with this id, and what it says of the source.
+fn emit_reference<S: TripleSink>(
+    setting: Setting,
+    node: &TermRef<'_>,
     id: &str,
     reference: &Reference,
-    out: &mut List<Triple>,
+    out: &mut S,
 ) -> Result<(), OutOfMemory>
-    ensures { OnOk result (out.new ≡ out.old ++ reference_triples node.now id.now reference.now) }
+    ensures gains { OnOk result (Gains S.items S.keeps out.old out.new
+        (reference_triples setting.version (meant node.now) id.now reference.now)) }
+    ensures stays { S.rest out.new ≡ S.rest out.old }
 {
-    let source = Prefix::Wdref.term(alloc, reference.hash.as_str())?;
-    push_source(alloc, node, &source, out)?;
-    let role = Role::Reference(reference.hash.copy(alloc)?);
-    push_snaks(alloc, &source, id, &role, reference.snaks.as_slice(), out)
+    let source = TermRef::Named(Prefix::Wdref, reference.hash.as_str());
+    emit_source(setting.alloc, node, &source, out)?;
+    let role = Role::Reference(Text::new(setting.alloc, reference.hash.as_str())?);
+    let snaks = reference.snaks.as_slice();
+    emit_snaks(setting, &source, id, &role, snaks, out)
 }
 
-// Appends that the statement is from the source, and the source's class.
-fn push_source(
+// Hands on that the statement is from the source, and the source's class.
+fn emit_source<S: TripleSink>(
     alloc: Global,
-    node: &Term,
-    source: &Term,
-    out: &mut List<Triple>,
+    node: &TermRef<'_>,
+    source: &TermRef<'_>,
+    out: &mut S,
 ) -> Result<(), OutOfMemory>
-    ensures { OnOk result (out.new ≡ out.old ++ source_triples node.now source.now) }
+    ensures gains { OnOk result (Gains S.items S.keeps out.old out.new
+        (source_triples (meant node.now) (meant source.now))) }
+    ensures stays { S.rest out.new ≡ S.rest out.old }
 {
-    let predicate = Predicate::WasDerivedFrom.term(alloc)?;
-    push(alloc, node, predicate, source.copy(alloc)?, out)?;
-    push_class(alloc, source, Resource::Reference, out)
+    let predicate = TermRef::Iri(Predicate::WasDerivedFrom.text());
+    out.emit(alloc, node, &predicate, source)?;
+    emit_class(alloc, source, Resource::Reference, out)
 }
 
-// Appends the class of a node.
-fn push_class(
+// Hands on the class of a node.
+fn emit_class<S: TripleSink>(
     alloc: Global,
-    node: &Term,
+    node: &TermRef<'_>,
     class: Resource,
-    out: &mut List<Triple>,
+    out: &mut S,
 ) -> Result<(), OutOfMemory>
-    ensures { OnOk result (out.new ≡ out.old ++ class_triple node.now class ∷ []) }
+    ensures gains { OnOk result (Gains S.items S.keeps out.old out.new (class_triple (meant node.now) class ∷ [])) }
+    ensures stays { S.rest out.new ≡ S.rest out.old }
 {
-    let predicate = Predicate::RdfType.term(alloc)?;
-    push(alloc, node, predicate, class.term(alloc)?, out)
+    let predicate = TermRef::Iri(Predicate::RdfType.text());
+    out.emit(alloc, node, &predicate, &TermRef::Iri(class.text()))
 }

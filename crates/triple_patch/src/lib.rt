@@ -1,4 +1,4 @@
-// What changes from one set of triples to another: the triples that come, and those that go.
+//! What changes from one set of triples to another: the triples that come, and those that go.
 #![tactic(auto)]
 
 mod changes;

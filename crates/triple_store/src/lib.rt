@@ -1,4 +1,4 @@
-// The triples of all entities, each with the number of entities that own it.
+//! The triples of all entities, each with the number of entities that own it.
 #![tactic(auto)]
 
 mod counting;

@@ -6,7 +6,7 @@ ghost use Rattle.rising.specs.Rising.{has};
 ghost use Rattle.rdf_term.specs.declared.triple.Triple.{Triple};
 ghost use Rattle.rdf_term.specs.Order.{triple_cmp};
 ghost use Rattle.triple_store.specs.Counts.{HaveOwners, count_of, after_patch};
-ghost use Rattle.triple_store.specs.Agreeing.{rows};
+ghost use Rattle.rdf_term.specs.Pattern.{rows};
 
 use crate::counting::{lower_all, raise_all};
 use crate::matching::copies_that_agree;

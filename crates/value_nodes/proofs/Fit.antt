@@ -163,7 +163,3 @@ simple_term_fit datatype (Quantity quantity) s = amount_term_fit quantity.amount
 simple_term_fit datatype (Globe globe) s = globe_term_fit globe (omega (arith, s.texts))
 simple_term_fit datatype (Mono tagged) s = tagged_fit tagged.text tagged.language s.texts
 simple_term_fit datatype Other s = tt
-
--- the same of the term that was found
-pub found_term_fit : (datatype : List ℕ) (value : Value) (term : Term) → Some term ≡ simple_term datatype value → IsSmallValue value → IsFitAndShort term
-found_term_fit datatype value term e s = rw (← e) at (simple_term_fit datatype value s)

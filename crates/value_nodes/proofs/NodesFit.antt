@@ -18,6 +18,7 @@ use Rattle.rdf_vocabulary.specs.Fields.{hashed_name}
 use Rattle.rdf_vocabulary.specs.Datatype.{typed}
 use Rattle.rdf_vocabulary.specs.Prefix.{prefixed}
 use Rattle.rdf_vocabulary.specs.Resource.{resource_term}
+use Rattle.triple_sink.specs.declared.setting.MappingVersion.{MappingVersion}
 use Rattle.value_nodes.specs.Terms.{amount_term}
 use Rattle.rdf_vocabulary.proofs.Fit.{predicate_fit, resource_fit, prefixed_fit}
 use Rattle.rdf_vocabulary.proofs.NamesFit.{hashed_name_iri, length-hashed_name}
@@ -100,11 +101,11 @@ node_fit fields =
     prefixed_fit Wdv (hashed_name fields) (hashed_name_iri fields) (omega (arith, length-hashed_name fields))
 
 -- the triples of a small value's node have fit and short terms
-pub node_triples_fit : (value : Value) → IsSmallValue value → AllByRecursion HasFitAndShortTerms (node_triples value)
-node_triples_fit (Time time) s = parts_fit _ (Time time) (node_fit (time_fields time)) s
-node_triples_fit (Quantity quantity) s = parts_fit _ (Quantity quantity) (node_fit (quantity_fields quantity)) s
-node_triples_fit (Globe globe) s = parts_fit _ (Globe globe) (node_fit (globe_fields globe)) s
-node_triples_fit (Entity id) s = tt
-node_triples_fit (Str text) s = tt
-node_triples_fit (Mono tagged) s = tt
-node_triples_fit Other s = tt
+pub node_triples_fit : (version : MappingVersion) (value : Value) → IsSmallValue value → AllByRecursion HasFitAndShortTerms (node_triples version value)
+node_triples_fit version (Time time) s = parts_fit _ (Time time) (node_fit (time_fields time)) s
+node_triples_fit version (Quantity quantity) s = parts_fit _ (Quantity quantity) (node_fit (quantity_fields quantity)) s
+node_triples_fit version (Globe globe) s = parts_fit _ (Globe globe) (node_fit (globe_fields globe)) s
+node_triples_fit version (Entity id) s = tt
+node_triples_fit version (Str text) s = tt
+node_triples_fit version (Mono tagged) s = tt
+node_triples_fit version Other s = tt

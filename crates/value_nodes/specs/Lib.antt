@@ -1,3 +1,4 @@
 pub mod Name
 pub mod Nodes
+pub mod Said
 pub mod Terms

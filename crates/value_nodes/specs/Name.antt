@@ -5,6 +5,7 @@ use Rattle.entity_model.specs.declared.value.Value.TheVariants.{Entity, Str, Tim
 use Rattle.entity_model.specs.declared.value.TimeParts.{TimeParts}
 use Rattle.entity_model.specs.declared.value.QuantityParts.{QuantityParts}
 use Rattle.entity_model.specs.declared.value.GlobeParts.{GlobeParts}
+use Rattle.triple_sink.specs.declared.setting.MappingVersion.{MappingVersion}
 use Rattle.rdf_vocabulary.specs.Fields.{field, optional_field, hashed_name}
 
 -- `t`, the time, its precision and its time zone as they are spelled, and its calendar model
@@ -23,15 +24,15 @@ globe_fields globe =
     103 ∷ (field globe.latitude ++ field globe.longitude ++ optional_field globe.precision ++ field globe.globe)
 
 -- the fields that a value's node is named by, if it has a node
-abbrev pub name_fields : Value → Option (List ℕ)
-name_fields (Time time) = Some (time_fields time)
-name_fields (Quantity quantity) = Some (quantity_fields quantity)
-name_fields (Globe globe) = Some (globe_fields globe)
-name_fields (Entity id) = None
-name_fields (Str text) = None
-name_fields (Mono tagged) = None
-name_fields Other = None
+abbrev pub name_fields : MappingVersion → Value → Option (List ℕ)
+name_fields version (Time time) = Some (time_fields time)
+name_fields version (Quantity quantity) = Some (quantity_fields quantity)
+name_fields version (Globe globe) = Some (globe_fields globe)
+name_fields version (Entity id) = None
+name_fields version (Str text) = None
+name_fields version (Mono tagged) = None
+name_fields version Other = None
 
 -- the name of a value's node, if it has one
-abbrev pub node_name : Value → Option (List ℕ)
-node_name value = option_map hashed_name (name_fields value)
+abbrev pub node_name : MappingVersion → Value → Option (List ℕ)
+node_name version value = option_map hashed_name (name_fields version value)

@@ -19,6 +19,7 @@ use Rattle.rdf_vocabulary.specs.Datatype.{typed}
 use Rattle.rdf_vocabulary.specs.Predicate.{predicate_term}
 use Rattle.rdf_vocabulary.specs.Prefix.{prefixed}
 use Rattle.rdf_vocabulary.specs.Resource.{resource_term}
+use Rattle.triple_sink.specs.declared.setting.MappingVersion.{MappingVersion}
 use Rattle.value_nodes.specs.Name.{node_name}
 use Rattle.value_nodes.specs.Terms.{amount_term, time_term}
 
@@ -87,5 +88,5 @@ abbrev pub named_triples : Value → Option (List ℕ) → List Triple
 named_triples value None = []
 named_triples value (Some name) = part_triples (prefixed Wdv name) value
 
-abbrev pub node_triples : Value → List Triple
-node_triples value = named_triples value (node_name value)
+abbrev pub node_triples : MappingVersion → Value → List Triple
+node_triples version value = named_triples value (node_name version value)

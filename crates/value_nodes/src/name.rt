@@ -7,21 +7,23 @@ use entity_model::{GlobeParts, QuantityParts, TimeParts, Value};
 use rdf_term::{OutOfMemory, Text};
 use rdf_vocabulary::{hashed_name, push_field, push_optional_field};
 use std::alloc::Global;
+use triple_sink::Setting;
 
 /// The name of a value's node: the MD5 of the value's kind and its parts. Only times, quantities and
 /// coordinates have nodes.
-pub fn node_name(alloc: Global, value: &Value) -> Result<Option<Text>, OutOfMemory>
-    ensures { IfOk result (λ name. name ≡ node_name value.now) }
+pub fn node_name(setting: Setting, value: &Value) -> Result<Option<Text>, OutOfMemory>
+    ensures { IfOk result (λ name. name ≡ node_name setting.version value.now) }
 {
-    match name_fields(alloc, value)? {
-        Some(fields) => Ok(Some(hashed_name(alloc, fields.as_str())?)),
+    match name_fields(setting, value)? {
+        Some(fields) => Ok(Some(hashed_name(setting.alloc, fields.as_str())?)),
         None => Ok(None),
     }
 }
 
-fn name_fields(alloc: Global, value: &Value) -> Result<Option<String>, OutOfMemory>
-    ensures { IfOk result (λ fields. option_map string_bytes fields ≡ name_fields value.now) }
+fn name_fields(setting: Setting, value: &Value) -> Result<Option<String>, OutOfMemory>
+    ensures { IfOk result (λ fields. option_map string_bytes fields ≡ name_fields setting.version value.now) }
 {
+    let alloc = setting.alloc;
     match value {
         Value::Time(time) => Ok(Some(time_fields(alloc, time)?)),
         Value::Quantity(quantity) => Ok(Some(quantity_fields(alloc, quantity)?)),

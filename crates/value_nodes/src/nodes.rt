@@ -1,200 +1,212 @@
 // The triples of the nodes of data values.
 
-ghost use Rattle.std.specs.Prelude.{◌≡◌, [], ◌∷◌, ◌++◌, IfOk, OnOk, OnErr};
+ghost use Rattle.std.specs.Prelude.{◌≡◌, [], ◌∷◌, OnOk};
 ghost use Rattle.std.specs.Option.{option_copied};
-ghost use Rattle.std.specs.List.{AllByRecursion};
-ghost use Rattle.rdf_term.specs.Fit.{HasFitAndShortTerms};
-ghost use Rattle.entity_model.specs.Value.{IsSmallValue};
-ghost use Rattle.value_nodes.specs.Nodes.{about, bound_triples, globe_triples, named_triples, node_triples, part_triples, precision_triples, quantity_triples, time_triples, type_triple, unit_term};
+ghost use Rattle.rdf_vocabulary.specs.Datatype.{typed};
+ghost use Rattle.triple_sink.specs.Gains.{Gains};
+ghost use Rattle.triple_sink.specs.TermRef.{meant};
+ghost use Rattle.value_nodes.specs.Nodes.{about, bound_triples, globe_triples, part_triples, precision_triples, quantity_triples, time_triples, type_triple, unit_term};
 
-use crate::name::node_name;
-use crate::terms::{amount_term, time_term};
+use crate::simple::{emit_amount, emit_iri, emit_time};
 use entity_model::{GlobeParts, QuantityParts, TimeParts, Value};
-use rdf_term::{List, OutOfMemory, Term, Text, Triple, iri};
+use rdf_term::{OutOfMemory, Piece};
 use rdf_vocabulary::{Datatype, Predicate, Prefix, Resource};
 use std::alloc::Global;
+use triple_sink::{TermRef, TripleSink};
 
-/// Appends the triples of the value's node: its class and its parts. A value without a node has none.
-/// After `OutOfMemory` the list is as it was.
-pub fn node_triples(alloc: Global, value: &Value, out: &mut List<Triple>) -> Result<(), OutOfMemory>
-    ensures ok { OnOk result (out.new ≡ out.old ++ node_triples value.now) }
-    ensures err { OnErr result (out.new ≡ out.old) }
-    ensures fit { IsSmallValue value.now → AllByRecursion HasFitAndShortTerms (node_triples value.now) }
-{
-    let triples = named_triples(alloc, value)?;
-    out.append(triples)
-}
-
-fn named_triples(alloc: Global, value: &Value) -> Result<List<Triple>, OutOfMemory>
-    ensures { IfOk result (λ triples. triples ≡ node_triples value.now) }
-{
-    let mut triples = List::new(alloc);
-    if let Some(name) = node_name(alloc, value)? {
-        let node = Prefix::Wdv.term(alloc, name.as_str())?;
-        push_parts(alloc, &node, value, &mut triples)?;
-    }
-    Ok(triples)
-}
-
-fn push_parts(
+/// Hands on the triples of the value's node: its class and its parts. A value that has no node has none.
+pub fn emit_parts<S: TripleSink>(
     alloc: Global,
-    node: &Term,
+    node: &TermRef<'_>,
     value: &Value,
-    out: &mut List<Triple>,
+    out: &mut S,
 ) -> Result<(), OutOfMemory>
-    ensures { OnOk result (out.new ≡ out.old ++ part_triples node.now value.now) }
+    ensures gains { OnOk result (Gains S.items S.keeps out.old out.new (part_triples (meant node.now) value.now)) }
+    ensures stays { S.rest out.new ≡ S.rest out.old }
 {
     match value {
         Value::Time(time) => {
-            push_type(alloc, node, Resource::TimeValue, out)?;
-            push_time(alloc, node, time, out)
+            emit_type(alloc, node, Resource::TimeValue, out)?;
+            emit_time_parts(alloc, node, time, out)
         }
         Value::Quantity(quantity) => {
-            push_type(alloc, node, Resource::QuantityValue, out)?;
-            push_quantity(alloc, node, quantity, out)
+            emit_type(alloc, node, Resource::QuantityValue, out)?;
+            emit_quantity_parts(alloc, node, quantity, out)
         }
         Value::Globe(globe) => {
-            push_type(alloc, node, Resource::GlobecoordinateValue, out)?;
-            push_globe(alloc, node, globe, out)
+            emit_type(alloc, node, Resource::GlobecoordinateValue, out)?;
+            emit_globe_parts(alloc, node, globe, out)
         }
         Value::Entity(_) | Value::Str(_) | Value::Mono(_) | Value::Other => Ok(()),
     }
 }
 
-fn push_time(
+// Hands on the parts of a time.
+fn emit_time_parts<S: TripleSink>(
     alloc: Global,
-    node: &Term,
+    node: &TermRef<'_>,
     time: &TimeParts,
-    out: &mut List<Triple>,
+    out: &mut S,
 ) -> Result<(), OutOfMemory>
-    ensures { OnOk result (out.new ≡ out.old ++ time_triples node.now time.now) }
+    ensures gains { OnOk result (Gains S.items S.keeps out.old out.new (time_triples (meant node.now) time.now)) }
+    ensures stays { S.rest out.new ≡ S.rest out.old }
 {
-    let value = time_term(alloc, time)?;
-    push(alloc, node, Predicate::TimeValue, value, out)?;
-    let precision = Datatype::Integer.literal(alloc, time.precision_text.as_str())?;
-    push(alloc, node, Predicate::TimePrecision, precision, out)?;
-    let timezone = Datatype::Integer.literal(alloc, time.timezone.as_str())?;
-    push(alloc, node, Predicate::TimeTimezone, timezone, out)?;
-    let calendar = iri(alloc, time.calendar.as_str())?;
-    push(alloc, node, Predicate::TimeCalendarModel, calendar, out)
+    let value = TermRef::Iri(Predicate::TimeValue.text());
+    emit_time(alloc, node, &value, time, out)?;
+    let precision = time.precision_text.as_str();
+    emit_integer(alloc, node, Predicate::TimePrecision, precision, out)?;
+    let timezone = time.timezone.as_str();
+    emit_integer(alloc, node, Predicate::TimeTimezone, timezone, out)?;
+    let calendar = TermRef::Iri(Predicate::TimeCalendarModel.text());
+    emit_iri(alloc, node, &calendar, time.calendar.as_str(), out)
 }
 
-fn push_quantity(
+// Hands on the parts of a quantity.
+fn emit_quantity_parts<S: TripleSink>(
     alloc: Global,
-    node: &Term,
+    node: &TermRef<'_>,
     quantity: &QuantityParts,
-    out: &mut List<Triple>,
+    out: &mut S,
 ) -> Result<(), OutOfMemory>
-    ensures { OnOk result (out.new ≡ out.old ++ quantity_triples node.now quantity.now) }
+    ensures gains { OnOk result (Gains S.items S.keeps out.old out.new (quantity_triples (meant node.now) quantity.now)) }
+    ensures stays { S.rest out.new ≡ S.rest out.old }
 {
-    let amount = amount_term(alloc, quantity.amount.as_str())?;
-    push(alloc, node, Predicate::QuantityAmount, amount, out)?;
-    let unit = unit_term(alloc, quantity.unit.as_str())?;
-    push(alloc, node, Predicate::QuantityUnit, unit, out)?;
-    push_bound(
-        alloc,
-        node,
-        Predicate::QuantityUpperBound,
-        quantity.upper.as_ref(),
-        out,
-    )?;
-    push_bound(
-        alloc,
-        node,
-        Predicate::QuantityLowerBound,
-        quantity.lower.as_ref(),
-        out,
-    )
+    let amount = TermRef::Iri(Predicate::QuantityAmount.text());
+    emit_amount(alloc, node, &amount, quantity.amount.as_str(), out)?;
+    emit_unit(alloc, node, quantity.unit.as_str(), out)?;
+    let (upper, lower) = (quantity.upper.as_ref(), quantity.lower.as_ref());
+    emit_bound(alloc, node, Predicate::QuantityUpperBound, upper, out)?;
+    emit_bound(alloc, node, Predicate::QuantityLowerBound, lower, out)
 }
 
-fn push_bound(
+// Hands on a bound, where it is there.
+fn emit_bound<S: TripleSink>(
     alloc: Global,
-    node: &Term,
+    node: &TermRef<'_>,
     predicate: Predicate,
-    bound: Option<&Text>,
-    out: &mut List<Triple>,
+    bound: Option<&Piece<'_>>,
+    out: &mut S,
 ) -> Result<(), OutOfMemory>
-    ensures { OnOk result (out.new ≡ out.old ++ bound_triples node.now predicate (option_copied bound.entry)) }
+    ensures gains { OnOk result (Gains S.items S.keeps out.old out.new
+        (bound_triples (meant node.now) predicate (option_copied bound.entry))) }
+    ensures stays { S.rest out.new ≡ S.rest out.old }
 {
     match bound {
         Some(bound) => {
-            let bound = amount_term(alloc, bound.as_str())?;
-            push(alloc, node, predicate, bound, out)
+            let predicate = TermRef::Iri(predicate.text());
+            emit_amount(alloc, node, &predicate, bound.as_str(), out)
         }
         None => Ok(()),
     }
 }
 
+// Hands on the unit, where `1` is the number one.
 #[tactic(auto, unfolding(crate::specs::Nodes::one, crate::specs::Nodes::number_one))]
-fn unit_term(alloc: Global, unit: &str) -> Result<Term, OutOfMemory>
-    ensures { IfOk result (λ term. term ≡ unit_term unit.now) }
+fn emit_unit<S: TripleSink>(
+    alloc: Global,
+    node: &TermRef<'_>,
+    unit: &str,
+    out: &mut S,
+) -> Result<(), OutOfMemory>
+    ensures gains { OnOk result (Gains S.items S.keeps out.old out.new
+        (about (meant node.now) Predicate.QuantityUnit (unit_term unit.now) ∷ [])) }
+    ensures stays { S.rest out.new ≡ S.rest out.old }
 {
+    let predicate = TermRef::Iri(Predicate::QuantityUnit.text());
     if unit == "1" {
-        return Prefix::Wd.term(alloc, "Q199");
+        return out.emit(alloc, node, &predicate, &TermRef::Named(Prefix::Wd, "Q199"));
     }
-    iri(alloc, unit)
+    emit_iri(alloc, node, &predicate, unit, out)
 }
 
-fn push_globe(
+// Hands on the parts of a coordinate.
+fn emit_globe_parts<S: TripleSink>(
     alloc: Global,
-    node: &Term,
+    node: &TermRef<'_>,
     globe: &GlobeParts,
-    out: &mut List<Triple>,
+    out: &mut S,
 ) -> Result<(), OutOfMemory>
-    ensures { OnOk result (out.new ≡ out.old ++ globe_triples node.now globe.now) }
+    ensures gains { OnOk result (Gains S.items S.keeps out.old out.new (globe_triples (meant node.now) globe.now)) }
+    ensures stays { S.rest out.new ≡ S.rest out.old }
 {
-    let latitude = Datatype::Double.literal(alloc, globe.latitude.as_str())?;
-    push(alloc, node, Predicate::GeoLatitude, latitude, out)?;
-    let longitude = Datatype::Double.literal(alloc, globe.longitude.as_str())?;
-    push(alloc, node, Predicate::GeoLongitude, longitude, out)?;
-    push_precision(alloc, node, globe.precision.as_ref(), out)?;
-    let globe = iri(alloc, globe.globe.as_str())?;
-    push(alloc, node, Predicate::GeoGlobe, globe, out)
+    let latitude = globe.latitude.as_str();
+    emit_double(alloc, node, Predicate::GeoLatitude, latitude, out)?;
+    let longitude = globe.longitude.as_str();
+    emit_double(alloc, node, Predicate::GeoLongitude, longitude, out)?;
+    emit_precision(alloc, node, globe.precision.as_ref(), out)?;
+    let predicate = TermRef::Iri(Predicate::GeoGlobe.text());
+    emit_iri(alloc, node, &predicate, globe.globe.as_str(), out)
 }
 
-fn push_precision(
+// Hands on the precision of a coordinate, where it is there.
+fn emit_precision<S: TripleSink>(
     alloc: Global,
-    node: &Term,
-    precision: Option<&Text>,
-    out: &mut List<Triple>,
+    node: &TermRef<'_>,
+    precision: Option<&Piece<'_>>,
+    out: &mut S,
 ) -> Result<(), OutOfMemory>
-    ensures { OnOk result (out.new ≡ out.old ++ precision_triples node.now (option_copied precision.entry)) }
+    ensures gains { OnOk result (Gains S.items S.keeps out.old out.new
+        (precision_triples (meant node.now) (option_copied precision.entry))) }
+    ensures stays { S.rest out.new ≡ S.rest out.old }
 {
     match precision {
         Some(precision) => {
-            let precision = Datatype::Double.literal(alloc, precision.as_str())?;
-            push(alloc, node, Predicate::GeoPrecision, precision, out)
+            emit_double(
+                alloc,
+                node,
+                Predicate::GeoPrecision,
+                precision.as_str(),
+                out,
+            )
         }
         None => Ok(()),
     }
 }
 
-fn push_type(
+// Hands on that the node is of the class.
+fn emit_type<S: TripleSink>(
     alloc: Global,
-    node: &Term,
+    node: &TermRef<'_>,
     class: Resource,
-    out: &mut List<Triple>,
+    out: &mut S,
 ) -> Result<(), OutOfMemory>
-    ensures { OnOk result (out.new ≡ out.old ++ type_triple node.now class ∷ []) }
+    ensures gains { OnOk result (Gains S.items S.keeps out.old out.new (type_triple (meant node.now) class ∷ [])) }
+    ensures stays { S.rest out.new ≡ S.rest out.old }
 {
-    let class = class.term(alloc)?;
-    push(alloc, node, Predicate::RdfType, class, out)
+    let predicate = TermRef::Iri(Predicate::RdfType.text());
+    out.emit(alloc, node, &predicate, &TermRef::Iri(class.text()))
 }
 
-fn push(
+// Hands on an `xsd:integer` of the node.
+fn emit_integer<S: TripleSink>(
     alloc: Global,
-    node: &Term,
+    node: &TermRef<'_>,
     predicate: Predicate,
-    object: Term,
-    out: &mut List<Triple>,
+    text: &str,
+    out: &mut S,
 ) -> Result<(), OutOfMemory>
-    ensures { OnOk result (out.new ≡ out.old ++ about node.now predicate object ∷ []) }
+    ensures gains { OnOk result (Gains S.items S.keeps out.old out.new
+        (about (meant node.now) predicate (typed text.now Datatype.Integer) ∷ [])) }
+    ensures stays { S.rest out.new ≡ S.rest out.old }
 {
-    let subject = node.copy(alloc)?;
-    let predicate = predicate.term(alloc)?;
-    out.push(Triple {
-        subject,
-        predicate,
-        object,
-    })
+    let predicate = TermRef::Iri(predicate.text());
+    let object = TermRef::Typed(text, Datatype::Integer.text());
+    out.emit(alloc, node, &predicate, &object)
+}
+
+// Hands on an `xsd:double` of the node.
+fn emit_double<S: TripleSink>(
+    alloc: Global,
+    node: &TermRef<'_>,
+    predicate: Predicate,
+    text: &str,
+    out: &mut S,
+) -> Result<(), OutOfMemory>
+    ensures gains { OnOk result (Gains S.items S.keeps out.old out.new
+        (about (meant node.now) predicate (typed text.now Datatype.Double) ∷ [])) }
+    ensures stays { S.rest out.new ≡ S.rest out.old }
+{
+    let predicate = TermRef::Iri(predicate.text());
+    let object = TermRef::Typed(text, Datatype::Double.text());
+    out.emit(alloc, node, &predicate, &object)
 }

@@ -62,3 +62,6 @@ only_literal text precision julian literal e = record {
   is = rw e (literal_by text precision julian (meant_time text precision julian) refl);
   only = λ other o. only_by text precision julian other o ∙ sym e;
 }
+
+pub the_literal : (text : List ℕ) (precision : ℕ) (julian : Bool) → IsOnlyLiteral text precision julian (time_literal text precision julian)
+the_literal text precision julian = only_literal text precision julian (time_literal text precision julian) refl

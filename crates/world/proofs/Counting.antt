@@ -17,6 +17,7 @@ use Rattle.entity_rdf.specs.Dump.{dump}
 use Rattle.entity_state.specs.declared.record.Held.{Held}
 use Rattle.entity_state.specs.declared.record.Record.{Record}
 use Rattle.entity_state.specs.Record.{blank}
+use Rattle.triple_sink.specs.declared.setting.MappingVersion.TheVariants.{One}
 use Rattle.munger.specs.Munging.{munged}
 use Rattle.triple_patch.specs.declared.changes.Patch.{Patch}
 use Rattle.triple_patch.specs.Patch.{patch_between}
@@ -32,7 +33,7 @@ use Rattle.world.specs.Meaning.{meaning, triples_if}
 
 rises_if : (x : EntityId) (rev : ℕ) (found : Option Document) → IsRising triple_cmp (triples_if x rev found)
 rises_if x rev None = tt
-rises_if x rev (Some document) = IsRising-sorted triple_cmp-total (flat_map (munged x) (sorted triple_cmp (dump x rev document)))
+rises_if x rev (Some document) = IsRising-sorted triple_cmp-total (flat_map (munged x) (sorted triple_cmp (dump One x rev document)))
 
 -- the triples of what an entity holds rise
 pub held_rises : (x : EntityId) (held : Option (Held Bytes)) → IsRising triple_cmp (triples_held meaning x held)

@@ -10,12 +10,11 @@ use Rattle.entity_model.specs.declared.document.Document.{Document}
 use Rattle.entity_model.specs.Document.{IsSmall}
 use Rattle.entity_json.specs.Document.{document_of}
 use Rattle.entity_json.proofs.Fitness.{document_small}
-use Rattle.entity_rdf.specs.Dump.{dump}
-use Rattle.entity_rdf.proofs.Fit.{dump_fit}
-use Rattle.entity_rdf.proofs.Labels.{dump_labels}
+use Rattle.entity_rdf.proofs.Direct.{direct_fit}
+use Rattle.triple_sink.specs.declared.setting.MappingVersion.TheVariants.{One}
 use Rattle.entity_state.specs.declared.record.Held.{Held}
 use Rattle.entity_state.specs.declared.record.Record.{Record}
-use Rattle.munger.proofs.Fit.{flat_map_each, munge_fit, sorted_each}
+use Rattle.munger.proofs.Fit.{flat_map_each, sorted_each}
 use Rattle.replay_model.specs.Records.{Bytes, Records}
 use Rattle.replay_model.specs.Union.{triples_at, triples_held, union}
 use Rattle.world.specs.Meaning.{document_triples, meaning, triples_if}
@@ -23,7 +22,7 @@ use Rattle.world.specs.Meaning.{document_triples, meaning, triples_if}
 -- the triples of a small document
 document_fit : (x : EntityId) (rev : ℕ) (document : Document) → IsSmall document → AllByRecursion HasFitAndShortTerms (document_triples x rev document)
 document_fit x rev document small =
-    munge_fit x (sorted triple_cmp (dump x rev document)) (dump_fit x rev document small) (dump_labels x rev document)
+    direct_fit One x rev document small
 
 found_fit : (x : EntityId) (rev : ℕ) (bytes : List ℕ) (found : Option Document) → document_of x bytes ≡ found → AllByRecursion HasFitAndShortTerms (triples_if x rev found)
 found_fit x rev bytes None is = tt

@@ -5,14 +5,14 @@ use Rattle.entity_model.specs.declared.event.Event.{Event}
 use Rattle.entity_state.specs.declared.state.State.{State}
 use Rattle.entity_state.specs.declared.record.Record.{Record}
 use Rattle.entity_state.specs.State.{state_after, is_deleted}
-use Rattle.entity_state.specs.Record.{held_revision}
+use Rattle.entity_state.specs.Record.{held_revision, wants}
 use Rattle.entity_json.specs.Document.{unfit_of}
 use Rattle.side_output.specs.declared.entry.Cause.{Cause}
 use Rattle.side_output.specs.declared.entry.Cause.TheVariants.{Missing, Failed, Unfit as NoDocument}
 use Rattle.revisions.specs.Revisions.{Contents, counted}
 use Rattle.wq_io.specs.Streams.{Rose}
 use Rattle.reorder_buffer.specs.Buffered.{first_due, after_dropping}
-use Rattle.replay_model.specs.Records.{Bytes, record_of, wants}
+use Rattle.replay_model.specs.Records.{Bytes, record_of}
 use Rattle.replay_model.specs.Replies.{HasUnfit}
 use Rattle.replay_model.specs.Play.{apply}
 use Rattle.replay_model.specs.ReplayState.{ReplayState}

@@ -6,12 +6,13 @@ use Rattle.rdf_term.specs.Order.{triple_cmp}
 use Rattle.entity_model.specs.declared.id.EntityId.{EntityId}
 use Rattle.entity_model.specs.declared.document.Document.{Document}
 use Rattle.entity_json.specs.Document.{document_of}
+use Rattle.triple_sink.specs.declared.setting.MappingVersion.TheVariants.{One}
 use Rattle.entity_rdf.specs.Dump.{dump}
 use Rattle.munger.specs.Munging.{munge}
 
 -- the triples of a document of x
 abbrev pub document_triples : EntityId → ℕ → Document → List Triple
-document_triples x rev document = munge x (sorted triple_cmp (dump x rev document))
+document_triples x rev document = munge x (sorted triple_cmp (dump One x rev document))
 
 -- the triples of a document of x, if there is one
 abbrev pub triples_if : EntityId → ℕ → Option Document → List Triple

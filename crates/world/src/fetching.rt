@@ -1,20 +1,32 @@
 // The fetch of a revision, judged as a page of its entity.
 
-ghost use Rattle.std.specs.Prelude.{◌≡◌, ◌≤◌, IfOk};
+ghost use Rattle.std.specs.Prelude.{◌≡◌, ◌≤◌, None, IfErr, IfOk};
+ghost use Rattle.entity_json.specs.Document.{unfit_of};
 ghost use Rattle.revisions.specs.Revisions.{counted};
 ghost use Rattle.world.specs.Applying.{IsJudged, IsReply, IsShown, outcome_of_reply};
+ghost use Rattle.world.specs.Fetched.{IsMeant, IsWhy, reply_of};
+ghost use Rattle.world.specs.Meaning.{meaning};
 
+use crate::meaning::document_triples;
 use entity_json::{DocumentFault, document};
 use entity_model::EntityId;
-use rdf_term::{List, OutOfMemory};
+use rdf_term::{List, OutOfMemory, TripleSet};
 use revisions::{NoRevision, Revisions};
 use side_output::Cause;
 use std::alloc::Global;
 
-/// The bytes of a document, or why there is none.
-pub type Reply = Result<List<u8>, Cause>;
+/// A document as it was fetched: its bytes, and the triples that they mean.
+#[derive(Drop)]
+pub struct Page {
+    pub bytes: List<u8>,
+    pub triples: TripleSet,
+}
 
-/// Fetches the revision once, and says whether its bytes are a document of `id`.
+/// A document, or why there is none.
+pub type Reply = Result<Page, Cause>;
+
+/// Fetches the revision once, and says whether its bytes are a document of `id`. They are read once, for that and for
+/// their triples.
 pub fn fetch<R: Revisions>(
     alloc: Global,
     revisions: &mut R,
@@ -22,8 +34,9 @@ pub fn fetch<R: Revisions>(
     id: EntityId,
     rev: u64,
 ) -> Result<Reply, OutOfMemory>
-    ensures reply { IfOk result (λ reply. IsReply (R.contents revisions.old) place.now id rev reply) }
-    ensures shown { IfOk result (λ reply. IsShown (outcome_of_reply reply)
+    ensures reply { IfOk result (λ reply. IsReply (R.contents revisions.old) place.now id rev (reply_of reply)) }
+    ensures meant { IfOk result (IsMeant id rev) }
+    ensures shown { IfOk result (λ reply. IsShown (outcome_of_reply (reply_of reply))
         (R.misses revisions.old) (R.misses revisions.new) (R.faults revisions.old) (R.faults revisions.new)) }
     ensures told { R.contents revisions.new ≡ R.contents revisions.old }
     ensures called { R.calls revisions.new ≡ counted (R.calls revisions.old) }
@@ -31,20 +44,45 @@ pub fn fetch<R: Revisions>(
     ensures more_misses { R.misses revisions.old ≤ R.misses revisions.new }
 {
     match revisions.fetch(alloc, place, rev) {
-        Ok(bytes) => judge(alloc, id, bytes),
+        Ok(bytes) => judge(alloc, id, rev, bytes),
         Err(NoRevision::Missing) => Ok(Err(Cause::Missing)),
         Err(NoRevision::Failed) => Ok(Err(Cause::Failed)),
         Err(NoRevision::OutOfMemory) => Err(OutOfMemory),
     }
 }
 
-// Whether the bytes are a document of `id`.
-fn judge(alloc: Global, id: EntityId, bytes: Vec<u8>) -> Result<Reply, OutOfMemory>
-    ensures { IfOk result (λ reply. IsJudged id bytes.items reply) }
+// Whether the bytes are a document of `id`, and its triples.
+fn judge(alloc: Global, id: EntityId, rev: u64, bytes: Vec<u8>) -> Result<Reply, OutOfMemory>
+    ensures judged { IfOk result (λ reply. IsJudged id bytes.items (reply_of reply)) }
+    ensures meant { IfOk result (IsMeant id rev) }
 {
-    match document(alloc, id, bytes.as_slice()) {
-        Ok(_) => Ok(Ok(List::from_vec(bytes))),
+    match triples_in(alloc, id, rev, bytes.as_slice()) {
+        Ok(triples) => Ok(Ok(Page {
+            bytes: List::from_vec(bytes),
+            triples,
+        })),
         Err(DocumentFault::Unfit(unfit)) => Ok(Err(Cause::Unfit(unfit))),
         Err(DocumentFault::OutOfMemory) => Err(OutOfMemory),
+    }
+}
+
+// The triples of the document of `id` that the bytes are, or why they are none. The document borrows the bytes, so it goes before
+// they are moved.
+fn triples_in(
+    alloc: Global,
+    id: EntityId,
+    rev: u64,
+    bytes: &[u8],
+) -> Result<TripleSet, DocumentFault>
+    ensures document { IfOk result (λ _. unfit_of id bytes.now ≡ None) }
+    ensures meant { IfOk result (λ triples. triples ≡ meaning id rev bytes.now) }
+    ensures err { IfErr result (IsWhy id bytes.now) }
+{
+    match document(alloc, id, bytes) {
+        Ok(document) => match document_triples(alloc, id, rev, &document) {
+            Ok(triples) => Ok(triples),
+            Err(OutOfMemory) => Err(DocumentFault::OutOfMemory),
+        },
+        Err(fault) => Err(fault),
     }
 }

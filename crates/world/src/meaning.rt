@@ -8,10 +8,10 @@ ghost use Rattle.world.specs.Meaning.{document_triples, meaning};
 
 use entity_json::{DocumentFault, document};
 use entity_model::{Document, EntityId};
-use entity_rdf::dump_triples;
-use munger::munge;
+use entity_rdf::direct_triples;
 use rdf_term::{List, OutOfMemory, TripleSet};
 use std::alloc::Global;
+use triple_sink::{MappingVersion, Setting};
 
 /// The triples that the bytes of a revision of `id` mean. Their terms are fit and short.
 #[tactic(auto, using(crate::proofs::Fit::meaning_fit))]
@@ -38,8 +38,8 @@ pub fn no_triples(alloc: Global) -> TripleSet
     TripleSet::from_rising(List::new(alloc))
 }
 
-// The triples of the document.
-fn document_triples(
+/// The triples of the document.
+pub fn document_triples(
     alloc: Global,
     id: EntityId,
     rev: u64,
@@ -48,6 +48,9 @@ fn document_triples(
     ensures value { IfOk result (λ set. set ≡ document_triples id rev document.now) }
     ensures fit { IsSmall document.now → IfOk result (AllByRecursion HasFitAndShortTerms) }
 {
-    let dump = dump_triples(alloc, id, rev, document)?;
-    munge(alloc, id, &dump)
+    let setting = Setting {
+        alloc,
+        version: MappingVersion::One,
+    };
+    direct_triples(setting, id, rev, document)
 }

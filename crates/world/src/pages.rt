@@ -4,20 +4,22 @@ ghost use Rattle.std.specs.Prelude.{◌≡◌, ◌<◌, ◌++◌, ◌∷◌, [],
 ghost use Rattle.std.specs.FinMap as map;
 ghost use Rattle.rdf_term.specs.Order.{triple_cmp};
 ghost use Rattle.entity_state.specs.Table.{has_room};
-ghost use Rattle.replay_model.specs.Records.{record_of, wants};
+ghost use Rattle.replay_model.specs.Records.{record_of};
+ghost use Rattle.entity_state.specs.Record.{wants};
 ghost use Rattle.replay_model.specs.Play.{apply, entries_after, nothing_played, record_after, records_after};
-ghost use Rattle.triple_store.specs.Agreeing.{rows};
+ghost use Rattle.rdf_term.specs.Pattern.{rows};
 ghost use Rattle.replay_model.specs.Union.{owners, union};
 ghost use Rattle.world.specs.Applying.{outcome_after};
+ghost use Rattle.world.specs.Fetched.{AreMeant, reply_or_any};
 ghost use Rattle.world.specs.Meaning.{meaning};
-ghost use Rattle.world.specs.Standing.{reply_or_any, standing_after, standing_of, standing_wants, unfetched_outcome, unless_deleted};
+ghost use Rattle.world.specs.Standing.{unfetched_outcome, unless_deleted};
+ghost use Rattle.entity_state.specs.Standing.{standing_after, standing_of, standing_wants};
 
 use crate::applied::Outcome;
 use crate::fetching::Reply;
-use crate::standing::Standing;
 use crate::stocking::restock;
 use entity_model::{EntityId, Event};
-use entity_state::{Held, Mode, Record, Table};
+use entity_state::{Held, Mode, Record, Standing, Table};
 use rdf_term::{List, OutOfMemory, Pattern, Triple, TripleSet};
 use side_output::{Entry, Side};
 use std::alloc::Global;
@@ -71,7 +73,8 @@ impl Pages {
 
     /// Applies an event, with the reply to its fetch where it wants one. After `OutOfMemory` nothing has changed.
     pub fn apply(&mut self, event: Event, reply: Option<Reply>) -> Result<Outcome, OutOfMemory>
-        requires { is_some reply ≡ standing_wants (standing_after (standing_of (record_of self.old.records event.entity)) event) }
+        requires wanted { is_some reply ≡ standing_wants (standing_after (standing_of (record_of self.old.records event.entity)) event) }
+        requires meant { AreMeant event.entity (standing_after (standing_of (record_of self.old.records event.entity)) event).state.rev reply }
         ensures applied { OnOk result (self.new ≡ apply (λ _ _. reply_or_any reply) self.old event) }
         ensures outcome { IfOk result (λ outcome.
             outcome ≡ outcome_after (record_of self.old.records event.entity) event (reply_or_any reply)) }
@@ -170,8 +173,8 @@ fn settle(
     ensures outcome { result ≡ outcome_after (record_of table.old.records event.entity) event (reply_or_any reply) }
 {
     match reply {
-        Some(Ok(bytes)) => {
-            hold(table, event.entity, after, bytes);
+        Some(Ok(page)) => {
+            hold(table, event.entity, after, page.bytes);
             Outcome::Stored
         }
         Some(Err(cause)) => {

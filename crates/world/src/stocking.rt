@@ -5,14 +5,15 @@ ghost use Rattle.replay_model.specs.Play.{held_after_fetch, records_after};
 ghost use Rattle.replay_model.specs.Records.{record_of};
 ghost use Rattle.replay_model.specs.Union.{triples_held};
 ghost use Rattle.world.specs.Counting.{IsCounted, IsRestocked};
+ghost use Rattle.world.specs.Fetched.{AreMeant, IsMeant, reply_of, reply_or_any};
 ghost use Rattle.world.specs.Meaning.{meaning};
-ghost use Rattle.world.specs.Standing.{reply_or_any, standing_after, standing_of, standing_wants, unless_deleted};
+ghost use Rattle.world.specs.Standing.{unless_deleted};
+ghost use Rattle.entity_state.specs.Standing.{standing_after, standing_of, standing_wants};
 
 use crate::fetching::Reply;
 use crate::meaning::{no_triples, triples_of};
-use crate::standing::Standing;
 use entity_model::{EntityId, Event};
-use entity_state::{Mode, Table};
+use entity_state::{Mode, Standing, Table};
 use rdf_term::{List, OutOfMemory, TripleSet};
 use std::alloc::Global;
 use triple_patch::patch;
@@ -31,6 +32,7 @@ pub fn restock(
     requires counted { IsCounted store.old table.now.records }
     requires after { after ≡ standing_after (standing_of (record_of table.now.records event.entity)) event }
     requires reply { is_some reply.now ≡ standing_wants after }
+    requires meant { AreMeant event.entity after.state.rev reply.now }
     ensures ok { OnOk result (IsCounted store.new (records_after (λ _ _. reply_or_any reply.now) table.now.records event)) }
     ensures err { OnErr result (store.new ≡ store.old) }
 {
@@ -51,15 +53,13 @@ fn restock_fetched(
     reply: &Reply,
 ) -> Result<(), OutOfMemory>
     requires counted { IsCounted store.old table.now.records }
+    requires meant { IsMeant id rev reply.now }
     ensures ok { OnOk result (IsRestocked store.new table.now.records id
-        (triples_held meaning id (held_after_fetch rev reply.now (record_of table.now.records id).held))) }
+        (triples_held meaning id (held_after_fetch rev (reply_of reply.now) (record_of table.now.records id).held))) }
     ensures err { OnErr result (store.new ≡ store.old) }
 {
     match reply {
-        Ok(bytes) => {
-            let new = triples_of(alloc, id, rev, bytes.as_slice())?;
-            exchange(alloc, store, table, id, &new)
-        }
+        Ok(page) => exchange(alloc, store, table, id, &page.triples),
         Err(_) => Ok(()),
     }
 }

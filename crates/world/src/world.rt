@@ -8,14 +8,15 @@ ghost use Rattle.rdf_term.specs.Fit.{HasFitAndShortTerms};
 ghost use Rattle.rdf_term.specs.Order.{triple_cmp};
 ghost use Rattle.revisions.specs.Revisions.{counted};
 ghost use Rattle.reorder_buffer.specs.Buffered.{after_taking, answer_to, first_due};
-ghost use Rattle.replay_model.specs.Entries.{HoldsUnlessOpen, entity_of, is_open_in};
+ghost use Rattle.replay_model.specs.Entries.{HoldsUnlessOpen, is_open_in};
 ghost use Rattle.replay_model.specs.Records.{record_of};
 ghost use Rattle.replay_model.specs.ReplayState.{after_end, after_event, after_mark, nothing_delivered, taken_entries};
-ghost use Rattle.triple_store.specs.Agreeing.{rows};
+ghost use Rattle.rdf_term.specs.Pattern.{rows};
 ghost use Rattle.replay_model.specs.Union.{owners, union};
 ghost use Rattle.world.specs.Applying.{Applies, IsReply, IsShown, calls_after, outcome_of_reply};
-ghost use Rattle.world.specs.Standing.{reply_or_any, standing_after, standing_of, standing_wants};
+ghost use Rattle.entity_state.specs.Standing.{standing_after, standing_of, standing_wants};
 ghost use Rattle.entity_state.specs.State.{state_after};
+ghost use Rattle.world.specs.Fetched.{AreMeant, reply_of, reply_or_any};
 ghost use Rattle.world.specs.Meaning.{meaning};
 ghost use Rattle.world.specs.declared.applied.WorldFault.TheVariants.{Nothing as NothingDue, OutOfMemory as Refused};
 
@@ -207,7 +208,7 @@ impl World {
     fn is_open(&self, entry: &Entry) -> bool
         ensures { result ≡ is_open_in self.now.played.records entry.now }
     {
-        let standing = self.pages.standing(entity_of(entry));
+        let standing = self.pages.standing(entry.entity());
         is_open(entry, standing.state, standing.held, standing.reconciled)
     }
 
@@ -222,8 +223,10 @@ impl World {
             ≡ standing_wants (standing_after (standing_of (record_of self.now.played.records event.now.entity)) event.now)) }
         ensures reply { IfOk result (λ reply. IsReply (R.contents revisions.old) place.now event.now.entity
             (state_after (record_of self.now.played.records event.now.entity).state event.now).rev (reply_or_any reply)) }
+        ensures meant { IfOk result (AreMeant event.now.entity
+            (standing_after (standing_of (record_of self.now.played.records event.now.entity)) event.now).state.rev) }
         ensures told { R.contents revisions.new ≡ R.contents revisions.old }
-        ensures shown { IfOk result (λ reply. IfSome reply (λ r. IsShown (outcome_of_reply r)
+        ensures shown { IfOk result (λ reply. IfSome reply (λ r. IsShown (outcome_of_reply (reply_of r))
             (R.misses revisions.old) (R.misses revisions.new) (R.faults revisions.old) (R.faults revisions.new))) }
         ensures calls { IfOk result (λ reply. R.calls revisions.new
             ≡ (if is_some reply then counted (R.calls revisions.old) else R.calls revisions.old)) }
@@ -237,15 +240,6 @@ impl World {
         }
         let reply = fetch(self.alloc, revisions, place, event.entity, after.state.rev)?;
         Ok(Some(reply))
-    }
-}
-
-// The entity of an entry's event.
-fn entity_of(entry: &Entry) -> EntityId
-    ensures { result ≡ entity_of entry.now }
-{
-    match entry {
-        Entry::Late(event) | Entry::Revision(event, _, _) => event.entity,
     }
 }
 

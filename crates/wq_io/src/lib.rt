@@ -1,8 +1,8 @@
-// Where bytes come from and go to: sources, sinks and the lines of an input.
-//
-// `source` and `sink` are the two traits of the outside. What an object of them has left, or holds, is told to
-// contracts where it can be known, as for the objects in `memory`; the adapters of `streams` tell nothing. `lines`
-// splits a source at its line feeds.
+//! Where bytes come from and go to: sources, sinks and the lines of an input.
+//!
+//! `source` and `sink` are the two traits of the outside. What an object of them has left, or holds, is told to
+//! contracts where it can be known, as for the objects in `memory`; the adapters of `streams` tell nothing. `lines`
+//! splits a source at its line feeds.
 #![tactic(auto)]
 
 mod failing;

@@ -1,5 +1,5 @@
 -- Each way through the readers is a step of the grammar's.
-use Rattle.std.proofs.Common.{◌≡◌, ◌∷◌, ◌++◌, ◌==◌, ℕ, List, [], Some, true, false, map, refl, sym, ap, ◌∙◌, arith, rules}
+use Rattle.std.proofs.Common.{◌≡◌, ◌∷◌, ◌++◌, ◌==◌, ℕ, List, [], Some, true, false, map, refl, sym, ap, subst, ◌∙◌, arith, rules}
 use Rattle.std.proofs.lemmas.Result.{err_from_is_err_and}
 use Rattle.std.proofs.lemmas.Bool.Decides.{nat_tests}
 use Rattle.std.proofs.lemmas.List.{map-append}
@@ -7,6 +7,8 @@ use Rattle.json_spell.specs.declared.json.Json.{the_lemmas}
 use Rattle.json_spell.specs.Tree.{Tree, no_trees, tree, no_pairs, string, array, object}
 use Rattle.json_spell.specs.View.{json_view, member_view, trees_of, pairs_of}
 use Rattle.json_spell.specs.Reading.{read_map, content_at, list_by, add_pair, spaced, member_by, value_at, values_at, members_at}
+use Rattle.json_spell.specs.Nesting.{AllNest, MembersNest}
+use Rattle.json_spell.proofs.Nested.{all-push, members-push, scalar-nests}
 use Rattle.json_spell.proofs.GivesLemmas.{Refuses-passed}
 use Rattle.json_spell.proofs.ListSteps.{onto, list_by-open, so-none, so-end, so-other, so-closed, so-more}
 use Rattle.json_spell.proofs.ValueSteps.{value_at-end, value_at-string, value_at-array, value_at-object, value_at-scalar, values_at-is, members_at-is}
@@ -117,7 +119,11 @@ read_items-loop-items-preserved t c =
     let is_separator : (c.in-Some-next.byte == 0x2C) ≡ true = grind (arith, nat_tests, c.if-byte-ne44.false) in
     let all = map-pushed json_view c.loop-items.items.items c.push.new.self.items c.in_ok-item.item c.in_ok-push.ensures.items in
     let more = so-more (spaced value_at) tree no_trees 93 values_at values_at-is xs left bytes (json_view c.in_ok-item.item) c.in_ok-item.rest.now c.in-Some-next.byte c.in-Some-next.rest.now same c.in_ok-item.ensures.read c.in-Some-next.ensures is_separator in
-    record { same = ap (λ ys. read_map (onto tree ys) (values_at c.in-Some-next.rest.now)) all ∙ more; no_longer = search rules }
+    record {
+      same = ap (λ ys. read_map (onto tree ys) (values_at c.in-Some-next.rest.now)) all ∙ more;
+      no_longer = search rules;
+      nest = subst (λ (ys : List Tree). AllNest c.args.levels (trees_of ys)) (sym all) (all-push c.args.levels xs (json_view c.in_ok-item.item) c.loop-items.invariant.nest c.in_ok-item.ensures.nests);
+    }
 
 pub read_members-returns-in_err-member-clause-read : goal.read_members-returns-in_err-member-clause-read
 read_members-returns-in_err-member-clause-read t c =
@@ -172,4 +178,23 @@ read_members-loop-members-preserved t c =
     let is_separator : (c.in-Some-next.byte == 0x2C) ≡ true = grind (arith, nat_tests, c.if-byte-ne44.false) in
     let all = map-pushed member_view c.loop-members.members.items c.push.new.self.items c.in_ok-member.member c.in_ok-push.ensures.items in
     let more = so-more (member_by value_at) add_pair no_pairs 125 members_at members_at-is xs left bytes (member_view c.in_ok-member.member) c.in_ok-member.rest.now c.in-Some-next.byte c.in-Some-next.rest.now same c.in_ok-member.ensures.read c.in-Some-next.ensures is_separator in
-    record { same = ap (λ ys. read_map (onto add_pair ys) (members_at c.in-Some-next.rest.now)) all ∙ more; no_longer = search rules }
+    record {
+      same = ap (λ ys. read_map (onto add_pair ys) (members_at c.in-Some-next.rest.now)) all ∙ more;
+      no_longer = search rules;
+      nest = subst (λ (ys : List (List ℕ × Tree)). MembersNest c.args.levels (pairs_of ys)) (sym all) (members-push c.args.levels xs (member_view c.in_ok-member.member) c.loop-members.invariant.nest c.in_ok-member.ensures.nests);
+    }
+
+pub read_value-returns-in_default-byte-clause-nests : goal.read_value-returns-in_default-byte-clause-nests
+read_value-returns-in_default-byte-clause-nests t c = scalar-nests c.args.levels c.args.bytes.now c.read_scalar.result c.read_scalar.ensures.read
+
+pub read_items-returns-then-byte-eq93-clause-nests : goal.read_items-returns-then-byte-eq93-clause-nests
+read_items-returns-then-byte-eq93-clause-nests t c =
+    let all = map-pushed json_view c.loop-items.items.items c.push.new.self.items c.in_ok-item.item c.in_ok-push.ensures.items in
+    subst (λ (ys : List Tree). AllNest c.args.levels (trees_of ys)) (sym all)
+    (all-push c.args.levels (map json_view c.loop-items.items.items) (json_view c.in_ok-item.item) c.loop-items.invariant.nest c.in_ok-item.ensures.nests)
+
+pub read_members-returns-then-byte-eq125-clause-nests : goal.read_members-returns-then-byte-eq125-clause-nests
+read_members-returns-then-byte-eq125-clause-nests t c =
+    let all = map-pushed member_view c.loop-members.members.items c.push.new.self.items c.in_ok-member.member c.in_ok-push.ensures.items in
+    subst (λ (ys : List (List ℕ × Tree)). MembersNest c.args.levels (pairs_of ys)) (sym all)
+    (members-push c.args.levels (map member_view c.loop-members.members.items) (member_view c.in_ok-member.member) c.loop-members.invariant.nest c.in_ok-member.ensures.nests)

@@ -1,7 +1,8 @@
 -- The bytes left fall along each call. In a loop, the parts read so far and those of what is left make those of all.
 use Rattle.std.proofs.Common.{◌≡◌, ◌≤◌, ◌+◌, ◌*◌, length, map}
 use Rattle.json_spell.specs.Tree.{tree}
-use Rattle.json_spell.specs.View.{json_view, member_view}
+use Rattle.json_spell.specs.View.{json_view, member_view, trees_of, pairs_of}
+use Rattle.json_spell.specs.Nesting.{AllNest, MembersNest}
 use Rattle.json_spell.specs.Reading.{read_map, add_pair, values_at, members_at}
 use Rattle.json_spell.proofs.ListSteps.{onto}
 use Rattle.json_spell.proofs.value.+read.Given as goal
@@ -25,6 +26,7 @@ abbrev pub invariant-read_items-loop-items : goal.invariant-read_items-loop-item
 invariant-read_items-loop-items l = record {
   same : read_map (onto tree (map json_view l.items.items)) (values_at l.left) ≡ values_at l.bytes;
   no_longer : length l.left ≤ length l.bytes;
+  nest : AllNest l.levels (trees_of (map json_view l.items.items));
 }
 
 abbrev pub decreases-read_items-loop-items : goal.decreases-read_items-loop-items
@@ -34,6 +36,7 @@ abbrev pub invariant-read_members-loop-members : goal.invariant-read_members-loo
 invariant-read_members-loop-members l = record {
   same : read_map (onto add_pair (map member_view l.members.items)) (members_at l.left) ≡ members_at l.bytes;
   no_longer : length l.left ≤ length l.bytes;
+  nest : MembersNest l.levels (pairs_of (map member_view l.members.items));
 }
 
 abbrev pub decreases-read_members-loop-members : goal.decreases-read_members-loop-members

@@ -1,8 +1,7 @@
 -- The map has the highest ranks of the statements so far.
 use Rattle.std.proofs.Common.{◌≡◌, ℕ, take}
-use Rattle.std.specs.HashMap.{get}
+use Rattle.std.specs.BTreeMap.{get}
 use Rattle.std.specs.List.{list_any}
-use Rattle.std.specs.Ordering.{eq_by_cmp}
 use Rattle.entity_model.specs.declared.id.EntityId.{EntityId}
 use Rattle.entity_model.specs.EntityId.{entity_cmp}
 use Rattle.statement_rdf.specs.Ranking.{has_rank_above, is_ranked_above}
@@ -10,4 +9,4 @@ use Rattle.statement_rdf.proofs.ranking.highest_ranks.Given as goal
 
 abbrev pub invariant-loop-statement : goal.invariant-loop-statement
 invariant-loop-statement l =
-    (property : EntityId) (place : ℕ) → has_rank_above place (get (eq_by_cmp entity_cmp) l.highest property) ≡ list_any (is_ranked_above property place) (take l.statement-index l.statements)
+    (property : EntityId) (place : ℕ) → has_rank_above place (get entity_cmp l.highest property) ≡ list_any (is_ranked_above property place) (take l.statement-index l.statements)

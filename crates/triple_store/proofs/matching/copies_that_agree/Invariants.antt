@@ -1,6 +1,6 @@
 use Rattle.std.proofs.Common.{◌≡◌, ◌++◌, filter}
 use Rattle.std.specs.BTreeMap.{keys}
-use Rattle.triple_store.specs.Agreeing.{agrees}
+use Rattle.rdf_term.specs.Pattern.{agrees}
 use Rattle.triple_store.proofs.matching.copies_that_agree.Given as goal
 
 abbrev pub invariant-loop-triple : goal.invariant-loop-triple

@@ -4,7 +4,7 @@ use Rattle.rising.proofs.Filtering.{IsRising-filter}
 use Rattle.rising.proofs.Sorting.{IsRising-from_sorted}
 use Rattle.rdf_term.specs.Order.{triple_cmp, triple_cmp-total}
 use Rattle.rdf_term.proofs.Texts.{triple_cmp-IsAntisymmetric}
-use Rattle.triple_store.specs.Agreeing.{agrees}
+use Rattle.rdf_term.specs.Pattern.{agrees}
 use Rattle.triple_store.proofs.Mapped.{keys_ordered}
 use Rattle.triple_store.proofs.store.Store.matches.Goals as goal
 

@@ -1,7 +1,7 @@
 -- The stored triples are the union.
 use Rattle.std.proofs.Common.{◌≡◌, List, IfOk, subst}
 use Rattle.rdf_term.specs.declared.triple.Triple.{Triple}
-use Rattle.triple_store.specs.Agreeing.{rows}
+use Rattle.rdf_term.specs.Pattern.{rows}
 use Rattle.world.proofs.Stored.{stored_union}
 use Rattle.world.proofs.pages.Pages.matches.Goals as goal
 

@@ -1,6 +1,6 @@
 -- An application keeps what is held in step with the side output.
 use Rattle.replay_model.proofs.Settled.{holds-apply}
-use Rattle.world.specs.Standing.{reply_or_any}
+use Rattle.world.specs.Fetched.{reply_or_any}
 use Rattle.world.proofs.world.World.apply_next.Goals as goal
 
 pub invariant_of-self-2 : goal.invariant_of-self-2

@@ -1,0 +1,14 @@
+use Rattle.std.proofs.Common.{◌-◌, ◌≤◌, length}
+use Rattle.block_index.specs.Search.{IsAfter, IsBefore}
+use Rattle.block_index.specs.Steps.{Left}
+use Rattle.block_index.proofs.search.search.Given as goal
+
+abbrev pub invariant-loop-low : goal.invariant-loop-low
+invariant-loop-low g l =
+    (l.fn.start ≤ l.low) × (l.low ≤ l.high) × (l.high ≤ length l.keys)
+    × IsAfter g.K.Ranked.cmp l.key l.keys l.low
+    × IsBefore g.K.Ranked.cmp l.key l.keys l.high
+    × Left (length l.keys) l.initial.steps l.steps (l.high - l.low)
+
+abbrev pub decreases-loop-low : goal.decreases-loop-low
+decreases-loop-low g l = l.high - l.low

@@ -1,0 +1,40 @@
+-- Each step halves the gap.
+use Rattle.std.proofs.Common.{◌+◌, ◌-◌, ◌/◌, ◌<◌, [], length, sym, subst, arith}
+use Rattle.std.proofs.lemmas.List.{get_or_read}
+use Rattle.block_index.specs.Steps.{Left}
+use Rattle.block_index.proofs.Parts.{filled_at}
+use Rattle.block_index.proofs.Searching.{left_down, left_up, before_block, after_block}
+use Rattle.block_index.proofs.search.search_blocks.Goals as goal
+
+pub first-requires : goal.first-requires
+first-requires g c =
+    let within = c.loop-low.invariant.1 in
+    let some = c.loop-low-test.true in
+    let l : c.loop-low.low + (c.loop-low.high - c.loop-low.low) / 2 < length c.args.blocks.now = omega arith in
+    subst (λ b. 0 < length b) (sym (get_or_read c.args.blocks.now (c.loop-low.low + (c.loop-low.high - c.loop-low.low) / 2) c.index-blocks-middle.result l c.index-blocks-middle.is [])) (filled_at c.args.blocks.now (c.loop-low.low + (c.loop-low.high - c.loop-low.low) / 2) l c.requires).0
+
+pub loop-low-preserved-in-Less : goal.loop-low-preserved-in-Less
+loop-low-preserved-in-Less g c =
+    let inv = c.loop-low.invariant in
+    let within = inv.1 in
+    let some = c.loop-low-test.true in (
+      omega arith,
+      omega arith,
+      inv.2,
+      before_block g.K.Ranked.cmp c.args.key.now c.args.blocks.now (c.loop-low.low + (c.loop-low.high - c.loop-low.low) / 2) c.index-blocks-middle.result c.first.result.now (omega arith) c.index-blocks-middle.is c.first.ensures (sym c.in-Less.ensures.value),
+      subst (λ now. Left (length c.args.blocks.now) c.args.steps.now now (c.loop-low.low + (c.loop-low.high - c.loop-low.low) / 2 - c.loop-low.low)) (sym c.rank.ensures.step)
+          (left_down (length c.args.blocks.now) c.args.steps.now c.loop-low.steps c.loop-low.low c.loop-low.high some inv.4),
+    )
+
+pub loop-low-preserved : goal.loop-low-preserved
+loop-low-preserved g c =
+    let inv = c.loop-low.invariant in
+    let within = inv.1 in
+    let some = c.loop-low-test.true in (
+      omega arith,
+      inv.1,
+      after_block g.K.Ranked.cmp c.args.key.now c.args.blocks.now (c.loop-low.low + (c.loop-low.high - c.loop-low.low) / 2) c.index-blocks-middle.result c.first.result.now (omega arith) c.index-blocks-middle.is c.first.ensures (sym c.in-Greater.ensures.value),
+      inv.3,
+      subst (λ now. Left (length c.args.blocks.now) c.args.steps.now now (c.loop-low.high - (c.loop-low.low + (c.loop-low.high - c.loop-low.low) / 2 + 1))) (sym c.rank.ensures.step)
+          (left_up (length c.args.blocks.now) c.args.steps.now c.loop-low.steps c.loop-low.low c.loop-low.high some inv.4),
+    )

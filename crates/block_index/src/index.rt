@@ -1,0 +1,159 @@
+// The set of keys.
+
+ghost use Rattle.std.specs.Prelude.{◌≡◌, ◌+◌, ◌<◌, ◌≤◌, not, [], length, slice_index_or, IfOk, OnOk, OnErr};
+ghost use Rattle.std.specs.Bool.{OnFalse};
+ghost use Rattle.std.specs.Ordering.{eq_by_cmp};
+ghost use Rattle.std.specs.BTreeSet.{insert_key};
+ghost use Rattle.std.specs.Set.{remove_key};
+ghost use Rattle.rising.specs.Rising.{IsRising, has};
+ghost use Rattle.block_index.specs.Steps.{Within};
+ghost use Rattle.block_index.specs.Blocks.{AreFilled, ChangesTwo, keys_between, keys_of};
+
+use crate::block::Block;
+use crate::edit::{put_in, take_out};
+use crate::ranked::Ranked;
+use crate::search::locate;
+use crate::steps::Steps;
+use crate::taking::{take_blocks, take_keys};
+use rdf_term::{List, OutOfMemory};
+use std::alloc::Global;
+use std::marker::Model;
+use std::sync::ledger::Ledger;
+
+/// A set of keys in rising order, in blocks of 1 to 128 keys. Contracts see the list of its blocks, and by
+/// `keys_of` the list of its keys. Steps are stated with the number of binary digits of the number of keys
+/// at entry: each d with fewer than 2^d keys bounds it.
+#[derive(Drop)]
+pub struct BlockIndex<K: Ranked> {
+    alloc: Global,
+    blocks: Vec<Block<K>>,
+    count: usize,
+}
+
+impl<K: Ranked> Model for BlockIndex<K> {
+    ghost use Rattle.std.specs.Prelude.{List};
+    ghost use Rattle.block_index.specs.Blocks.{IsIndex};
+
+    ghost Value = { List (List K) };
+
+    ghost view = { λ s. s.blocks.items };
+
+    ghost invariant = { λ s. IsIndex K.cmp s.blocks.items s.count };
+}
+
+impl<K: Ranked> BlockIndex<K> {
+    /// The index without keys, which takes no memory.
+    pub fn new(alloc: Global) -> BlockIndex<K>
+        ensures { result ≡ [] }
+    {
+        BlockIndex {
+            alloc,
+            blocks: Vec::new(alloc),
+            count: 0,
+        }
+    }
+
+    /// The number of keys.
+    pub fn len(&self) -> usize
+        ensures { result ≡ length (keys_of self.now) }
+    {
+        self.count
+    }
+
+    /// The number of blocks. Each has 1 to 128 keys, and one after the other they are the keys in rising order.
+    pub fn blocks(&self) -> usize
+        ensures blocks { result ≡ length self.now }
+        ensures filled { AreFilled self.now }
+        ensures rising { IsRising K.cmp (keys_of self.now) }
+    {
+        self.blocks.len()
+    }
+
+    /// The keys of the block at a place from 0.
+    pub fn block(&self, place: usize) -> &[K]
+        requires { place < length self.now }
+        ensures { result.now ≡ slice_index_or self.now place [] }
+    {
+        self.blocks[place].keys()
+    }
+
+    /// Whether the key is there, which takes no memory. It takes at most as many steps as the number of keys
+    /// has binary digits, and 8 more.
+    pub fn find<L: Ledger>(&self, key: K, steps: &mut Steps<L>) -> bool
+        ensures answer { result ≡ has K.cmp key (keys_of self.now) }
+        ensures cost { Within (length (keys_of self.now)) 8 steps.old steps.new }
+    {
+        locate(&self.blocks, &key, steps).found
+    }
+
+    /// Puts a key in; false where it was there. After `OutOfMemory`, and where it was there, nothing has
+    /// changed, and else at most two neighbouring blocks in whose place at most two stand. It takes at most as
+    /// many steps as the number of keys has binary digits, and 8 more.
+    pub fn insert<L: Ledger>(&mut self, key: K, steps: &mut Steps<L>) -> Result<bool, OutOfMemory>
+        ensures answer { IfOk result (λ added. added ≡ not (has K.cmp key (keys_of self.old))) }
+        ensures keys { OnOk result (keys_of self.new ≡ insert_key K.cmp (keys_of self.old) key) }
+        ensures same { IfOk result (λ added. OnFalse added (self.new ≡ self.old)) }
+        ensures blocks { OnOk result (ChangesTwo self.old self.new) }
+        ensures err { OnErr result (self.new ≡ self.old) }
+        ensures cost { Within (length (keys_of self.old)) 8 steps.old steps.new }
+    {
+        let position = locate(&self.blocks, &key, steps);
+        if position.found {
+            return Ok(false);
+        }
+        let Some(count) = self.count.checked_add(1) else {
+            return Err(OutOfMemory);
+        };
+        put_in(
+            self.alloc,
+            &mut self.blocks,
+            position.block,
+            position.at,
+            key,
+        )?;
+        self.count = count;
+        Ok(true)
+    }
+
+    /// Takes a key out, which takes no memory; false where it wasn't there. At most two neighbouring blocks
+    /// change. It takes at most as many steps as the number of keys has binary digits, and 8 more.
+    pub fn remove<L: Ledger>(&mut self, key: K, steps: &mut Steps<L>) -> bool
+        ensures answer { result ≡ has K.cmp key (keys_of self.old) }
+        ensures keys { keys_of self.new ≡ remove_key (eq_by_cmp K.cmp key) (keys_of self.old) }
+        ensures blocks { ChangesTwo self.old self.new }
+        ensures cost { Within (length (keys_of self.old)) 8 steps.old steps.new }
+    {
+        let position = locate(&self.blocks, &key, steps);
+        if !position.found {
+            return false;
+        }
+        take_out(&mut self.blocks, position.block, position.at);
+        self.count -= 1;
+        true
+    }
+
+    /// The keys from `from` to `to` in rising order, both ends included, in memory of their own. It takes at
+    /// most as many steps as the number of keys has binary digits, 9 more, and one for each key that it gives.
+    pub fn range<L: Ledger>(
+        &self,
+        from: K,
+        to: K,
+        steps: &mut Steps<L>,
+    ) -> Result<List<K>, OutOfMemory>
+        ensures keys { IfOk result (λ keys. keys ≡ keys_between K.cmp from to (keys_of self.now)) }
+        ensures cost { IfOk result (λ keys. Within (length (keys_of self.now)) (9 + length keys) steps.old steps.new) }
+        ensures forward { steps.old ≤ steps.new }
+    {
+        let position = locate(&self.blocks, &from, steps);
+        let mut keys = Vec::new(self.alloc);
+        if position.block == self.blocks.len() {
+            return Ok(List::from_vec(keys));
+        }
+        let first = self.blocks[position.block].keys();
+        if !take_keys(&first[position.at..], &to, &mut keys, steps)? {
+            return Ok(List::from_vec(keys));
+        }
+        take_blocks(&self.blocks[position.block + 1..], &to, &mut keys, steps)?;
+        Ok(List::from_vec(keys))
+    }
+}

@@ -1,0 +1,22 @@
+//! A sorted set of keys in small blocks, whose calls count their comparisons.
+//!
+//! `ranked` has what a key must be able to do, and `steps` the counter of comparisons. `index` has the set:
+//! its keys stand in rising order in blocks of 1 to 128, so a change moves few keys and touches at most two
+//! neighbouring blocks. Below it, `block` has one block, `search` finds a key's position by two binary
+//! searches, `edit` puts a key in or takes it out at a position, and `taking` copies the keys of a range.
+#![tactic(auto)]
+
+mod block;
+mod edit;
+mod index;
+mod ranked;
+mod search;
+mod steps;
+mod taking;
+
+pub use index::BlockIndex;
+pub use ranked::Ranked;
+pub use steps::Steps;
+
+#[cfg(test)]
+mod tests;

@@ -1,0 +1,97 @@
+//! Runs the cases of a folder: whole runs of the top call over memory, and what they must show.
+//!
+//! `folder` reads the case files; `sections` takes a case's text apart and `filling` puts the parts of a table's row in; `spelling` makes bytes of the short
+//! forms; `parts` reads what a case gives and expects; `running` makes one run, and `seen` says what it left; `comparing` finds the first
+//! difference; `trying` tries a case, once or with each call failing in turn. `statuses` prints the texts of the statuses. docs/GATE.md says how a case is written.
+#![tactic(auto)]
+
+mod comparing;
+mod filling;
+mod folder;
+mod parts;
+mod running;
+mod sections;
+mod seen;
+mod spelling;
+mod statuses;
+mod trying;
+
+use anyhow::Result;
+use folder::case_files;
+use sections::{Case, cases_of};
+use statuses::print_statuses;
+use std::env;
+use std::process::ExitCode;
+use trying::tried;
+
+// How many cases were tried, and how many runs that took; and how many differ.
+#[derive(Clone, Copy)]
+struct Tally {
+    cases: u64,
+    runs: u64,
+    failed: u64,
+}
+
+fn main(rt: HostRuntime) -> Result<ExitCode> {
+    let wanted = wanted(&rt)?;
+    if wanted.is_empty() {
+        print_statuses(&rt)?;
+    }
+    let mut tally = Tally {
+        cases: 0,
+        runs: 0,
+        failed: 0,
+    };
+    for file in case_files(&rt)? {
+        for case in cases_of(rt.alloc(), file.name.as_str(), file.text.as_str())? {
+            if is_wanted(&case, wanted.as_slice()) {
+                tally = try_case(&rt, &case, tally)?;
+            }
+        }
+    }
+    sum_up(&rt, tally)
+}
+
+// The words of the command line: where there are some, only the cases whose names contain one of them are tried.
+fn wanted(rt: &HostRuntime) -> Result<Vec<String>> {
+    Ok(env::args(rt)?.skip(1).collect(rt.alloc())?)
+}
+
+// Whether a case is to be tried.
+fn is_wanted(case: &Case, wanted: &[String]) -> bool {
+    wanted.is_empty()
+        || wanted
+            .iter()
+            .any(|word| case.name.as_str().contains(word.as_str()))
+}
+
+// Tries a case, and prints its line.
+fn try_case(rt: &HostRuntime, case: &Case, tally: Tally) -> Result<Tally> {
+    let name = case.name.as_str();
+    let trial = tried(rt.alloc(), case)?;
+    let runs = trial.runs;
+    match &trial.difference {
+        None if runs == 1 => println!(rt; "ok   {name}")?,
+        None => println!(rt; "ok   {name} ({runs} runs)")?,
+        Some(difference) => {
+            let difference = difference.as_str();
+            println!(rt; "FAIL {name}\n{difference}")?;
+        }
+    }
+    Ok(Tally {
+        cases: tally.cases.saturating_add(1),
+        runs: tally.runs.saturating_add(runs),
+        failed: tally
+            .failed
+            .saturating_add(u64::from(trial.difference.is_some())),
+    })
+}
+
+// Prints the numbers, and says how the program ends.
+fn sum_up(rt: &HostRuntime, tally: Tally) -> Result<ExitCode> {
+    let cases = tally.cases;
+    let runs = tally.runs;
+    let failed = tally.failed;
+    println!(rt; "{cases} cases, {runs} runs, {failed} failed")?;
+    Ok(ExitCode::from(u8::from(failed > 0)))
+}

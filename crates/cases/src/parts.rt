@@ -1,0 +1,230 @@
+// What a case gives to a run, and what it expects of it.
+
+use crate::filling::replaced;
+use crate::sections::Case;
+use crate::spelling::bytes_of;
+use anyhow::{Context, Result, bail};
+use std::alloc::Global;
+
+// The names of the sections that a case may have.
+const NAMES: &[&str] = &[
+    "words",
+    "in",
+    "page",
+    "pages to",
+    "bytes a read",
+    "bytes a write",
+    "failing reads",
+    "failing writes",
+    "failing fetches",
+    "cut page",
+    "status",
+    "out",
+    "records",
+    "side",
+    "owners",
+    "fetches",
+    "waiting",
+    "rows",
+];
+
+// What a run is given.
+#[derive(Drop)]
+pub struct Given {
+    pub words: Vec<String>,
+    pub input: Vec<u8>,
+    pub pages: Vec<Page>,
+    pub reads: Calls,
+    pub writes: Calls,
+    pub failing_fetches: Vec<u64>,
+}
+
+// The page of a revision at a place.
+#[derive(Drop)]
+pub struct Page {
+    pub place: String,
+    pub rev: u64,
+    pub bytes: Vec<u8>,
+}
+
+// The most bytes of a call, and the numbers of the calls that fail.
+#[derive(Drop)]
+pub struct Calls {
+    pub bytes: usize,
+    pub failing: Vec<u64>,
+}
+
+// What a run must leave: what isn't there isn't looked at.
+#[derive(Drop)]
+pub struct Expected {
+    pub status: String,
+    pub out: Vec<u8>,
+    pub records: Option<Vec<u8>>,
+    pub side: Option<Vec<u8>>,
+    pub owners: Option<Vec<u8>>,
+    pub fetches: Option<u64>,
+    pub waiting: Option<u64>,
+}
+
+// What a case is tried with.
+#[derive(Clone, Copy)]
+pub enum Turns {
+    // one run
+    Once,
+    // a run for each read, which fails
+    EachRead,
+    // a run for each write, which fails
+    EachWrite,
+    // a run for each front of the page of a revision
+    EachFront(u64),
+}
+
+// Sees that each section of a case has a name that is known.
+pub fn check_names(case: &Case) -> Result<()> {
+    for section in &case.sections {
+        let head = section.head.as_str();
+        if !NAMES.iter().any(|name| section.words_of(name).is_some()) {
+            bail!("no section is called {head:?}");
+        }
+    }
+    Ok(())
+}
+
+// What the run of a case is given.
+pub fn given_of(alloc: Global, case: &Case) -> Result<Given> {
+    Ok(Given {
+        words: words(alloc, case)?,
+        input: bytes_of(alloc, lines(case, "in").unwrap_or(""))?,
+        pages: pages(alloc, case)?,
+        reads: calls_of(alloc, case, "bytes a read", "failing reads")?,
+        writes: calls_of(alloc, case, "bytes a write", "failing writes")?,
+        failing_fetches: numbers(alloc, text(case, "failing fetches").unwrap_or(""))?,
+    })
+}
+
+// The words behind the name of a section, where the case has it.
+fn text<'a>(case: &'a Case, name: &str) -> Option<&'a str> {
+    case.section(name).map(|section| section.0)
+}
+
+// The lines of a section, where the case has it.
+fn lines<'a>(case: &'a Case, name: &str) -> Option<&'a str> {
+    case.section(name).map(|section| section.1)
+}
+
+// The words of the run; `''` is the empty word.
+fn words(alloc: Global, case: &Case) -> Result<Vec<String>> {
+    let mut words = Vec::new(alloc);
+    let line = text(case, "words").context("no words")?;
+    if line.is_empty() {
+        return Ok(words);
+    }
+    for word in line.split(' ') {
+        let word = if word == "''" { "" } else { word };
+        words.push(String::from_str(alloc, word)?)?;
+    }
+    Ok(words)
+}
+
+// The pages of a case.
+fn pages(alloc: Global, case: &Case) -> Result<Vec<Page>> {
+    let mut pages = Vec::new(alloc);
+    for section in &case.sections {
+        if let Some(words) = section.words_of("page") {
+            pages.push(page_in(alloc, words, section.body.as_str())?)?;
+        }
+        if let Some(words) = section.words_of("pages to") {
+            push_pages(alloc, words, section.body.as_str(), &mut pages)?;
+        }
+    }
+    Ok(pages)
+}
+
+// Appends a page for each revision from 1 to the last, with the number for `%d`.
+fn push_pages(alloc: Global, last: &str, lines: &str, pages: &mut Vec<Page>) -> Result<()> {
+    let last: u64 = last.parse().context("the last revision")?;
+    for rev in 1..=last {
+        let number = format!(in alloc; "{rev}")?;
+        let lines = replaced(alloc, lines, "%d", number.as_str())?;
+        pages.push(page_in(alloc, number.as_str(), lines.as_str())?)?;
+    }
+    Ok(())
+}
+
+// A page, its revision, and its place where that isn't `.`. The line feed at its end is none of its bytes.
+fn page_in(alloc: Global, words: &str, lines: &str) -> Result<Page> {
+    let (rev, place) = words.split_once(" at ").unwrap_or((words, "."));
+    let mut bytes = bytes_of(alloc, lines)?;
+    if bytes.as_slice().ends_with(b"\n") {
+        bytes.pop();
+    }
+    Ok(Page {
+        place: String::from_str(alloc, place)?,
+        rev: rev.parse().context("a page's revision")?,
+        bytes,
+    })
+}
+
+// The bytes of a call, 4,096 where the case doesn't say, and the calls that fail.
+fn calls_of(alloc: Global, case: &Case, bytes: &str, failing: &str) -> Result<Calls> {
+    let failing = match text(case, failing) {
+        None | Some("each") => "",
+        Some(words) => words,
+    };
+    Ok(Calls {
+        bytes: number(case, bytes)?.unwrap_or(4096),
+        failing: numbers(alloc, failing)?,
+    })
+}
+
+// The number behind the name of a section, where the case has it.
+fn number(case: &Case, name: &str) -> Result<Option<usize>> {
+    match text(case, name) {
+        None => Ok(None),
+        Some(words) => Ok(Some(words.parse().context(format_args!("{name}"))?)),
+    }
+}
+
+// Numbers with a space between two.
+fn numbers(alloc: Global, words: &str) -> Result<Vec<u64>> {
+    let mut numbers = Vec::new(alloc);
+    for word in words.split_whitespace() {
+        numbers.push(word.parse().context(format_args!("{word}"))?)?;
+    }
+    Ok(numbers)
+}
+
+// What the run of a case must leave: without a word of its own it ends well and prints nothing.
+pub fn expected_of(alloc: Global, case: &Case) -> Result<Expected> {
+    Ok(Expected {
+        status: String::from_str(alloc, text(case, "status").unwrap_or("0"))?,
+        out: bytes_of(alloc, lines(case, "out").unwrap_or(""))?,
+        records: bytes_where_told(alloc, case, "records")?,
+        side: bytes_where_told(alloc, case, "side")?,
+        owners: bytes_where_told(alloc, case, "owners")?,
+        fetches: number(case, "fetches")?.map(|n| n as u64),
+        waiting: number(case, "waiting")?.map(|n| n as u64),
+    })
+}
+
+// The bytes of a section, where the case has it.
+fn bytes_where_told(alloc: Global, case: &Case, name: &str) -> Result<Option<Vec<u8>>> {
+    match lines(case, name) {
+        None => Ok(None),
+        Some(lines) => Ok(Some(bytes_of(alloc, lines)?)),
+    }
+}
+
+// What a case is tried with.
+pub fn turns_of(case: &Case) -> Result<Turns> {
+    if text(case, "failing reads") == Some("each") {
+        return Ok(Turns::EachRead);
+    }
+    if text(case, "failing writes") == Some("each") {
+        return Ok(Turns::EachWrite);
+    }
+    match text(case, "cut page") {
+        None => Ok(Turns::Once),
+        Some(rev) => Ok(Turns::EachFront(rev.parse().context("a page's revision")?)),
+    }
+}

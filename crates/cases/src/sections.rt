@@ -1,0 +1,101 @@
+// The text of a case file taken apart: cases, and their sections.
+//
+// A line that begins with `#` and an empty line say nothing. A line `case NAME` begins a case; each other line that doesn't begin with two
+// spaces begins a section of it; a line that begins with two spaces belongs to the section before it.
+
+use anyhow::{Result, bail};
+use std::alloc::Global;
+
+// A case: its name with that of its file, and its sections.
+#[derive(Drop)]
+pub struct Case {
+    pub name: String,
+    pub sections: Vec<Section>,
+}
+
+// A section: its first line, and the lines below it without the two spaces, each with a line feed.
+#[derive(Drop)]
+pub struct Section {
+    pub head: String,
+    pub body: String,
+}
+
+impl Section {
+    // The words behind the section's name, where it has this name.
+    pub fn words_of(&self, name: &str) -> Option<&str> {
+        let head = self.head.as_str();
+        if head == name {
+            return Some("");
+        }
+        head.strip_prefix(name)?.strip_prefix(' ')
+    }
+}
+
+impl Case {
+    // The words behind the name of the first section with that name, and its lines.
+    pub fn section(&self, name: &str) -> Option<(&str, &str)> {
+        self.sections.iter().find_map(|section| Some((
+            section.words_of(name)?,
+            section.body.as_str(),
+        )))
+    }
+}
+
+// The cases of a file.
+pub fn cases_of(alloc: Global, file: &str, text: &str) -> Result<Vec<Case>> {
+    let mut cases = Vec::new(alloc);
+    for (place, line) in text.lines().enumerate() {
+        let number = place.saturating_add(1);
+        if is_empty(line) {
+            continue;
+        }
+        if let Some(name) = line.strip_prefix("case ") {
+            cases.push(new_case(alloc, file, name)?)?;
+            continue;
+        }
+        if !takes_line(alloc, &mut cases, line)? {
+            bail!("{file}.case, line {number}: no case or no section begins before it");
+        }
+    }
+    Ok(cases)
+}
+
+// Whether a line says nothing.
+fn is_empty(line: &str) -> bool {
+    line.is_empty() || line.starts_with('#')
+}
+
+// A case without sections.
+fn new_case(alloc: Global, file: &str, name: &str) -> Result<Case> {
+    Ok(Case {
+        name: format!(in alloc; "{file}: {name}")?,
+        sections: Vec::new(alloc),
+    })
+}
+
+// Adds a line to the last case; false where there is none for it.
+fn takes_line(alloc: Global, cases: &mut Vec<Case>, line: &str) -> Result<bool> {
+    let Some(case) = cases.last_mut() else {
+        return Ok(false);
+    };
+    match line.strip_prefix("  ") {
+        Some(content) => add_content(case, content),
+        None => {
+            case.sections.push(Section {
+                head: String::from_str(alloc, line)?,
+                body: String::new(alloc),
+            })?;
+            Ok(true)
+        }
+    }
+}
+
+// Adds a line to the last section; false where there is none.
+fn add_content(case: &mut Case, content: &str) -> Result<bool> {
+    let Some(section) = case.sections.last_mut() else {
+        return Ok(false);
+    };
+    section.body.push_str(content)?;
+    section.body.push_str("\n")?;
+    Ok(true)
+}

@@ -1,0 +1,138 @@
+// What is seen of a run besides its output, in lines.
+
+use crate::running::Left;
+use anyhow::{Context, Result};
+use entity_model::{EntityId, Event, Kind, Unfit};
+use entity_state::Mode;
+use rdf_term::{Term, Triple, read_term};
+use session::{status_number, status_text};
+use side_output::{Cause, Entry};
+use std::alloc::Global;
+use std::str;
+use world::World;
+
+// The number of a status, and its text where it has one.
+pub fn status_line(alloc: Global, left: &Left) -> Result<String> {
+    let number = status_number(&left.status);
+    let text = status_text(alloc, &left.status)?;
+    let text = text.as_str();
+    if text.is_empty() {
+        return Ok(format!(in alloc; "{number}")?);
+    }
+    Ok(format!(in alloc; "{number} {text}")?)
+}
+
+// The entities with what the events say of them and what is held.
+pub fn records(alloc: Global, world: &World) -> Result<String> {
+    let mut lines = String::new(alloc);
+    let ids = world.entities()?;
+    for id in ids.as_slice() {
+        lines.push_str(record(alloc, world, *id)?.as_str())?;
+    }
+    Ok(lines)
+}
+
+// The line of an entity.
+fn record(alloc: Global, world: &World, id: EntityId) -> Result<String> {
+    let state = world.state(id);
+    let mode = match state.mode {
+        Mode::Unknown => "unknown",
+        Mode::Kept => "kept",
+        Mode::Deleted => "deleted",
+    };
+    let rev = state.rev;
+    let id_text = id.text(alloc)?;
+    let name = id_text.as_str();
+    match world.held(id) {
+        Some((held, _)) => Ok(format!(in alloc; "{name} {mode} {rev}, holds {held}\n")?),
+        None => Ok(format!(in alloc; "{name} {mode} {rev}, holds nothing\n")?),
+    }
+}
+
+// The entries of the side output, as the program prints them.
+pub fn side(alloc: Global, world: &World) -> Result<String> {
+    let mut lines = String::new(alloc);
+    for place in 0..world.side_len() {
+        let stands = if world.side_open(place) {
+            "open"
+        } else {
+            "closed"
+        };
+        if let Some(entry) = world.side(place) {
+            lines.push_str(entry_line(alloc, entry, stands)?.as_str())?;
+        }
+    }
+    Ok(lines)
+}
+
+// The line of an entry.
+fn entry_line(alloc: Global, entry: &Entry, stands: &str) -> Result<String> {
+    match entry {
+        Entry::Late(event) => late_line(alloc, event, stands),
+        Entry::Revision(event, rev, cause) => {
+            let id = event.entity.text(alloc)?;
+            let id = id.as_str();
+            let cause = cause_word(*cause);
+            Ok(format!(in alloc; "# side {cause} {stands} {id} {rev}\n")?)
+        }
+    }
+}
+
+// The line of a late event.
+fn late_line(alloc: Global, event: &Event, stands: &str) -> Result<String> {
+    let id = event.entity.text(alloc)?;
+    let id = id.as_str();
+    let kind = match event.kind {
+        Kind::Edit => "edit",
+        Kind::Delete => "delete",
+        Kind::Undelete => "undelete",
+        Kind::ReconcileDeleted => "reconcile-deleted",
+        Kind::ReconcileKept => "reconcile-kept",
+    };
+    let rev = event.rev;
+    let time = event.time;
+    Ok(format!(in alloc; "# side late {stands} {id} {kind} {rev} {time}\n")?)
+}
+
+// The word for a cause.
+fn cause_word(cause: Cause) -> &'static str {
+    match cause {
+        Cause::Missing => "missing",
+        Cause::Failed => "failed",
+        Cause::Unfit(Unfit::Large) => "unfit-large",
+        Cause::Unfit(Unfit::Deep) => "unfit-deep",
+        Cause::Unfit(Unfit::NotJson) => "unfit-notjson",
+        Cause::Unfit(Unfit::Shape) => "unfit-shape",
+        Cause::Unfit(Unfit::Foreign) => "unfit-foreign",
+    }
+}
+
+// Lines like those given, a number and a triple each, with the number of entities that hold the triple.
+pub fn owners(alloc: Global, world: &World, given: &[u8]) -> Result<String> {
+    let mut lines = String::new(alloc);
+    for line in str::from_utf8(given)?.lines() {
+        let (_, triple_text) = line.split_once(' ').context("a number and a triple")?;
+        let triple = triple_in(alloc, triple_text)?;
+        let count = world.owners(&triple);
+        let line = format!(in alloc; "{count} {triple_text}\n")?;
+        lines.push_str(line.as_str())?;
+    }
+    Ok(lines)
+}
+
+// The triple of a line of N-Triples.
+fn triple_in(alloc: Global, line: &str) -> Result<Triple> {
+    let line = line.strip_suffix(" .").context("no dot at the end")?;
+    let (subject, rest) = line.split_once(' ').context("no predicate")?;
+    let (predicate, object) = rest.split_once(' ').context("no object")?;
+    Ok(Triple {
+        subject: term_in(alloc, subject)?,
+        predicate: term_in(alloc, predicate)?,
+        object: term_in(alloc, object)?,
+    })
+}
+
+// The term of a text.
+fn term_in(alloc: Global, text: &str) -> Result<Term> {
+    read_term(alloc, text)?.context(format_args!("no term: {text}"))
+}

@@ -1,0 +1,236 @@
+// A case tried: once, with each row of its table, or with each of its calls failing in turn.
+
+use crate::comparing::difference;
+use crate::filling::filled;
+use crate::parts::{Expected, Given, Turns, check_names, expected_of, given_of, turns_of};
+use crate::running::run_over;
+use crate::sections::Case;
+use anyhow::{Context, Result};
+use std::alloc::Global;
+use std::str;
+
+// How many runs were made, up to the first that differed, and how that differed.
+#[derive(Drop)]
+pub struct Trial {
+    pub runs: u64,
+    pub difference: Option<String>,
+}
+
+// Tries a case.
+pub fn tried(alloc: Global, case: &Case) -> Result<Trial> {
+    check_names(case).context(format_args!("{}", case.name))?;
+    match case.section("rows") {
+        None => tried_alone(alloc, case).context(format_args!("{}", case.name)),
+        Some((_, rows)) => tried_with_rows(alloc, case, rows).context(format_args!(
+            "{}",
+            case.name
+        )),
+    }
+}
+
+// Tries a case with each row in turn.
+fn tried_with_rows(alloc: Global, case: &Case, rows: &str) -> Result<Trial> {
+    let mut runs = 0u64;
+    for row in rows.lines() {
+        let trial = tried_alone(alloc, &filled(alloc, case, row)?).context(format_args!("{row}"))?;
+        runs = runs.saturating_add(trial.runs);
+        if let Some(difference) = trial.difference {
+            return Ok(Trial {
+                runs,
+                difference: Some(at_row(alloc, row, difference.as_str())?),
+            });
+        }
+    }
+    Ok(Trial {
+        runs,
+        difference: None,
+    })
+}
+
+// A difference, and the row at which it was found.
+fn at_row(alloc: Global, row: &str, difference: &str) -> Result<String> {
+    Ok(format!(in alloc; "     at the row {row}\n{difference}")?)
+}
+
+// Tries a case without a table.
+fn tried_alone(alloc: Global, case: &Case) -> Result<Trial> {
+    let given = given_of(alloc, case)?;
+    let expected = expected_of(alloc, case)?;
+    match turns_of(case)? {
+        Turns::Once => Ok(Trial {
+            runs: 1,
+            difference: tried_once(alloc, &given, &expected)?,
+        }),
+        Turns::EachRead => tried_with_reads(alloc, given, expected),
+        Turns::EachWrite => tried_with_writes(alloc, given, expected),
+        Turns::EachFront(rev) => tried_with_fronts(alloc, given, &expected, rev),
+    }
+}
+
+// Makes one run, and says how it differs.
+fn tried_once(alloc: Global, given: &Given, expected: &Expected) -> Result<Option<String>> {
+    difference(alloc, expected, &run_over(alloc, given)?)
+}
+
+// Tries each read failing in turn, and then none: what the lines before it ask is answered.
+fn tried_with_reads(alloc: Global, mut given: Given, expected: Expected) -> Result<Trial> {
+    let pieces = pieces_of_reads(alloc, given.input.as_slice(), given.reads.bytes.max(1))?;
+    let mut taken = Vec::new(alloc);
+    let mut call = 1u64;
+    for piece in &pieces {
+        given.reads.failing = vec![in alloc; call]?;
+        let out = answers(alloc, expected.out.as_slice(), questions(taken.as_slice()))?;
+        let before = stopped(alloc, "3 wdq: read fault", out)?;
+        if let Some(difference) = tried_once(alloc, &given, &before)? {
+            return at_call(alloc, "read", call, difference.as_str());
+        }
+        taken.extend_from_slice(piece.as_slice())?;
+        call = call.saturating_add(1);
+    }
+    given.reads.failing = vec![in alloc; call]?;
+    Ok(Trial {
+        runs: call,
+        difference: tried_once(alloc, &given, &expected)?,
+    })
+}
+
+// Tries each write failing in turn, and then none: what the writes before it took stands.
+fn tried_with_writes(alloc: Global, mut given: Given, expected: Expected) -> Result<Trial> {
+    let pieces = pieces_of_writes(alloc, expected.out.as_slice(), given.writes.bytes.max(1))?;
+    let mut taken = Vec::new(alloc);
+    let mut call = 1u64;
+    for piece in &pieces {
+        given.writes.failing = vec![in alloc; call]?;
+        let out = Vec::from_slice(alloc, taken.as_slice())?;
+        let before = stopped(alloc, "4 wdq: write fault", out)?;
+        if let Some(difference) = tried_once(alloc, &given, &before)? {
+            return at_call(alloc, "write", call, difference.as_str());
+        }
+        taken.extend_from_slice(piece.as_slice())?;
+        call = call.saturating_add(1);
+    }
+    given.writes.failing = vec![in alloc; call]?;
+    Ok(Trial {
+        runs: call,
+        difference: tried_once(alloc, &given, &expected)?,
+    })
+}
+
+// Tries each front of a page, from no byte to all but the last: each must show the same.
+fn tried_with_fronts(
+    alloc: Global,
+    mut given: Given,
+    expected: &Expected,
+    rev: u64,
+) -> Result<Trial> {
+    let page = page_of(alloc, &given, rev)?;
+    let mut runs = 0u64;
+    for length in 0..page.len() {
+        let front = page.as_slice().split_at_checked(length).context("a front")?;
+        set_page(alloc, &mut given, rev, front.0)?;
+        runs = runs.saturating_add(1);
+        if let Some(difference) = tried_once(alloc, &given, expected)? {
+            return at_call(alloc, "after byte", length as u64, difference.as_str());
+        }
+    }
+    Ok(Trial {
+        runs,
+        difference: None,
+    })
+}
+
+// What a run must leave that stopped.
+fn stopped(alloc: Global, status: &str, out: Vec<u8>) -> Result<Expected> {
+    Ok(Expected {
+        status: String::from_str(alloc, status)?,
+        out,
+        records: None,
+        side: None,
+        owners: None,
+        fetches: None,
+        waiting: None,
+    })
+}
+
+// A difference, and the call at which it was found.
+fn at_call(alloc: Global, what: &str, call: u64, difference: &str) -> Result<Trial> {
+    Ok(Trial {
+        runs: call,
+        difference: Some(format!(in alloc; "     where it fails: {what} {call}\n{difference}")?),
+    })
+}
+
+// What each read gives; the last gives nothing.
+fn pieces_of_reads(alloc: Global, input: &[u8], bytes: usize) -> Result<Vec<Vec<u8>>> {
+    let mut pieces = Vec::new(alloc);
+    if bytes > 0 {
+        for piece in input.chunks(bytes) {
+            pieces.push(Vec::from_slice(alloc, piece)?)?;
+        }
+    }
+    pieces.push(Vec::new(alloc))?;
+    Ok(pieces)
+}
+
+// What each write takes: no write has bytes of two lines.
+fn pieces_of_writes(alloc: Global, out: &[u8], bytes: usize) -> Result<Vec<Vec<u8>>> {
+    let mut pieces = Vec::new(alloc);
+    for line in out.split_inclusive(|byte| *byte == b'\n') {
+        push_pieces(alloc, line, bytes, &mut pieces)?;
+    }
+    Ok(pieces)
+}
+
+// What each write of a line takes.
+fn push_pieces(alloc: Global, line: &[u8], bytes: usize, pieces: &mut Vec<Vec<u8>>) -> Result<()> {
+    if bytes > 0 {
+        for piece in line.chunks(bytes) {
+            pieces.push(Vec::from_slice(alloc, piece)?)?;
+        }
+    }
+    Ok(())
+}
+
+// How many whole lines ask.
+fn questions(input: &[u8]) -> usize {
+    input
+        .split_inclusive(|byte| *byte == b'\n')
+        .filter(|line| line.starts_with(b"{\"ask\"") && line.ends_with(b"\n"))
+        .count()
+}
+
+// The first answers of an output.
+fn answers(alloc: Global, out: &[u8], count: usize) -> Result<Vec<u8>> {
+    let mut answers = Vec::new(alloc);
+    let mut left = count;
+    for line in out.split_inclusive(|byte| *byte == b'\n') {
+        if line.starts_with(b"# ") {
+            if left == 0 || !line.starts_with(b"# ask ") {
+                break;
+            }
+            left -= 1;
+        }
+        answers.extend_from_slice(line)?;
+    }
+    Ok(answers)
+}
+
+// The bytes of a page.
+fn page_of(alloc: Global, given: &Given, rev: u64) -> Result<Vec<u8>> {
+    let page = given
+        .pages
+        .iter()
+        .find(|page| page.rev == rev)
+        .context("no page of the revision")?;
+    Ok(Vec::from_slice(alloc, page.bytes.as_slice())?)
+}
+
+// Puts other bytes into a page.
+fn set_page(alloc: Global, given: &mut Given, rev: u64, bytes: &[u8]) -> Result<()> {
+    for page in given.pages.iter_mut() {
+        if page.rev == rev {
+            page.bytes = Vec::from_slice(alloc, bytes)?;
+        }
+    }
+    Ok(())
+}

@@ -1,0 +1,16 @@
+// What one line of an event file delivers.
+
+use crate::event::Event;
+use rdf_term::Pattern;
+
+/// What one line of an event file delivers.
+#[derive(Debug, Drop)]
+pub enum Delivery {
+    /// An event of an entity's page.
+    Event(Event),
+    /// From here on, events up to this time are not expected any more. The time is in microseconds
+    /// since 1970-01-01T00:00:00Z.
+    Watermark(i64),
+    /// A question: which of the triples at this point agree with the pattern?
+    Ask(Pattern),
+}

@@ -1,0 +1,151 @@
+// What a page says of the dataset that it is.
+
+ghost use Rattle.std.specs.Prelude.{◌≡◌, [], ◌∷◌, OnOk};
+ghost use Rattle.std.specs.Option.{option_copied};
+ghost use Rattle.value_nodes.specs.Nodes.{about};
+ghost use Rattle.triple_sink.specs.Gains.{Gains};
+ghost use Rattle.triple_sink.specs.TermRef.{meant};
+ghost use Rattle.rdf_term.specs.declared.term.Term.TheVariants.{Plain};
+ghost use Rattle.entity_rdf.specs.About.{change_triples, dataset_triples, format_version, identifiers, is_identifier, link_count, number_term, number_triples, page_triples};
+
+use crate::about::emit;
+use entity_model::{Entity, EntityId, IdKind, Statement};
+use itoa::Buffer;
+use rdf_term::{OutOfMemory, Piece};
+use rdf_vocabulary::{Datatype, Predicate, Prefix, Resource};
+use triple_sink::{Setting, TermRef, TripleSink};
+
+/// Emits what is said of the dataset of the revision's page.
+pub(crate) fn emit_dataset<S: TripleSink>(
+    setting: Setting,
+    id: EntityId,
+    rev: u64,
+    entity: &Entity,
+    out: &mut S,
+) -> Result<(), OutOfMemory>
+    ensures gains { OnOk result (Gains S.items S.keeps out.old out.new (dataset_triples id rev entity.now)) }
+    ensures stays { S.rest out.new ≡ S.rest out.old }
+{
+    let dataset = TermRef::Id(Prefix::Data, id);
+    emit_page(setting, id, out)?;
+    emit_numbers(setting, rev, &dataset, entity.statements.as_slice(), out)?;
+    emit_link_count(setting, id.kind, &dataset, entity.links.len(), out)?;
+    emit_change(setting, &dataset, entity.modified.as_ref(), out)
+}
+
+// Emits what is said of each dataset, whichever revision it is of.
+fn emit_page<S: TripleSink>(setting: Setting, id: EntityId, out: &mut S) -> Result<(), OutOfMemory>
+    ensures gains { OnOk result (Gains S.items S.keeps out.old out.new (page_triples id)) }
+    ensures stays { S.rest out.new ≡ S.rest out.old }
+{
+    let dataset = TermRef::Id(Prefix::Data, id);
+    let class = TermRef::Iri(Resource::Dataset.text());
+    emit(setting, &dataset, Predicate::RdfType, &class, out)?;
+    let entity = TermRef::Id(Prefix::Wd, id);
+    emit(setting, &dataset, Predicate::About, &entity, out)?;
+    let license = TermRef::Iri(Resource::PublicDomain.text());
+    emit(setting, &dataset, Predicate::License, &license, out)?;
+    emit_format(setting, &dataset, out)
+}
+
+// Emits the version of the dump's format.
+#[tactic(auto, unfolding(crate::specs::About::format_version))]
+fn emit_format<S: TripleSink>(
+    setting: Setting,
+    dataset: &TermRef<'_>,
+    out: &mut S,
+) -> Result<(), OutOfMemory>
+    ensures gains { OnOk result (Gains S.items S.keeps out.old out.new (about (meant dataset.now) Predicate.SoftwareVersion (Plain format_version) ∷ [])) }
+    ensures stays { S.rest out.new ≡ S.rest out.old }
+{
+    let version = TermRef::Plain("1.0.0");
+    emit(setting, dataset, Predicate::SoftwareVersion, &version, out)
+}
+
+// Emits a whole number.
+fn emit_number<S: TripleSink>(
+    setting: Setting,
+    dataset: &TermRef<'_>,
+    predicate: Predicate,
+    number: u64,
+    out: &mut S,
+) -> Result<(), OutOfMemory>
+    ensures gains { OnOk result (Gains S.items S.keeps out.old out.new (about (meant dataset.now) predicate (number_term number) ∷ [])) }
+    ensures stays { S.rest out.new ≡ S.rest out.old }
+{
+    let mut buffer = Buffer::new();
+    let number = TermRef::Typed(buffer.format(number), Datatype::Integer.text());
+    emit(setting, dataset, predicate, &number, out)
+}
+
+// How many statements are identifiers in other databases.
+fn identifiers(statements: &[Statement]) -> usize
+    ensures { result ≡ identifiers statements.now }
+{
+    statements
+        .iter()
+        .filter(|statement| is_identifier(statement))
+        .count()
+}
+
+// Whether the statement is an identifier in another database.
+#[tactic(auto, unfolding(crate::specs::About::external_id))]
+fn is_identifier(statement: &Statement) -> bool
+    ensures { result ≡ is_identifier statement.now }
+{
+    statement.main.datatype.as_str() == "external-id"
+}
+
+// Emits the revision, and how many statements and identifiers there are.
+fn emit_numbers<S: TripleSink>(
+    setting: Setting,
+    rev: u64,
+    dataset: &TermRef<'_>,
+    statements: &[Statement],
+    out: &mut S,
+) -> Result<(), OutOfMemory>
+    ensures gains { OnOk result (Gains S.items S.keeps out.old out.new (number_triples (meant dataset.now) rev statements.now)) }
+    ensures stays { S.rest out.new ≡ S.rest out.old }
+{
+    emit_number(setting, dataset, Predicate::Version, rev, out)?;
+    let count = statements.len() as u64;
+    emit_number(setting, dataset, Predicate::Statements, count, out)?;
+    let count = identifiers(statements) as u64;
+    emit_number(setting, dataset, Predicate::Identifiers, count, out)
+}
+
+// Emits how many site links an item has.
+fn emit_link_count<S: TripleSink>(
+    setting: Setting,
+    kind: IdKind,
+    dataset: &TermRef<'_>,
+    count: usize,
+    out: &mut S,
+) -> Result<(), OutOfMemory>
+    ensures gains { OnOk result (Gains S.items S.keeps out.old out.new (link_count kind (meant dataset.now) count)) }
+    ensures stays { S.rest out.new ≡ S.rest out.old }
+{
+    match kind {
+        IdKind::P => Ok(()),
+        IdKind::Q => emit_number(setting, dataset, Predicate::Sitelinks, count as u64, out),
+    }
+}
+
+// Emits when the page was changed last.
+fn emit_change<S: TripleSink>(
+    setting: Setting,
+    dataset: &TermRef<'_>,
+    time: Option<&Piece<'_>>,
+    out: &mut S,
+) -> Result<(), OutOfMemory>
+    ensures gains { OnOk result (Gains S.items S.keeps out.old out.new (change_triples (meant dataset.now) (option_copied time.entry))) }
+    ensures stays { S.rest out.new ≡ S.rest out.old }
+{
+    match time {
+        Some(time) => {
+            let time = TermRef::Typed(time.as_str(), Datatype::DateTime.text());
+            emit(setting, dataset, Predicate::DateModified, &time, out)
+        }
+        None => Ok(()),
+    }
+}

@@ -1,0 +1,111 @@
+// The walk over a document, which emits what each rule of the dump gives.
+
+ghost use Rattle.std.specs.Prelude.{◌≡◌, OnOk};
+ghost use Rattle.std.specs.List.{flat_map};
+ghost use Rattle.sitelinks.specs.Article.{article_triples};
+ghost use Rattle.triple_sink.specs.Gains.{Gains};
+ghost use Rattle.entity_rdf.specs.Dump.{dump, entity_triples, redirect_triples, spoken_triples, text_triples};
+
+use crate::about::{emit, emit_aliases, emit_class, emit_descriptions, emit_labels};
+use crate::dataset::emit_dataset;
+use crate::property::emit_property;
+use crate::statements::emit_statements;
+use entity_model::{Document, Entity, EntityId, Link};
+use rdf_term::OutOfMemory;
+use rdf_vocabulary::{Predicate, Prefix};
+use sitelinks::emit_article;
+use triple_sink::{Setting, TermRef, TripleSink};
+
+/// Emits the triples that the rules of the dump give for the document of a revision of `id`, one rule after the
+/// other. A triple may come more than once.
+pub fn emit_dump<S: TripleSink>(
+    setting: Setting,
+    id: EntityId,
+    rev: u64,
+    document: &Document,
+    out: &mut S,
+) -> Result<(), OutOfMemory>
+    ensures gains { OnOk result (Gains S.items S.keeps out.old out.new (dump setting.version id rev document.now)) }
+    ensures stays { S.rest out.new ≡ S.rest out.old }
+{
+    match document {
+        Document::Entity(entity) => emit_entity(setting, id, rev, entity, out),
+        Document::Redirect(target) => emit_redirect(setting, id, *target, out),
+    }
+}
+
+fn emit_redirect<S: TripleSink>(
+    setting: Setting,
+    id: EntityId,
+    target: EntityId,
+    out: &mut S,
+) -> Result<(), OutOfMemory>
+    ensures gains { OnOk result (Gains S.items S.keeps out.old out.new (redirect_triples id target)) }
+    ensures stays { S.rest out.new ≡ S.rest out.old }
+{
+    let entity = TermRef::Id(Prefix::Wd, id);
+    let target = TermRef::Id(Prefix::Wd, target);
+    emit(setting, &entity, Predicate::SameAs, &target, out)
+}
+
+fn emit_entity<S: TripleSink>(
+    setting: Setting,
+    id: EntityId,
+    rev: u64,
+    entity: &Entity,
+    out: &mut S,
+) -> Result<(), OutOfMemory>
+    ensures gains { OnOk result (Gains S.items S.keeps out.old out.new (entity_triples setting.version id rev entity.now)) }
+    ensures stays { S.rest out.new ≡ S.rest out.old }
+{
+    emit_spoken(setting, id, rev, entity, out)?;
+    emit_articles(setting, id, entity.links.as_slice(), out)?;
+    emit_statements(setting, id, &entity.statements, out)
+}
+
+// Emits what the page says but for its site links and statements.
+fn emit_spoken<S: TripleSink>(
+    setting: Setting,
+    id: EntityId,
+    rev: u64,
+    entity: &Entity,
+    out: &mut S,
+) -> Result<(), OutOfMemory>
+    ensures gains { OnOk result (Gains S.items S.keeps out.old out.new (spoken_triples id rev entity.now)) }
+    ensures stays { S.rest out.new ≡ S.rest out.old }
+{
+    emit_texts(setting, id, entity, out)?;
+    emit_dataset(setting, id, rev, entity, out)?;
+    emit_property(setting, id, entity.datatype.as_ref(), out)
+}
+
+fn emit_articles<S: TripleSink>(
+    setting: Setting,
+    id: EntityId,
+    links: &[Link],
+    out: &mut S,
+) -> Result<(), OutOfMemory>
+    ensures gains { OnOk result (Gains S.items S.keeps out.old out.new (flat_map (article_triples id) links.now)) }
+    ensures stays { S.rest out.new ≡ S.rest out.old }
+{
+    for link in links {
+        emit_article(setting, id, link, out)?;
+    }
+    Ok(())
+}
+
+fn emit_texts<S: TripleSink>(
+    setting: Setting,
+    id: EntityId,
+    entity: &Entity,
+    out: &mut S,
+) -> Result<(), OutOfMemory>
+    ensures gains { OnOk result (Gains S.items S.keeps out.old out.new (text_triples id entity.now)) }
+    ensures stays { S.rest out.new ≡ S.rest out.old }
+{
+    let subject = TermRef::Id(Prefix::Wd, id);
+    emit_class(setting, id, out)?;
+    emit_labels(setting, &subject, entity.labels.as_slice(), out)?;
+    emit_descriptions(setting, &subject, entity.descriptions.as_slice(), out)?;
+    emit_aliases(setting, &subject, entity.aliases.as_slice(), out)
+}

@@ -1,0 +1,58 @@
+// Why a line is refused.
+
+ghost use Rattle.std.specs.Prelude.{◌≡◌};
+ghost use Rattle.event_line.specs.declared.faults.DeliveryFault.TheVariants.{Bad as Refused, OutOfMemory as NoMemory};
+
+use rdf_term::OutOfMemory;
+use thiserror::Error;
+
+/// Why a line delivers nothing. The causes after the first are in the order in which they are looked for.
+#[derive(Clone, Copy, PartialEq, Eq, Debug)]
+pub enum LineCause {
+    /// The line has more than 65,536 bytes. It isn't read, so reading never gives this cause.
+    LineLong,
+    /// The line isn't UTF-8, or it isn't one JSON text (RFC 8259) whose arrays and objects are nested at
+    /// most 127 deep and whose numbers are finite in double precision.
+    NotJson,
+    /// The JSON isn't an object with exactly one of the keys `kind`, `watermark` and `ask`.
+    NoForm,
+    /// `kind` isn't `edit`, `delete`, `undelete` or `reconcile`.
+    Kind,
+    /// `entity` isn't the text of an id.
+    Entity,
+    /// `rev` isn't a whole number from 1 to 18,446,744,073,709,551,615, written in digits alone.
+    Rev,
+    /// `time`, or `watermark`, isn't the text of a time.
+    Time,
+    /// `mode` of a reconciliation isn't `kept` or `deleted`.
+    Mode,
+    /// `ask` isn't a list of exactly three texts of which each is `?` or a term's by the grammar of N-Triples.
+    Pattern,
+}
+
+/// Why a line gave no delivery.
+#[derive(Clone, Copy, PartialEq, Eq, Debug, Error)]
+pub enum DeliveryFault {
+    /// The line delivers nothing.
+    #[error("bad line: {0:?}")]
+    Bad(LineCause),
+    /// A request for memory was refused.
+    #[error("out of memory")]
+    OutOfMemory,
+}
+
+impl From<LineCause> for DeliveryFault {
+    ghost from_gives = { λ cause e. e ≡ Refused cause };
+
+    fn from(cause: LineCause) -> DeliveryFault {
+        DeliveryFault::Bad(cause)
+    }
+}
+
+impl From<OutOfMemory> for DeliveryFault {
+    ghost from_gives = { λ _ e. e ≡ NoMemory };
+
+    fn from(_refused: OutOfMemory) -> DeliveryFault {
+        DeliveryFault::OutOfMemory
+    }
+}

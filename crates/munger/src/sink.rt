@@ -1,0 +1,45 @@
+// The sink that munges what it hands on.
+
+ghost use Rattle.std.specs.List.{flat_map};
+ghost use Rattle.munger.specs.Munging.{munged};
+
+use crate::naming::named;
+use crate::verdict::{Page, Verdict};
+use rdf_term::OutOfMemory;
+use rdf_vocabulary::Prefix;
+use std::alloc::Global;
+use triple_sink::{TermRef, TripleSink};
+
+/// A sink that hands on to another what munging leaves of the triples of a page: it drops some, moves some from the
+/// page's dataset to the entity, and names blank nodes.
+#[derive(Debug, Drop)]
+pub struct Munged<S> {
+    /// The page whose triples come.
+    pub page: Page,
+    /// The sink that the triples are handed on to.
+    pub inner: S,
+}
+
+impl<S: TripleSink> TripleSink for Munged<S> {
+    ghost items = { λ sink. S.items sink.inner };
+
+    ghost keeps = { λ sink triple. flat_map (S.keeps sink.inner) (munged sink.page.id triple) };
+
+    ghost rest = { λ sink. S.rest sink.inner };
+
+    fn emit(
+        &mut self,
+        alloc: Global,
+        subject: &TermRef<'_>,
+        predicate: &TermRef<'_>,
+        object: &TermRef<'_>,
+    ) -> Result<(), OutOfMemory> {
+        let subject = match self.page.verdict(subject, predicate, object) {
+            Verdict::Moved => TermRef::Id(Prefix::Wd, self.page.id),
+            Verdict::Dropped => return Ok(()),
+            Verdict::Kept => named(subject),
+        };
+        self.inner
+            .emit(alloc, &subject, &named(predicate), &named(object))
+    }
+}

@@ -1,0 +1,8 @@
+-- The bytes of a text that is borrowed or owned.
+use Rattle.std.specs.Prelude.{ℕ, List}
+use Rattle.rdf_term.specs.declared.piece.Part.{Part}
+use Rattle.rdf_term.specs.declared.piece.Part.TheVariants.{Source, Own}
+
+abbrev pub part_bytes : Part → List ℕ
+part_bytes (Source text) = text.now
+part_bytes (Own text) = text

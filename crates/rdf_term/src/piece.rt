@@ -1,0 +1,77 @@
+// A UTF-8 text that is borrowed where it can be.
+
+ghost use Rattle.std.specs.Prelude.{◌≡◌, IfOk};
+
+use crate::memory::OutOfMemory;
+use crate::text::Text;
+use std::alloc::Global;
+use std::marker::Model;
+
+// Where the characters are.
+#[derive(Debug, Drop)]
+pub(crate) enum Part<'a> {
+    Source(&'a str),
+    Own(Text),
+}
+
+/// A text in UTF-8: a part of a longer text that it borrows, or one of its own. Contracts see the list of its bytes.
+#[derive(Debug, Drop)]
+pub struct Piece<'a> {
+    part: Part<'a>,
+}
+
+impl<'a> Model for Piece<'a> {
+    ghost use Rattle.std.specs.Prelude.{List, ℕ};
+    ghost use Rattle.rdf_term.specs.Piece.{part_bytes};
+
+    ghost Value = { List ℕ };
+
+    ghost view = { λ a. part_bytes a.part };
+}
+
+impl<'a> Piece<'a> {
+    /// The borrowed text itself.
+    pub fn borrowed(text: &'a str) -> Piece<'a>
+        ensures { result ≡ text.now }
+    {
+        Piece {
+            part: Part::Source(text),
+        }
+    }
+
+    /// Takes the text over without a copy.
+    pub fn owned(text: Text) -> Piece<'a>
+        ensures { result ≡ text }
+    {
+        Piece {
+            part: Part::Own(text),
+        }
+    }
+
+    /// The characters.
+    pub fn as_str(&self) -> &str
+        ensures { result.now ≡ self.now }
+    {
+        match &self.part {
+            Part::Source(text) => text,
+            Part::Own(text) => text.as_str(),
+        }
+    }
+
+    /// The bytes of the characters.
+    pub fn as_bytes(&self) -> &[u8]
+        ensures { result.now ≡ self.now }
+    {
+        self.as_str().as_bytes()
+    }
+
+    /// An equal text: it borrows where this one does, and wants memory of its own otherwise.
+    pub fn copy(&self, alloc: Global) -> Result<Piece<'a>, OutOfMemory>
+        ensures { IfOk result (λ text. text ≡ self.now) }
+    {
+        match &self.part {
+            Part::Source(text) => Ok(Piece::borrowed(text)),
+            Part::Own(text) => Ok(Piece::owned(text.copy(alloc)?)),
+        }
+    }
+}

@@ -1,0 +1,184 @@
+-- How far the taking of lines has come, and what follows where it goes on, stops or ends.
+use Rattle.std.proofs.Common.{refl, sym, subst, ◌∙◌, ap, inl, inr, ⊎_elim, ◌≡◌, ◌⊎◌, ℕ, ◌+◌, ◌-◌, ◌≤◌, true, false, List, [], ◌∷◌, ◌++◌, length, Option, None, Some, IfSome, Ok, Err, arith, append-nil}
+use Rattle.wq_io.specs.Streams.{IsAtEnd, Rose}
+use Rattle.wq_io.specs.Lines.{HasCause, IsSound, Leaves, Reading, fresh, unread}
+use Rattle.wq_io.specs.declared.lines.LineFault.{LineFault}
+use Rattle.wq_io.specs.declared.lines.LineFault.TheVariants.{ReadFault as NotRead, TooLong as PastLimit, LineLong as OverLong, OutOfMemory as NoMemory}
+use Rattle.rdf_term.specs.Order.{triple_cmp}
+use Rattle.entity_model.specs.declared.delivery.Delivery.{Delivery}
+use Rattle.entity_model.specs.declared.delivery.Delivery.TheVariants.{Ask}
+use Rattle.event_line.specs.declared.faults.LineCause.{LineCause}
+use Rattle.event_line.specs.Line.{delivery_of}
+use Rattle.entity_state.specs.declared.record.Record.{Record}
+use Rattle.replay_model.specs.Records.{Bytes}
+use Rattle.replay_model.specs.Replies.{HoldsDocument}
+use Rattle.replay_model.specs.ReplayState.{ReplayState, following, nothing_delivered}
+use Rattle.replay_model.specs.Transcript.{ask_section, asks}
+use Rattle.replay_model.specs.Union.{union}
+use Rattle.rdf_term.specs.Pattern.{rows}
+use Rattle.world.specs.Meaning.{meaning}
+use Rattle.replay_model.proofs.Explaining.{Explained-start}
+use Rattle.replay_model.proofs.FetchCounts.{risen_by-none}
+use Rattle.replay_model.proofs.RecordOf.{record_of-empty}
+use Rattle.transcript.specs.declared.write.Unwritten.{Unwritten}
+use Rattle.transcript.specs.Printing.{IsCutShort, Output}
+use Rattle.transcript.proofs.Parts.{after_nothing}
+use Rattle.session.specs.declared.stop.Stop.{Stop}
+use Rattle.session.specs.declared.stop.Stop.TheVariants.{BadLine, ReadFault, WriteFault, TooLong, OutOfMemory}
+use Rattle.session.specs.Counts.{Counts}
+use Rattle.session.specs.Headline.{IsPlayedAfter, StandsAtQuestion, Stopped}
+use Rattle.session.specs.Moment.{Input, Moment, Run, Setting, Stage, onward, with_output}
+use Rattle.session.specs.Reading.{AreFirst, HasRead}
+use Rattle.session.specs.Stop.{stop_of_fault, stop_of_unwritten}
+use Rattle.session.specs.Stops.{HasTaken, StopsWithin}
+use Rattle.session.specs.Taking.{AnswersInPart, AtRest, CutsOff, IsWithin, TakesDelivery, TakesInPart, course_after, judgement, said_behind, turn}
+use Rattle.words.specs.Options.{limit_of}
+use Rattle.session.proofs.Deliveries.{asks-push, rest_within}
+use Rattle.session.proofs.Ends.{interrupted, is_played, rose_since}
+use Rattle.session.proofs.Reading.{IsNextLine, all_read, bad_line, first_lines, first_with, nothing_read, over_long, past_limit, read_more, whole_read}
+
+-- the lines so far were read, the world has taken them, and so many of them asked
+pub record Progress (run : Run) (before now : Moment) (reader : Reading) (asked : ℕ) : Type 0 where
+  pub deliveries : List Delivery
+  pub read : HasRead before.input.left reader now.input.left deliveries
+  pub at_rest : AtRest run.setting deliveries before.stage now.stage
+  pub earlier : before.input.faults ≤ now.input.faults
+  pub asked_is : asked ≡ asks deliveries
+  pub few_asked : asked ≤ reader.given
+  pub max : reader.max_bytes ≡ limit_of run.choices
+  pub sound : IsSound reader
+  pub going : reader.failed ≡ false
+  pub ended : reader.ended ≡ true → IsAtEnd now.input.left
+
+-- before the first delivery a world is at rest
+pub nothing_taken : (setting : Setting) (output : Output) (counts : Counts) → let s : Stage = record { output = output; counts = counts; world = nothing_delivered } in AtRest setting [] s s
+nothing_taken setting output counts = record {
+  leads = record {
+    made = 0;
+    explained = Explained-start judgement setting.known;
+    counted = record { calls = λ fits. sym (risen_by-none counts.calls fits); failed = λ below. omega arith; missing = λ below. omega arith };
+    documents = λ x. subst (λ (r : Record Bytes). HoldsDocument judgement x r.held) (sym (record_of-empty x)) tt;
+    says = λ others agree. sym (after_nothing output.bytes);
+  };
+  rests = refl;
+  later = omega arith;
+}
+
+-- a moment before the first delivery
+abbrev pub at_start : Input → Output → Counts → Moment
+at_start input output counts = record { input = input; stage = record { output = output; counts = counts; world = nothing_delivered } }
+
+-- before the first line
+pub nothing_begun : (run : Run) (input : Input) (output : Output) (counts : Counts) → Progress run (at_start input output counts) (at_start input output counts) (fresh (limit_of run.choices)) 0
+nothing_begun run input output counts = record {
+  deliveries = [];
+  read = nothing_read (limit_of run.choices) input.left;
+  at_rest = nothing_taken run.setting output counts;
+  earlier = omega arith;
+  asked_is = refl;
+  few_asked = omega arith;
+  max = refl;
+  sound = record { within = omega arith; counted = omega arith; bounded = omega arith };
+  going = refl;
+  ended = λ never. cc;
+}
+
+module _ (run : Run) (before now : Moment) (reader : Reading) (asked : ℕ) (so_far : Progress run before now reader asked) where
+  played : IsPlayedAfter run.setting so_far.deliveries before.stage now.stage
+  played = is_played run.setting (course_after so_far.deliveries before.stage) before.stage now.stage so_far.at_rest.leads so_far.at_rest.rests
+
+  -- memory was refused: the world is as it was after the lines so far, whatever the counts are
+  pub stands : (input : Input) (counts : Counts) → StopsWithin run before (record { input = input; stage = onward now.stage counts now.stage.world })
+  stands input counts = record {
+    deliveries = so_far.deliveries;
+    last = None;
+    within = rest_within run.setting so_far.deliveries before.stage now.stage counts so_far.at_rest;
+    first = rw (append-nil so_far.deliveries) (first_lines (limit_of run.choices) reader now.input.left so_far.deliveries so_far.max so_far.sound before.input.left so_far.read);
+  }
+
+  -- a fault of the reader stops the taking
+  pub fault_stops : (fault : LineFault) (input : Input) → HasCause fault reader now.input.left now.input.faults input.faults → Leaves fault reader now.input.left input.left →
+      Stopped (stop_of_fault fault) run before (record now { input = input })
+  fault_stops NotRead input cause leaves = (
+    rose_since before.input.faults now.input.faults input.faults so_far.earlier cause,
+    record { deliveries = so_far.deliveries; played = played; whole = whole_read (limit_of run.choices) reader now.input.left so_far.deliveries so_far.max so_far.sound before.input.left input.left so_far.read leaves },
+  )
+  fault_stops PastLimit input cause leaves =
+      record { deliveries = so_far.deliveries; played = played; past = past_limit (limit_of run.choices) reader now.input.left so_far.deliveries so_far.max so_far.sound before.input.left so_far.read cause }
+  fault_stops (OverLong number) input cause leaves =
+      record { deliveries = so_far.deliveries; played = played; bad = over_long (limit_of run.choices) reader now.input.left so_far.deliveries so_far.max so_far.sound before.input.left number so_far.read cause.0 cause.1 }
+  fault_stops NoMemory input cause leaves = inl (inl (stands input now.stage.counts))
+
+  -- at the end of the input all lines were taken
+  pub end_reached : (input : Input) → IsAtEnd (unread reader now.input.left) → HasTaken run before (record now { input = input })
+  end_reached input at_end = record {
+    deliveries = so_far.deliveries;
+    are = all_read (limit_of run.choices) reader now.input.left so_far.deliveries so_far.max so_far.sound before.input.left so_far.read at_end;
+    at_rest = so_far.at_rest;
+  }
+
+  module _ (line : List ℕ) (next : Reading) where
+    -- a line that is refused stops the taking
+    pub line_stops : (stop : Stop) (input : Input) (number : ℕ) → IsNextLine line reader next now.input.left input.left → number ≡ reader.given + 1 →
+        ((cause : LineCause) × (stop ≡ BadLine number cause) × (delivery_of line ≡ Err cause)) ⊎ (stop ≡ OutOfMemory) → Stopped stop run before (record now { input = input })
+    line_stops stop input number is counted why = ⊎_elim
+        (λ bad. subst (λ s. Stopped s run before (record now { input = input })) (sym bad.1) (record {
+          deliveries = so_far.deliveries;
+          played = played;
+          bad = bad_line (limit_of run.choices) reader now.input.left so_far.deliveries so_far.max so_far.sound line next input.left is before.input.left number bad.0 so_far.read counted bad.2;
+        }))
+        (λ refused. subst (λ s. Stopped s run before (record now { input = input })) (sym refused) (inl (inl (stands input now.stage.counts))))
+        why
+
+    module _ (after : Moment) (d : Delivery) (asked_now : ℕ) (is : IsNextLine line reader next now.input.left after.input.left) (delivers : delivery_of line ≡ Ok d) (more : asked_now ≡ asked + asks (d ∷ [])) where
+      asked_is : asked_now ≡ asks (so_far.deliveries ++ d ∷ [])
+      asked_is = more ∙ ap (λ n. n + asks (d ∷ [])) so_far.asked_is ∙ sym (asks-push so_far.deliveries d)
+
+      first : IfSome before.input.left (λ bytes. AreFirst (limit_of run.choices) bytes (so_far.deliveries ++ d ∷ []))
+      first = first_with (limit_of run.choices) reader now.input.left so_far.deliveries so_far.max so_far.sound line next after.input.left is before.input.left d so_far.read delivers
+
+      -- a question that isn't answered wholly stops the taking
+      at_question : (why : Unwritten) → AnswersInPart why (turn asked_now d) now.stage after.stage → StandsAtQuestion why run before after
+      at_question why in_part = record {
+        deliveries = so_far.deliveries;
+        pattern = in_part.pattern;
+        between = now.stage.output;
+        played = subst (λ w. IsPlayedAfter run.setting so_far.deliveries before.stage (onward now.stage after.stage.counts w)) (sym in_part.world)
+            (subst (λ c. IsPlayedAfter run.setting so_far.deliveries before.stage (onward now.stage c now.stage.world)) (sym in_part.counts) played);
+        cut_short = subst (λ (w : ReplayState). IsCutShort why (ask_section (asks so_far.deliveries + 1) (rows (union triple_cmp meaning w.played.records) in_part.pattern)) now.stage.output after.stage.output) (sym in_part.world)
+            (subst (λ n. IsCutShort why (ask_section n (rows (union triple_cmp meaning now.stage.world.played.records) in_part.pattern)) now.stage.output after.stage.output)
+            (asked_is ∙ ap (λ q. asks (so_far.deliveries ++ q ∷ [])) in_part.is ∙ asks-push so_far.deliveries (Ask in_part.pattern)) in_part.cut_short);
+        first = subst (λ q. IfSome before.input.left (λ bytes. AreFirst (limit_of run.choices) bytes (so_far.deliveries ++ q ∷ []))) in_part.is first;
+      }
+
+      -- memory was refused at a delivery
+      starves : TakesInPart run.setting d now.stage after.stage → StopsWithin run before after
+      starves in_part = ⊎_elim
+          (λ same. subst (λ o. StopsWithin run before (record after { stage = with_output after.stage o })) (sym in_part.output)
+          (subst (λ w. StopsWithin run before (record { input = after.input; stage = onward now.stage after.stage.counts w })) (sym same) (stands after.input after.stage.counts)))
+          (λ begun. record { deliveries = so_far.deliveries; last = Some d; within = begun; first = first })
+          (in_part.world so_far.deliveries before.stage so_far.at_rest)
+
+      -- a delivery that isn't taken wholly stops the taking
+      pub delivery_stops : (stop : Stop) → CutsOff stop run.setting (turn asked_now d) now.stage after.stage → Stopped stop run before after
+      delivery_stops stop cut = ⊎_elim
+          (λ printing. subst (λ s. Stopped s run before after) (sym printing.1)
+          (interrupted printing.0 run before after now.stage.output so_far.at_rest.later (λ fault. (printing.2.cut_short.failed fault).1) (inl (at_question printing.0 printing.2))))
+          (λ starving. subst (λ s. Stopped s run before after) (sym starving.0) (inl (inl (starves starving.1))))
+          cut
+
+      -- a line that is taken
+      pub line_taken : now.input.faults ≤ after.input.faults → next.given ≡ reader.given + 1 → (next.ended ≡ true → IsAtEnd after.input.left) → asks (d ∷ []) ≤ 1 →
+          TakesDelivery run.setting (turn asked_now d) now.stage after.stage → Progress run before after next asked_now
+      line_taken later given ended one takes = record {
+        deliveries = so_far.deliveries ++ d ∷ [];
+        read = read_more (limit_of run.choices) reader now.input.left so_far.deliveries so_far.max so_far.sound line next after.input.left is before.input.left d so_far.read given delivers;
+        at_rest = takes so_far.deliveries before.stage asked_is so_far.at_rest;
+        earlier = omega (arith, so_far.earlier, later);
+        asked_is = asked_is;
+        few_asked = omega (arith, so_far.few_asked, more, one, given);
+        max = is.goes.limit ∙ so_far.max;
+        sound = is.goes.sound;
+        going = is.goes.going;
+        ended = ended;
+      }

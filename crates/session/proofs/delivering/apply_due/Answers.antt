@@ -1,0 +1,37 @@
+-- One event more, and fewer wait.
+use Rattle.std.proofs.Common.{refl, ap, arith, Err, ⊎_elim}
+use Rattle.session.proofs.Due.{applies-fewer, applies-leads, goes-further, goes-nowhere, gone-on, none_due, starved}
+use Rattle.session.proofs.delivering.apply_due.Goals as goal
+
+pub loop-init : goal.loop-init
+loop-init g c = (goes-nowhere _ _ c.args.world.now, record { known = refl; faults = omega arith; misses = omega arith })
+
+pub loop-preserved : goal.loop-preserved
+loop-preserved g c =
+    let before = c.loop.invariant in
+    let call = c.in-Ok.ensures in
+    let applied = rw before.1.known at call.applied in (
+      goes-further _ _ _ _ _ _ _ before.0 (applies-leads _ _ _ _ _ _ _ applied (record { shown = call.shown; calls = call.calls; more_faults = call.more_faults; more_misses = call.more_misses })),
+      gone-on g.R.Revisions _ _ _ before.1 (record { known = call.told; faults = call.more_faults; misses = call.more_misses }),
+    )
+
+pub loop-smaller : goal.loop-smaller
+loop-smaller g c = applies-fewer _ _ _ _ _ c.in-Ok.ensures.applied
+
+pub returns-in-Err-Nothing-clause-ok : goal.returns-in-Err-Nothing-clause-ok
+returns-in-Err-Nothing-clause-ok g c =
+    let call = c.in-Err-Nothing.ensures in
+    none_due _ _ _ _ _ _ _ c.loop.invariant.0 (⊎_elim (λ same. same) (λ refused. cc) call.calls_at_fault) call.more_faults call.more_misses call.err (call.nothing.0 (ap Err c.in-Err-Nothing.field-0-is))
+
+pub returns-in-Err-Nothing-clause-source : goal.returns-in-Err-Nothing-clause-source
+returns-in-Err-Nothing-clause-source g c =
+    let call = c.in-Err-Nothing.ensures in
+    gone-on g.R.Revisions _ _ _ c.loop.invariant.1 (record { known = call.told; faults = call.more_faults; misses = call.more_misses })
+
+pub returns-in-Err-OutOfMemory-clause-err : goal.returns-in-Err-OutOfMemory-clause-err
+returns-in-Err-OutOfMemory-clause-err g c = starved _ _ _ _ _ _ _ c.loop.invariant.0 c.in-Err-OutOfMemory.ensures.err
+
+pub returns-in-Err-OutOfMemory-clause-source : goal.returns-in-Err-OutOfMemory-clause-source
+returns-in-Err-OutOfMemory-clause-source g c =
+    let call = c.in-Err-OutOfMemory.ensures in
+    gone-on g.R.Revisions _ _ _ c.loop.invariant.1 (record { known = call.told; faults = call.more_faults; misses = call.more_misses })

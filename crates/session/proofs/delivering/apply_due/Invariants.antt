@@ -1,0 +1,14 @@
+-- The world leads where it led, and fewer events wait each time.
+use Rattle.std.proofs.Common.{length}
+use Rattle.session.specs.Counts.{HasGoneOn, counts}
+use Rattle.session.specs.Moment.{setting}
+use Rattle.session.proofs.Due.{Goes}
+use Rattle.session.proofs.delivering.apply_due.Given as goal
+
+abbrev pub invariant-loop : goal.invariant-loop
+invariant-loop g l =
+    Goes (setting (g.R.Revisions.contents l.fn.revisions) l.directory) (counts g.R.Revisions l.fn.revisions) (counts g.R.Revisions l.revisions) l.fn.world l.world
+    × HasGoneOn g.R.Revisions l.fn.revisions l.revisions
+
+abbrev pub decreases-loop : goal.decreases-loop
+decreases-loop g l = length l.world.buffer.waiting

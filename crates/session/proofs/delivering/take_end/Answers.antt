@@ -1,0 +1,8 @@
+-- What waits at the end is applied.
+use Rattle.session.proofs.delivering.take_end.Goals as goal
+
+pub returns-clause-ok : goal.returns-clause-ok
+returns-clause-ok g c = rw c.close.ensures at c.apply_due.ensures.ok
+
+pub returns-clause-err : goal.returns-clause-err
+returns-clause-err g c = rw c.close.ensures at c.apply_due.ensures.err

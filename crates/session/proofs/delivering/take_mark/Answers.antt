@@ -1,0 +1,10 @@
+-- What is due after the watermark is applied.
+use Rattle.std.proofs.Common.{◌≡◌}
+use Rattle.replay_model.specs.ReplayState.{after_mark}
+use Rattle.session.proofs.delivering.take_mark.Goals as goal
+
+pub returns-clause-ok : goal.returns-clause-ok
+returns-clause-ok g c = rw c.raise.ensures at c.apply_due.ensures.ok
+
+pub returns-clause-err : goal.returns-clause-err
+returns-clause-err g c = rw c.raise.ensures at c.apply_due.ensures.err

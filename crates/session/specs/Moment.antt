@@ -1,0 +1,65 @@
+-- A run, and what stands at a moment of it.
+use Rattle.std.specs.Prelude.{ℕ, List, Option}
+use Rattle.std.specs.Option.{option_map}
+use Rattle.wq_io.specs.declared.source.Source.{Ghosts as SourceOf}
+use Rattle.wq_io.specs.declared.sink.Sink.{Ghosts as SinkOf}
+use Rattle.revisions.specs.declared.revisions.Revisions.{Ghosts as RevisionsOf}
+use Rattle.revisions.specs.Revisions.{Contents}
+use Rattle.replay_model.specs.Records.{Bytes}
+use Rattle.replay_model.specs.ReplayState.{ReplayState}
+use Rattle.transcript.specs.Printing.{Output, output}
+use Rattle.session.specs.Counts.{Counts, counts}
+use Rattle.words.specs.Options.{Choices, place_of}
+
+-- what deliveries are taken under: what the source of revisions has in its directory, where it is known
+pub record Setting : Type 0 where
+  pub known : Option (ℕ → Option Bytes)
+
+-- the setting of a source with these contents, and of a directory
+abbrev pub setting : Option Contents → List ℕ → Setting
+setting contents directory = record { known = option_map (λ (c : Contents). c directory) contents }
+
+-- what the taking of deliveries changes: the output, the counts of the source of revisions, and the world
+pub record Stage : Type 0 where
+  pub output : Output
+  pub counts : Counts
+  pub world : ReplayState
+
+-- the stage that these are
+abbrev pub stage : {R K : Type 0} → RevisionsOf R → SinkOf K → R → K → ReplayState → Stage
+stage source sink revisions out world = record { output = output sink out; counts = counts source revisions; world = world }
+
+-- the stage with these counts and this world
+abbrev pub onward : Stage → Counts → ReplayState → Stage
+onward s counts world = record { output = s.output; counts = counts; world = world }
+
+-- the stage with this output
+abbrev pub with_output : Stage → Output → Stage
+with_output s out = record { output = out; counts = s.counts; world = s.world }
+
+-- an input at a moment: the bytes that are left of it, where they are known, and how many reads failed, as far as 64 bits
+-- count them
+pub record Input : Type 0 where
+  pub left : Option (List ℕ)
+  pub faults : ℕ
+
+-- what stands at a moment of a run
+pub record Moment : Type 0 where
+  pub input : Input
+  pub stage : Stage
+
+-- the moment that these are
+abbrev pub moment : {S R K : Type 0} → SourceOf S → RevisionsOf R → SinkOf K → S → R → K → ReplayState → Moment
+moment events_of source sink events revisions out world = record {
+  input = record { left = events_of.left events; faults = events_of.faults events };
+  stage = stage source sink revisions out world;
+}
+
+-- a run: what was chosen, and what deliveries are taken under
+pub record Run : Type 0 where
+  pub choices : Choices
+  pub setting : Setting
+
+-- the run of these choices over a source with these contents
+abbrev pub run_of : Option Contents → Choices → Run
+run_of contents choices = record { choices = choices; setting = setting contents (place_of choices) }

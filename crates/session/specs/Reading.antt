@@ -1,0 +1,104 @@
+-- The lines of an input as deliveries.
+use Rattle.std.specs.Prelude.{◌≡◌, ◌⊎◌, ℕ, ◌+◌, ◌-◌, ◌<◌, ◌≤◌, false, List, [], ◌∷◌, ◌++◌, length, nat_le, if◌then◌else◌, Option, None, Some, IfSome, Result, Ok, Err}
+use Rattle.std.specs.Option.{option_map}
+use Rattle.rising.specs.Rising.{Each}
+use Rattle.wq_io.specs.Streams.{before_known}
+use Rattle.wq_io.specs.Lines.{Reading, IsLineLong, IsOneLine, IsTooLong, ended_lines, input_length, lines, lines_of, longest_line, unread, whole_lines}
+use Rattle.entity_model.specs.declared.delivery.Delivery.{Delivery}
+use Rattle.event_line.specs.declared.faults.LineCause.{LineCause}
+use Rattle.event_line.specs.declared.faults.LineCause.TheVariants.{LineLong}
+use Rattle.event_line.specs.Line.{delivery_of}
+
+-- what a line delivers, or why it is refused: an over-long one isn't read
+abbrev pub line_delivers : List ℕ → Result Delivery LineCause
+line_delivers line = if nat_le (length line) longest_line then delivery_of line else Err LineLong
+
+-- a delivery before the others, if all of them are
+abbrev pub onto_deliveries : Result Delivery LineCause → Option (List Delivery) → Option (List Delivery)
+onto_deliveries (Ok d) (Some ds) = Some (d ∷ ds)
+onto_deliveries (Ok d) None = None
+onto_deliveries (Err cause) ds = None
+
+-- the deliveries that the lines are, where each line is one
+abbrev pub deliveries_of : List (List ℕ) → Option (List Delivery)
+deliveries_of [] = Some []
+deliveries_of (line ∷ others) = onto_deliveries (line_delivers line) (deliveries_of others)
+
+-- the lines so far were read, and are these deliveries; the bytes that went into them stand before those that are unread
+pub record HasRead (left_start : Option (List ℕ)) (reader : Reading) (left : Option (List ℕ)) (ds : List Delivery) : Type 0 where
+  pub done : List (List ℕ)
+  pub are : lines_of left_start ≡ option_map (λ (ls : List (List ℕ)). done ++ ls) (lines_of (unread reader left))
+  pub delivered : deliveries_of done ≡ Some ds
+  pub counted : reader.given ≡ length done
+  pub total : input_length reader left ≡ option_map length left_start
+  pub read : List ℕ
+  pub bytes : left_start ≡ before_known read (unread reader left)
+  pub whole : reader.ended ≡ false → read ≡ ended_lines done
+  pub are_lines : Each IsOneLine done
+
+-- the whole input was read, is within the limit, and its lines are these deliveries
+pub record AreDeliveries (limit : ℕ) (bytes : List ℕ) (ds : List Delivery) : Type 0 where
+  pub within : length bytes ≤ limit
+  pub delivered : deliveries_of (lines bytes) ≡ Some ds
+
+-- the first lines of the input are these deliveries, and end within the limit
+pub record AreFirst (limit : ℕ) (bytes : List ℕ) (ds : List Delivery) : Type 0 where
+  pub before : List (List ℕ)
+  pub read_bytes : List ℕ
+  pub unread_bytes : List ℕ
+  pub all : bytes ≡ read_bytes ++ unread_bytes
+  pub are_lines : lines bytes ≡ before ++ lines unread_bytes
+  pub within : length read_bytes ≤ limit
+  pub delivered : deliveries_of before ≡ Some ds
+
+-- all whole lines of the bytes that were read are these deliveries; these bytes are within the limit, and those behind them
+-- are left
+pub record AreWhole (limit : ℕ) (left left_now : Option (List ℕ)) (ds : List Delivery) : Type 0 where
+  pub read : List ℕ
+  pub is : left ≡ before_known read left_now
+  pub within : IfSome left (λ _. length read ≤ limit)
+  pub delivered : deliveries_of (whole_lines read) ≡ Some ds
+
+-- the line with this number is no delivery, for this reason, and those before it are these deliveries; it ends within
+-- the limit
+pub record IsBadLine (limit : ℕ) (bytes : List ℕ) (ds : List Delivery) (number : ℕ) (cause : LineCause) : Type 0 where
+  pub before : List (List ℕ)
+  pub line : List ℕ
+  pub read_bytes : List ℕ
+  pub unread_bytes : List ℕ
+  pub all : bytes ≡ read_bytes ++ unread_bytes
+  pub are_lines : lines bytes ≡ before ++ line ∷ lines unread_bytes
+  pub within : length read_bytes ≤ limit
+  pub delivered : deliveries_of before ≡ Some ds
+  pub counted : number ≡ length before + 1
+  pub short : length line ≤ longest_line
+  pub refused : delivery_of line ≡ Err cause
+
+-- the line with this number is over-long: its first 65,537 bytes are there, within the limit, and those before it are
+-- these deliveries
+pub record IsOverLongLine (limit : ℕ) (bytes : List ℕ) (ds : List Delivery) (number : ℕ) : Type 0 where
+  pub before : List (List ℕ)
+  pub read_bytes : List ℕ
+  pub unread_bytes : List ℕ
+  pub all : bytes ≡ read_bytes ++ unread_bytes
+  pub are_lines : lines bytes ≡ before ++ lines unread_bytes
+  pub delivered : deliveries_of before ≡ Some ds
+  pub counted : number ≡ length before + 1
+  pub over : IsLineLong (limit - length read_bytes) unread_bytes
+
+-- why a line is refused: it is no delivery, or it is over-long
+abbrev pub IsRefusedLine : ℕ → List ℕ → List Delivery → ℕ → LineCause → Type 0
+IsRefusedLine limit bytes ds number cause = IsBadLine limit bytes ds number cause ⊎ ((cause ≡ LineLong) × IsOverLongLine limit bytes ds number)
+
+-- the input has more bytes than the limit; the first of them past it stands in a line that isn't over-long before it,
+-- and the lines before that line are these deliveries
+pub record IsPastLimit (limit : ℕ) (bytes : List ℕ) (ds : List Delivery) : Type 0 where
+  pub more : limit < length bytes
+  pub before : List (List ℕ)
+  pub read_bytes : List ℕ
+  pub unread_bytes : List ℕ
+  pub all : bytes ≡ read_bytes ++ unread_bytes
+  pub are_lines : lines bytes ≡ before ++ lines unread_bytes
+  pub delivered : deliveries_of before ≡ Some ds
+  pub within : length read_bytes ≤ limit
+  pub past : IsTooLong (limit - length read_bytes) unread_bytes

@@ -1,0 +1,33 @@
+-- Why a run stopped, and the status that it has then.
+use Rattle.std.specs.Prelude.{Option, None, Some}
+use Rattle.wq_io.specs.declared.lines.LineFault.{LineFault}
+use Rattle.wq_io.specs.declared.lines.LineFault.TheVariants.{ReadFault as NotRead, TooLong as PastLimit, LineLong as OverLong, OutOfMemory as NoMemory}
+use Rattle.event_line.specs.declared.faults.LineCause.TheVariants.{LineLong}
+use Rattle.transcript.specs.declared.write.Unwritten.{Unwritten}
+use Rattle.transcript.specs.declared.write.Unwritten.TheVariants.{WriteFault as NotWritten, OutOfMemory as Refused}
+use Rattle.session.specs.declared.stop.Stop.{Stop}
+use Rattle.session.specs.declared.stop.Stop.TheVariants.{BadLine, ReadFault, WriteFault, TooLong, OutOfMemory}
+use Rattle.session.specs.declared.status.Status.{Status}
+use Rattle.session.specs.declared.status.Status.TheVariants.{Ok as Ended, BadWords as WordsRefused, BadLine as LineRefused, ReadFault as ReadFailed, WriteFault as WriteFailed, TooLong as LimitPassed, OutOfMemory as MemoryRefused}
+
+-- why a run stopped at a fault of the reader of lines
+abbrev pub stop_of_fault : LineFault → Stop
+stop_of_fault NotRead = ReadFault
+stop_of_fault PastLimit = TooLong
+stop_of_fault (OverLong number) = BadLine number LineLong
+stop_of_fault NoMemory = OutOfMemory
+
+-- why a run stopped where not all was written
+abbrev pub stop_of_unwritten : Unwritten → Stop
+stop_of_unwritten NotWritten = WriteFault
+stop_of_unwritten Refused = OutOfMemory
+
+-- why a run with this status stopped, if it was begun and stopped
+abbrev pub stop_of : Status → Option Stop
+stop_of Ended = None
+stop_of WordsRefused = None
+stop_of (LineRefused number cause) = Some (BadLine number cause)
+stop_of ReadFailed = Some ReadFault
+stop_of WriteFailed = Some WriteFault
+stop_of LimitPassed = Some TooLong
+stop_of MemoryRefused = Some OutOfMemory

@@ -1,0 +1,150 @@
+-- How far a world has come in a play while deliveries are taken, and what the taking of one delivery leaves.
+use Rattle.std.specs.Prelude.{◌≡◌, ◌⊎◌, ℕ, ◌≤◌, List, [], ◌∷◌, ◌++◌, Option, None, Some}
+use Rattle.wq_io.specs.Streams.{after_known}
+use Rattle.rdf_term.specs.declared.pattern.Pattern.{Pattern}
+use Rattle.rdf_term.specs.Order.{triple_cmp}
+use Rattle.entity_model.specs.declared.id.EntityId.{EntityId}
+use Rattle.entity_json.specs.Document.{unfit_of}
+use Rattle.entity_model.specs.declared.delivery.Delivery.{Delivery}
+use Rattle.entity_model.specs.declared.delivery.Delivery.TheVariants.{Ask}
+use Rattle.reorder_buffer.specs.Buffered.{first_due}
+use Rattle.replay_model.specs.Records.{Bytes, record_of}
+use Rattle.replay_model.specs.Play.{Fetch, Replies, fetches, fetches_to_end}
+use Rattle.replay_model.specs.Replies.{HoldsDocument, Judgement, failed_events, source_replies}
+use Rattle.replay_model.specs.ReplayState.{ReplayState, after_some, entered, following, following_to_end}
+use Rattle.replay_model.specs.Explained.{AgreeOnApplied, Explained}
+use Rattle.replay_model.specs.Transcript.{Sections, ask_section, asks, said as answers_said, transcript}
+use Rattle.replay_model.specs.Union.{union}
+use Rattle.rdf_term.specs.Pattern.{rows}
+use Rattle.world.specs.Meaning.{meaning}
+use Rattle.transcript.specs.declared.write.Unwritten.{Unwritten}
+use Rattle.transcript.specs.Printing.{IsCutShort}
+use Rattle.session.specs.declared.stop.Stop.{Stop}
+use Rattle.session.specs.declared.stop.Stop.TheVariants.{OutOfMemory}
+use Rattle.session.specs.Counts.{Counts, HasCounted}
+use Rattle.session.specs.Moment.{Setting, Stage, onward}
+use Rattle.session.specs.Stop.{stop_of_unwritten}
+
+-- why bytes are no document of an entity
+abbrev pub judgement : Judgement
+judgement = unfit_of
+
+-- every entity holds a document of itself, or nothing
+abbrev pub HoldsDocuments : ReplayState → Type 0
+HoldsDocuments world = (x : EntityId) → HoldsDocument judgement x (record_of world.played.records x).held
+
+-- the replies of what is there, and of the events whose fetches failed, which the side output names
+abbrev pub replies_there : (ℕ → Option Bytes) → ReplayState → Replies
+replies_there contents world = source_replies judgement contents (failed_events world.played.side)
+
+-- a play, by the replies to its fetches: where it leads, what it fetches, and which bytes the output has then
+pub record Course : Type 0 where
+  pub state : Replies → ReplayState
+  pub fetched : Replies → List Fetch
+  pub bytes : Replies → Option (List ℕ)
+
+-- the bytes of an output behind what a play with these replies says at the deliveries
+abbrev pub said_behind : List Delivery → Stage → Replies → Option (List ℕ)
+said_behind ds start replies = after_known start.output.bytes (answers_said meaning replies ds)
+
+-- the play of these deliveries
+abbrev pub course_after : List Delivery → Stage → Course
+course_after ds start = record { state = λ replies. following replies ds; fetched = λ replies. fetches replies ds; bytes = said_behind ds start }
+
+-- the play of these deliveries and the end of the input
+abbrev pub course_to_end : List Delivery → Stage → Course
+course_to_end ds start = record { state = λ replies. following_to_end replies ds; fetched = λ replies. fetches_to_end replies ds; bytes = said_behind ds start }
+
+-- the same, and these sections
+abbrev pub course_printed : Sections → List Delivery → Stage → Course
+course_printed sections ds start = record (course_to_end ds start) { bytes = λ replies. after_known start.output.bytes (transcript meaning sections replies ds) }
+
+-- the world leads to a play with some replies, the counts rose with what was fetched for it so far, and what is held are
+-- documents; the output has what the play says with all replies that agree with these on what was applied
+pub record Leads (setting : Setting) (course : Course) (start now : Stage) : Type 0 where
+  pub made : ℕ
+  pub explained : Explained judgement setting.known course.state course.fetched made now.world
+  pub counted : HasCounted start.counts now.counts made now.world.played.side
+  pub documents : HoldsDocuments now.world
+  pub says : (others : Replies) → AgreeOnApplied now.world explained.replies others → now.output.bytes ≡ course.bytes others
+
+-- the world leads to a play with some replies, and is so many applications of due events after where the play begins them,
+-- the least first
+pub record IsUnderWay (setting : Setting) (course : Course) (begun : Replies → ReplayState) (start now : Stage) : Type 0 where
+  pub leads : Leads setting course start now
+  pub steps : ℕ
+  pub is : (others : Replies) → AgreeOnApplied now.world leads.explained.replies others → now.world ≡ after_some others steps (begun others)
+
+-- the world is so many applications of due events after where a play begins them, the least first, with some replies, and
+-- the output has what that play says; where it is known what the source has, with the replies of what is there and of the
+-- events whose fetches failed
+pub record IsWithin (setting : Setting) (bytes : Replies → Option (List ℕ)) (begun : Replies → ReplayState) (now : Stage) : Type 0 where
+  pub steps : ℕ
+  pub replies : Replies
+  pub is : now.world ≡ after_some replies steps (begun replies)
+  pub says : now.output.bytes ≡ bytes replies
+  pub source : (contents : ℕ → Option Bytes) → setting.known ≡ Some contents → now.world ≡ after_some (replies_there contents now.world) steps (begun (replies_there contents now.world))
+  pub source_says : (contents : ℕ → Option Bytes) → setting.known ≡ Some contents → now.output.bytes ≡ bytes (replies_there contents now.world)
+  pub documents : HoldsDocuments now.world
+
+-- right after a delivery, if there is one, is taken, before what it makes due is applied
+abbrev pub entered_perhaps : ReplayState → Option Delivery → ReplayState
+entered_perhaps w None = w
+entered_perhaps w (Some d) = entered w d
+
+-- the world has taken these deliveries, and no event is due: with some replies, it is where a replay of them leads, and the
+-- output has what this replay says
+pub record AtRest (setting : Setting) (ds : List Delivery) (start now : Stage) : Type 0 where
+  pub leads : Leads setting (course_after ds start) start now
+  pub rests : first_due now.world.buffer ≡ None
+  pub later : start.output.faults ≤ now.output.faults
+
+-- the world has taken these deliveries and the end of the input, and no event is due
+pub record AtEnd (setting : Setting) (ds : List Delivery) (start now : Stage) : Type 0 where
+  pub leads : Leads setting (course_to_end ds start) start now
+  pub rests : first_due now.world.buffer ≡ None
+  pub later : start.output.faults ≤ now.output.faults
+
+-- all due events were applied: where the world led to a play, it does so now
+pub record AppliesDue (setting : Setting) (before now : Counts) (old new : ReplayState) : Type 0 where
+  pub leads : (course : Course) (start s : Stage) → Leads setting course start (onward s before old) → Leads setting course start (onward s now new)
+  pub rests : first_due new.buffer ≡ None
+
+-- memory was refused at a due event: where the world was under way in a play, it is so still
+abbrev pub StaysWithin : Setting → Counts → Counts → ReplayState → ReplayState → Type 0
+StaysWithin setting before now old new =
+    (course : Course) (begun : Replies → ReplayState) (start s : Stage) → IsUnderWay setting course begun start (onward s before old) → IsWithin setting course.bytes begun (onward s now new)
+
+-- a delivery, and how many questions were asked up to it
+pub record Turn : Type 0 where
+  pub asked : ℕ
+  pub delivery : Delivery
+
+-- this delivery, with so many questions up to it
+abbrev pub turn : ℕ → Delivery → Turn
+turn asked delivery = record { asked = asked; delivery = delivery }
+
+-- a world that was at rest is at rest with one delivery more, from whichever stage it began
+abbrev pub TakesDelivery : Setting → Turn → Stage → Stage → Type 0
+TakesDelivery setting t before now =
+    (ds : List Delivery) (start : Stage) → t.asked ≡ asks (ds ++ t.delivery ∷ []) → AtRest setting ds start before → AtRest setting (ds ++ t.delivery ∷ []) start now
+
+-- a question was answered, but not all was written: the world and the counts are as they were
+pub record AnswersInPart (why : Unwritten) (t : Turn) (before now : Stage) : Type 0 where
+  pub pattern : Pattern
+  pub is : t.delivery ≡ Ask pattern
+  pub world : now.world ≡ before.world
+  pub counts : now.counts ≡ before.counts
+  pub cut_short : IsCutShort why (ask_section t.asked (rows (union triple_cmp meaning before.world.played.records) pattern)) before.output now.output
+
+-- memory was refused at an event or a watermark: nothing was printed, and a world that was at rest is as it was, or has taken
+-- it, with some of what it makes due
+pub record TakesInPart (setting : Setting) (d : Delivery) (before now : Stage) : Type 0 where
+  pub output : now.output ≡ before.output
+  pub world : (ds : List Delivery) (start : Stage) → AtRest setting ds start before →
+      (now.world ≡ before.world) ⊎ IsWithin setting (said_behind ds start) (λ replies. entered (following replies ds) d) now
+
+-- a delivery wasn't taken, or not wholly: its answer wasn't written, or memory was refused
+abbrev pub CutsOff : Stop → Setting → Turn → Stage → Stage → Type 0
+CutsOff stop setting t before now =
+    ((why : Unwritten) × (stop ≡ stop_of_unwritten why) × AnswersInPart why t before now) ⊎ ((stop ≡ OutOfMemory) × TakesInPart setting t.delivery before now)

@@ -1,0 +1,123 @@
+// One delivery is taken, wherever it comes from: what is due is applied, and a question is answered.
+
+ghost use Rattle.std.specs.Prelude.{◌≡◌, ◌≤◌, ◌∷◌, [], false, IfErr, OnErr, OnOk};
+ghost use Rattle.replay_model.specs.ReplayState.{after_end, after_event, after_mark};
+ghost use Rattle.replay_model.specs.Transcript.{asks};
+ghost use Rattle.session.specs.Counts.{HasGoneOn, counts};
+ghost use Rattle.session.specs.Moment.{setting, stage};
+ghost use Rattle.session.specs.Taking.{AppliesDue, CutsOff, StaysWithin, TakesDelivery, turn};
+
+use crate::stop::Stop;
+use entity_model::{Delivery, Event};
+use rdf_term::OutOfMemory;
+use revisions::Revisions;
+use std::alloc::Global;
+use transcript::print_answer;
+use world::{World, WorldFault};
+use wq_io::Sink;
+
+// How many questions the delivery asks.
+pub fn asks(delivery: &Delivery) -> u64
+    ensures number { result ≡ asks (delivery.now ∷ []) }
+    ensures at_most_one { result ≤ 1 }
+{
+    match delivery {
+        Delivery::Ask(_) => 1,
+        Delivery::Event(_) | Delivery::Watermark(_) => 0,
+    }
+}
+
+// Takes one delivery, applies all that it makes due, and answers it if it asks, as the question with the number `asked`.
+pub fn deliver<R: Revisions, K: Sink>(
+    alloc: Global,
+    directory: &str,
+    asked: u64,
+    delivery: &Delivery,
+    revisions: &mut R,
+    out: &mut K,
+    world: &mut World,
+) -> Result<(), Stop>
+    requires { world.old.buffer.closed ≡ false }
+    ensures ok { OnOk result (TakesDelivery (setting (R.contents revisions.old) directory.now) (turn asked delivery.now)
+        (stage R.Revisions K.Sink revisions.old out.old world.old) (stage R.Revisions K.Sink revisions.new out.new world.new)) }
+    ensures err { IfErr result (λ stop. CutsOff stop (setting (R.contents revisions.old) directory.now) (turn asked delivery.now)
+        (stage R.Revisions K.Sink revisions.old out.old world.old) (stage R.Revisions K.Sink revisions.new out.new world.new)) }
+    ensures source { HasGoneOn R.Revisions revisions.old revisions.new }
+{
+    match delivery {
+        Delivery::Event(event) => Ok(take_event(*event, world)?),
+        Delivery::Watermark(mark) => Ok(take_mark(directory, mark, revisions, world)?),
+        Delivery::Ask(pattern) => Ok(print_answer(alloc, asked, pattern, world, out)?),
+    }
+}
+
+// Takes the end of the deliveries, and applies all that waits.
+pub fn take_end<R: Revisions>(
+    directory: &str,
+    revisions: &mut R,
+    world: &mut World,
+) -> Result<(), OutOfMemory>
+    ensures ok { OnOk result (AppliesDue (setting (R.contents revisions.old) directory.now)
+        (counts R.Revisions revisions.old) (counts R.Revisions revisions.new) (after_end world.old) world.new) }
+    ensures err { OnErr result (StaysWithin (setting (R.contents revisions.old) directory.now)
+        (counts R.Revisions revisions.old) (counts R.Revisions revisions.new) (after_end world.old) world.new) }
+    ensures source { HasGoneOn R.Revisions revisions.old revisions.new }
+{
+    world.close();
+    apply_due(directory, revisions, world)
+}
+
+// Takes a watermark, and applies all that it makes due.
+fn take_mark<R: Revisions>(
+    directory: &str,
+    mark: &i64,
+    revisions: &mut R,
+    world: &mut World,
+) -> Result<(), OutOfMemory>
+    ensures ok { OnOk result (AppliesDue (setting (R.contents revisions.old) directory.now)
+        (counts R.Revisions revisions.old) (counts R.Revisions revisions.new) (after_mark world.old mark.now) world.new) }
+    ensures err { OnErr result (StaysWithin (setting (R.contents revisions.old) directory.now)
+        (counts R.Revisions revisions.old) (counts R.Revisions revisions.new) (after_mark world.old mark.now) world.new) }
+    ensures source { HasGoneOn R.Revisions revisions.old revisions.new }
+{
+    raise(mark, world);
+    apply_due(directory, revisions, world)
+}
+
+// Takes a watermark.
+fn raise(mark: &i64, world: &mut World)
+    ensures { world.new ≡ after_mark world.old mark.now }
+{
+    world.raise(*mark);
+}
+
+// Takes one event.
+fn take_event(event: Event, world: &mut World) -> Result<(), OutOfMemory>
+    requires { world.old.buffer.closed ≡ false }
+    ensures ok { OnOk result (world.new ≡ after_event world.old event) }
+    ensures err { OnErr result (world.new ≡ world.old) }
+{
+    world.take(event)?;
+    Ok(())
+}
+
+// Applies all due events, the least first.
+fn apply_due<R: Revisions>(
+    directory: &str,
+    revisions: &mut R,
+    world: &mut World,
+) -> Result<(), OutOfMemory>
+    ensures ok { OnOk result (AppliesDue (setting (R.contents revisions.old) directory.now)
+        (counts R.Revisions revisions.old) (counts R.Revisions revisions.new) world.old world.new) }
+    ensures err { OnErr result (StaysWithin (setting (R.contents revisions.old) directory.now)
+        (counts R.Revisions revisions.old) (counts R.Revisions revisions.new) world.old world.new) }
+    ensures source { HasGoneOn R.Revisions revisions.old revisions.new }
+{
+    loop {
+        match world.apply_next(revisions, directory) {
+            Ok(_) => {}
+            Err(WorldFault::Nothing) => return Ok(()),
+            Err(WorldFault::OutOfMemory) => return Err(OutOfMemory),
+        }
+    }
+}

@@ -1,0 +1,79 @@
+// Why a run that was begun stopped.
+
+ghost use Rattle.std.specs.Prelude.{◌≡◌, Some};
+ghost use Rattle.session.specs.Stop.{stop_of};
+ghost use Rattle.session.specs.declared.stop.Stop.TheVariants.{OutOfMemory as Refused};
+
+use crate::status::Status;
+use event_line::LineCause;
+use rdf_term::OutOfMemory;
+use transcript::Unwritten;
+use wq_io::LineFault;
+
+// Why a run that was begun stopped.
+#[derive(Clone, Copy, Debug, PartialEq, Eq)]
+pub enum Stop {
+    // The line with this number, from 1, is no delivery.
+    BadLine(u64, LineCause),
+    // The input could not be read.
+    ReadFault,
+    // The output could not be written.
+    WriteFault,
+    // The input has more bytes than it may have.
+    TooLong,
+    // A request for memory was refused.
+    OutOfMemory,
+}
+
+impl From<OutOfMemory> for Stop {
+    ghost from_gives = { λ _ stop. stop ≡ Refused };
+
+    fn from(_refused: OutOfMemory) -> Stop {
+        Stop::OutOfMemory
+    }
+}
+
+impl From<Unwritten> for Stop {
+    ghost use Rattle.std.specs.Prelude.{◌≡◌};
+    ghost use Rattle.session.specs.Stop.{stop_of_unwritten};
+
+    ghost from_gives = { λ why stop. stop ≡ stop_of_unwritten why };
+
+    fn from(why: Unwritten) -> Stop {
+        match why {
+            Unwritten::WriteFault => Stop::WriteFault,
+            Unwritten::OutOfMemory => Stop::OutOfMemory,
+        }
+    }
+}
+
+impl From<LineFault> for Stop {
+    ghost use Rattle.std.specs.Prelude.{◌≡◌};
+    ghost use Rattle.session.specs.Stop.{stop_of_fault};
+
+    ghost from_gives = { λ fault stop. stop ≡ stop_of_fault fault };
+
+    fn from(fault: LineFault) -> Stop {
+        match fault {
+            LineFault::ReadFault => Stop::ReadFault,
+            LineFault::TooLong => Stop::TooLong,
+            LineFault::LineLong(number) => Stop::BadLine(number, LineCause::LineLong),
+            LineFault::OutOfMemory => Stop::OutOfMemory,
+        }
+    }
+}
+
+impl Stop {
+    // The status of a run that stopped so.
+    pub fn status(self) -> Status
+        ensures { stop_of result ≡ Some self }
+    {
+        match self {
+            Stop::BadLine(number, cause) => Status::BadLine(number, cause),
+            Stop::ReadFault => Status::ReadFault,
+            Stop::WriteFault => Status::WriteFault,
+            Stop::TooLong => Status::TooLong,
+            Stop::OutOfMemory => Status::OutOfMemory,
+        }
+    }
+}

@@ -1,0 +1,7 @@
+pub mod Adding
+pub mod Mapped
+pub mod More
+pub mod Owners
+pub mod Passing
+pub mod Ranging
+pub mod Turning

@@ -1,0 +1,134 @@
+-- Counts that are raised and lowered, triple by triple.
+use Rattle.std.proofs.Common.{◌≡◌, ℕ, zero, suc, ◌+◌, ◌-◌, ◌<◌, Bool, true, false, cond, List, [], ◌∷◌, Option, Some, None, is_some, unwrap_or, fold, count_by, refl, sym, ◌∙◌, ap, subst, arith, true≢false}
+use Rattle.std.specs.FinMap as map
+use Rattle.std.specs.Map.{lookup}
+use Rattle.std.specs.Ordering.{eq_by_cmp}
+use Rattle.std.proofs.lemmas.List.Sums.{sum_by-cons}
+use Rattle.rising.proofs.Bools.{equal}
+use Rattle.slot_index.specs.declared.key.Key.{Key}
+use Rattle.slot_index.specs.Keys.{key_cmp, key_cmp-total, key_cmp-IsAntisymmetric, same_key, times}
+use Rattle.slot_index.specs.Counts.{Counts, counts_of, count_of, with_count, raised, lowered, HaveOwners}
+use Rattle.slot_index.proofs.Mapped.{changed, got}
+
+-- a test as a number
+abbrev pub one_if : Bool → ℕ
+one_if b = cond b 1 0
+
+-- what the map has at a triple with this count
+abbrev pub kept : ℕ → Option ℕ
+kept zero = None
+kept (suc n) = Some (suc n)
+
+pub kept_some : (n : ℕ) → 0 < n → kept n ≡ Some n
+kept_some zero h = absurd (omega arith)
+kept_some (suc n) h = refl
+
+unwrap_kept : (n : ℕ) → unwrap_or (kept n) 0 ≡ n
+unwrap_kept zero = refl
+unwrap_kept (suc n) = refl
+
+get-with_count : (counts : Counts) (t : Key) (n : ℕ) (q : Key) → map.get (with_count counts t n) q ≡ cond (same_key q t) (kept n) (map.get counts q)
+get-with_count counts t zero q = map.get-remove key_cmp-total counts t q
+get-with_count counts t (suc n) q = map.get-insert key_cmp-total counts t (suc n) q
+
+count_of-with_count : (counts : Counts) (t : Key) (n : ℕ) (q : Key) → count_of (with_count counts t n) q ≡ cond (same_key q t) n (count_of counts q)
+count_of-with_count counts t n q = ap (λ v. unwrap_or v 0) (get-with_count counts t n q) ∙ by (same_key q t) (map.get counts q)
+  where
+    by : (b : Bool) (v : Option ℕ) → unwrap_or (cond b (kept n) v) 0 ≡ cond b n (unwrap_or v 0)
+    by true v = unwrap_kept n
+    by false v = refl
+
+-- an entry, if there is one, counts something
+abbrev IsOwned : Option ℕ → Type 0
+IsOwned v = is_some v ≡ true → 0 < unwrap_or v 0
+
+pub HaveOwners-with_count : (counts : Counts) (t : Key) (n : ℕ) → HaveOwners counts → HaveOwners (with_count counts t n)
+HaveOwners-with_count counts t n h q = subst IsOwned (sym (get-with_count counts t n q)) (by (same_key q t) n (map.get counts q) (h q))
+  where
+    by : (b : Bool) (n : ℕ) (v : Option ℕ) → IsOwned v → IsOwned (cond b (kept n) v)
+    by true zero v h some = absurd (true≢false (sym some))
+    by true (suc n) v h some = omega arith
+    by false n v h some = h some
+
+-- where each stored triple has an owner, the counts fix the map
+pub same_counts : (m n : Counts) → HaveOwners m → HaveOwners n → ((q : Key) → count_of m q ≡ count_of n q) → m ≡ n
+same_counts m n hm hn e = map.same_map key_cmp-total key_cmp-IsAntisymmetric m n (λ q. alike (map.get m q) (map.get n q) (hm q) (hn q) (e q))
+  where
+    alike : (v w : Option ℕ) → IsOwned v → IsOwned w → unwrap_or v 0 ≡ unwrap_or w 0 → v ≡ w
+    alike None None hv hw e = refl
+    alike None (Some y) hv hw e = let some : 0 < y = hw refl in absurd (omega arith)
+    alike (Some x) None hv hw e = let some : 0 < x = hv refl in absurd (omega arith)
+    alike (Some x) (Some y) hv hw e = ap Some e
+
+-- where a look-up finds another count at one triple, the map has this count
+pub written : (t : Key) (n : ℕ) (w : Option ℕ) (es fs : List (Key × ℕ)) → w ≡ kept n → ((q : Key) → lookup (same_key q) fs ≡ cond (same_key t q) w (lookup (same_key q) es)) → counts_of fs ≡ with_count (counts_of es) t n
+written t n w es fs is finds = map.same_map key_cmp-total key_cmp-IsAntisymmetric (counts_of fs) (with_count (counts_of es) t n) (λ q.
+    changed key_cmp-total t w es fs finds q ∙ ap (λ v. cond (same_key q t) v (map.get (counts_of es) q)) is ∙ sym (get-with_count (counts_of es) t n q))
+
+-- the count of a triple is what a look-up finds
+pub found : (t : Key) (es : List (Key × ℕ)) (v : Option ℕ) → v ≡ lookup (same_key t) es → count_of (counts_of es) t ≡ unwrap_or v 0
+found t es v is = ap (λ w. unwrap_or w 0) (got key_cmp-total t es ∙ sym is)
+
+-- taking a triple out, after its own count was written, takes it out
+pub taken_out : (t : Key) (n : ℕ) (w : Option ℕ) (es fs gs : List (Key × ℕ)) → n ≡ 0 → ((q : Key) → lookup (same_key q) fs ≡ cond (same_key t q) w (lookup (same_key q) es)) → ((q : Key) → lookup (same_key q) gs ≡ cond (same_key t q) None (lookup (same_key q) fs)) → counts_of gs ≡ with_count (counts_of es) t n
+taken_out t n w es fs gs none wrote took = written t n None es gs (ap kept (sym none)) (λ q. took q ∙ ap (λ v. cond (same_key t q) None v) (wrote q) ∙ by (same_key t q) (lookup (same_key q) es))
+  where
+    by : (b : Bool) (v : Option ℕ) → cond b None (cond b w v) ≡ cond b None v
+    by true v = refl
+    by false v = refl
+
+-- a triple that isn't there has no owner to lose
+pub not_lowered : (t : Key) (es : List (Key × ℕ)) → None ≡ lookup (same_key t) es → counts_of es ≡ lowered (counts_of es) t
+not_lowered t es absent =
+    map.same_map key_cmp-total key_cmp-IsAntisymmetric (counts_of es) (with_count (counts_of es) t 0) (λ q. still q ∙ sym (get-with_count (counts_of es) t 0 q))
+    ∙ ap (λ n. with_count (counts_of es) t (n - 1)) (sym (found t es None absent))
+  where
+    still : (q : Key) → map.get (counts_of es) q ≡ cond (same_key q t) None (map.get (counts_of es) q)
+    still q = elim (same_key q t) as (λ b. same_key q t ≡ b → map.get (counts_of es) q ≡ cond b None (map.get (counts_of es) q)) [
+      | true ↦ λ e. sym (map.get_tied key_cmp-total (counts_of es) q t (equal _ e)) ∙ got key_cmp-total t es ∙ sym absent
+      | false ↦ λ e. refl
+    ] refl
+
+-- the empty map has no triple without an owner
+pub HaveOwners-empty : HaveOwners map.empty
+HaveOwners-empty t there = absurd (true≢false (sym there ∙ ap is_some (map.get-empty key_cmp t)))
+
+pub count_of-raised : (counts : Counts) (t q : Key) → count_of (raised counts t) q ≡ count_of counts q + one_if (same_key q t)
+count_of-raised counts t q =
+    count_of-with_count counts t (count_of counts t + 1) q
+    ∙ elim (same_key q t) as (λ b. same_key q t ≡ b → cond b (count_of counts t + 1) (count_of counts q) ≡ count_of counts q + one_if b) [
+      | true ↦ λ e. ap (λ v. unwrap_or v 0 + 1) (map.get_tied key_cmp-total counts q t (equal _ e))
+      | false ↦ λ e. omega arith
+    ] refl
+
+pub count_of-lowered : (counts : Counts) (t q : Key) → count_of (lowered counts t) q ≡ count_of counts q - one_if (same_key q t)
+count_of-lowered counts t q =
+    count_of-with_count counts t (count_of counts t - 1) q
+    ∙ elim (same_key q t) as (λ b. same_key q t ≡ b → cond b (count_of counts t - 1) (count_of counts q) ≡ count_of counts q - one_if b) [
+      | true ↦ λ e. ap (λ v. unwrap_or v 0 - 1) (map.get_tied key_cmp-total counts q t (equal _ e))
+      | false ↦ λ e. omega arith
+    ] refl
+
+pub times-cons : (q t : Key) (ts : List Key) → times q (t ∷ ts) ≡ one_if (same_key q t) + times q ts
+times-cons q t ts = sum_by-cons (λ x. cond (same_key q x) 1 0) t ts
+
+pub count_of-fold-raised : (ts : List Key) (counts : Counts) (q : Key) → count_of (fold raised counts ts) q ≡ count_of counts q + times q ts
+count_of-fold-raised [] counts q = omega arith
+count_of-fold-raised (t ∷ ts) counts q = omega (arith, count_of-fold-raised ts (raised counts t) q, count_of-raised counts t q, times-cons q t ts)
+
+pub count_of-fold-lowered : (ts : List Key) (counts : Counts) (q : Key) → count_of (fold lowered counts ts) q ≡ count_of counts q - times q ts
+count_of-fold-lowered [] counts q = omega arith
+count_of-fold-lowered (t ∷ ts) counts q = omega (arith, count_of-fold-lowered ts (lowered counts t) q, count_of-lowered counts t q, times-cons q t ts)
+
+pub HaveOwners-fold-raised : (ts : List Key) (counts : Counts) → HaveOwners counts → HaveOwners (fold raised counts ts)
+HaveOwners-fold-raised [] counts h = h
+HaveOwners-fold-raised (t ∷ ts) counts h = HaveOwners-fold-raised ts (raised counts t) (HaveOwners-with_count counts t (count_of counts t + 1) h)
+
+pub HaveOwners-fold-lowered : (ts : List Key) (counts : Counts) → HaveOwners counts → HaveOwners (fold lowered counts ts)
+HaveOwners-fold-lowered [] counts h = h
+HaveOwners-fold-lowered (t ∷ ts) counts h = HaveOwners-fold-lowered ts (lowered counts t) (HaveOwners-with_count counts t (count_of counts t - 1) h)
+
+-- to lower what was raised undoes it
+pub undone : (counts : Counts) (ts : List Key) → HaveOwners counts → fold lowered (fold raised counts ts) ts ≡ counts
+undone counts ts h = same_counts _ _ (HaveOwners-fold-lowered ts _ (HaveOwners-fold-raised ts counts h)) h (λ q.
+    omega (arith, count_of-fold-lowered ts (fold raised counts ts) q, count_of-fold-raised ts counts q))

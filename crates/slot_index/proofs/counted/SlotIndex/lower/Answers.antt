@@ -1,0 +1,32 @@
+-- A further owner goes, or the one owner.
+use Rattle.std.proofs.Common.{◌≡◌, ◌+◌, ◌*◌, ◌^◌, ◌<◌, ◌≤◌, length, ◌∙◌, sym, ap, subst, arith}
+use Rattle.std.specs.FinMap as map
+use Rattle.slot_index.specs.Counts.{count_of, counts_of, lowered}
+use Rattle.slot_index.specs.Counted.{IsCounted, with_more}
+use Rattle.slot_index.proofs.More.{IsCounted-less, IsCounted-taken, len-with_more, one_less, taken}
+use Rattle.slot_index.proofs.counted.SlotIndex.lower.Goals as goal
+
+pub invariant_of-self : goal.invariant_of-self
+invariant_of-self g c = subst (IsCounted c.self.inside.orders) (sym c.lower.ensures) (IsCounted-less c.self.inside.orders (counts_of c.self.inside.more.entries) c.args.key c.self.invariant)
+
+pub returns-then-owners-gt0-clause-lowered : goal.returns-then-owners-gt0-clause-lowered
+returns-then-owners-gt0-clause-lowered g c =
+    ap (with_more c.self.inside.orders) c.lower.ensures
+    ∙ one_less c.self.inside.orders (counts_of c.self.inside.more.entries) c.args.key (let n = c.owners.ensures in omega arith)
+    ∙ ap (λ m. lowered m c.args.key) c.self.view_is
+
+pub invariant_of-self-2 : goal.invariant_of-self-2
+invariant_of-self-2 g c =
+    subst (λ keys. IsCounted keys (counts_of c.self.inside.more.entries)) (sym c.remove.ensures.keys)
+    (IsCounted-taken c.self.inside.orders (counts_of c.self.inside.more.entries) c.args.key c.self.invariant (let n = c.owners.ensures in omega arith))
+
+pub returns-clause-lowered : goal.returns-clause-lowered
+returns-clause-lowered g c =
+    ap (λ keys. with_more keys (counts_of c.self.inside.more.entries)) c.remove.ensures.keys
+    ∙ taken c.self.inside.orders (counts_of c.self.inside.more.entries) c.args.key c.remove.ensures.rising (let n = c.owners.ensures in omega arith)
+    ∙ ap (λ m. lowered m c.args.key) c.self.view_is
+
+pub returns-clause-cost : goal.returns-clause-cost
+returns-clause-cost g c d below =
+    let n = sym (len-with_more c.self.inside.orders (counts_of c.self.inside.more.entries) c.remove.ensures.rising) ∙ ap map.len c.self.view_is in
+    c.remove.ensures.cost d (omega arith)

@@ -1,0 +1,5 @@
+pub mod Counted
+pub mod Counts
+pub mod Keys
+pub mod Orders
+pub mod Patterns

@@ -1,0 +1,155 @@
+// The triples of slots, each with the number of its owners.
+
+ghost use Rattle.std.specs.Prelude.{◌≡◌, ◌+◌, ◌*◌, ◌^◌, ◌<◌, ◌≤◌, ◌&&◌, ℕ, Bool, [], length, fold, count_by, IsOk, IfOk, OnOk, OnErr};
+ghost use Rattle.std.specs.FinMap as map;
+ghost use Rattle.rising.specs.Rising.{IsRising};
+ghost use Rattle.block_index.specs.Steps.{Within};
+ghost use Rattle.slot_index.specs.declared.key.Key.{Key as TheKey};
+ghost use Rattle.slot_index.specs.Keys.{key_cmp, times};
+ghost use Rattle.slot_index.specs.Patterns.{agrees};
+ghost use Rattle.slot_index.specs.Counts.{HaveOwners, count_of, lowered, raised};
+
+use crate::counting::{lower, owners, raise};
+use crate::key::Key;
+use crate::orders::Orders;
+use crate::pattern::SlotPattern;
+use block_index::Steps;
+use rdf_term::{List, OutOfMemory};
+use std::alloc::Global;
+use std::collections::BTreeMap;
+use std::marker::Model;
+use std::sync::ledger::Ledger;
+
+/// Triples of slots, each with the number of its owners. Contracts see the map from the stored triples to
+/// their counts, which begin at 1. A count is kept only for a triple of two owners or more. Steps are stated
+/// with the number d of binary digits of the number of stored triples.
+#[derive(Drop)]
+pub struct SlotIndex {
+    orders: Orders,
+    more: BTreeMap<Key, u64>,
+}
+
+impl Model for SlotIndex {
+    ghost use Rattle.slot_index.specs.Counts.{Counts, counts_code, counts_of};
+    ghost use Rattle.slot_index.specs.Counted.{IsCounted, with_more};
+
+    ghost Value = { Counts };
+
+    ghost coded = { counts_code };
+
+    ghost view = { λ s. with_more s.orders (counts_of s.more.entries) };
+
+    ghost invariant = { λ s. IsCounted s.orders (counts_of s.more.entries) };
+}
+
+impl SlotIndex {
+    /// The index without triples, which takes no memory.
+    pub fn new(alloc: Global) -> SlotIndex
+        ensures { result ≡ map.empty }
+    {
+        SlotIndex {
+            orders: Orders::new(alloc),
+            more: BTreeMap::new(alloc),
+        }
+    }
+
+    /// The number of stored triples.
+    pub fn len(&self) -> usize
+        ensures len { result ≡ map.len self.now }
+        ensures owned { HaveOwners self.now }
+    {
+        self.orders.len()
+    }
+
+    /// How many owners the triple has, which takes no memory: one search in one index, and in the counts that
+    /// are kept.
+    pub fn count<L: Ledger>(&self, key: Key, steps: &mut Steps<L>) -> u64
+        ensures count { result ≡ count_of self.now key }
+        ensures cost { Within (map.len self.now) 8 steps.old steps.new }
+    {
+        if self.orders.find(key, steps) {
+            owners(&self.more, key) + 1
+        } else {
+            0
+        }
+    }
+
+    /// Raises the count of the triple by one. After `OutOfMemory` nothing has changed.
+    pub fn raise<L: Ledger>(&mut self, key: Key, steps: &mut Steps<L>) -> Result<(), OutOfMemory>
+        // It has fewer than 2^64 - 1 owners.
+        requires { count_of self.old key < 18446744073709551615 }
+        ensures ok { OnOk result (self.new ≡ raised self.old key) }
+        ensures err { OnErr result (self.new ≡ self.old) }
+        ensures forward { steps.old ≤ steps.new }
+        ensures cost { (d : ℕ) → map.len self.old + 1 < 2 ^ d → steps.new ≤ steps.old + 5 * (d + 8) }
+    {
+        if self.orders.insert(key, steps)? {
+            return Ok(());
+        }
+        raise(&mut self.more, key)?;
+        Ok(())
+    }
+
+    /// Lowers the count of the triple by one, which takes no memory; where it becomes 0 the triple is no longer
+    /// stored. A triple that isn't stored stays so.
+    pub fn lower<L: Ledger>(&mut self, key: Key, steps: &mut Steps<L>)
+        ensures lowered { self.new ≡ lowered self.old key }
+        ensures forward { steps.old ≤ steps.new }
+        ensures cost { (d : ℕ) → map.len self.old < 2 ^ d → steps.new ≤ steps.old + 3 * (d + 8) }
+    {
+        if owners(&self.more, key) > 0 {
+            lower(&mut self.more, key);
+            return;
+        }
+        self.orders.remove(key, steps);
+    }
+
+    /// The stored triples that agree with the pattern, each once, in memory of their own: one range of one
+    /// index.
+    pub fn range<L: Ledger>(
+        &self,
+        pattern: SlotPattern,
+        steps: &mut Steps<L>,
+    ) -> Result<List<Key>, OutOfMemory>
+        ensures found { IfOk result (λ found. (p : TheKey → Bool) → count_by p found ≡ count_by (λ key. agrees pattern key && p key) (map.keys self.now)) }
+        ensures rising { IsRising key_cmp (map.keys self.now) }
+        ensures cost { IfOk result (λ found. Within (map.len self.now) (9 + length found) steps.old steps.new) }
+    {
+        let found = self.orders.range(pattern, steps)?;
+        Ok(found)
+    }
+
+    /// Raises the count of each triple by one, as often as it stands there. After `OutOfMemory` nothing has
+    /// changed.
+    pub fn raise_all<L: Ledger>(
+        &mut self,
+        keys: &[Key],
+        steps: &mut Steps<L>,
+    ) -> Result<(), OutOfMemory>
+        // None comes to more than 2^64 - 1 owners.
+        requires { (k : TheKey) → count_of self.old k + times k keys.now ≤ 18446744073709551615 }
+        ensures ok { OnOk result (self.new ≡ fold raised self.old keys.now) }
+        ensures err { OnErr result (self.new ≡ self.old) }
+        ensures free { keys.now ≡ [] → IsOk result }
+        ensures forward { steps.old ≤ steps.new }
+    {
+        let _stored = self.len();
+        for (done, key) in keys.iter().enumerate() {
+            if let Err(refused) = self.raise(*key, steps) {
+                self.lower_all(&keys[..done], steps);
+                return Err(refused);
+            }
+        }
+        Ok(())
+    }
+
+    /// Lowers the count of each triple by one, as often as it stands there, which takes no memory.
+    pub fn lower_all<L: Ledger>(&mut self, keys: &[Key], steps: &mut Steps<L>)
+        ensures lowered { self.new ≡ fold lowered self.old keys.now }
+        ensures forward { steps.old ≤ steps.new }
+    {
+        for key in keys {
+            self.lower(*key, steps);
+        }
+    }
+}

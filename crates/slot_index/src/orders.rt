@@ -1,0 +1,164 @@
+// The set of triples in three orders.
+
+ghost use Rattle.std.specs.Prelude.{◌≡◌, ◌+◌, ◌*◌, ◌^◌, ◌<◌, ◌≤◌, ◌&&◌, ℕ, Bool, true, not, [], length, map, filter, count_by, IfOk, OnOk, OnErr};
+ghost use Rattle.std.specs.Bool.{OnFalse};
+ghost use Rattle.std.specs.List.{All};
+ghost use Rattle.std.specs.Ordering.{eq_by_cmp};
+ghost use Rattle.std.specs.BTreeSet.{insert_key};
+ghost use Rattle.std.specs.Set.{remove_key};
+ghost use Rattle.rising.specs.Rising.{IsRising, has};
+ghost use Rattle.block_index.specs.Steps.{Within};
+ghost use Rattle.block_index.specs.Blocks.{keys_of};
+ghost use Rattle.slot_index.specs.declared.key.Key.{Key as TheKey};
+ghost use Rattle.slot_index.specs.Keys.{IsFit, key_cmp, turned};
+ghost use Rattle.slot_index.specs.Patterns.{agrees, leads};
+
+use crate::key::Key;
+use crate::pattern::SlotPattern;
+use block_index::{BlockIndex, Steps};
+use rdf_term::{List, OutOfMemory};
+use std::alloc::Global;
+use std::marker::Model;
+use std::sync::ledger::Ledger;
+
+/// A set of triples in three indexes. Contracts see its triples in rising order.
+#[derive(Drop)]
+pub struct Orders {
+    subjects: BlockIndex<Key>,
+    predicates: BlockIndex<Key>,
+    objects: BlockIndex<Key>,
+}
+
+impl Model for Orders {
+    ghost use Rattle.std.specs.Prelude.{List as Items};
+    ghost use Rattle.block_index.specs.Blocks.{keys_of};
+    ghost use Rattle.slot_index.specs.declared.key.Key.{Key};
+    ghost use Rattle.slot_index.specs.Orders.{IsOrders};
+
+    ghost Value = { Items Key };
+
+    ghost view = { λ s. keys_of s.subjects };
+
+    ghost invariant = { λ s. IsOrders (keys_of s.subjects) (keys_of s.predicates) (keys_of s.objects) };
+}
+
+impl Orders {
+    /// The set without triples, which takes no memory.
+    pub fn new(alloc: Global) -> Orders
+        ensures { result ≡ [] }
+    {
+        Orders {
+            subjects: BlockIndex::new(alloc),
+            predicates: BlockIndex::new(alloc),
+            objects: BlockIndex::new(alloc),
+        }
+    }
+
+    /// The number of triples.
+    pub fn len(&self) -> usize
+        ensures len { result ≡ length self.now }
+        ensures rising { IsRising key_cmp self.now }
+    {
+        self.subjects.len()
+    }
+
+    /// Whether the triple is there.
+    pub fn find<L: Ledger>(&self, key: Key, steps: &mut Steps<L>) -> bool
+        ensures answer { result ≡ has key_cmp key self.now }
+        ensures rising { IsRising key_cmp self.now }
+        ensures cost { Within (length self.now) 8 steps.old steps.new }
+    {
+        self.subjects.find(key, steps)
+    }
+
+    /// Puts a triple in; false where it was there. After `OutOfMemory` the set is as it was.
+    pub fn insert<L: Ledger>(&mut self, key: Key, steps: &mut Steps<L>) -> Result<bool, OutOfMemory>
+        ensures answer { IfOk result (λ added. added ≡ not (has key_cmp key self.old)) }
+        ensures keys { OnOk result (self.new ≡ insert_key key_cmp self.old key) }
+        ensures same { IfOk result (λ added. OnFalse added (self.new ≡ self.old)) }
+        ensures err { OnErr result (self.new ≡ self.old) }
+        ensures rising { IsRising key_cmp self.old }
+        ensures forward { steps.old ≤ steps.new }
+        ensures cost { (d : ℕ) → length self.old + 1 < 2 ^ d → steps.new ≤ steps.old + 5 * (d + 8) }
+    {
+        if !self.subjects.insert(key, steps)? {
+            return Ok(false);
+        }
+        let second = key.turned();
+        if let Err(refused) = self.predicates.insert(second, steps) {
+            self.subjects.remove(key, steps);
+            return Err(refused);
+        }
+        let third = second.turned();
+        if let Err(refused) = self.objects.insert(third, steps) {
+            self.predicates.remove(second, steps);
+            self.subjects.remove(key, steps);
+            return Err(refused);
+        }
+        Ok(true)
+    }
+
+    /// Takes a triple out, if it is there, which takes no memory.
+    pub fn remove<L: Ledger>(&mut self, key: Key, steps: &mut Steps<L>)
+        ensures keys { self.new ≡ remove_key (eq_by_cmp key_cmp key) self.old }
+        ensures rising { IsRising key_cmp self.old }
+        ensures forward { steps.old ≤ steps.new }
+        ensures cost { (d : ℕ) → length self.old < 2 ^ d → steps.new ≤ steps.old + 3 * (d + 8) }
+    {
+        let second = key.turned();
+        let third = second.turned();
+        self.subjects.remove(key, steps);
+        self.predicates.remove(second, steps);
+        self.objects.remove(third, steps);
+    }
+
+    /// The triples that agree with the pattern, each once, in memory of their own: one range of one index.
+    pub fn range<L: Ledger>(
+        &self,
+        pattern: SlotPattern,
+        steps: &mut Steps<L>,
+    ) -> Result<List<Key>, OutOfMemory>
+        ensures found { IfOk result (λ found. (p : TheKey → Bool) → count_by p found ≡ count_by (λ key. agrees pattern key && p key) self.now) }
+        ensures rising { IsRising key_cmp self.now }
+        ensures cost { IfOk result (λ found. Within (length self.now) (9 + length found) steps.old steps.new) }
+    {
+        if pattern.leads() {
+            let found = leading(&self.subjects, pattern, steps)?;
+            return Ok(found);
+        }
+        let second = pattern.turned();
+        if second.leads() {
+            let found = leading(&self.predicates, second, steps)?;
+            return Ok(all_turned(all_turned(found)));
+        }
+        let third = second.turned();
+        let found = leading(&self.objects, third, steps)?;
+        Ok(all_turned(found))
+    }
+}
+
+// The triples of an index that agree with a pattern in which no free place stands before a wanted one.
+fn leading<L: Ledger>(
+    index: &BlockIndex<Key>,
+    pattern: SlotPattern,
+    steps: &mut Steps<L>,
+) -> Result<List<Key>, OutOfMemory>
+    requires leads { leads pattern ≡ true }
+    requires fit { All IsFit (keys_of index.now) }
+    ensures keys { IfOk result (λ keys. keys ≡ filter (agrees pattern) (keys_of index.now)) }
+    ensures cost { IfOk result (λ keys. Within (length (keys_of index.now)) (9 + length keys) steps.old steps.new) }
+{
+    let keys = index.range(pattern.low(), pattern.high(), steps)?;
+    Ok(keys)
+}
+
+// Each triple turned, in its place.
+fn all_turned(keys: List<Key>) -> List<Key>
+    ensures { result ≡ map turned keys }
+{
+    let mut keys = keys.into_vec();
+    for key in keys.iter_mut() {
+        *key = key.turned();
+    }
+    List::from_vec(keys)
+}

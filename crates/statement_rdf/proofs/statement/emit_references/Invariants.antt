@@ -1,0 +1,12 @@
+-- The sink has gained the triples of the references so far.
+use Rattle.std.proofs.Common.{◌≡◌, take}
+use Rattle.std.specs.List.{flat_map}
+use Rattle.triple_sink.specs.Gains.{Gains}
+use Rattle.triple_sink.specs.TermRef.{meant}
+use Rattle.statement_rdf.specs.Statement.{reference_triples}
+use Rattle.statement_rdf.proofs.statement.emit_references.Given as goal
+
+abbrev pub invariant-loop-reference : goal.invariant-loop-reference
+invariant-loop-reference g l =
+    Gains g.S.TripleSink.items g.S.TripleSink.keeps l.fn.out l.out (flat_map (reference_triples l.setting.version (meant l.node) l.id) (take l.reference-index l.references))
+    × (g.S.TripleSink.rest l.out ≡ g.S.TripleSink.rest l.fn.out)

@@ -1,0 +1,49 @@
+-- A term that comes is in a slot that was empty, and its piece is one that wasn't live.
+use Rattle.std.proofs.Common.{◌≡◌, ◌≢◌, ◌∙◌, ℕ, ◌==◌, Some, ap, sym, subst, arith, refl}
+use Rattle.std.specs.HashMap.{get as map_get}
+use Rattle.slab.specs.Slab.{get, slab_len}
+use Rattle.term_pool.specs.Index.{Points, hash_of}
+use Rattle.term_pool.specs.Pool.{foreign}
+use Rattle.term_pool.proofs.Foreign.{foreign_added, foreign_same}
+use Rattle.term_pool.proofs.Lying.{interned_added, interned_from, lies_added, lies_same, nowhere_same}
+use Rattle.term_pool.proofs.pool.Pool.add.Goals as goal
+
+pub returns-in_default-clause-foreign : goal.returns-in_default-clause-foreign
+returns-in_default-clause-foreign c = λ piece. foreign_same c.args.self.now c.make_room.new.self c.args.region.now piece (ap (λ s. s.slots) c.make_room.ensures.same.slots)
+
+pub returns-in_default-place-clause-foreign : goal.returns-in_default-place-clause-foreign
+returns-in_default-place-clause-foreign c = λ piece.
+    ap (λ r. foreign c.make_room.new.self r piece) c.in_default-place.ensures.err ∙ foreign_same c.args.self.now c.make_room.new.self c.args.region.now piece (ap (λ s. s.slots) c.make_room.ensures.same.slots)
+
+-- where the term comes
+number : (c : goal.After-point) → c.insert_reserved.result ≡ c.in-Ok.number
+number c = c.insert_reserved.ensures.key ∙ sym c.in-Ok.ensures.room.next
+
+there : (c : goal.After-point) → get c.insert_reserved.new.self c.in-Ok.number ≡ Some (record { piece = c.in-Ok-place.piece; count = c.one.result })
+there c = ap (get c.insert_reserved.new.self) (sym (number c)) ∙ c.insert_reserved.ensures.updates.changed
+
+others : (c : goal.After-point) → (x : ℕ) → x ≢ c.in-Ok.number → get c.insert_reserved.new.self x ≡ get c.make_room.new.self.slots x
+others c x ne = c.insert_reserved.ensures.updates.others x (λ e. ne (e ∙ number c))
+
+pub returns-clause-lies : goal.returns-clause-lies
+returns-clause-lies c =
+    let same = c.make_room.ensures.same in
+    let points : Points (map_get ◌==◌ c.make_room.new.self.by_hash) (map_get ◌==◌ c.point.new.by_hash) c.make_room.new.self.more.items c.point.new.more.items (hash_of c.make_room.new.self.keys c.args.text.now) c.in-Ok.number =
+    subst (λ h. Points (map_get ◌==◌ c.make_room.new.self.by_hash) (map_get ◌==◌ c.point.new.by_hash) c.make_room.new.self.more.items c.point.new.more.items h c.in-Ok.number) c.text_hash-hash.ensures c.point.ensures in
+    lies_added c.make_room.new.self _ c.args.region.now c.place.new.self c.in-Ok.number (others c) (lies_same c.args.self.now c.make_room.new.self c.args.region.now c.requires.lies same)
+    (record { piece = c.in-Ok-place.piece; count = c.one.result }) c.args.text.now c.in-Ok-place.ensures.updates.others c.in-Ok-place.ensures.was_vacant c.in-Ok.ensures.room.vacant (there c) c.in-Ok-place.ensures.updates.changed
+    (omega (arith, c.one.ensures)) c.requires.canonical (nowhere_same c.args.self.now c.make_room.new.self c.args.region.now c.args.text.now same c.requires.nowhere) points refl
+    (omega (arith, c.insert_reserved.ensures.len, ap (λ s. slab_len s) same.slots, same.limit, c.if-len-self.false, c.len.ensures))
+
+pub returns-clause-ok : goal.returns-clause-ok
+returns-clause-ok c =
+    let same = c.make_room.ensures.same in
+    interned_from c.args.self.now c.make_room.new.self _ c.args.region.now c.place.new.self c.in-Ok.number c.args.text.now same
+    (interned_added c.make_room.new.self _ c.args.region.now c.place.new.self c.in-Ok.number (others c) (lies_same c.args.self.now c.make_room.new.self c.args.region.now c.requires.lies same)
+    (record { piece = c.in-Ok-place.piece; count = c.one.result }) c.args.text.now c.in-Ok-place.ensures.updates.others c.in-Ok-place.ensures.was_vacant c.in-Ok.ensures.room.vacant (there c) c.in-Ok-place.ensures.updates.changed
+    c.one.ensures (nowhere_same c.args.self.now c.make_room.new.self c.args.region.now c.args.text.now same c.requires.nowhere))
+
+pub returns-clause-foreign : goal.returns-clause-foreign
+returns-clause-foreign c = λ piece.
+    foreign_added c.make_room.new.self _ c.args.region.now c.place.new.self c.in-Ok.number (record { piece = c.in-Ok-place.piece; count = c.one.result }) (others c) c.in-Ok.ensures.room.vacant (there c) c.in-Ok-place.ensures.was_vacant c.in-Ok-place.ensures.updates.others piece
+    ∙ foreign_same c.args.self.now c.make_room.new.self c.args.region.now piece (ap (λ s. s.slots) c.make_room.ensures.same.slots)

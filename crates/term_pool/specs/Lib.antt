@@ -1,0 +1,4 @@
+pub mod Counting
+pub mod Index
+pub mod Making
+pub mod Pool

@@ -1,0 +1,14 @@
+// Why a pool takes no term.
+
+use thiserror::Error;
+
+/// Why a term isn't taken.
+#[derive(Clone, Copy, Debug, PartialEq, Eq, Error)]
+pub enum PoolFault {
+    /// As many terms are there as the limit says.
+    #[error("the pool is full")]
+    Full,
+    /// A request for memory was refused.
+    #[error("out of memory")]
+    OutOfMemory,
+}

@@ -1,0 +1,7 @@
+// The name of a term that is there.
+
+/// A term of a pool. As long as the term is there it keeps its number, which no other term has.
+#[derive(Clone, Copy, Debug, PartialEq, Eq)]
+pub struct Slot {
+    pub number: u32,
+}

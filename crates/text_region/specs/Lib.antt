@@ -1,0 +1,6 @@
+pub mod Blocks
+pub mod Class
+pub mod Peak
+pub mod Region
+pub mod Shelf
+pub mod Shelves

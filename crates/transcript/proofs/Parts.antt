@@ -1,0 +1,142 @@
+-- What is written in parts is written as a whole.
+use Rattle.std.proofs.Common.{refl, sym, ◌∙◌, ap, ◌≡◌, ℕ, ◌+◌, ◌-◌, ◌<◌, List, [], ◌∷◌, ◌++◌, length, take, drop, get_or, flat_map, Option, None, Some, ⊎_elim, ◌≤◌, Result, Ok, Err, append_assoc, append-nil, add-one, arith, length-append}
+use Rattle.std.proofs.Math.Seq.{take-length, take-suc}
+use Rattle.std.proofs.lemmas.List.Concat.{flat_map-append}
+use Rattle.std.specs.List.{slice_get}
+use Rattle.std.specs.Option.{option_map, unwrap_or}
+use Rattle.std.proofs.lemmas.Option.{get_or_from_slice_get, slice_get_cases}
+use Rattle.std.proofs.lemmas.List.{length-drop, take-append-drop}
+use Rattle.wq_io.specs.Streams.{Rose, after_known}
+use Rattle.transcript.specs.Printing.{Output, Prints}
+use Rattle.transcript.specs.declared.write.Unwritten.{Unwritten}
+use Rattle.transcript.specs.declared.write.Unwritten.TheVariants.{WriteFault, OutOfMemory}
+
+-- two parts, one after the other
+pub after_twice : (bytes : Option (List ℕ)) (first second : List ℕ) → after_known (after_known bytes first) second ≡ after_known bytes (first ++ second)
+after_twice None first second = refl
+after_twice (Some bytes) first second = ap Some (append_assoc bytes first second)
+
+-- nothing was written
+pub after_nothing : (bytes : Option (List ℕ)) → after_known bytes [] ≡ bytes
+after_nothing None = refl
+after_nothing (Some bytes) = ap Some (append-nil bytes)
+
+-- nothing is printed
+pub prints_nothing : (old : Output) → Prints [] old old (Ok tt)
+prints_nothing old = record { later = omega arith; outcome = sym (after_nothing old.bytes) }
+
+-- want of memory before the first byte
+pub cut_short_at_once : (whole : List ℕ) (old : Output) → Prints whole old old (Err OutOfMemory)
+cut_short_at_once whole old = record {
+  later = omega arith;
+  outcome = record { written = []; unwritten = whole; is = refl; bytes = sym (after_nothing old.bytes); failed = λ never. cc };
+}
+
+-- the first part wasn't printed wholly
+pub prints_first : (why : Unwritten) (first second : List ℕ) (old new : Output) → Prints first old new (Err why) → Prints (first ++ second) old new (Err why)
+prints_first why first second old new x =
+    let cut = x.outcome in
+    record {
+      later = x.later;
+      outcome = record {
+        written = cut.written;
+        unwritten = cut.unwritten ++ second;
+        is = ap (λ l. l ++ second) cut.is ∙ append_assoc cut.written cut.unwritten second;
+        bytes = cut.bytes;
+        failed = λ fault. (omega (arith, (cut.failed fault).0, length-append cut.unwritten second), (cut.failed fault).1);
+      };
+    }
+
+-- the first part was printed, and then the second
+pub prints_both : (result : Result (Unit {0}) Unwritten) (first second : List ℕ) (old between new : Output) → Prints first old between (Ok tt) → Prints second between new result → Prints (first ++ second) old new result
+prints_both (Ok done) first second old between new x y = record {
+  later = omega (arith, x.later, y.later);
+  outcome = y.outcome ∙ ap (λ b. after_known b second) x.outcome ∙ after_twice old.bytes first second;
+}
+prints_both (Err why) first second old between new x y =
+    let cut = y.outcome in
+    record {
+      later = omega (arith, x.later, y.later);
+      outcome = record {
+        written = first ++ cut.written;
+        unwritten = cut.unwritten;
+        is = ap (λ l. first ++ l) cut.is ∙ sym (append_assoc first cut.written cut.unwritten);
+        bytes = cut.bytes ∙ ap (λ b. after_known b cut.written) x.outcome ∙ after_twice old.bytes first cut.written;
+        failed = λ fault. ((cut.failed fault).0, omega (arith, x.later, (cut.failed fault).1));
+      };
+    }
+
+-- a prefix was written, and this is the rest
+pub record IsWriting (whole rest : List ℕ) (old new : Output) : Type 0 where
+  pub written : List ℕ
+  pub is : whole ≡ written ++ rest
+  pub prints : Prints written old new (Ok tt)
+
+pub writing_nothing : (whole : List ℕ) (old : Output) → IsWriting whole whole old old
+writing_nothing whole old = record { written = []; is = refl; prints = prints_nothing old }
+
+-- the rest after a prefix is whole
+whole_rest : (n : ℕ) (xs : List ℕ) → take (length xs - n) (drop n xs) ≡ drop n xs
+whole_rest n xs = ap (λ m. take m (drop n xs)) (sym (length-drop n xs)) ∙ take-length (drop n xs)
+
+-- one write more of the rest
+pub writing_more : (whole rest : List ℕ) (n : ℕ) (old between new : Output) → IsWriting whole rest old between → new.bytes ≡ after_known between.bytes (take n rest) → between.faults ≤ new.faults →
+    IsWriting whole (take (length rest - n) (drop n rest)) old new
+writing_more whole rest n old between new x more later = record {
+  written = x.written ++ take n rest;
+  is = x.is ∙ ap (λ l. x.written ++ l) (sym (take-append-drop n rest)) ∙ sym (append_assoc x.written (take n rest) (drop n rest))
+      ∙ ap (λ l. (x.written ++ take n rest) ++ l) (sym (whole_rest n rest));
+  prints = prints_both (Ok tt) x.written (take n rest) old between new x.prints (record { later = later; outcome = more });
+}
+
+-- nothing is left to write
+pub writing_done : (whole rest : List ℕ) (old new : Output) → IsWriting whole rest old new → length rest ≡ 0 → Prints whole old new (Ok tt)
+writing_done whole [] old new x none =
+    let all : whole ≡ x.written = x.is ∙ append-nil x.written in
+    rw all x.prints
+writing_done whole (b ∷ bs) old new x none = cc
+
+-- a write that failed
+pub writing_failed : (why : Unwritten) (whole rest : List ℕ) (old between new : Output) → IsWriting whole rest old between → 0 < length rest → new.bytes ≡ between.bytes → between.faults ≤ new.faults →
+    (why ≡ WriteFault → Rose between.faults new.faults) → Prints whole old new (Err why)
+writing_failed why whole rest old between new x more same later cause = record {
+  later = omega (arith, x.prints.later, later);
+  outcome = record { written = x.written; unwritten = rest; is = x.is; bytes = same ∙ x.prints.outcome; failed = λ fault. (more, omega (arith, x.prints.later, cause fault)) };
+}
+
+-- the texts of the elements of a list, one after the other
+module _ {X : Type 0} (f : X → List ℕ) (xs : List X) (index : ℕ) where
+  -- the text of the next element
+  pub text_more : (x : X) → index < length xs → flat_map f (take (index + 1) xs) ≡ flat_map f (take index xs) ++ f (get_or xs index x)
+  text_more x within =
+      ap (λ n. flat_map f (take n xs)) (add-one index)
+      ∙ ap (flat_map f) (take-suc xs index x within)
+      ∙ flat_map-append f (take index xs) (get_or xs index x ∷ [])
+      ∙ ap (λ l. flat_map f (take index xs) ++ l) (append-nil (f (get_or xs index x)))
+
+  -- the same, where the element is known by its index
+  pub text_more_at : index < length xs → flat_map f (take (index + 1) xs) ≡ flat_map f (take index xs) ++ unwrap_or (option_map f (slice_get xs index)) []
+  text_more_at within = by (slice_get xs index) refl
+    where
+      by : (o : Option X) → slice_get xs index ≡ o → flat_map f (take (index + 1) xs) ≡ flat_map f (take index xs) ++ unwrap_or (option_map f o) []
+      by None none = ⊎_elim (λ w. let never : Some w.0 ≡ None = sym w.2 ∙ none in cc) (λ w. let past : length xs ≤ index = w.0 in absurd (omega arith)) (slice_get_cases xs index).1
+      by (Some x) some = text_more x within ∙ ap (λ y. flat_map f (take index xs) ++ f y) (get_or_from_slice_get xs index x x some)
+
+  cut : (n : ℕ) → flat_map f xs ≡ flat_map f (take n xs) ++ flat_map f (drop n xs)
+  cut n = ap (flat_map f) (sym (take-append-drop n xs)) ∙ flat_map-append f (take n xs) (drop n xs)
+
+  -- the next text was printed
+  pub text_printed : (text : List ℕ) (old between new : Output) → flat_map f (take (index + 1) xs) ≡ flat_map f (take index xs) ++ text →
+      Prints (flat_map f (take index xs)) old between (Ok tt) → Prints text between new (Ok tt) → Prints (flat_map f (take (index + 1) xs)) old new (Ok tt)
+  text_printed text old between new more before x = rw more (prints_both (Ok tt) (flat_map f (take index xs)) text old between new before x)
+
+  -- the next text wasn't printed wholly
+  pub text_cut_short : (why : Unwritten) (text : List ℕ) (old between new : Output) → flat_map f (take (index + 1) xs) ≡ flat_map f (take index xs) ++ text →
+      Prints (flat_map f (take index xs)) old between (Ok tt) → Prints text between new (Err why) → Prints (flat_map f xs) old new (Err why)
+  text_cut_short why text old between new more before x =
+      let parts : flat_map f xs ≡ (flat_map f (take index xs) ++ text) ++ flat_map f (drop (index + 1) xs) = cut (index + 1) ∙ ap (λ l. l ++ flat_map f (drop (index + 1) xs)) more in
+      rw parts (prints_first why (flat_map f (take index xs) ++ text) (flat_map f (drop (index + 1) xs)) old new (prints_both (Err why) (flat_map f (take index xs)) text old between new before x))
+
+  -- the next text wasn't begun
+  pub text_not_begun : (old now : Output) → Prints (flat_map f (take index xs)) old now (Ok tt) → Prints (flat_map f xs) old now (Err OutOfMemory)
+  text_not_begun old now before = rw (cut index) (prints_both (Err OutOfMemory) (flat_map f (take index xs)) (flat_map f (drop index xs)) old now now before (cut_short_at_once (flat_map f (drop index xs)) now))

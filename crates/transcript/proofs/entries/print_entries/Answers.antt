@@ -1,0 +1,19 @@
+-- One line more, and where a line isn't ended.
+use Rattle.std.proofs.Common.{◌<◌, length, arith}
+use Rattle.std.proofs.lemmas.Result.{err_from_is_err_and}
+use Rattle.transcript.specs.Sections.{entry_text}
+use Rattle.transcript.proofs.Parts.{text_cut_short, text_more_at, text_printed}
+use Rattle.transcript.proofs.entries.print_entries.Goals as goal
+
+pub loop-index-preserved : goal.loop-index-preserved
+loop-index-preserved g c =
+    let within : c.loop-index.index < length c.args.world.now.played.side = omega arith in
+    text_printed (entry_text c.args.world.now.played.records) c.args.world.now.played.side c.loop-index.index _ _ _ _
+    (text_more_at (entry_text c.args.world.now.played.records) c.args.world.now.played.side c.loop-index.index within) c.loop-index.invariant c.in_ok-print_entry.ensures
+
+pub returns-in_err-print_entry : goal.returns-in_err-print_entry
+returns-in_err-print_entry g c =
+    let within : c.loop-index.index < length c.args.world.now.played.side = omega arith in
+    let p = err_from_is_err_and c.from_residual.result c.from_residual.ensures.1 in
+    rw (p.1, p.2) (text_cut_short (entry_text c.args.world.now.played.records) c.args.world.now.played.side c.loop-index.index _ _ _ _ _
+    (text_more_at (entry_text c.args.world.now.played.records) c.args.world.now.played.side c.loop-index.index within) c.loop-index.invariant c.in_err-print_entry.ensures)

@@ -1,0 +1,10 @@
+-- The lines of the entries so far were written.
+use Rattle.std.proofs.Common.{take, Ok}
+use Rattle.std.specs.List.{flat_map}
+use Rattle.transcript.specs.Printing.{Prints, output}
+use Rattle.transcript.specs.Sections.{entry_text}
+use Rattle.transcript.proofs.entries.print_entries.Given as goal
+
+abbrev pub invariant-loop-index : goal.invariant-loop-index
+invariant-loop-index g l =
+    Prints (flat_map (entry_text l.world.played.records) (take l.index l.world.played.side)) (output g.K.Sink l.fn.out) (output g.K.Sink l.out) (Ok tt)

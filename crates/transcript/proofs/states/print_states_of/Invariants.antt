@@ -1,0 +1,11 @@
+-- The lines of the states so far were written.
+use Rattle.std.proofs.Common.{take, Ok}
+use Rattle.std.specs.List.{flat_map}
+use Rattle.replay_model.specs.Records.{record_of}
+use Rattle.replay_model.specs.Transcript.{state_line}
+use Rattle.transcript.specs.Printing.{Prints, output}
+use Rattle.transcript.proofs.states.print_states_of.Given as goal
+
+abbrev pub invariant-loop-id : goal.invariant-loop-id
+invariant-loop-id g l =
+    Prints (flat_map (λ x. state_line x (record_of l.world.played.records x).state) (take l.id-index l.ids)) (output g.K.Sink l.fn.out) (output g.K.Sink l.out) (Ok tt)

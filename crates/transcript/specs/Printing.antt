@@ -1,0 +1,28 @@
+-- An output at a moment, and what printing makes of it.
+use Rattle.std.specs.Prelude.{◌≡◌, ℕ, ◌<◌, ◌≤◌, List, ◌++◌, length, Option, Result, MatchResult}
+use Rattle.wq_io.specs.Streams.{Rose, after_known}
+use Rattle.wq_io.specs.declared.sink.Sink.{Ghosts as SinkOf}
+use Rattle.transcript.specs.declared.write.Unwritten.{Unwritten}
+use Rattle.transcript.specs.declared.write.Unwritten.TheVariants.{WriteFault}
+
+-- an output at a moment: the bytes that it has, where they are known, and how many writes failed, as far as 64 bits count them
+pub record Output : Type 0 where
+  pub bytes : Option (List ℕ)
+  pub faults : ℕ
+
+-- the output that a sink is
+abbrev pub output : {K : Type 0} → SinkOf K → K → Output
+output members sink = record { bytes = members.held sink; faults = members.faults sink }
+
+-- a prefix of these bytes was written, and nothing else; where a write failed, not all of them
+pub record IsCutShort (why : Unwritten) (whole : List ℕ) (old new : Output) : Type 0 where
+  pub written : List ℕ
+  pub unwritten : List ℕ
+  pub is : whole ≡ written ++ unwritten
+  pub bytes : new.bytes ≡ after_known old.bytes written
+  pub failed : why ≡ WriteFault → (0 < length unwritten) × Rose old.faults new.faults
+
+-- these bytes were written, or a prefix of them
+pub record Prints (whole : List ℕ) (old new : Output) (result : Result (Unit {0}) Unwritten) : Type 0 where
+  pub later : old.faults ≤ new.faults
+  pub outcome : MatchResult result (λ _. new.bytes ≡ after_known old.bytes whole) (λ why. IsCutShort why whole old new)

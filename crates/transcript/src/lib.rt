@@ -1,0 +1,16 @@
+//! What a replay prints: the answer to a question, and the sections after the end, written to a sink.
+//!
+//! What the bytes are is said by the definitions of `replay_model`; this crate writes them, or a prefix of them. `sections`
+//! has the two public calls; `triples`, `states` and `entries` print the parts, `lines` makes a line's text, and `write`
+//! writes bytes whole.
+#![tactic(auto)]
+
+mod entries;
+mod lines;
+mod sections;
+mod states;
+mod triples;
+mod write;
+
+pub use sections::{Sections, print_answer, print_closing};
+pub use write::Unwritten;

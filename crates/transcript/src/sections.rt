@@ -1,0 +1,117 @@
+// The answer to a question, and the sections after the end.
+
+ghost use Rattle.std.specs.Prelude.{◌≡◌, cond, []};
+ghost use Rattle.rdf_term.specs.Order.{triple_cmp};
+ghost use Rattle.replay_model.specs.Transcript.{ask_section, closing, export_section, side_section, state_section};
+ghost use Rattle.replay_model.specs.Union.{union};
+ghost use Rattle.rdf_term.specs.Pattern.{rows};
+ghost use Rattle.world.specs.Meaning.{meaning};
+ghost use Rattle.transcript.specs.Printing.{Prints, output};
+ghost use Rattle.transcript.specs.Sections.{chosen};
+
+use crate::entries::print_entries;
+use crate::lines::{answer_line, export_line};
+use crate::states::print_states;
+use crate::triples::print_section;
+use crate::write::Unwritten;
+use rdf_term::Pattern;
+use std::alloc::Global;
+use world::World;
+use wq_io::Sink;
+
+/// Which sections are printed after the end.
+#[derive(Clone, Copy, Debug, PartialEq, Eq)]
+pub struct Sections {
+    /// The export: the triples of the world.
+    pub export: bool,
+    /// The states of the entities.
+    pub state: bool,
+    /// The side output.
+    pub side: bool,
+}
+
+/// Prints the answer to the question with this number: how many triples of the world agree with the pattern, and the line of
+/// each.
+///
+/// # Errors
+/// The output could not be written, or memory was refused: then a prefix of the answer was written, and nothing else.
+pub fn print_answer<K: Sink>(
+    alloc: Global,
+    number: u64,
+    pattern: &Pattern,
+    world: &World,
+    out: &mut K,
+) -> Result<(), Unwritten>
+    ensures { Prints (ask_section number (rows (union triple_cmp meaning world.now.played.records) pattern.now))
+        (output K.Sink out.old) (output K.Sink out.new) result }
+{
+    let triples = world.matches(pattern)?;
+    let head = answer_line(alloc, number, triples.items().len())?;
+    print_section(alloc, head.as_str(), triples.items(), out)
+}
+
+/// Prints the sections that are asked for: the export, the states and the side output.
+///
+/// # Errors
+/// The output could not be written, or memory was refused: then a prefix of the sections was written, and nothing else.
+pub fn print_closing<K: Sink>(
+    alloc: Global,
+    sections: Sections,
+    world: &World,
+    out: &mut K,
+) -> Result<(), Unwritten>
+    ensures { Prints (closing meaning (chosen sections) world.now.played) (output K.Sink out.old) (output K.Sink out.new) result }
+{
+    print_export(alloc, sections.export, world, out)?;
+    print_state(alloc, sections.state, world, out)?;
+    print_side(alloc, sections.side, world, out)
+}
+
+// Prints the section of the export, where it is wanted.
+fn print_export<K: Sink>(
+    alloc: Global,
+    wanted: bool,
+    world: &World,
+    out: &mut K,
+) -> Result<(), Unwritten>
+    ensures { Prints (cond wanted (export_section (union triple_cmp meaning world.now.played.records)) [])
+        (output K.Sink out.old) (output K.Sink out.new) result }
+{
+    if !wanted {
+        return Ok(());
+    }
+    let triples = world.export()?;
+    let head = export_line(alloc, triples.items().len())?;
+    print_section(alloc, head.as_str(), triples.items(), out)
+}
+
+// Prints the section of the states, where it is wanted.
+fn print_state<K: Sink>(
+    alloc: Global,
+    wanted: bool,
+    world: &World,
+    out: &mut K,
+) -> Result<(), Unwritten>
+    ensures { Prints (cond wanted (state_section world.now.played.records) []) (output K.Sink out.old) (output K.Sink out.new) result }
+{
+    if !wanted {
+        return Ok(());
+    }
+    print_states(alloc, world, out)
+}
+
+// Prints the section of the side output, where it is wanted.
+fn print_side<K: Sink>(
+    alloc: Global,
+    wanted: bool,
+    world: &World,
+    out: &mut K,
+) -> Result<(), Unwritten>
+    ensures { Prints (cond wanted (side_section world.now.played.records world.now.played.side) [])
+        (output K.Sink out.old) (output K.Sink out.new) result }
+{
+    if !wanted {
+        return Ok(());
+    }
+    print_entries(alloc, world, out)
+}

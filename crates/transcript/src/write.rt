@@ -1,0 +1,40 @@
+// Bytes are written whole.
+
+ghost use Rattle.std.specs.Prelude.{◌≡◌};
+ghost use Rattle.transcript.specs.Printing.{Prints, output};
+ghost use Rattle.transcript.specs.declared.write.Unwritten.TheVariants.{OutOfMemory as Refused};
+
+use rdf_term::OutOfMemory;
+use wq_io::{NoWrite, Sink};
+
+/// Why not all was written.
+#[derive(Clone, Copy, Debug, PartialEq, Eq)]
+pub enum Unwritten {
+    /// The output could not be written.
+    WriteFault,
+    /// A request for memory was refused.
+    OutOfMemory,
+}
+
+impl From<OutOfMemory> for Unwritten {
+    ghost from_gives = { λ _ e. e ≡ Refused };
+
+    fn from(_refused: OutOfMemory) -> Unwritten {
+        Unwritten::OutOfMemory
+    }
+}
+
+// Writes all bytes, the rest of them where the sink took a part.
+pub(crate) fn write_all<K: Sink>(bytes: &[u8], out: &mut K) -> Result<(), Unwritten>
+    ensures { Prints bytes.now (output K.Sink out.old) (output K.Sink out.new) result }
+{
+    let mut rest = bytes;
+    while !rest.is_empty() {
+        match out.write(rest) {
+            Ok(count) => rest = &rest[count..],
+            Err(NoWrite::Failed) => return Err(Unwritten::WriteFault),
+            Err(NoWrite::OutOfMemory) => return Err(Unwritten::OutOfMemory),
+        }
+    }
+    Ok(())
+}

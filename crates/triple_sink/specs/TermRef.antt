@@ -1,0 +1,22 @@
+-- The terms that borrowed ones stand for.
+use Rattle.rdf_term.specs.declared.term.Term.{Term}
+use Rattle.rdf_term.specs.declared.term.Term.TheVariants as T
+use Rattle.rdf_term.specs.declared.triple.Triple.{Triple}
+use Rattle.entity_model.specs.EntityId.{id_text}
+use Rattle.rdf_vocabulary.specs.Prefix.{prefixed}
+use Rattle.triple_sink.specs.declared.term_ref.TermRef.{TermRef}
+use Rattle.triple_sink.specs.declared.term_ref.TermRef.TheVariants.{Named, Id, Iri, Blank, Plain, Lang, Typed}
+
+-- the term
+abbrev pub meant : TermRef → Term
+meant (Named prefix name) = prefixed prefix name.now
+meant (Id prefix id) = prefixed prefix (id_text id)
+meant (Iri iri) = T.Iri iri.now
+meant (Blank label) = T.Blank label.now
+meant (Plain text) = T.Plain text.now
+meant (Lang text tag) = T.Lang text.now tag.now
+meant (Typed text datatype) = T.Typed text.now datatype.now
+
+-- the triple of three terms
+abbrev pub meant_triple : TermRef → TermRef → TermRef → Triple
+meant_triple subject predicate object = record { subject = meant subject; predicate = meant predicate; object = meant object }

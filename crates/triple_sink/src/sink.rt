@@ -1,0 +1,86 @@
+// What takes triples.
+
+ghost use Rattle.std.specs.Prelude.{◌≡◌, [], ◌∷◌, ◌++◌, OnOk};
+ghost use Rattle.triple_sink.specs.Gains.{Gains};
+ghost use Rattle.triple_sink.specs.TermRef.{meant_triple};
+
+use crate::term_ref::TermRef;
+use rdf_term::{List, OutOfMemory, Triple};
+use std::alloc::Global;
+
+/// What takes triples. It says which triples it holds, what it keeps of a triple that it is handed, and what
+/// no call changes.
+pub trait TripleSink {
+    ghost use Rattle.std.specs.Prelude.{List as Items, ℕ};
+    ghost use Rattle.rdf_term.specs.declared.triple.Triple.{Triple};
+    ghost use Rattle.triple_sink.specs.Gains.{Gains};
+    ghost use Rattle.triple_sink.specs.TermRef.{meant_triple};
+
+    // The triples that it holds, in the order in which they came.
+    ghost items: { Self → Items Triple };
+
+    // What it keeps of a triple: nothing, the triple or others in its place. No call changes this.
+    ghost keeps: { Self → Triple → Items Triple };
+
+    // What no call changes, whatever it answers.
+    ghost rest: { Self → ℕ → ℕ };
+
+    /// Takes the triple of the three terms. What it holds after `OutOfMemory` isn't said.
+    fn emit(
+        &mut self,
+        alloc: Global,
+        subject: &TermRef<'_>,
+        predicate: &TermRef<'_>,
+        object: &TermRef<'_>,
+    ) -> Result<(), OutOfMemory>
+        ensures gains { OnOk result (Gains items keeps self.old self.new (meant_triple subject.now predicate.now object.now ∷ [])) }
+        ensures stays { rest self.new ≡ rest self.old };
+}
+
+// A list keeps each triple, at its end.
+impl TripleSink for List<Triple> {
+    ghost use Rattle.std.specs.Prelude.{[], ◌∷◌};
+
+    ghost items = { λ list. list };
+
+    ghost keeps = { λ list triple. triple ∷ [] };
+
+    ghost rest = { λ list n. 0 };
+
+    fn emit(
+        &mut self,
+        alloc: Global,
+        subject: &TermRef<'_>,
+        predicate: &TermRef<'_>,
+        object: &TermRef<'_>,
+    ) -> Result<(), OutOfMemory> {
+        let subject = subject.copy(alloc)?;
+        let predicate = predicate.copy(alloc)?;
+        let object = object.copy(alloc)?;
+        self.push(Triple {
+            subject,
+            predicate,
+            object,
+        })
+    }
+}
+
+/// Hands the triples on, in their order.
+pub fn emit_all<S: TripleSink>(
+    alloc: Global,
+    triples: &[Triple],
+    out: &mut S,
+) -> Result<(), OutOfMemory>
+    ensures gains { OnOk result (Gains S.items S.keeps out.old out.new triples.now) }
+    ensures stays { S.rest out.new ≡ S.rest out.old }
+{
+    for triple in triples {
+        out.emit(
+            alloc,
+            &TermRef::of(&triple.subject),
+            &TermRef::of(&triple.predicate),
+            &TermRef::of(&triple.object),
+        )?;
+    }
+    Ok(())
+}

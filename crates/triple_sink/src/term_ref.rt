@@ -1,0 +1,188 @@
+// Terms that borrow their texts.
+
+ghost use Rattle.std.specs.Prelude.{◌≡◌, [], ◌∷◌, ◌++◌, IfOk, OnOk};
+ghost use Rattle.std.specs.Str.{IsUtf8};
+ghost use Rattle.rdf_term.specs.Grammar.{tagged_of};
+ghost use Rattle.rdf_term.specs.Text.{in_brackets, quoted, term_text};
+ghost use Rattle.entity_model.specs.EntityId.{id_text};
+ghost use Rattle.entity_model.specs.IdKind.{letter_of};
+ghost use Rattle.rdf_vocabulary.specs.Prefix.{prefixed};
+ghost use Rattle.triple_sink.specs.TermRef.{meant};
+
+use entity_model::{EntityId, IdKind};
+use itoa::Buffer;
+use rdf_term::{OutOfMemory, Term, Text, is_tag, write_quoted};
+use rdf_vocabulary::Prefix;
+use std::alloc::Global;
+
+/// A term of RDF that borrows its texts, or an IRI by its namespace and what stands behind that.
+#[derive(Clone, Copy, Debug)]
+pub enum TermRef<'a> {
+    /// The IRI of a name in a namespace.
+    Named(Prefix, &'a str),
+    /// The IRI of an entity's id in a namespace.
+    Id(Prefix, EntityId),
+    /// An IRI, without its angle brackets.
+    Iri(&'a str),
+    /// A blank node, by its label.
+    Blank(&'a str),
+    /// A literal of the datatype `xsd:string`, by its text.
+    Plain(&'a str),
+    /// A literal with a language: its text and its tag.
+    Lang(&'a str, &'a str),
+    /// A literal of another datatype: its text and the datatype's IRI.
+    Typed(&'a str, &'a str),
+}
+
+impl<'a> TermRef<'a> {
+    /// The same term, borrowed.
+    pub fn of(term: &'a Term) -> TermRef<'a>
+        ensures { meant result ≡ term.now }
+    {
+        match term {
+            Term::Iri(iri) => TermRef::Iri(iri.as_str()),
+            Term::Blank(label) => TermRef::Blank(label.as_str()),
+            Term::Plain(text) => TermRef::Plain(text.as_str()),
+            Term::Lang(text, tag) => TermRef::Lang(text.as_str(), tag.as_str()),
+            Term::Typed(text, datatype) => TermRef::Typed(text.as_str(), datatype.as_str()),
+        }
+    }
+
+    /// The literal of a text in a language, or the plain one where the tag is none by the grammar of
+    /// N-Triples, `[a-zA-Z]+(-[a-zA-Z0-9]+)*`.
+    pub fn tagged(text: &'a str, tag: &'a str) -> TermRef<'a>
+        ensures { meant result ≡ tagged_of text.now tag.now }
+    {
+        if is_tag(tag.as_bytes()) {
+            TermRef::Lang(text, tag)
+        } else {
+            TermRef::Plain(text)
+        }
+    }
+
+    /// The same term in memory of its own.
+    pub fn copy(&self, alloc: Global) -> Result<Term, OutOfMemory>
+        ensures { IfOk result (λ term. term ≡ meant self.now) }
+    {
+        match self {
+            TermRef::Named(prefix, name) => prefix.term(alloc, name),
+            TermRef::Id(prefix, id) => id_term(alloc, *prefix, *id),
+            TermRef::Iri(iri) => Ok(Term::Iri(Text::new(alloc, iri)?)),
+            TermRef::Blank(label) => Ok(Term::Blank(Text::new(alloc, label)?)),
+            TermRef::Plain(text) => Ok(Term::Plain(Text::new(alloc, text)?)),
+            TermRef::Lang(text, tag) => {
+                let text = Text::new(alloc, text)?;
+                Ok(Term::Lang(text, Text::new(alloc, tag)?))
+            }
+            TermRef::Typed(text, datatype) => {
+                let text = Text::new(alloc, text)?;
+                Ok(Term::Typed(text, Text::new(alloc, datatype)?))
+            }
+        }
+    }
+
+    /// Appends the canonical text of the term, as N-Triples writes it. After `OutOfMemory` a part of it may
+    /// stand there.
+    pub fn write(&self, out: &mut Vec<u8>) -> Result<(), OutOfMemory>
+        ensures text { OnOk result (out.new.items ≡ out.old.items ++ term_text (meant self.now)) }
+        ensures utf8 { IsUtf8 (term_text (meant self.now)) }
+    {
+        match self {
+            TermRef::Named(prefix, name) => write_iri(prefix.text(), name, "", out),
+            TermRef::Id(prefix, id) => write_id(*prefix, *id, out),
+            TermRef::Iri(iri) => write_iri(iri, "", "", out),
+            TermRef::Blank(label) => write_blank(label, out),
+            TermRef::Plain(text) => write_plain(text, out),
+            TermRef::Lang(text, tag) => write_lang(text, tag, out),
+            TermRef::Typed(text, datatype) => write_typed(text, datatype, out),
+        }
+    }
+}
+
+// The IRI of an entity's id in a namespace.
+fn id_term(alloc: Global, prefix: Prefix, id: EntityId) -> Result<Term, OutOfMemory>
+    ensures { IfOk result (λ term. term ≡ prefixed prefix (id_text id)) }
+{
+    let name = id.text(alloc)?;
+    prefix.term(alloc, name.as_str())
+}
+
+// Appends the IRI of an entity's id in a namespace.
+fn write_id(prefix: Prefix, id: EntityId, out: &mut Vec<u8>) -> Result<(), OutOfMemory>
+    ensures text { OnOk result (out.new.items ≡ out.old.items ++ term_text (prefixed prefix (id_text id))) }
+    ensures utf8 { IsUtf8 (term_text (prefixed prefix (id_text id))) }
+{
+    let mut buffer = Buffer::new();
+    write_iri(
+        prefix.text(),
+        letter(id.kind),
+        buffer.format(id.number),
+        out,
+    )
+}
+
+// The letter of a kind.
+fn letter(kind: IdKind) -> &'static str
+    ensures { result.now ≡ letter_of kind ∷ [] }
+{
+    match kind {
+        IdKind::P => "P",
+        IdKind::Q => "Q",
+    }
+}
+
+// Appends an IRI in its brackets, by its parts.
+#[tactic(auto, using(crate::proofs::Written::iri_utf8))]
+fn write_iri(front: &str, name: &str, end: &str, out: &mut Vec<u8>) -> Result<(), OutOfMemory>
+    ensures text { OnOk result (out.new.items ≡ out.old.items ++ in_brackets (front.now ++ name.now ++ end.now)) }
+    ensures utf8 { IsUtf8 (in_brackets (front.now ++ name.now ++ end.now)) }
+{
+    out.extend_from_slice(b"<")?;
+    out.extend_from_slice(front.as_bytes())?;
+    out.extend_from_slice(name.as_bytes())?;
+    out.extend_from_slice(end.as_bytes())?;
+    out.extend_from_slice(b">")?;
+    Ok(())
+}
+
+// Appends a blank node by its label.
+#[tactic(auto, using(rdf_term::proofs::Utf8Texts::blank_utf8))]
+fn write_blank(label: &str, out: &mut Vec<u8>) -> Result<(), OutOfMemory>
+    ensures text { OnOk result (out.new.items ≡ out.old.items ++ 95 ∷ 58 ∷ label.now) }
+    ensures utf8 { IsUtf8 (95 ∷ 58 ∷ label.now) }
+{
+    out.extend_from_slice(b"_:")?;
+    out.extend_from_slice(label.as_bytes())?;
+    Ok(())
+}
+
+// Appends a plain literal.
+fn write_plain(text: &str, out: &mut Vec<u8>) -> Result<(), OutOfMemory>
+    ensures text { OnOk result (out.new.items ≡ out.old.items ++ quoted text.now []) }
+    ensures utf8 { IsUtf8 (quoted text.now []) }
+{
+    write_quoted(text, out)
+}
+
+// Appends a literal with a language.
+#[tactic(auto, using(rdf_term::proofs::Utf8Texts::lang_utf8))]
+fn write_lang(text: &str, tag: &str, out: &mut Vec<u8>) -> Result<(), OutOfMemory>
+    ensures text { OnOk result (out.new.items ≡ out.old.items ++ quoted text.now (64 ∷ tag.now)) }
+    ensures utf8 { IsUtf8 (quoted text.now (64 ∷ tag.now)) }
+{
+    write_quoted(text, out)?;
+    out.extend_from_slice(b"@")?;
+    out.extend_from_slice(tag.as_bytes())?;
+    Ok(())
+}
+
+// Appends a literal of another datatype than that of plain ones.
+#[tactic(auto, using(rdf_term::proofs::Utf8Texts::typed_utf8))]
+fn write_typed(text: &str, datatype: &str, out: &mut Vec<u8>) -> Result<(), OutOfMemory>
+    ensures text { OnOk result (out.new.items ≡ out.old.items ++ quoted text.now (94 ∷ 94 ∷ in_brackets datatype.now)) }
+    ensures utf8 { IsUtf8 (quoted text.now (94 ∷ 94 ∷ in_brackets datatype.now)) }
+{
+    write_quoted(text, out)?;
+    out.extend_from_slice(b"^^")?;
+    write_iri(datatype, "", "", out)
+}

@@ -1,0 +1,4 @@
+mod Following
+mod Matched
+mod Slots
+mod Written

@@ -1,0 +1,5 @@
+pub mod Arguments
+pub mod Items
+pub mod Numbers
+pub mod Options
+pub mod Plan

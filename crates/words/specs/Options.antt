@@ -1,0 +1,86 @@
+-- What a replay is asked for, and the items that say it.
+use Rattle.std.specs.Prelude.{◌≡◌, ℕ, ◌≤◌, not, true, false, Bool, cond, List, [], ◌∷◌, Option, None, Some, unwrap_or, is_none, codes, MatchBool}
+use Rattle.std.specs.Option.{option_and_then}
+use Rattle.std.specs.Str.{bytes_eq}
+use Rattle.words.specs.Items.{Item, is_value}
+use Rattle.words.specs.Numbers.{number_between}
+
+-- what is asked for: the place of the revisions and the most bytes of the input, where the words say them, and which
+-- sections are printed
+pub record Choices : Type 0 where
+  pub place : Option (List ℕ)
+  pub limit : Option ℕ
+  pub export : Bool
+  pub state : Bool
+  pub side : Bool
+
+-- nothing is asked for yet
+abbrev pub nothing_chosen : Choices
+nothing_chosen = record { place = None; limit = None; export = false; state = false; side = false }
+
+-- the place of the revisions: without `--from` the current folder
+abbrev pub place_of : Choices → List ℕ
+place_of c = unwrap_or c.place (codes ".")
+
+-- the most bytes that an input may be allowed
+abbrev pub greatest_limit : ℕ
+greatest_limit = 1099511627776
+
+-- the most bytes of the input: without `--max-bytes` 1,073,741,824
+abbrev pub limit_of : Choices → ℕ
+limit_of c = unwrap_or c.limit 1073741824
+
+-- the most bytes are within what an input may be allowed
+abbrev pub IsWithin : Choices → Type 0
+IsWithin c = unwrap_or c.limit 0 ≤ greatest_limit
+
+-- the most bytes that the text says
+abbrev pub limit_in : List ℕ → Option ℕ
+limit_in = number_between 0 greatest_limit
+
+-- the choices with a place, if there is none yet
+abbrev pub with_place : Choices → List ℕ → Option Choices
+with_place c place = cond (is_none c.place) (Some (record c { place = Some place })) None
+
+-- the choices with a limit, if the text is one and there is none yet
+abbrev pub with_limit : Choices → Option ℕ → Option Choices
+with_limit c None = None
+with_limit c (Some limit) = cond (is_none c.limit) (Some (record c { limit = Some limit })) None
+
+-- the choices with a section that is printed, if it isn't there yet
+abbrev pub with_export : Choices → Option Choices
+with_export c = cond c.export None (Some (record c { export = true }))
+
+abbrev pub with_state : Choices → Option Choices
+with_state c = cond c.state None (Some (record c { state = true }))
+
+abbrev pub with_side : Choices → Option Choices
+with_side c = cond c.side None (Some (record c { side = true }))
+
+-- the choices with one item that has no value
+abbrev pub with_flag : Choices → List ℕ → Option Choices
+with_flag c name =
+    cond (bytes_eq name (codes "--export")) (with_export c)
+    (cond (bytes_eq name (codes "--state")) (with_state c)
+    (cond (bytes_eq name (codes "--side")) (with_side c) None))
+
+-- the choices with one item that has a value
+abbrev pub with_value : Choices → List ℕ → List ℕ → Option Choices
+with_value c name value =
+    cond (not (is_value value)) None
+    (cond (bytes_eq name (codes "--from")) (with_place c value)
+    (cond (bytes_eq name (codes "--max-bytes")) (with_limit c (limit_in value)) None))
+
+-- the choices with one item more, which is refused where it is there already, isn't in the table or has no fit value
+abbrev pub with_item : Choices → List ℕ → Option (List ℕ) → Option Choices
+with_item c name None = with_flag c name
+with_item c name (Some value) = with_value c name value
+
+-- the answer says whether there are new choices, and where there are, these are they
+abbrev pub IsAdded : Bool → Option Choices → Choices → Type 0
+IsAdded answer choices now = MatchBool answer (choices ≡ Some now) (choices ≡ None)
+
+-- the choices with all the items
+abbrev pub with_items : Choices → List Item → Option Choices
+with_items c [] = Some c
+with_items c (item ∷ items) = option_and_then (λ d. with_items d items) (with_item c item.name item.value)

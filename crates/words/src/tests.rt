@@ -1,0 +1,119 @@
+// Words that are understood and what they ask for, and words that are not understood.
+
+use crate::{Plan, ReplayOptions, read_plan, take_arguments, take_size};
+use std::alloc::Global;
+use std::process::Abort;
+use std::test::Fail;
+
+// The words, each with memory of its own; none where there is no text.
+fn words(alloc: Global, text: &str) -> Result<Vec<String>, Fail> {
+    let mut list = Vec::new(alloc);
+    if text.is_empty() {
+        return Ok(list);
+    }
+    for word in text.split(' ') {
+        list.push(String::from_str(alloc, word)?)?;
+    }
+    Ok(list)
+}
+
+// The items of a replay, in any order and in both forms: its place, its limit, and whether each section is printed.
+const REPLAYS: &[(&str, &str, u64, [bool; 3])] = &[
+    ("replay", ".", 1_073_741_824, [false, false, false]),
+    (
+        "replay --from=a=b --side",
+        "a=b",
+        1_073_741_824,
+        [false, false, true],
+    ),
+    (
+        "replay --max-bytes 0 --state --from x",
+        "x",
+        0,
+        [false, true, false],
+    ),
+    (
+        "replay --side --export --state --max-bytes=1099511627776",
+        ".",
+        1_099_511_627_776,
+        [true, true, true],
+    ),
+];
+
+// What a replay is asked for is to be this.
+fn check_replay(
+    rt: &(impl Abort + AllocGlobal),
+    options: &ReplayOptions<'_>,
+    (text, place, limit, sections): &(&str, &str, u64, [bool; 3]),
+) -> Result<(), Fail> {
+    let arguments = take_arguments(rt.alloc(), options)?;
+    assert_eq!(rt; arguments.place(), *place, "of {text}");
+    assert_eq!(rt; arguments.limit(), *limit, "of {text}");
+    let found = [arguments.export(), arguments.state(), arguments.side()];
+    assert_eq!(rt; found, *sections, "of {text}");
+    Ok(())
+}
+
+#[test]
+fn replays(rt: HostRuntime) -> Result<(), Fail> {
+    for row in REPLAYS {
+        let words = words(rt.alloc(), row.0)?;
+        let Some(Plan::Replay(options)) = read_plan(words.as_slice()) else {
+            return Err(Fail::from(row.0));
+        };
+        check_replay(&rt, &options, row)?;
+    }
+    Ok(())
+}
+
+#[test]
+fn drills(rt: HostRuntime) -> Result<(), Fail> {
+    for (text, size) in [
+        ("drill --size 1", 1),
+        ("drill --size=10", 10),
+        ("drill --size 200000", 200_000),
+    ] {
+        let words = words(rt.alloc(), text)?;
+        let Some(Plan::Drill(found)) = read_plan(words.as_slice()) else {
+            return Err(Fail::from(text));
+        };
+        assert_eq!(rt; found, size, "of {text}");
+        assert_eq!(rt; take_size(rt.alloc(), found)?, size, "of {text}");
+    }
+    Ok(())
+}
+
+// Words that aren't understood, a list each line: a drill without its size, with two, with a size that isn't one, with an
+// item of a replay; and a replay with the item of a drill.
+const NOT_UNDERSTOOD: &str = "drill
+drill --size
+drill --size=
+drill --size 0
+drill --size 01
+drill --size +1
+drill --size -1
+drill --size 200001
+drill --size 4294967297
+drill --size 18446744073709551617
+drill --size 1 --size 1
+drill --size=1 --size=2
+drill --size 1 --export
+drill --from . --size 1
+drill --export
+drill 10
+drill size 10
+Drill --size 10
+drill --help
+replay --size 10
+replay --size=10
+replay drill --size 10";
+
+#[test]
+fn words_that_are_not_understood(rt: HostRuntime) -> Result<(), Fail> {
+    for text in NOT_UNDERSTOOD.lines() {
+        let words = words(rt.alloc(), text)?;
+        assert!(rt; read_plan(words.as_slice()).is_none(), "of {text}");
+    }
+    assert!(rt; read_plan(&[]).is_none());
+    Ok(())
+}

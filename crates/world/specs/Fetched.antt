@@ -1,0 +1,36 @@
+-- What a fetch brings: a document's bytes with the triples that they mean, or why there is no document.
+use Rattle.std.specs.Prelude.{◌≡◌, ℕ, Option, None, Some, Result, Ok, Err, ⊤}
+use Rattle.entity_model.specs.declared.id.EntityId.{EntityId}
+use Rattle.side_output.specs.declared.entry.Cause.{Cause}
+use Rattle.side_output.specs.declared.entry.Cause.TheVariants.{Failed}
+use Rattle.replay_model.specs.Records.{Bytes}
+use Rattle.entity_json.specs.declared.fault.DocumentFault.{DocumentFault}
+use Rattle.entity_json.specs.declared.fault.DocumentFault.TheVariants.{Unfit as NoDocument, OutOfMemory as Refused}
+use Rattle.entity_json.specs.Document.{unfit_of}
+use Rattle.world.specs.declared.fetching.Page.{Page}
+use Rattle.world.specs.Meaning.{meaning}
+
+-- the reply as the definitions of a replay speak of it
+abbrev pub reply_of : Result Page Cause → Result Bytes Cause
+reply_of (Ok page) = Ok page.bytes
+reply_of (Err cause) = Err cause
+
+-- the same, or any where no fetch was made
+abbrev pub reply_or_any : Option (Result Page Cause) → Result Bytes Cause
+reply_or_any None = Err Failed
+reply_or_any (Some reply) = reply_of reply
+
+-- the triples are those that the bytes of this revision of x mean
+abbrev pub IsMeant : EntityId → ℕ → Result Page Cause → Type 0
+IsMeant x rev (Ok page) = page.triples ≡ meaning x rev page.bytes
+IsMeant x rev (Err cause) = ⊤
+
+-- the same, where a fetch was made
+abbrev pub AreMeant : EntityId → ℕ → Option (Result Page Cause) → Type 0
+AreMeant x rev None = ⊤
+AreMeant x rev (Some reply) = IsMeant x rev reply
+
+-- why the bytes are no document of x, unless memory was refused
+abbrev pub IsWhy : EntityId → Bytes → DocumentFault → Type 0
+IsWhy x bytes (NoDocument unfit) = unfit_of x bytes ≡ Some unfit
+IsWhy x bytes Refused = ⊤
