@@ -1,4 +1,5 @@
 mod Deliveries
+mod Drilling
 mod Due
 mod Ends
 mod Progress
