@@ -24,17 +24,19 @@ joined f (x ∷ xs) = ap (λ l. f x ++ l) (joined f xs)
 pub not_begun : (size : ℕ) (out : Output) (world : ReplayState) → HasBegun size world → DrillStopped Refused size out out world
 not_begun size out world begun = record { has_come = begun; cut_short = (cut_short_at_once (summary_text size) out).outcome }
 
--- the summary was printed
-pub all_printed : {X : Type 0} (f : X → List ℕ) (lines : List X) (size : ℕ) (old new : Output) (world : ReplayState) → map f lines ≡ lines_of (summary_of size) → world ≡ drilled size
-    → Prints (flat_map f lines) old new (Ok tt) → HasDrilled size old new world
-all_printed f lines size old new world are is printed =
-    record { is = is; says = rw (joined f lines, are) at printed.outcome }
+-- the lines of the summary of a drill that was run to its end were printed, or a prefix of them
+module _ {X : Type 0} (f : X → List ℕ) (lines : List X) (size : ℕ) (old new : Output) (world : ReplayState) (are : map f lines ≡ lines_of (summary_of size)) (is : world ≡ drilled size) where
+  text : flat_map f lines ≡ summary_text size
+  text = joined f lines ∙ ap (flat_map (λ line. line)) are
 
--- the summary was not printed wholly
-pub printed_in_part : {X : Type 0} (f : X → List ℕ) (lines : List X) (size : ℕ) (why : Unwritten) (old new : Output) (world : ReplayState) → map f lines ≡ lines_of (summary_of size)
-    → world ≡ drilled size → HasBegun size world → Prints (flat_map f lines) old new (Err why) → DrillStopped why size old new world
-printed_in_part f lines size NotWritten old new world are is begun printed = record { has_come = is; cut_short = rw (joined f lines, are) at printed.outcome }
-printed_in_part f lines size Refused old new world are is begun printed = record { has_come = begun; cut_short = rw (joined f lines, are) at printed.outcome }
+  pub all_printed : (result : Result (Unit {0}) Unwritten) → Prints (flat_map f lines) old new result → OnOk result (HasDrilled size old new world)
+  all_printed (Ok done) printed = record { is = is; says = rw text at printed.outcome }
+  all_printed (Err why) printed = tt
+
+  pub printed_in_part : (result : Result (Unit {0}) Unwritten) → HasBegun size world → Prints (flat_map f lines) old new result → IfErr result (λ why. DrillStopped why size old new world)
+  printed_in_part (Ok done) begun printed = tt
+  printed_in_part (Err NotWritten) begun printed = record { has_come = is; cut_short = rw text at printed.outcome }
+  printed_in_part (Err Refused) begun printed = record { has_come = begun; cut_short = rw text at printed.outcome }
 
 -- the status of a drill that stopped
 pub drill_stopped : (result : Status) (why : Unwritten) (size : ℕ) (before now : Stage) → stop_of result ≡ Some (stop_of_unwritten why)
