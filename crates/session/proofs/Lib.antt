@@ -1,5 +1,5 @@
 mod Deliveries
-mod Drilling
+mod Drills
 mod Due
 mod Ends
 mod Progress
