@@ -1,5 +1,5 @@
 -- What the summary of a drill leaves that was printed, or was not printed wholly.
-use Rattle.std.proofs.Common.{◌≡◌, ◌∙◌, refl, ap, inl, inr, ℕ, ◌⊎◌, List, [], ◌∷◌, ◌++◌, map, Result, Ok, Err, OnOk, IfErr, OnErr, Some}
+use Rattle.std.proofs.Common.{◌≡◌, ◌∙◌, refl, ap, subst, inl, inr, ℕ, ◌⊎◌, List, [], ◌∷◌, ◌++◌, map, Result, Ok, Err, OnOk, IfErr, OnErr, Some}
 use Rattle.std.specs.List.{flat_map}
 use Rattle.wq_io.specs.Streams.{Rose}
 use Rattle.replay_model.specs.ReplayState.{ReplayState, nothing_delivered}
@@ -9,6 +9,7 @@ use Rattle.transcript.specs.Printing.{Output, Prints}
 use Rattle.transcript.proofs.Parts.{cut_short_at_once}
 use Rattle.drill_replay.specs.Playing.{HasBegun}
 use Rattle.drill_replay.specs.Summary.{drilled, lines_of, summary_of}
+use Rattle.words.specs.declared.plan.Plan.TheVariants.{Drill}
 use Rattle.session.specs.declared.status.Status.{Status}
 use Rattle.session.specs.declared.status.Status.TheVariants.{Ok as Ended, BadWords, BadLine, ReadFault, WriteFault, TooLong, OutOfMemory}
 use Rattle.session.specs.Drilling.{DrillEnding, DrillStopped, HasDrilled, summary_text}
@@ -38,29 +39,9 @@ module _ {X : Type 0} (f : X → List ℕ) (lines : List X) (size : ℕ) (old ne
   printed_in_part (Err NotWritten) begun printed = record { has_come = is; cut_short = rw text at printed.outcome }
   printed_in_part (Err Refused) begun printed = record { has_come = begun; cut_short = rw text at printed.outcome }
 
--- the status of a drill that stopped
-pub drill_stopped : (result : Status) (why : Unwritten) (size : ℕ) (before now : Stage) → stop_of result ≡ Some (stop_of_unwritten why)
-    → DrillStopped why size before.output now.output now.world → DrillEnding result size before now
-drill_stopped Ended why size before now is stopped = cc
-drill_stopped BadWords why size before now is stopped = cc
-drill_stopped (BadLine number cause) NotWritten size before now is stopped = cc
-drill_stopped (BadLine number cause) Refused size before now is stopped = cc
-drill_stopped ReadFault NotWritten size before now is stopped = cc
-drill_stopped ReadFault Refused size before now is stopped = cc
-drill_stopped WriteFault NotWritten size before now is stopped = stopped
-drill_stopped WriteFault Refused size before now is stopped = cc
-drill_stopped TooLong NotWritten size before now is stopped = cc
-drill_stopped TooLong Refused size before now is stopped = cc
-drill_stopped OutOfMemory NotWritten size before now is stopped = cc
-drill_stopped OutOfMemory Refused size before now is stopped = stopped
-
--- a drill ends well or for want of memory, or a write failed
-pub drill_unwritten : (result : Status) (size : ℕ) (before now : Stage) → DrillEnding result size before now
-    → (result ≡ Ended) ⊎ (result ≡ OutOfMemory) ⊎ Rose before.output.faults now.output.faults
-drill_unwritten Ended size before now ending = inl refl
-drill_unwritten BadWords size before now ending = absurd ending
-drill_unwritten (BadLine number cause) size before now ending = absurd ending
-drill_unwritten ReadFault size before now ending = absurd ending
-drill_unwritten WriteFault size before now ending = inr (inr (ending.cut_short.failed refl).1)
-drill_unwritten TooLong size before now ending = absurd ending
-drill_unwritten OutOfMemory size before now ending = inr (inl refl)
+-- the drill of the size that the words say
+pub of_plan : (taken size : ℕ) (old new : Output) (world : ReplayState) → Some (Drill taken) ≡ Some (Drill size) → HasDrilled taken old new world → HasDrilled size old new world
+of_plan taken size old new world same ended =
+    let is : taken ≡ size = cc in
+    let At : ℕ → Type 0 = λ n. HasDrilled n old new world in
+    subst At is ended
