@@ -1,8 +1,7 @@
 -- What the summary of a drill leaves that was printed, or was not printed wholly.
-use Rattle.std.proofs.Common.{◌≡◌, ◌∙◌, refl, ap, subst, inl, inr, ℕ, ◌⊎◌, List, [], ◌∷◌, ◌++◌, map, Result, Ok, Err, OnOk, IfErr, OnErr, Some}
+use Rattle.std.proofs.Common.{◌≡◌, ◌∙◌, refl, ap, subst, ℕ, List, [], ◌∷◌, ◌++◌, map, Result, Ok, Err, OnOk, IfErr, Some}
 use Rattle.std.specs.List.{flat_map}
-use Rattle.wq_io.specs.Streams.{Rose}
-use Rattle.replay_model.specs.ReplayState.{ReplayState, nothing_delivered}
+use Rattle.replay_model.specs.ReplayState.{ReplayState}
 use Rattle.transcript.specs.declared.write.Unwritten.{Unwritten}
 use Rattle.transcript.specs.declared.write.Unwritten.TheVariants.{WriteFault as NotWritten, OutOfMemory as Refused}
 use Rattle.transcript.specs.Printing.{Output, Prints}
@@ -10,11 +9,7 @@ use Rattle.transcript.proofs.Parts.{cut_short_at_once}
 use Rattle.drill_replay.specs.Playing.{HasBegun}
 use Rattle.drill_replay.specs.Summary.{drilled, lines_of, summary_of}
 use Rattle.words.specs.declared.plan.Plan.TheVariants.{Drill}
-use Rattle.session.specs.declared.status.Status.{Status}
-use Rattle.session.specs.declared.status.Status.TheVariants.{Ok as Ended, BadWords, BadLine, ReadFault, WriteFault, TooLong, OutOfMemory}
-use Rattle.session.specs.Drilling.{DrillEnding, DrillStopped, HasDrilled, summary_text}
-use Rattle.session.specs.Moment.{Stage}
-use Rattle.session.specs.Stop.{stop_of, stop_of_unwritten}
+use Rattle.session.specs.Drilling.{DrillStopped, HasDrilled, summary_text}
 
 -- texts one after the other
 joined : {X : Type 0} (f : X → List ℕ) (xs : List X) → flat_map f xs ≡ flat_map (λ text. text) (map f xs)

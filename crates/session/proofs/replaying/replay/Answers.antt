@@ -1,5 +1,5 @@
 -- Values that are not taken, a stop of the taking, a fault of the sink, and the end.
-use Rattle.std.proofs.Common.{inl, refl, arith}
+use Rattle.std.proofs.Common.{inl}
 use Rattle.std.proofs.lemmas.Result.{err_from_is_err_and}
 use Rattle.session.specs.Moment.{Moment, Run, moment, run_of}
 use Rattle.session.proofs.Ends.{broken_off, ending, prints_asked}
