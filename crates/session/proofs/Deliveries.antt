@@ -11,10 +11,9 @@ use Rattle.entity_model.specs.declared.delivery.Delivery.TheVariants.{Event as T
 use Rattle.side_output.specs.declared.entry.Entry.{Entry}
 use Rattle.reorder_buffer.specs.declared.taken.Taken.{Taken}
 use Rattle.reorder_buffer.specs.Buffered.{answer_to}
-use Rattle.replay_model.specs.Records.{Bytes}
 use Rattle.replay_model.specs.Explained.{AgreeOnApplied}
-use Rattle.replay_model.specs.Play.{Replies, fetches, fetches_to_end}
-use Rattle.replay_model.specs.ReplayState.{ReplayState, after_end, after_event, after_mark, entered, following, following_to_end, taken_entries}
+use Rattle.replay_model.specs.Play.{Replies}
+use Rattle.replay_model.specs.ReplayState.{ReplayState, after_end, after_event, after_mark, entered, following, taken_entries}
 use Rattle.replay_model.specs.Transcript.{ask_section, asks, pattern_of, said, said_at}
 use Rattle.rdf_term.specs.Pattern.{rows}
 use Rattle.replay_model.specs.Union.{union}
@@ -25,14 +24,12 @@ use Rattle.replay_model.proofs.Printing.{said-push}
 use Rattle.world.specs.Meaning.{meaning}
 use Rattle.session.specs.Counts.{Counts, HasCounted, RoseBy}
 use Rattle.transcript.specs.declared.write.Unwritten.{Unwritten}
-use Rattle.transcript.specs.declared.write.Unwritten.TheVariants.{WriteFault as NotWritten, OutOfMemory as NoMemory}
-use Rattle.transcript.specs.Printing.{IsCutShort, Output, Prints, output}
+use Rattle.transcript.specs.Printing.{Output, Prints}
 use Rattle.transcript.proofs.Parts.{after_twice}
-use Rattle.session.specs.declared.stop.Stop.{Stop}
 use Rattle.session.specs.declared.stop.Stop.TheVariants.{OutOfMemory}
 use Rattle.session.specs.Moment.{Setting, Stage, onward, with_output}
 use Rattle.session.specs.Stop.{stop_of_unwritten}
-use Rattle.session.specs.Taking.{AnswersInPart, AppliesDue, AtEnd, AtRest, Course, CutsOff, IsWithin, Leads, StaysWithin, TakesDelivery, TakesInPart, course_after, course_to_end, judgement, said_behind, turn}
+use Rattle.session.specs.Taking.{AppliesDue, AtEnd, AtRest, Course, CutsOff, IsWithin, Leads, StaysWithin, course_after, course_to_end, judgement, said_behind, turn}
 use Rattle.session.proofs.Due.{within}
 
 -- one delivery more: how many questions were asked

@@ -1,6 +1,6 @@
 -- How far the taking of lines has come, and what follows where it goes on, stops or ends.
-use Rattle.std.proofs.Common.{refl, sym, subst, ◌∙◌, ap, inl, inr, ⊎_elim, ◌≡◌, ◌⊎◌, ℕ, ◌+◌, ◌-◌, ◌≤◌, true, false, List, [], ◌∷◌, ◌++◌, length, Option, None, Some, IfSome, Ok, Err, arith, append-nil}
-use Rattle.wq_io.specs.Streams.{IsAtEnd, Rose}
+use Rattle.std.proofs.Common.{refl, sym, subst, ◌∙◌, ap, inl, ⊎_elim, ◌≡◌, ◌⊎◌, ℕ, ◌+◌, ◌≤◌, true, false, List, [], ◌∷◌, ◌++◌, None, Some, IfSome, Ok, Err, arith, append-nil}
+use Rattle.wq_io.specs.Streams.{IsAtEnd}
 use Rattle.wq_io.specs.Lines.{HasCause, IsSound, Leaves, Reading, fresh, unread}
 use Rattle.wq_io.specs.declared.lines.LineFault.{LineFault}
 use Rattle.wq_io.specs.declared.lines.LineFault.TheVariants.{ReadFault as NotRead, TooLong as PastLimit, LineLong as OverLong, OutOfMemory as NoMemory}
@@ -12,7 +12,7 @@ use Rattle.event_line.specs.Line.{delivery_of}
 use Rattle.entity_state.specs.declared.record.Record.{Record}
 use Rattle.replay_model.specs.Records.{Bytes}
 use Rattle.replay_model.specs.Replies.{HoldsDocument}
-use Rattle.replay_model.specs.ReplayState.{ReplayState, following, nothing_delivered}
+use Rattle.replay_model.specs.ReplayState.{ReplayState, nothing_delivered}
 use Rattle.replay_model.specs.Transcript.{ask_section, asks}
 use Rattle.replay_model.specs.Union.{union}
 use Rattle.rdf_term.specs.Pattern.{rows}
@@ -24,14 +24,14 @@ use Rattle.transcript.specs.declared.write.Unwritten.{Unwritten}
 use Rattle.transcript.specs.Printing.{IsCutShort, Output}
 use Rattle.transcript.proofs.Parts.{after_nothing}
 use Rattle.session.specs.declared.stop.Stop.{Stop}
-use Rattle.session.specs.declared.stop.Stop.TheVariants.{BadLine, ReadFault, WriteFault, TooLong, OutOfMemory}
+use Rattle.session.specs.declared.stop.Stop.TheVariants.{BadLine, OutOfMemory}
 use Rattle.session.specs.Counts.{Counts}
 use Rattle.session.specs.Headline.{IsPlayedAfter, StandsAtQuestion, Stopped}
 use Rattle.session.specs.Moment.{Input, Moment, Run, Setting, Stage, onward, with_output}
 use Rattle.session.specs.Reading.{AreFirst, HasRead}
-use Rattle.session.specs.Stop.{stop_of_fault, stop_of_unwritten}
+use Rattle.session.specs.Stop.{stop_of_fault}
 use Rattle.session.specs.Stops.{HasTaken, StopsWithin}
-use Rattle.session.specs.Taking.{AnswersInPart, AtRest, CutsOff, IsWithin, TakesDelivery, TakesInPart, course_after, judgement, said_behind, turn}
+use Rattle.session.specs.Taking.{AnswersInPart, AtRest, CutsOff, TakesDelivery, TakesInPart, course_after, judgement, turn}
 use Rattle.words.specs.Options.{limit_of}
 use Rattle.session.proofs.Deliveries.{asks-push, rest_within}
 use Rattle.session.proofs.Ends.{interrupted, is_played, rose_since}

@@ -37,12 +37,3 @@ plan_of (command ∷ words) = plan_from command (items_of words)
 abbrev pub IsSized : Plan → Type 0
 IsSized (Replay choices) = Unit {0}
 IsSized (Drill size) = (1 ≤ size) × (size ≤ greatest_size)
-
--- the choices of a replay
-abbrev pub choices_of : Plan → Option Choices
-choices_of (Replay choices) = Some choices
-choices_of (Drill size) = None
-
--- the replay that the words are
-abbrev pub replay_of : List (List ℕ) → Option Choices
-replay_of words = option_and_then choices_of (plan_of words)

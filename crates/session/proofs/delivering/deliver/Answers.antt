@@ -1,5 +1,4 @@
 -- An event or a watermark is taken, or a question answered.
-use Rattle.std.proofs.Common.{refl, arith}
 use Rattle.std.proofs.lemmas.Result.{err_from_is_err_and}
 use Rattle.session.specs.Moment.{Setting, Stage, setting, stage}
 use Rattle.session.proofs.Deliveries.{ask_cut_off, ask_taken, event_cut_off, event_taken, mark_cut_off, mark_taken}

@@ -1,6 +1,4 @@
 -- What is due after the watermark is applied.
-use Rattle.std.proofs.Common.{◌≡◌}
-use Rattle.replay_model.specs.ReplayState.{after_mark}
 use Rattle.session.proofs.delivering.take_mark.Goals as goal
 
 pub returns-clause-ok : goal.returns-clause-ok

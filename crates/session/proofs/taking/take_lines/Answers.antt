@@ -1,7 +1,7 @@
 -- The start, a fault of the reader, a line that is refused, and a line that is taken.
 use Rattle.std.proofs.Common.{refl, sym, ◌∙◌, arith}
 use Rattle.std.proofs.lemmas.Result.{err_from_is_err_and}
-use Rattle.session.specs.Moment.{Moment, Run, moment, run_of}
+use Rattle.session.specs.Moment.{Run, moment, run_of}
 use Rattle.session.proofs.Deliveries.{rest_open}
 use Rattle.session.proofs.Due.{gone-on}
 use Rattle.session.proofs.Progress.{delivery_stops, end_reached, fault_stops, line_stops, line_taken, nothing_begun}
