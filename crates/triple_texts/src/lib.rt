@@ -5,6 +5,8 @@
 #![tactic(auto)]
 
 mod place;
+#[cfg(test)]
+mod tests;
 mod triple_text;
 mod triple_texts;
 
