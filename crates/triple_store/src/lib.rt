@@ -1,13 +1,10 @@
-//! The triples of all entities, each with the number of entities that own it.
+//! The triples of all entities, each with the number of its owners.
+//!
+//! `store` has the store, over a pool of terms and an index of triples of slots, and `fault` why it takes no triples.
 #![tactic(auto)]
 
-mod counting;
-mod laws;
-mod matching;
+mod fault;
 mod store;
 
-pub use laws::patch_changes_by_one;
+pub use fault::StoreFault;
 pub use store::Store;
-
-#[cfg(test)]
-mod tests;

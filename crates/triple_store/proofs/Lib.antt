@@ -1,4 +1,0 @@
-pub mod Changing
-pub mod Fitting
-pub mod Mapped
-pub mod Owners
