@@ -1,9 +1,14 @@
 //! The triples of all entities, each with the number of its owners.
 //!
 //! `store` has the store, over a pool of terms and an index of triples of slots, and `fault` why it takes no triples.
+//! `exchanging` puts the triples of one owner in the place of others, and `releasing` takes them away, triple by triple
+//! with `steps`.
 #![tactic(auto)]
 
+mod exchanging;
 mod fault;
+mod releasing;
+mod steps;
 mod store;
 
 pub use fault::StoreFault;
