@@ -118,10 +118,9 @@ impl Store {
         ensures none { IfNone result ((key : TheKey) → HasTexts self.now.pool region.now key texts.now → has key_cmp key (old.now ++ added.now.keys) ≡ false) }
     {
         let key = self.find_key(region, texts)?;
-        if old.binary_search(&key).is_ok() || added.contains(&key) {
-            Some(key)
-        } else {
-            None
+        if old.binary_search(&key).is_ok() {
+            return Some(key);
         }
+        if added.contains(&key) { Some(key) } else { None }
     }
 }
