@@ -1,3 +1,4 @@
 pub mod Holding
 pub mod Owners
+pub mod Removing
 pub mod Standing

@@ -48,6 +48,14 @@ one_key pool texts lies a b triple ha hb =
     let third = lies.once a.third b.third _ ha.object hb.object in
     λ i. record { first = first i; second = second i; third = third i }
 
+-- so are two with the same texts
+pub one_of_texts : (pool : Pool) (region : Texts) → LiesIn pool region → (a b : Key) (texts : TripleText) → HasTexts pool region a texts → HasTexts pool region b texts → a ≡ b
+one_of_texts pool region lies a b texts ha hb =
+    let first = lies.once a.first b.first _ ha.subject hb.subject in
+    let second = lies.once a.second b.second _ ha.predicate hb.predicate in
+    let third = lies.once a.third b.third _ ha.object hb.object in
+    λ i. record { first = first i; second = second i; third = third i }
+
 -- the triple of a triple's texts
 pub triple_of_texts : (texts : TripleText) (triple : Triple) → IsTextOf texts triple → triple_of texts ≡ triple
 triple_of_texts texts triple h =
