@@ -1,4 +1,6 @@
+pub mod Exchanged
 pub mod Holding
 pub mod Owners
 pub mod Removing
 pub mod Standing
+pub mod Taking
