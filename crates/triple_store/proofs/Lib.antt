@@ -2,5 +2,7 @@ pub mod Exchanged
 pub mod Holding
 pub mod Owners
 pub mod Removing
+pub mod Rooming
+pub mod Rows
 pub mod Standing
 pub mod Taking

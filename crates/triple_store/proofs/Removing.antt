@@ -54,7 +54,8 @@ module _ {K : Type 0} {R : K → K → Ordering} (o : IsTotalOrder R) where
       ap (λ zs. difference R zs ys) (take_more xs i d l) ∙ filter-append (λ x. not (has R x ys)) (take i xs) (get_or xs i d ∷ [])
       ∙ ap (λ b. difference R (take i xs) ys ++ cond (not b) (get_or xs i d ∷ []) []) out ∙ append-nil (difference R (take i xs) ys)
 
-  in_take : (k : K) (i : ℕ) (xs : List K) → has R k (take i xs) ≡ true → has R k xs ≡ true
+  -- what is among the first elements is in the list
+  pub in_take : (k : K) (i : ℕ) (xs : List K) → has R k (take i xs) ≡ true → has R k xs ≡ true
   in_take k zero xs h = absurd (true≢false (sym h))
   in_take k (suc i) [] h = h
   in_take k (suc i) (x ∷ xs) h =

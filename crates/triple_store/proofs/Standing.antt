@@ -219,7 +219,7 @@ counted_key store texts h key t k =
     let there : has triple_cmp (m key) (mapped m (map.keys store.index)) ≡ true = has-meant m (map.keys store.index) key (sym (map.contains_key-keys store.index key) ∙ k.stored) in
     owned store texts h t (contains-image m store.index t ∙ ap (λ (u : Triple). has triple_cmp u (mapped m (map.keys store.index))) (sym (means store.pool texts key t k.has)) ∙ there)
 
-owned_stored : (v : Option ℕ) → 0 < unwrap_or v 0 → is_some v ≡ true
+pub owned_stored : (v : Option ℕ) → 0 < unwrap_or v 0 → is_some v ≡ true
 owned_stored None h = absurd (omega (arith, h))
 owned_stored (Some n) h = refl
 

@@ -1,13 +1,11 @@
 -- Triples that an owner gets, one by one.
-use Rattle.std.proofs.Common.{◌≡◌, ◌≢◌, ℕ, ◌+◌, ◌<◌, Bool, true, false, not, ◌||◌, ◌&&◌, ◌⊎◌, inl, inr, ⊎_elim, List, [], ◌∷◌, ◌++◌, Ordering, Some, length, get_or, is_eq, refl, sym, ◌∙◌, ap, subst, arith, true≢false}
-use Rattle.std.specs.Prelude.{slice_get, IfSome}
+use Rattle.std.proofs.Common.{◌≡◌, ℕ, ◌+◌, Bool, true, false, not, ◌||◌, ◌&&◌, ◌⊎◌, inl, inr, ⊎_elim, List, [], ◌∷◌, ◌++◌, Ordering, is_eq, refl, sym, ◌∙◌, ap, subst, arith, true≢false}
 use Rattle.std.specs.Cmp.{IsTotalOrder}
 use Rattle.std.specs.Ordering.{eq_by_cmp}
 use Rattle.std.proofs.lemmas.Cmp.{tied_itself}
-use Rattle.std.proofs.lemmas.Option.{slice_get-get_or}
 use Rattle.rising.specs.Rising.{has}
-use Rattle.rising.proofs.Bools.{clash, equal, or_none, or_true, or_false_left, or_false_right}
-use Rattle.rising.proofs.Rising.{has-append, has_itself}
+use Rattle.rising.proofs.Bools.{clash, equal, or_none, or_true}
+use Rattle.rising.proofs.Rising.{has-append}
 use Rattle.rdf_term.specs.declared.triple.Triple.{Triple}
 use Rattle.rdf_term.specs.Order.{triple_cmp, triple_cmp-total}
 use Rattle.rdf_term.proofs.Texts.{triple_cmp-IsAntisymmetric}
@@ -16,26 +14,24 @@ use Rattle.text_region.specs.Region.{Texts}
 use Rattle.term_pool.specs.Pool.{one_if}
 use Rattle.slot_index.specs.declared.key.Key.{Key}
 use Rattle.slot_index.specs.Keys.{key_cmp, key_cmp-total, key_cmp-IsAntisymmetric, same_key}
-use Rattle.triple_texts.specs.declared.triple_text.TripleText.{TripleText}
-use Rattle.triple_texts.specs.Texts.{IsTextOf}
 use Rattle.triple_store.specs.declared.store.Store.{Store}
 use Rattle.triple_store.specs.Counts.{count_of, raised}
-use Rattle.triple_store.specs.Slots.{HasTexts, HasTriple, triple_at, triple_of}
+use Rattle.triple_store.specs.Slots.{HasTriple, triple_at}
 use Rattle.triple_store.specs.Stored.{HasKey, IsStored, beside, counts_in, is_key, limit_of}
 use Rattle.triple_store.specs.Moves.{Takes, meant}
 use Rattle.triple_store.proofs.Owners.{same_triple, count_of-raised}
-use Rattle.triple_store.proofs.Standing.{has-meant, meant-has, means, stored_key, texts_triple, triple_of_texts, triple_texts}
+use Rattle.triple_store.proofs.Standing.{has-meant, meant-has, means, stored_key}
 
 -- one more element at the end of a list
 pub has-push : {K : Type 0} (R : K → K → Ordering) (q : K) (xs : List K) (x : K) → has R q (xs ++ x ∷ []) ≡ (has R q xs || eq_by_cmp R q x)
 has-push R q xs x = has-append R q xs (x ∷ []) ∙ ap (λ b. has R q xs || b) (or_none (eq_by_cmp R q x))
 
-or_left : (a b : Bool) → a ≡ true → (a || b) ≡ true
+pub or_left : (a b : Bool) → a ≡ true → (a || b) ≡ true
 or_left true b e = refl
 or_left false b e = absurd (true≢false (sym e))
 
 -- one of two tests passes
-one_of : (a b : Bool) → (a || b) ≡ true → (a ≡ true) ⊎ (b ≡ true)
+pub one_of : (a b : Bool) → (a || b) ≡ true → (a ≡ true) ⊎ (b ≡ true)
 one_of true b e = inl refl
 one_of false b e = inr e
 
@@ -79,8 +75,8 @@ module _ (st : Store) (r : Texts) (now : Store) (s : Texts) (had keys : List Key
   had_key key there = h.kept key (triple_at st.pool r key) (stored_key st r stored key (all key there))
 
   -- a key that is at hand stands for a triple that is done, or that the owner had
-  pub record IsKnown (key : Key) (t : Triple) : Type 0 where
-    pub key : HasKey now s key t
+  record IsKnown (key : Key) (t : Triple) : Type 0 where
+    pub its : HasKey now s key t
     pub known : (has triple_cmp t done ≡ true) ⊎ (has triple_cmp t (meant st r had) ≡ true)
 
   known : (key : Key) (t : Triple) → has key_cmp key (had ++ keys) ≡ true → HasTriple now.pool s key t → IsKnown key t
@@ -90,13 +86,13 @@ module _ (st : Store) (r : Texts) (now : Store) (s : Texts) (had keys : List Key
       (λ old.
           let k = had_key key old in
           record {
-            key = record { stored = k.stored; has = is };
+            its = record { stored = k.stored; has = is };
             known = inr (subst (λ (u : Triple). has triple_cmp u (meant st r had) ≡ true) (same (triple_at st.pool r key) k) (has-meant (triple_at st.pool r) had key old));
           })
       (λ new.
           let k : (u : Triple) × HasKey now s key u × (has triple_cmp u done ≡ true) = h.each key new in
           record {
-            key = record { stored = k.1.stored; has = is };
+            its = record { stored = k.1.stored; has = is };
             known = inl (subst (λ (u : Triple). has triple_cmp u done ≡ true) (same k.0 k.1) k.2);
           })
       (one_of (has key_cmp key had) (has key_cmp key keys) (sym (has-append key_cmp key had keys) ∙ there))
@@ -127,8 +123,8 @@ module _ (st : Store) (r : Texts) (now : Store) (s : Texts) (had keys : List Key
       let k = known key t there is in
       record {
         stored = h.stored;
-        each = each_more now s (λ k t is. is) key t k.key;
-        all = all_more now s (λ k t is. is) key t k.key;
+        each = each_more now s (λ k t is. is) key t k.its;
+        all = all_more now s (λ k t is. is) key t k.its;
         counts = λ v. stays (count_of (counts_in st r) v) (count_of (counts_in now s) v) (has triple_cmp v done) (has triple_cmp v (meant st r had)) (same_triple v t) _ (has-push triple_cmp v done t)
             (λ same. subst (λ (x : Triple). (has triple_cmp x done ≡ true) ⊎ (has triple_cmp x (meant st r had) ≡ true)) (sym (triple_cmp-IsAntisymmetric v t (equal _ same))) k.known) (h.counts v);
         kept = h.kept;
@@ -137,11 +133,11 @@ module _ (st : Store) (r : Texts) (now : Store) (s : Texts) (had keys : List Key
       }
 
   -- a triple none of whose keys is at hand is neither done nor one that the owner had
-  pub record IsNew (t : Triple) : Type 0 where
+  record IsNew (t : Triple) : Type 0 where
     pub done_ : has triple_cmp t done ≡ false
     pub gone : has triple_cmp t (meant st r had) ≡ false
 
-  pub is_new : (t : Triple) → ((key : Key) → HasTriple now.pool s key t → has key_cmp key (had ++ keys) ≡ false) → IsNew t
+  is_new : (t : Triple) → ((key : Key) → HasTriple now.pool s key t → has key_cmp key (had ++ keys) ≡ false) → IsNew t
   is_new t none = record {
     done_ = never (has triple_cmp t done) (λ there.
         let one : (key : Key) × HasKey now s key t × (has key_cmp key keys ≡ true) = h.all t there in
@@ -166,6 +162,18 @@ module _ (st : Store) (r : Texts) (now : Store) (s : Texts) (had keys : List Key
         beside = λ piece. others piece ∙ h.beside piece;
         limit = limit ∙ h.limit;
       }
+
+  -- after a fault all is as it was
+  pub none_more : (new : Store) (u : Texts) → IsStored new u → counts_in new u ≡ counts_in now s → ((k : Key) (t : Triple) → HasKey now s k t → HasKey new u k t) → ((piece : Piece) → beside new u piece ≡ beside now s piece) → limit_of new ≡ limit_of now → Takes st r new u had keys done
+  none_more new u after same later others limit = record {
+    stored = after;
+    each = λ key there. let was : (t : Triple) × HasKey now s key t × (has triple_cmp t done ≡ true) = h.each key there in (was.0, later key was.0 was.1, was.2);
+    all = λ t there. let was : (key : Key) × HasKey now s key t × (has key_cmp key keys ≡ true) = h.all t there in (was.0, later was.0 t was.1, was.2);
+    counts = λ t. ap (λ c. count_of c t) same ∙ h.counts t;
+    kept = λ k t was. later k t (h.kept k t was);
+    beside = λ piece. others piece ∙ h.beside piece;
+    limit = limit ∙ h.limit;
+  }
 
   -- it has as many owners as before
   pub as_many : (t : Triple) → ((key : Key) → HasTriple now.pool s key t → has key_cmp key (had ++ keys) ≡ false) → count_of (counts_in now s) t ≡ count_of (counts_in st r) t

@@ -1,0 +1,2 @@
+use Rattle.triple_store.proofs.Exchanged
+use Rattle.triple_store.proofs.store.Store.exchange.Goals as goal
