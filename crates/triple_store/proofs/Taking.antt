@@ -38,7 +38,7 @@ one_of false b e = inr e
 itself : {K : Type 0} {R : K → K → Ordering} → IsTotalOrder R → (x : K) → eq_by_cmp R x x ≡ true
 itself o x = ap is_eq (tied_itself o x)
 
-never : (b : Bool) → (b ≡ true → ⊥) → b ≡ false
+pub never : (b : Bool) → (b ≡ true → ⊥) → b ≡ false
 never true f = absurd (f refl)
 never false f = refl
 
@@ -71,7 +71,7 @@ none_taken st r had stored = record {
 
 module _ (st : Store) (r : Texts) (now : Store) (s : Texts) (had keys : List Key) (done : List Triple) (stored : IsStored st r) (all : (key : Key) → has key_cmp key had ≡ true → is_key st key ≡ true) (h : Takes st r now s had keys done) where
   -- a key of the owner stands for what it stood for
-  had_key : (key : Key) → has key_cmp key had ≡ true → HasKey now s key (triple_at st.pool r key)
+  pub had_key : (key : Key) → has key_cmp key had ≡ true → HasKey now s key (triple_at st.pool r key)
   had_key key there = h.kept key (triple_at st.pool r key) (stored_key st r stored key (all key there))
 
   -- a key that is at hand stands for a triple that is done, or that the owner had

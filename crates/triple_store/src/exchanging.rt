@@ -2,7 +2,7 @@
 
 ghost use Rattle.std.specs.Prelude.{◌≡◌, ◌<◌, ◌≤◌, ◌++◌, true, false, List, [], length, take, vec_len, vec_capacity, Err, IfSome, IfNone, IfOk, OnOk, OnErr};
 ghost use Rattle.std.specs.List.{AllByRecursion};
-ghost use Rattle.rising.specs.Rising.{IsRising, has};
+ghost use Rattle.rising.specs.Rising.{IsRising, has, sorted};
 ghost use Rattle.rdf_term.specs.declared.triple.Triple.{Triple};
 ghost use Rattle.rdf_term.specs.Fit.{HasFitAndShortTerms};
 ghost use Rattle.rdf_term.specs.Order.{triple_cmp};
@@ -50,8 +50,7 @@ impl Store {
             return Err(StoreFault::OutOfMemory);
         };
         let taken = self.take_in(region, old, new, &mut keys);
-        keys.sort_unstable();
-        keys.dedup();
+        sort_keys(&mut keys);
         match taken {
             Ok(()) => {
                 self.remove_beside(region, old, &keys);
@@ -123,4 +122,12 @@ impl Store {
         }
         if added.contains(&key) { Some(key) } else { None }
     }
+}
+
+// Puts keys in order, each once. It takes no memory.
+fn sort_keys(keys: &mut Vec<Key>)
+    ensures { keys.new.items ≡ sorted key_cmp keys.old.items }
+{
+    keys.sort_unstable();
+    keys.dedup();
 }
