@@ -1,7 +1,8 @@
 -- Triples that an owner gets, one by one.
-use Rattle.std.proofs.Common.{◌≡◌, ℕ, ◌+◌, Bool, true, false, not, ◌||◌, ◌&&◌, ◌⊎◌, inl, inr, ⊎_elim, List, [], ◌∷◌, ◌++◌, Ordering, is_eq, refl, sym, ◌∙◌, ap, subst, arith, true≢false}
+use Rattle.std.proofs.Common.{◌≡◌, ℕ, ◌+◌, Bool, true, false, not, ◌||◌, ◌&&◌, ◌⊎◌, inl, inr, ⊎_elim, List, [], ◌∷◌, ◌++◌, Ordering, is_eq, length, take, refl, sym, ◌∙◌, ap, subst, arith, true≢false}
 use Rattle.std.specs.Cmp.{IsTotalOrder}
 use Rattle.std.specs.Ordering.{eq_by_cmp}
+use Rattle.std.proofs.Math.Seq.{take-length}
 use Rattle.std.proofs.lemmas.Cmp.{tied_itself}
 use Rattle.rising.specs.Rising.{has}
 use Rattle.rising.proofs.Bools.{clash, equal, or_none, or_true}
@@ -178,3 +179,7 @@ module _ (st : Store) (r : Texts) (now : Store) (s : Texts) (had keys : List Key
   -- it has as many owners as before
   pub as_many : (t : Triple) → ((key : Key) → HasTriple now.pool s key t → has key_cmp key (had ++ keys) ≡ false) → count_of (counts_in now s) t ≡ count_of (counts_in st r) t
   as_many t none = let n = is_new t none in omega (arith, h.counts t, ap (λ b. one_if (b && not (has triple_cmp t (meant st r had)))) n.done_)
+
+-- where as many keys came as there are triples, all are done
+pub whole_taken : (st : Store) (r : Texts) (now : Store) (s : Texts) (had keys : List Key) (triples : List Triple) (n : ℕ) → n ≡ length triples → Takes st r now s had keys (take n triples) → Takes st r now s had keys triples
+whole_taken st r now s had keys triples n e h = subst (Takes st r now s had keys) (ap (λ k. take k triples) e ∙ take-length triples) h
