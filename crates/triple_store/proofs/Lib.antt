@@ -1,5 +1,5 @@
+pub mod AtHand
 pub mod Exchanged
-pub mod Holding
 pub mod Owners
 pub mod Removing
 pub mod Rooming
