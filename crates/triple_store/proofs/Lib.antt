@@ -1,1 +1,5 @@
+pub mod Imaged
+pub mod Keyed
+pub mod Live
+pub mod Mapped
 pub mod Owners
