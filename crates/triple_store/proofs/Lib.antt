@@ -1,3 +1,5 @@
+pub mod Distinct
+pub mod Held
 pub mod Imaged
 pub mod Keyed
 pub mod Live

@@ -4,6 +4,7 @@
 #![tactic(auto)]
 
 mod fault;
+mod holding;
 mod store;
 
 pub use fault::StoreFault;
