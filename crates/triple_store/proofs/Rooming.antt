@@ -34,7 +34,8 @@ terms_among (u ∷ ts) t h =
     (λ rest. record { each = λ x in_t. has-append term_cmp x (terms_of u) (flat_map terms_of ts) ∙ or_true (has term_cmp x (terms_of u)) _ ((terms_among ts t rest).each x in_t) })
     (one_of (same_triple t u) (has triple_cmp t ts) h)
 
-positive_sum : (a b : ℕ) → 0 < a + b → (0 < a) ⊎ (0 < b)
+-- a sum above 0 has a part above 0
+pub positive_sum : (a b : ℕ) → 0 < a + b → (0 < a) ⊎ (0 < b)
 positive_sum a b h = grind arith
 
 is_one : (a b : Bool) → 0 < one_if (a && b) → a ≡ true

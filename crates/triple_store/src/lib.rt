@@ -2,12 +2,14 @@
 //!
 //! `store` has the store, over a pool of terms and an index of triples of slots, and `fault` why it takes no triples.
 //! `exchanging` puts the triples of one owner in the place of others, and `releasing` takes them away, triple by triple
-//! with `steps`.
+//! with `steps`, over `holding`.
 #![tactic(auto)]
 
 mod exchanging;
 mod fault;
+mod holding;
 mod releasing;
+mod room;
 mod steps;
 mod store;
 

@@ -2,6 +2,7 @@ use Rattle.std.proofs.Common.{take, vec_len}
 use Rattle.rising.proofs.Rising.{IsRising-sorted}
 use Rattle.slot_index.specs.Keys.{key_cmp-total}
 use Rattle.triple_store.proofs.Exchanged.{are_keys, exchanged, had_there, keeps, keys_there, undone_counts}
+use Rattle.triple_store.proofs.Stocked.{room_within}
 use Rattle.triple_store.proofs.Taking.{whole_taken}
 use Rattle.triple_store.proofs.store.Store.exchange.Goals as goal
 
@@ -28,7 +29,7 @@ returns-in-Ok-taken-clause-keys c =
     rw c.sort_keys.ensures (are_keys _ _ _ _ c.args.old.now _ c.args.new.now c.requires.stored c.requires.there all _ _ (rw (c.deref.ensures.value, c.sort_keys.ensures) at c.remove_beside.ensures))
 
 pub returns-in-Ok-taken-clause-within : goal.returns-in-Ok-taken-clause-within
-returns-in-Ok-taken-clause-within c = ?
+returns-in-Ok-taken-clause-within c = room_within _ _ _ _ c.args.old.now _ c.args.new.now c.requires.stored (whole_taken _ _ _ _ c.args.old.now _ c.args.new.now _ c.in-Ok-taken.ensures.whole c.take_in-taken.ensures.takes)
 
 pub returns-in-Ok-taken-clause-keeps : goal.returns-in-Ok-taken-clause-keeps
 returns-in-Ok-taken-clause-keeps c = keeps _ _ _ _ c.args.old.now _ _ c.requires.stored c.requires.there c.take_in-taken.ensures.takes _ _ _ c.remove_beside.ensures
