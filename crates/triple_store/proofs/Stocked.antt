@@ -126,7 +126,7 @@ read_back p r a slot text t e h g =
 its_term : (p : Pool) (r : Texts) (key : Key) (t : Triple) (slot : ℕ) (text : List ℕ) → HasTriple p r key t → 0 < uses slot key → text_at p r slot ≡ Some text → has term_cmp (undo text) (terms_of t) ≡ true
 its_term p r key t slot text h some at =
     ⊎_elim
-    (λ a. subst (λ (x : Term). has term_cmp x (terms_of t) ≡ true) (sym (read_back p r key.first slot text t.subject a h.subject at)) (has_itself term_cmp-total t.subject _))
+    (λ a. subst (λ (x : Term). has term_cmp x (terms_of t) ≡ true) (sym (read_back p r key.first slot text t.subject a h.subject at)) (has_itself term_cmp-total t.subject (t.predicate ∷ t.object ∷ [])))
     (λ na. ⊎_elim
         (λ b. subst (λ (x : Term). has term_cmp x (terms_of t) ≡ true) (sym (read_back p r key.second slot text t.predicate b h.predicate at)) (or_true (eq_by_cmp term_cmp t.predicate t.subject) _ (has_itself term_cmp-total t.predicate (t.object ∷ []))))
         (λ nb. ⊎_elim

@@ -1,6 +1,6 @@
 // Triples of one owner in the place of others.
 
-ghost use Rattle.std.specs.Prelude.{◌≡◌, ◌<◌, ◌≤◌, ◌++◌, true, false, List, [], length, take, vec_len, vec_capacity, Err, IfSome, IfNone, IfOk, OnOk, OnErr};
+ghost use Rattle.std.specs.Prelude.{◌≡◌, ◌<◌, ◌≤◌, ◌++◌, true, false, List, [], length, take, vec_len, vec_capacity, Err, IfSome, IfNone, IfOk, IsOk, OnOk, OnErr};
 ghost use Rattle.std.specs.List.{AllByRecursion};
 ghost use Rattle.rising.specs.Rising.{IsRising, has, sorted};
 ghost use Rattle.rdf_term.specs.declared.triple.Triple.{Triple};
@@ -42,6 +42,7 @@ impl Store {
         ensures keys { IfOk result (λ keys. AreKeysOf self.new region.new keys.items new.now) }
         ensures full { result ≡ Err StoreFault.Full → limit_of self.old < room_for (counts_in self.old region.old) new.now }
         ensures within { OnOk result (room_for (counts_in self.old region.old) new.now ≤ limit_of self.old) }
+        ensures free { new.now ≡ [] → IsOk result }
         ensures keeps { KeepsKeys self.old region.old self.new region.new }
         ensures beside { (piece : ThePiece) → beside self.new region.new piece ≡ beside self.old region.old piece }
         ensures limit { limit_of self.new ≡ limit_of self.old }
@@ -82,6 +83,7 @@ impl Store {
         ensures takes { Takes self.old region.old self.new region.new old.now keys.new.items (take (vec_len keys.new) new.now) }
         ensures whole { OnOk result (vec_len keys.new ≡ length new.now) }
         ensures full { result ≡ Err StoreFault.Full → limit_of self.old < room_for (counts_in self.old region.old) new.now }
+        ensures free { new.now ≡ [] → IsOk result }
     {
         let mut added = BTreeSet::new(self.alloc);
         for index in 0..new.len() {
