@@ -18,7 +18,8 @@ use Rattle.triple_store.specs.Stored.{AreKeysOf, HasKey, IsStored, KeepsKeys, co
 use Rattle.triple_store.specs.Moves.{Removes, Takes, meant}
 use Rattle.triple_store.proofs.Owners.{same_counts}
 use Rattle.triple_store.proofs.Removing.{apart}
-use Rattle.triple_store.proofs.Standing.{counted_key, has-meant, meant-has, means, owned}
+use Rattle.triple_store.proofs.Live.{tells}
+use Rattle.triple_store.proofs.Standing.{counted_key, has-meant, meant-has, owned}
 use Rattle.triple_store.proofs.Taking.{had_key, never}
 
 -- tests that imply each other
@@ -43,11 +44,11 @@ module _ (st : Store) (r : Texts) where
       same_test (has triple_cmp t gone) (has triple_cmp t (meant st r old))
       (λ there.
           let one : (key : Key) × HasKey st r key t × (has key_cmp key old ≡ true) = h.all t there in
-          subst (λ (u : Triple). has triple_cmp u (meant st r old) ≡ true) (means st.pool r one.0 t one.1.has) (has-meant m old one.0 one.2))
+          subst (λ (u : Triple). has triple_cmp u (meant st r old) ≡ true) (tells st.pool r one.0 t one.1.has) (has-meant m old one.0 one.2))
       (λ there.
           let one : (key : Key) × (has key_cmp key old ≡ true) × (m key ≡ t) = meant-has m old t there in
           let its : (u : Triple) × HasKey st r one.0 u × (has triple_cmp u gone ≡ true) = h.each one.0 one.1 in
-          subst (λ (u : Triple). has triple_cmp u gone ≡ true) (sym (means st.pool r one.0 its.0 its.1.has) ∙ one.2) its.2)
+          subst (λ (u : Triple). has triple_cmp u gone ≡ true) (sym (tells st.pool r one.0 its.0 its.1.has) ∙ one.2) its.2)
 
   all_gone : (old : List Key) → difference key_cmp old [] ≡ old
   all_gone old = filter_all (λ x. not (has key_cmp x [])) old (λ x. refl)
@@ -116,7 +117,7 @@ module _ (st : Store) (r : Texts) (now : Store) (s : Texts) (had keys : List Key
 
   -- the owner's keys stand for what they stood for
   had_meant : meant now s had ≡ meant st r had
-  had_meant = mapped_alike (triple_at now.pool s) (triple_at st.pool r) had (λ k there. means now.pool s k (triple_at st.pool r k) (had_key st r now s had keys done stored all h k there).has)
+  had_meant = mapped_alike (triple_at now.pool s) (triple_at st.pool r) had (λ k there. tells now.pool s k (triple_at st.pool r k) (had_key st r now s had keys done stored all h k there).has)
 
   -- and those that came for the triples that are done
   keys_meant : (t : Triple) → has triple_cmp t (meant now s in_order) ≡ has triple_cmp t done
@@ -126,10 +127,10 @@ module _ (st : Store) (r : Texts) (now : Store) (s : Texts) (had keys : List Key
       (λ there.
           let one : (key : Key) × (has key_cmp key in_order ≡ true) × (m key ≡ t) = meant-has m in_order t there in
           let its : (u : Triple) × HasKey now s one.0 u × (has triple_cmp u done ≡ true) = h.each one.0 (of_keys one.0 one.1) in
-          subst (λ (u : Triple). has triple_cmp u done ≡ true) (sym (means now.pool s one.0 its.0 its.1.has) ∙ one.2) its.2)
+          subst (λ (u : Triple). has triple_cmp u done ≡ true) (sym (tells now.pool s one.0 its.0 its.1.has) ∙ one.2) its.2)
       (λ there.
           let one : (key : Key) × HasKey now s key t × (has key_cmp key keys ≡ true) = h.all t there in
-          subst (λ (u : Triple). has triple_cmp u (meant now s in_order) ≡ true) (means now.pool s one.0 t one.1.has) (has-meant m in_order one.0 (has-sorted key_cmp-total one.0 keys ∙ one.2)))
+          subst (λ (u : Triple). has triple_cmp u (meant now s in_order) ≡ true) (tells now.pool s one.0 t one.1.has) (has-meant m in_order one.0 (has-sorted key_cmp-total one.0 keys ∙ one.2)))
 
   module _ (new : Store) (u : Texts) where
     -- what keeps its owners keeps its key

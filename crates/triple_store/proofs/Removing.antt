@@ -23,7 +23,8 @@ use Rattle.triple_store.specs.Slots.{HasTriple, triple_at}
 use Rattle.triple_store.specs.Stored.{HasKey, IsStored, KeepsKeys, beside, counts_in, is_key, limit_of}
 use Rattle.triple_store.specs.Moves.{Removes, meant}
 use Rattle.triple_store.proofs.Owners.{same_triple, count_of-lowered}
-use Rattle.triple_store.proofs.Standing.{counted_key, has-meant, key_counted, meant-has, means, one_key, stored_key}
+use Rattle.triple_store.proofs.Live.{key_same, tells}
+use Rattle.triple_store.proofs.Standing.{counted_key, meant-has, stored_key}
 
 module _ {K : Type 0} {R : K → K → Ordering} (o : IsTotalOrder R) where
   above_at : (k : K) (xs : List K) (i : ℕ) (d : K) → i < length xs → Above R k xs → R k (get_or xs i d) ≡ Less
@@ -87,7 +88,7 @@ apart st r stored keys key is all new =
       | true ↦ λ e.
           let one : (k : Key) × (has key_cmp k keys ≡ true) × (m k ≡ m key) = meant-has m keys (m key) e in
           let its = subst (HasKey st r one.0) one.2 (stored_key st r stored one.0 (all one.0 one.1)) in
-          let same = one_key st.pool r stored.lies one.0 key (m key) its.has (stored_key st r stored key is).has in
+          let same = key_same st.pool r one.0 key (m key) stored.lies its.has (stored_key st r stored key is).has in
           clash (subst (λ (k : Key). has key_cmp k keys ≡ true) same one.1) new
       | false ↦ λ _. refl
     ] refl
@@ -118,7 +119,7 @@ one_removed st r now s new u keys key stored h is all fresh after low keeps othe
     let t = m key in
     let one = next st r now s keys key stored h is all fresh in
     let some = counted_key now s h.stored key t one.there in
-    let same : triple_at now.pool s key ≡ t = means now.pool s key t one.there.has in
+    let same : triple_at now.pool s key ≡ t = tells now.pool s key t one.there.has in
     let less : (q : Triple) → count_of (counts_in new u) q ≡ count_of (counts_in now s) q - one_if (same_triple q t) = λ q.
         ap (λ c. count_of c q) (low ∙ ap (lowered (counts_in now s)) same) ∙ count_of-lowered (counts_in now s) t q in
     let is_it : (q : Triple) → same_triple q t ≡ true → (has triple_cmp q (meant st r keys) ≡ false) × (0 < count_of (counts_in now s) q) = λ q e.

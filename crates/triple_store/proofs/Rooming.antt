@@ -22,7 +22,7 @@ use Rattle.triple_store.specs.Stored.{IsStored, counts_in, limit_of}
 use Rattle.triple_store.specs.Moves.{Takes, meant}
 use Rattle.triple_store.proofs.Owners.{same_triple}
 use Rattle.triple_store.proofs.Removing.{in_take}
-use Rattle.triple_store.proofs.Standing.{owned, owned_stored}
+use Rattle.triple_store.proofs.Standing.{owned, stored_if}
 use Rattle.triple_store.proofs.Taking.{one_of, or_left}
 
 -- the terms of a triple of a list are among those of the list
@@ -48,7 +48,7 @@ stored_then st r now s had keys done h t there =
     let some = owned now s h.stored t there in
     let all = map.keys (counts_in st r) in
     ⊎_elim
-    (λ was. has-append triple_cmp t all done ∙ or_left _ _ (sym (map.contains_key-keys (counts_in st r) t) ∙ owned_stored (map.get (counts_in st r) t) was))
+    (λ was. has-append triple_cmp t all done ∙ or_left _ _ (sym (map.contains_key-keys (counts_in st r) t) ∙ stored_if (counts_in st r) t was))
     (λ came. has-append triple_cmp t all done ∙ or_true (has triple_cmp t all) _ (is_one (has triple_cmp t done) (not (has triple_cmp t (meant st r had))) came))
     (positive_sum (count_of (counts_in st r) t) (one_if (has triple_cmp t done && not (has triple_cmp t (meant st r had)))) (omega (arith, some, h.counts t)))
 

@@ -32,7 +32,7 @@ use Rattle.triple_store.specs.Slots.{HasTriple, term_in, triple_at, used, uses}
 use Rattle.triple_store.specs.Stored.{HasKey, IsStored, counts_in, limit_of}
 use Rattle.triple_store.proofs.Distinct.{as_many, fewer}
 use Rattle.triple_store.proofs.Rooming.{positive_sum, terms_among}
-use Rattle.triple_store.proofs.Standing.{contains-image, has-meant, key_stored, stands_for}
+use Rattle.triple_store.proofs.Standing.{contains-image, has-meant, key_stored, stored_key}
 use Rattle.triple_store.proofs.Taking.{one_of, or_left}
 
 module _ {K : Type 0} (R : K → K → Ordering) where
@@ -144,7 +144,7 @@ has_terms st r h = record {
       let one : (key : Key) × (has key_cmp key keys ≡ true) × (0 < uses slot key) = used_key keys slot (omega (arith, h.counted slot, used_at st.pool r h.lies slot text at)) in
       let stored : has triple_cmp (m one.0) (map.keys (counts_in st r) ++ []) ≡ true =
           has-append triple_cmp (m one.0) (map.keys (counts_in st r)) [] ∙ or_left _ false (sym (map.contains_key-keys (counts_in st r) (m one.0)) ∙ contains-image m st.index (m one.0) ∙ has-meant m keys one.0 one.1) in
-      (terms_among (map.keys (counts_in st r) ++ []) (m one.0) stored).each (undo text) (its_term st.pool r one.0 (m one.0) slot text (stands_for st.pool r h.lies keys h.counted one.0 one.1) one.2 at);
+      (terms_among (map.keys (counts_in st r) ++ []) (m one.0) stored).each (undo text) (its_term st.pool r one.0 (m one.0) slot text (stored_key st r h one.0 (map.contains_key-keys st.index one.0 ∙ one.1)).has one.2 at);
 }
 
 -- there are as many terms as the stored triples have

@@ -21,7 +21,8 @@ use Rattle.triple_store.specs.Slots.{HasTriple, triple_at}
 use Rattle.triple_store.specs.Stored.{HasKey, IsStored, beside, counts_in, is_key, limit_of}
 use Rattle.triple_store.specs.Moves.{Takes, meant}
 use Rattle.triple_store.proofs.Owners.{same_triple, count_of-raised}
-use Rattle.triple_store.proofs.Standing.{has-meant, meant-has, means, stored_key}
+use Rattle.triple_store.proofs.Live.{tells}
+use Rattle.triple_store.proofs.Standing.{has-meant, meant-has, stored_key}
 
 -- one more element at the end of a list
 pub has-push : {K : Type 0} (R : K → K → Ordering) (q : K) (xs : List K) (x : K) → has R q (xs ++ x ∷ []) ≡ (has R q xs || eq_by_cmp R q x)
@@ -82,7 +83,7 @@ module _ (st : Store) (r : Texts) (now : Store) (s : Texts) (had keys : List Key
 
   known : (key : Key) (t : Triple) → has key_cmp key (had ++ keys) ≡ true → HasTriple now.pool s key t → IsKnown key t
   known key t there is =
-      let same : (u : Triple) → HasKey now s key u → u ≡ t = λ u k. sym (means now.pool s key u k.has) ∙ means now.pool s key t is in
+      let same : (u : Triple) → HasKey now s key u → u ≡ t = λ u k. sym (tells now.pool s key u k.has) ∙ tells now.pool s key t is in
       ⊎_elim
       (λ old.
           let k = had_key key old in
