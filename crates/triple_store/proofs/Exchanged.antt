@@ -43,12 +43,12 @@ module _ (st : Store) (r : Texts) where
       let m = triple_at st.pool r in
       same_test (has triple_cmp t gone) (has triple_cmp t (meant st r old))
       (λ there.
-          let one : (key : Key) × HasKey st r key t × (has key_cmp key old ≡ true) = h.all t there in
-          subst (λ (u : Triple). has triple_cmp u (meant st r old) ≡ true) (tells st.pool r one.0 t one.1.has) (has-meant m old one.0 one.2))
+      let one : (key : Key) × HasKey st r key t × (has key_cmp key old ≡ true) = h.all t there in
+      subst (λ (u : Triple). has triple_cmp u (meant st r old) ≡ true) (tells st.pool r one.0 t one.1.has) (has-meant m old one.0 one.2))
       (λ there.
-          let one : (key : Key) × (has key_cmp key old ≡ true) × (m key ≡ t) = meant-has m old t there in
-          let its : (u : Triple) × HasKey st r one.0 u × (has triple_cmp u gone ≡ true) = h.each one.0 one.1 in
-          subst (λ (u : Triple). has triple_cmp u gone ≡ true) (sym (tells st.pool r one.0 its.0 its.1.has) ∙ one.2) its.2)
+      let one : (key : Key) × (has key_cmp key old ≡ true) × (m key ≡ t) = meant-has m old t there in
+      let its : (u : Triple) × HasKey st r one.0 u × (has triple_cmp u gone ≡ true) = h.each one.0 one.1 in
+      subst (λ (u : Triple). has triple_cmp u gone ≡ true) (sym (tells st.pool r one.0 its.0 its.1.has) ∙ one.2) its.2)
 
   all_gone : (old : List Key) → difference key_cmp old [] ≡ old
   all_gone old = filter_all (λ x. not (has key_cmp x [])) old (λ x. refl)
@@ -66,19 +66,19 @@ module _ (st : Store) (r : Texts) (stored : IsStored st r) where
       let m = triple_at st.pool r in
       same_test (has triple_cmp t (meant st r (difference key_cmp xs ys))) (not (has triple_cmp t (meant st r ys)) && has triple_cmp t (meant st r xs))
       (λ h.
-          let one : (key : Key) × (has key_cmp key (difference key_cmp xs ys) ≡ true) × (m key ≡ t) = meant-has m (difference key_cmp xs ys) t h in
-          let both : (not (has key_cmp one.0 ys) && has key_cmp one.0 xs) ≡ true = sym (has-difference key_cmp-total one.0 xs ys) ∙ one.1 in
-          let of_xs : has key_cmp one.0 xs ≡ true = and_right (not (has key_cmp one.0 ys)) (has key_cmp one.0 xs) both in
-          let out : has key_cmp one.0 ys ≡ false = not_so (has key_cmp one.0 ys) (and_left (not (has key_cmp one.0 ys)) (has key_cmp one.0 xs) both) in
-          subst (λ (u : Triple). (not (has triple_cmp u (meant st r ys)) && has triple_cmp u (meant st r xs)) ≡ true) one.2
-          (both_pass _ _ (ap not (apart st r stored ys one.0 (there one.0 of_xs) others out)) (has-meant m xs one.0 of_xs)))
+      let one : (key : Key) × (has key_cmp key (difference key_cmp xs ys) ≡ true) × (m key ≡ t) = meant-has m (difference key_cmp xs ys) t h in
+      let both : (not (has key_cmp one.0 ys) && has key_cmp one.0 xs) ≡ true = sym (has-difference key_cmp-total one.0 xs ys) ∙ one.1 in
+      let of_xs : has key_cmp one.0 xs ≡ true = and_right (not (has key_cmp one.0 ys)) (has key_cmp one.0 xs) both in
+      let out : has key_cmp one.0 ys ≡ false = not_so (has key_cmp one.0 ys) (and_left (not (has key_cmp one.0 ys)) (has key_cmp one.0 xs) both) in
+      subst (λ (u : Triple). (not (has triple_cmp u (meant st r ys)) && has triple_cmp u (meant st r xs)) ≡ true) one.2
+      (both_pass _ _ (ap not (apart st r stored ys one.0 (there one.0 of_xs) others out)) (has-meant m xs one.0 of_xs)))
       (λ h.
-          let of_xs : has triple_cmp t (meant st r xs) ≡ true = and_right (not (has triple_cmp t (meant st r ys))) (has triple_cmp t (meant st r xs)) h in
-          let out : has triple_cmp t (meant st r ys) ≡ false = not_so (has triple_cmp t (meant st r ys)) (and_left (not (has triple_cmp t (meant st r ys))) (has triple_cmp t (meant st r xs)) h) in
-          let one : (key : Key) × (has key_cmp key xs ≡ true) × (m key ≡ t) = meant-has m xs t of_xs in
-          let apart_ : has key_cmp one.0 ys ≡ false = never (has key_cmp one.0 ys) (λ e. clash (subst (λ (u : Triple). has triple_cmp u (meant st r ys) ≡ true) one.2 (has-meant m ys one.0 e)) out) in
-          subst (λ (u : Triple). has triple_cmp u (meant st r (difference key_cmp xs ys)) ≡ true) one.2
-          (has-meant m (difference key_cmp xs ys) one.0 (has-difference key_cmp-total one.0 xs ys ∙ both_pass _ _ (ap not apart_) one.1)))
+      let of_xs : has triple_cmp t (meant st r xs) ≡ true = and_right (not (has triple_cmp t (meant st r ys))) (has triple_cmp t (meant st r xs)) h in
+      let out : has triple_cmp t (meant st r ys) ≡ false = not_so (has triple_cmp t (meant st r ys)) (and_left (not (has triple_cmp t (meant st r ys))) (has triple_cmp t (meant st r xs)) h) in
+      let one : (key : Key) × (has key_cmp key xs ≡ true) × (m key ≡ t) = meant-has m xs t of_xs in
+      let apart_ : has key_cmp one.0 ys ≡ false = never (has key_cmp one.0 ys) (λ e. clash (subst (λ (u : Triple). has triple_cmp u (meant st r ys) ≡ true) one.2 (has-meant m ys one.0 e)) out) in
+      subst (λ (u : Triple). has triple_cmp u (meant st r (difference key_cmp xs ys)) ≡ true) one.2
+      (has-meant m (difference key_cmp xs ys) one.0 (has-difference key_cmp-total one.0 xs ys ∙ both_pass _ _ (ap not apart_) one.1)))
 
 mapped_alike : (f g : Key → Triple) (keys : List Key) → ((k : Key) → has key_cmp k keys ≡ true → f k ≡ g k) → mapped f keys ≡ mapped g keys
 mapped_alike f g [] h = refl
@@ -125,12 +125,12 @@ module _ (st : Store) (r : Texts) (now : Store) (s : Texts) (had keys : List Key
       let m = triple_at now.pool s in
       same_test (has triple_cmp t (meant now s in_order)) (has triple_cmp t done)
       (λ there.
-          let one : (key : Key) × (has key_cmp key in_order ≡ true) × (m key ≡ t) = meant-has m in_order t there in
-          let its : (u : Triple) × HasKey now s one.0 u × (has triple_cmp u done ≡ true) = h.each one.0 (of_keys one.0 one.1) in
-          subst (λ (u : Triple). has triple_cmp u done ≡ true) (sym (tells now.pool s one.0 its.0 its.1.has) ∙ one.2) its.2)
+      let one : (key : Key) × (has key_cmp key in_order ≡ true) × (m key ≡ t) = meant-has m in_order t there in
+      let its : (u : Triple) × HasKey now s one.0 u × (has triple_cmp u done ≡ true) = h.each one.0 (of_keys one.0 one.1) in
+      subst (λ (u : Triple). has triple_cmp u done ≡ true) (sym (tells now.pool s one.0 its.0 its.1.has) ∙ one.2) its.2)
       (λ there.
-          let one : (key : Key) × HasKey now s key t × (has key_cmp key keys ≡ true) = h.all t there in
-          subst (λ (u : Triple). has triple_cmp u (meant now s in_order) ≡ true) (tells now.pool s one.0 t one.1.has) (has-meant m in_order one.0 (has-sorted key_cmp-total one.0 keys ∙ one.2)))
+      let one : (key : Key) × HasKey now s key t × (has key_cmp key keys ≡ true) = h.all t there in
+      subst (λ (u : Triple). has triple_cmp u (meant now s in_order) ≡ true) (tells now.pool s one.0 t one.1.has) (has-meant m in_order one.0 (has-sorted key_cmp-total one.0 keys ∙ one.2)))
 
   module _ (new : Store) (u : Texts) where
     -- what keeps its owners keeps its key

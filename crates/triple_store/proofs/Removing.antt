@@ -121,9 +121,9 @@ one_removed st r now s new u keys key stored h is all fresh after low keeps othe
     let some = counted_key now s h.stored key t one.there in
     let same : triple_at now.pool s key ≡ t = tells now.pool s key t one.there.has in
     let less : (q : Triple) → count_of (counts_in new u) q ≡ count_of (counts_in now s) q - one_if (same_triple q t) = λ q.
-        ap (λ c. count_of c q) (low ∙ ap (lowered (counts_in now s)) same) ∙ count_of-lowered (counts_in now s) t q in
+    ap (λ c. count_of c q) (low ∙ ap (lowered (counts_in now s)) same) ∙ count_of-lowered (counts_in now s) t q in
     let is_it : (q : Triple) → same_triple q t ≡ true → (has triple_cmp q (meant st r keys) ≡ false) × (0 < count_of (counts_in now s) q) = λ q e.
-        subst (λ (x : Triple). (has triple_cmp x (meant st r keys) ≡ false) × (0 < count_of (counts_in now s) x)) (sym (triple_cmp-IsAntisymmetric q t (equal _ e))) (one.out, some) in
+    subst (λ (x : Triple). (has triple_cmp x (meant st r keys) ≡ false) × (0 < count_of (counts_in now s) x)) (sym (triple_cmp-IsAntisymmetric q t (equal _ e))) (one.out, some) in
     record {
       stored = after;
       counts = λ q. ap (λ b. count_of (counts_in new u) q + one_if b) (has-meant_more m keys key q) ∙ one_less (count_of (counts_in now s) q) _ _ _ (same_triple q t) (is_it q) (h.counts q) (less q);

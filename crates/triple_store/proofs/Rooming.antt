@@ -57,7 +57,7 @@ pub no_room : (st : Store) (r : Texts) (now : Store) (s : Texts) (had keys : Lis
 no_room st r now s had keys new i t h among full =
     let all = map.keys (counts_in st r) ++ new in
     let within : (u : Triple) → has triple_cmp u (map.keys (counts_in st r) ++ take i new) ≡ true → has triple_cmp u all ≡ true = λ u e.
-        has-append triple_cmp u (map.keys (counts_in st r)) new ∙ ⊎_elim (λ a. or_left _ _ a) (λ b. or_true _ _ (in_take triple_cmp-total u i new b)) (one_of (has triple_cmp u (map.keys (counts_in st r))) (has triple_cmp u (take i new)) (sym (has-append triple_cmp u (map.keys (counts_in st r)) (take i new)) ∙ e)) in
+    has-append triple_cmp u (map.keys (counts_in st r)) new ∙ ⊎_elim (λ a. or_left _ _ a) (λ b. or_true _ _ (in_take triple_cmp-total u i new b)) (one_of (has triple_cmp u (map.keys (counts_in st r))) (has triple_cmp u (take i new)) (sym (has-append triple_cmp u (map.keys (counts_in st r)) (take i new)) ∙ e)) in
     let f = full (flat_map terms_of all) (record { each = λ u there. terms_among all u (within u (stored_then st r now s had keys (take i new) h u there)) }) (terms_among all t (has-append triple_cmp t (map.keys (counts_in st r)) new ∙ or_true _ _ among)) in
     subst (λ n. n < room_for (counts_in st r) new) h.limit f
 

@@ -91,9 +91,9 @@ in_slot p r key t h x there =
     ⊎_elim
     (λ a. (key.first, h.subject ∙ ap (λ y. Some (term_text y)) (is t.subject a)))
     (λ rest. ⊎_elim
-        (λ b. (key.second, h.predicate ∙ ap (λ y. Some (term_text y)) (is t.predicate b)))
-        (λ c. (key.third, h.object ∙ ap (λ y. Some (term_text y)) (is t.object (sym (or_none (eq_by_cmp term_cmp x t.object)) ∙ c))))
-        (one_of (eq_by_cmp term_cmp x t.predicate) (eq_by_cmp term_cmp x t.object || false) rest))
+    (λ b. (key.second, h.predicate ∙ ap (λ y. Some (term_text y)) (is t.predicate b)))
+    (λ c. (key.third, h.object ∙ ap (λ y. Some (term_text y)) (is t.object (sym (or_none (eq_by_cmp term_cmp x t.object)) ∙ c))))
+    (one_of (eq_by_cmp term_cmp x t.predicate) (eq_by_cmp term_cmp x t.object || false) rest))
     (one_of (eq_by_cmp term_cmp x t.subject) (eq_by_cmp term_cmp x t.predicate || (eq_by_cmp term_cmp x t.object || false)) there)
 
 -- where all that came is stored, there is room for it beside what was stored
@@ -101,11 +101,11 @@ pub room_within : (st : Store) (r : Texts) (now : Store) (s : Texts) (had keys :
 room_within st r now s had keys triples stored h =
     let before = map.keys (counts_in st r) in
     let each : (t : Term) → has term_cmp t (flat_map terms_of (before ++ triples)) ≡ true → (slot : ℕ) × (text_at now.pool s slot ≡ Some (term_text t)) = λ t there.
-        let one : (u : Triple) × (has triple_cmp u (before ++ triples) ≡ true) × (has term_cmp t (terms_of u) ≡ true) = term_of (before ++ triples) t there in
-        ⊎_elim
-        (λ was. let key : (k : Key) × HasKey st r k one.0 = key_stored st r stored one.0 (map.contains_key-keys (counts_in st r) one.0 ∙ was) in in_slot now.pool s key.0 one.0 (h.kept key.0 one.0 key.1).has t one.2)
-        (λ came. let key : (k : Key) × HasKey now s k one.0 × (has key_cmp k keys ≡ true) = h.all one.0 came in in_slot now.pool s key.0 one.0 key.1.has t one.2)
-        (one_of (has triple_cmp one.0 before) (has triple_cmp one.0 triples) (sym (has-append triple_cmp one.0 before triples) ∙ one.1)) in
+    let one : (u : Triple) × (has triple_cmp u (before ++ triples) ≡ true) × (has term_cmp t (terms_of u) ≡ true) = term_of (before ++ triples) t there in
+    ⊎_elim
+    (λ was. let key : (k : Key) × HasKey st r k one.0 = key_stored st r stored one.0 (map.contains_key-keys (counts_in st r) one.0 ∙ was) in in_slot now.pool s key.0 one.0 (h.kept key.0 one.0 key.1).has t one.2)
+    (λ came. let key : (k : Key) × HasKey now s k one.0 × (has key_cmp k keys ≡ true) = h.all one.0 came in in_slot now.pool s key.0 one.0 key.1.has t one.2)
+    (one_of (has triple_cmp one.0 before) (has triple_cmp one.0 triples) (sym (has-append triple_cmp one.0 before triples) ∙ one.1)) in
     omega (arith, no_more now.pool s (flat_map terms_of (before ++ triples)) each, h.stored.lies.few, h.limit)
 
 -- a used slot is at a place of a triple
@@ -128,12 +128,12 @@ its_term p r key t slot text h some at =
     ⊎_elim
     (λ a. subst (λ (x : Term). has term_cmp x (terms_of t) ≡ true) (sym (read_back p r key.first slot text t.subject a h.subject at)) (has_itself term_cmp-total t.subject (t.predicate ∷ t.object ∷ [])))
     (λ na. ⊎_elim
-        (λ b. subst (λ (x : Term). has term_cmp x (terms_of t) ≡ true) (sym (read_back p r key.second slot text t.predicate b h.predicate at)) (or_true (eq_by_cmp term_cmp t.predicate t.subject) _ (has_itself term_cmp-total t.predicate (t.object ∷ []))))
-        (λ nb. ⊎_elim
-            (λ c. subst (λ (x : Term). has term_cmp x (terms_of t) ≡ true) (sym (read_back p r key.third slot text t.object c h.object at)) (or_true (eq_by_cmp term_cmp t.object t.subject) _ (or_true (eq_by_cmp term_cmp t.object t.predicate) _ (has_itself term_cmp-total t.object []))))
-            (λ nc. absurd (omega (arith, some, if_other key.first slot na, if_other key.second slot nb, if_other key.third slot nc)))
-            (cases_eq key.third slot))
-        (cases_eq key.second slot))
+    (λ b. subst (λ (x : Term). has term_cmp x (terms_of t) ≡ true) (sym (read_back p r key.second slot text t.predicate b h.predicate at)) (or_true (eq_by_cmp term_cmp t.predicate t.subject) _ (has_itself term_cmp-total t.predicate (t.object ∷ []))))
+    (λ nb. ⊎_elim
+    (λ c. subst (λ (x : Term). has term_cmp x (terms_of t) ≡ true) (sym (read_back p r key.third slot text t.object c h.object at)) (or_true (eq_by_cmp term_cmp t.object t.subject) _ (or_true (eq_by_cmp term_cmp t.object t.predicate) _ (has_itself term_cmp-total t.object []))))
+    (λ nc. absurd (omega (arith, some, if_other key.first slot na, if_other key.second slot nb, if_other key.third slot nc)))
+    (cases_eq key.third slot))
+    (cases_eq key.second slot))
     (cases_eq key.first slot)
 
 has_terms : (st : Store) (r : Texts) → IsStored st r → HasTermsOf st.pool r (flat_map terms_of (map.keys (counts_in st r) ++ []))
@@ -143,7 +143,7 @@ has_terms st r h = record {
       let keys = map.keys st.index in
       let one : (key : Key) × (has key_cmp key keys ≡ true) × (0 < uses slot key) = used_key keys slot (omega (arith, h.counted slot, used_at st.pool r h.lies slot text at)) in
       let stored : has triple_cmp (m one.0) (map.keys (counts_in st r) ++ []) ≡ true =
-          has-append triple_cmp (m one.0) (map.keys (counts_in st r)) [] ∙ or_left _ false (sym (map.contains_key-keys (counts_in st r) (m one.0)) ∙ contains-image m st.index (m one.0) ∙ has-meant m keys one.0 one.1) in
+      has-append triple_cmp (m one.0) (map.keys (counts_in st r)) [] ∙ or_left _ false (sym (map.contains_key-keys (counts_in st r) (m one.0)) ∙ contains-image m st.index (m one.0) ∙ has-meant m keys one.0 one.1) in
       (terms_among (map.keys (counts_in st r) ++ []) (m one.0) stored).each (undo text) (its_term st.pool r one.0 (m one.0) slot text (stored_key st r h one.0 (map.contains_key-keys st.index one.0 ∙ one.1)).has one.2 at);
 }
 
@@ -152,7 +152,7 @@ pub terms_counted : (st : Store) (r : Texts) → IsStored st r → terms st.pool
 terms_counted st r h =
     let all = map.keys (counts_in st r) ++ [] in
     let each : (t : Term) → has term_cmp t (flat_map terms_of all) ≡ true → (slot : ℕ) × (text_at st.pool r slot ≡ Some (term_text t)) = λ t there.
-        let one : (u : Triple) × (has triple_cmp u all ≡ true) × (has term_cmp t (terms_of u) ≡ true) = term_of all t there in
-        let key : (k : Key) × HasKey st r k one.0 = key_stored st r h one.0 (map.contains_key-keys (counts_in st r) one.0 ∙ sym (or_none (has triple_cmp one.0 (map.keys (counts_in st r)))) ∙ sym (has-append triple_cmp one.0 (map.keys (counts_in st r)) []) ∙ one.1) in
-        in_slot st.pool r key.0 one.0 key.1.has t one.2 in
+    let one : (u : Triple) × (has triple_cmp u all ≡ true) × (has term_cmp t (terms_of u) ≡ true) = term_of all t there in
+    let key : (k : Key) × HasKey st r k one.0 = key_stored st r h one.0 (map.contains_key-keys (counts_in st r) one.0 ∙ sym (or_none (has triple_cmp one.0 (map.keys (counts_in st r)))) ∙ sym (has-append triple_cmp one.0 (map.keys (counts_in st r)) []) ∙ one.1) in
+    in_slot st.pool r key.0 one.0 key.1.has t one.2 in
     omega (arith, as_many st.pool r (flat_map terms_of all) h.lies (has_terms st r h), no_more st.pool r (flat_map terms_of all) each)

@@ -86,17 +86,17 @@ module _ (st : Store) (r : Texts) (now : Store) (s : Texts) (had keys : List Key
       let same : (u : Triple) → HasKey now s key u → u ≡ t = λ u k. sym (tells now.pool s key u k.has) ∙ tells now.pool s key t is in
       ⊎_elim
       (λ old.
-          let k = had_key key old in
-          record {
-            its = record { stored = k.stored; has = is };
-            known = inr (subst (λ (u : Triple). has triple_cmp u (meant st r had) ≡ true) (same (triple_at st.pool r key) k) (has-meant (triple_at st.pool r) had key old));
-          })
+      let k = had_key key old in
+      record {
+        its = record { stored = k.stored; has = is };
+        known = inr (subst (λ (u : Triple). has triple_cmp u (meant st r had) ≡ true) (same (triple_at st.pool r key) k) (has-meant (triple_at st.pool r) had key old));
+      })
       (λ new.
-          let k : (u : Triple) × HasKey now s key u × (has triple_cmp u done ≡ true) = h.each key new in
-          record {
-            its = record { stored = k.1.stored; has = is };
-            known = inl (subst (λ (u : Triple). has triple_cmp u done ≡ true) (same k.0 k.1) k.2);
-          })
+      let k : (u : Triple) × HasKey now s key u × (has triple_cmp u done ≡ true) = h.each key new in
+      record {
+        its = record { stored = k.1.stored; has = is };
+        known = inl (subst (λ (u : Triple). has triple_cmp u done ≡ true) (same k.0 k.1) k.2);
+      })
       (one_of (has key_cmp key had) (has key_cmp key keys) (sym (has-append key_cmp key had keys) ∙ there))
 
   -- with one key more, after which each key stands for what it stood for
@@ -105,8 +105,8 @@ module _ (st : Store) (r : Texts) (now : Store) (s : Texts) (had keys : List Key
     each_more k there =
         ⊎_elim
         (λ old.
-            let was : (v : Triple) × HasKey now s k v × (has triple_cmp v done ≡ true) = h.each k old in
-            (was.0, later k was.0 was.1, has-push triple_cmp was.0 done t ∙ or_left _ _ was.2))
+        let was : (v : Triple) × HasKey now s k v × (has triple_cmp v done ≡ true) = h.each k old in
+        (was.0, later k was.0 was.1, has-push triple_cmp was.0 done t ∙ or_left _ _ was.2))
         (λ same. (t, subst (λ (x : Key). HasKey new u x t) (sym (key_cmp-IsAntisymmetric k key (equal _ same))) one, has-push triple_cmp t done t ∙ or_true (has triple_cmp t done) _ (itself triple_cmp-total t)))
         (one_of (has key_cmp k keys) (same_key k key) (sym (has-push key_cmp k keys key) ∙ there))
 
@@ -114,8 +114,8 @@ module _ (st : Store) (r : Texts) (now : Store) (s : Texts) (had keys : List Key
     all_more v there =
         ⊎_elim
         (λ old.
-            let was : (k : Key) × HasKey now s k v × (has key_cmp k keys ≡ true) = h.all v old in
-            (was.0, later was.0 v was.1, has-push key_cmp was.0 keys key ∙ or_left _ _ was.2))
+        let was : (k : Key) × HasKey now s k v × (has key_cmp k keys ≡ true) = h.all v old in
+        (was.0, later was.0 v was.1, has-push key_cmp was.0 keys key ∙ or_left _ _ was.2))
         (λ same. (key, subst (HasKey new u key) (sym (triple_cmp-IsAntisymmetric v t (equal _ same))) one, has-push key_cmp key keys key ∙ or_true (has key_cmp key keys) _ (itself key_cmp-total key)))
         (one_of (has triple_cmp v done) (same_triple v t) (sym (has-push triple_cmp v done t) ∙ there))
 

@@ -122,7 +122,11 @@ impl Store {
         if old.binary_search(&key).is_ok() {
             return Some(key);
         }
-        if added.contains(&key) { Some(key) } else { None }
+        if added.contains(&key) {
+            Some(key)
+        } else {
+            None
+        }
     }
 }
 
