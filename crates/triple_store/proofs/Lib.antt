@@ -5,3 +5,4 @@ pub mod Keyed
 pub mod Live
 pub mod Mapped
 pub mod Owners
+pub mod Storing

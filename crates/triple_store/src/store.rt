@@ -8,7 +8,7 @@ use term_pool::Pool;
 /// three slots of it. The terms' texts lie in a region that each call is given, where the caller may have texts of its own.
 #[derive(Drop)]
 pub struct Store {
-    alloc: Global,
-    pool: Pool,
-    index: SlotIndex,
+    pub(crate) alloc: Global,
+    pub(crate) pool: Pool,
+    pub(crate) index: SlotIndex,
 }
