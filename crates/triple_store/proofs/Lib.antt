@@ -12,4 +12,5 @@ pub mod Rooming
 pub mod Rows
 pub mod Standing
 pub mod Stocked
+pub mod Storing
 pub mod Taking

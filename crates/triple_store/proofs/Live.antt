@@ -115,7 +115,7 @@ module _ (p : Pool) (r : Texts) (c : KeyCounts) (lies : LiesIn p r) (live : AreL
   pub image_absent : (t : Triple) → ((k : Key) → HasTriple p r k t → ⊥) → map.get (image (triple_at p r) c) t ≡ None
   image_absent t none = image_none t (λ k there is. none k (subst (HasTriple p r k) is (live.live k there)))
 
-get-counted : (c : KeyCounts) (k : Key) (n : ℕ) (q : Key) → map.get (keyed.with_count c k n) q ≡ cond (same_key q k) (kept n) (map.get c q)
+pub get-counted : (c : KeyCounts) (k : Key) (n : ℕ) (q : Key) → map.get (keyed.with_count c k n) q ≡ cond (same_key q k) (kept n) (map.get c q)
 get-counted c k zero q = map.get-remove key_cmp-total c k q
 get-counted c k (suc n) q = map.get-insert key_cmp-total c k (suc n) q
 

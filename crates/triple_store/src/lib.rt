@@ -2,16 +2,17 @@
 //!
 //! `store` has the store, over a pool of terms and an index of triples of slots, and `fault` why it takes no triples.
 //! `exchanging` puts the triples of one owner in the place of others, and `releasing` takes them away, triple by triple
-//! with `steps`, over `holding`.
+//! with `changing`, over `holding`. `room` says how many terms there are.
 #![tactic(auto)]
 
+mod changing;
 mod exchanging;
 mod fault;
 mod holding;
 mod releasing;
 mod room;
-mod steps;
 mod store;
+mod uncounted;
 
 pub use fault::StoreFault;
 pub use store::Store;

@@ -1,6 +1,6 @@
-// One triple more or less.
+// One owner of a triple more or less.
 
-ghost use Rattle.std.specs.Prelude.{◌≡◌, ◌<◌, true, List, Err, IfSome, IfNone, IfOk, OnOk, OnErr};
+ghost use Rattle.std.specs.Prelude.{◌≡◌, ◌<◌, true, Err, IfNone, IfOk, IfSome, List, OnErr, OnOk};
 ghost use Rattle.rdf_term.specs.declared.term.Term.{Term};
 ghost use Rattle.rdf_term.specs.declared.triple.Triple.{Triple};
 ghost use Rattle.text_region.specs.declared.piece.Piece.{Piece as ThePiece};
@@ -11,8 +11,11 @@ ghost use Rattle.triple_store.specs.Slots.{HasCanonicalTexts, HasTermsIn, HasTex
 ghost use Rattle.triple_store.specs.Stored.{HasKey, IsStored, KeepsKeys, beside, counts_in, is_key, limit_of};
 
 use crate::fault::StoreFault;
+use crate::holding::{hold, let_go};
 use crate::store::Store;
+use crate::uncounted::{lower, raise};
 use slot_index::Key;
+use term_pool::PoolFault;
 use text_region::Region;
 use triple_texts::TripleText;
 
@@ -23,7 +26,14 @@ impl Store {
         ensures found { IfSome result (λ key. HasTexts self.now.pool region.now key texts.now) }
         ensures nowhere { IfNone result ((key : TheKey) → HasTexts self.now.pool region.now key texts.now → ⊥) }
     {
-        None
+        let subject = self.pool.find_text(region, texts.subject)?;
+        let predicate = self.pool.find_text(region, texts.predicate)?;
+        let object = self.pool.find_text(region, texts.object)?;
+        Some(Key {
+            first: subject.number,
+            second: predicate.number,
+            third: object.number,
+        })
     }
 
     // Counts one owner more of the triple with these texts, which is taken in where it isn't stored. After a fault every
@@ -45,7 +55,23 @@ impl Store {
         ensures beside { (piece : ThePiece) → beside self.new region.new piece ≡ beside self.old region.old piece }
         ensures limit { limit_of self.new ≡ limit_of self.old }
     {
-        Err(StoreFault::OutOfMemory)
+        let _stored = self.index.len();
+        let key = match hold(&mut self.pool, region, texts) {
+            Ok(key) => key,
+            Err(PoolFault::Full) => return Err(StoreFault::Full),
+            Err(PoolFault::OutOfMemory) => return Err(StoreFault::OutOfMemory),
+        };
+        match raise(&mut self.index, key) {
+            Ok(true) => Ok(key),
+            Ok(false) => {
+                let_go(&mut self.pool, region, key);
+                Ok(key)
+            }
+            Err(_) => {
+                let_go(&mut self.pool, region, key);
+                Err(StoreFault::OutOfMemory)
+            }
+        }
     }
 
     // Counts one owner less of a stored triple, which goes with its last owner. Takes no memory.
@@ -58,6 +84,8 @@ impl Store {
         ensures beside { (piece : ThePiece) → beside self.new region.new piece ≡ beside self.old region.old piece }
         ensures limit { limit_of self.new ≡ limit_of self.old }
     {
-        let _ = key;
+        if lower(&mut self.index, key) {
+            let_go(&mut self.pool, region, key);
+        }
     }
 }
