@@ -1,5 +1,5 @@
 -- Keys of a rising list whose triples lose an owner, one by one.
-use Rattle.std.proofs.Common.{◌≡◌, ◌≢◌, ℕ, zero, suc, ◌+◌, ◌-◌, ◌<◌, Bool, true, false, not, cond, ◌||◌, ◌&&◌, List, [], ◌∷◌, ◌++◌, length, take, get_or, is_eq, Ordering, Less, refl, sym, ◌∙◌, ap, subst, arith, append-nil, true≢false}
+use Rattle.std.proofs.Common.{◌≡◌, ℕ, zero, suc, ◌+◌, ◌-◌, ◌<◌, Bool, true, false, not, cond, ◌||◌, ◌&&◌, List, [], ◌∷◌, ◌++◌, length, take, get_or, is_eq, Ordering, Less, refl, sym, ◌∙◌, ap, subst, arith, append-nil, true≢false}
 use Rattle.std.specs.Prelude.{map as mapped}
 use Rattle.std.specs.Cmp.{IsTotalOrder}
 use Rattle.std.specs.Ordering.{eq_by_cmp}
@@ -10,16 +10,16 @@ use Rattle.rising.proofs.Bools.{and_none, and_right, clash, equal, or_false, or_
 use Rattle.rising.proofs.Filtering.{has-difference}
 use Rattle.rising.proofs.Rising.{has_itself, turned}
 use Rattle.rdf_term.specs.declared.triple.Triple.{Triple}
-use Rattle.rdf_term.specs.Order.{triple_cmp, triple_cmp-total}
+use Rattle.rdf_term.specs.Order.{triple_cmp}
 use Rattle.rdf_term.proofs.Texts.{triple_cmp-IsAntisymmetric}
 use Rattle.text_region.specs.declared.piece.Piece.{Piece}
 use Rattle.text_region.specs.Region.{Texts}
 use Rattle.term_pool.specs.Pool.{one_if}
 use Rattle.slot_index.specs.declared.key.Key.{Key}
-use Rattle.slot_index.specs.Keys.{key_cmp, key_cmp-total, key_cmp-IsAntisymmetric}
+use Rattle.slot_index.specs.Keys.{key_cmp, key_cmp-total}
 use Rattle.triple_store.specs.declared.store.Store.{Store}
 use Rattle.triple_store.specs.Counts.{count_of, lowered}
-use Rattle.triple_store.specs.Slots.{HasTriple, triple_at}
+use Rattle.triple_store.specs.Slots.{triple_at}
 use Rattle.triple_store.specs.Stored.{HasKey, IsStored, KeepsKeys, beside, counts_in, is_key, limit_of}
 use Rattle.triple_store.specs.Moves.{Removes, meant}
 use Rattle.triple_store.proofs.Owners.{same_triple, count_of-lowered}

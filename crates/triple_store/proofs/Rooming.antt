@@ -1,5 +1,5 @@
 -- The terms that a store needs room for.
-use Rattle.std.proofs.Common.{◌≡◌, ℕ, ◌+◌, ◌<◌, Bool, true, false, not, ◌||◌, ◌&&◌, ◌⊎◌, inl, inr, ⊎_elim, List, [], ◌∷◌, ◌++◌, take, Err, Result, refl, sym, ◌∙◌, ap, subst, arith, true≢false}
+use Rattle.std.proofs.Common.{◌≡◌, ℕ, ◌+◌, ◌<◌, Bool, true, false, not, ◌&&◌, ◌⊎◌, ⊎_elim, List, [], ◌∷◌, ◌++◌, take, Err, Result, refl, sym, ◌∙◌, ap, subst, arith, true≢false}
 use Rattle.std.specs.List.{flat_map}
 use Rattle.std.specs.FinMap as map
 use Rattle.rising.specs.Rising.{has}
@@ -15,10 +15,10 @@ use Rattle.slot_index.specs.declared.key.Key.{Key}
 use Rattle.triple_store.specs.declared.store.Store.{Store}
 use Rattle.triple_store.specs.declared.fault.StoreFault.{StoreFault}
 use Rattle.triple_store.specs.declared.fault.StoreFault.TheVariants.{Full}
-use Rattle.triple_store.specs.Counts.{Counts, HaveOwners, count_of}
+use Rattle.triple_store.specs.Counts.{count_of}
 use Rattle.triple_store.specs.Room.{distinct, room_for, terms_of}
 use Rattle.triple_store.specs.Slots.{HasTermsIn, IsAllOf}
-use Rattle.triple_store.specs.Stored.{IsStored, counts_in, limit_of}
+use Rattle.triple_store.specs.Stored.{counts_in, limit_of}
 use Rattle.triple_store.specs.Moves.{Takes, meant}
 use Rattle.triple_store.proofs.Owners.{same_triple}
 use Rattle.triple_store.proofs.Removing.{in_take}

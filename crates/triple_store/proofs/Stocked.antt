@@ -1,5 +1,5 @@
 -- The terms of the stored triples are those in the slots.
-use Rattle.std.proofs.Common.{◌≡◌, ◌≢◌, ℕ, zero, suc, ◌+◌, ◌<◌, ◌≤◌, ◌==◌, Bool, true, false, ◌||◌, cond, ◌⊎◌, inl, inr, ⊎_elim, List, [], ◌∷◌, ◌++◌, length, get_or, Option, Some, None, is_some, count_by, Ordering, Less, Equal, Greater, is_eq, refl, sym, ◌∙◌, ap, subst, arith, true≢false}
+use Rattle.std.proofs.Common.{◌≡◌, ℕ, zero, suc, ◌+◌, ◌<◌, ◌≤◌, true, false, ◌||◌, cond, ⊎_elim, List, [], ◌∷◌, ◌++◌, length, get_or, Option, Some, None, is_some, count_by, Ordering, Less, Equal, Greater, is_eq, refl, sym, ◌∙◌, ap, subst, arith, true≢false}
 use Rattle.std.specs.BTreeSet.{insert_key}
 use Rattle.std.specs.FinMap as map
 use Rattle.std.specs.List.{flat_map}
@@ -19,12 +19,11 @@ use Rattle.rdf_term.proofs.Texts.{term_cmp-IsAntisymmetric, undo-term_text}
 use Rattle.text_region.specs.Region.{Texts, bytes_of}
 use Rattle.term_pool.specs.declared.slots.Entry.{Entry}
 use Rattle.term_pool.specs.declared.pool.Pool.{Pool}
-use Rattle.term_pool.specs.Pool.{LiesIn, count_at, one_if, terms, text_at, text_of}
+use Rattle.term_pool.specs.Pool.{terms, text_at, text_of}
 use Rattle.term_pool.proofs.Lying.{if_other, used_at}
 use Rattle.slot_index.specs.declared.key.Key.{Key}
 use Rattle.slot_index.specs.Keys.{key_cmp, key_cmp-total, same_key}
 use Rattle.triple_store.specs.declared.store.Store.{Store}
-use Rattle.triple_store.specs.Counts.{Counts}
 use Rattle.triple_store.specs.Holding.{HasTermsOf}
 use Rattle.triple_store.specs.Moves.{Takes}
 use Rattle.triple_store.specs.Room.{distinct, room_for, terms_of}

@@ -1,4 +1,3 @@
-use Rattle.std.proofs.Common.{take, vec_len}
 use Rattle.rising.proofs.Rising.{IsRising-sorted}
 use Rattle.slot_index.specs.Keys.{key_cmp-total}
 use Rattle.triple_store.proofs.Exchanged.{are_keys, exchanged, had_there, keeps, keys_there, undone_counts}
