@@ -37,7 +37,7 @@ module _ {K X : Type 0} (R : K → K → Ordering) where
   above_keys k [] h = tt
   above_keys k (e ∷ es) h = (less _ (and_first _ _ h), above_keys k es (and_second _ _ h))
 
-  rising_keys : (es : List (K × X)) → T (is_sorted R es) → IsRising R (mapped (λ e. e.0) es)
+  pub rising_keys : (es : List (K × X)) → T (is_sorted R es) → IsRising R (mapped (λ e. e.0) es)
   rising_keys [] h = tt
   rising_keys (e ∷ es) h = (above_keys e.0 es (and_first _ _ h), rising_keys es (and_second _ _ h))
 
