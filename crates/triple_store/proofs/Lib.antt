@@ -5,4 +5,5 @@ pub mod Keyed
 pub mod Live
 pub mod Mapped
 pub mod Owners
+pub mod Standing
 pub mod Storing
