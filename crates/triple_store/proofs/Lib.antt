@@ -4,6 +4,7 @@ pub mod Imaged
 pub mod Keyed
 pub mod Live
 pub mod Mapped
+pub mod Matched
 pub mod Owners
 pub mod Standing
 pub mod Storing

@@ -6,6 +6,7 @@
 mod changing;
 mod fault;
 mod holding;
+mod matching;
 mod store;
 mod uncounted;
 
