@@ -1,19 +1,21 @@
 // The stored triples that agree with a pattern.
 
-ghost use Rattle.std.specs.Prelude.{◌≡◌, ◌<◌, ℕ, true, map as mapped, IfOk};
+ghost use Rattle.std.specs.Prelude.{◌≡◌, ◌<◌, ℕ, true, map as mapped, Some, IfNone, IfOk, IfSome};
 ghost use Rattle.std.specs.FinMap as map;
 ghost use Rattle.rising.specs.Rising.{has};
 ghost use Rattle.rdf_term.specs.Pattern.{agrees, agrees_at, rows};
+ghost use Rattle.rdf_term.specs.Text.{term_text};
 ghost use Rattle.rdf_term.specs.Undo.{undo};
-ghost use Rattle.term_pool.specs.Pool.{IsCanonical, LiesIn, count_at, text_at};
+ghost use Rattle.term_pool.specs.Pool.{IsCanonical, IsNowhere, LiesIn, count_at, text_at};
 ghost use Rattle.slot_index.specs.declared.key.Key.{Key as TheKey};
 ghost use Rattle.slot_index.specs.Keys.{key_cmp};
+ghost use Rattle.triple_store.specs.Counts.{count_of};
 ghost use Rattle.triple_store.specs.Matching.{key_agrees, slot_agrees};
-ghost use Rattle.triple_store.specs.Slots.{term_in, triple_at};
+ghost use Rattle.triple_store.specs.Slots.{HasTriple, term_in, triple_at};
 ghost use Rattle.triple_store.specs.Stored.{IsStored, counts_in, is_key};
 
 use crate::store::Store;
-use crate::uncounted::range;
+use crate::uncounted::{count, range};
 use rdf_term::{List, OutOfMemory, Pattern, Term, Triple, TripleSet, read_term, write_term};
 use slot_index::{Key, SlotPattern};
 use std::alloc::Global;
@@ -49,6 +51,40 @@ impl Store {
         let found = self.triples_of(region, keys.as_slice())?;
         let set = TripleSet::from_list(found)?;
         Ok(set)
+    }
+
+    /// How many entities own the triple. The texts of its terms are written in memory of their own; then it is three
+    /// look-ups and one search in one index.
+    pub fn count(&self, region: &Region, triple: &Triple) -> Result<u64, OutOfMemory>
+        requires { IsStored self.now region.now }
+        ensures { IfOk result (λ count. count ≡ count_of (counts_in self.now region.now) triple.now) }
+    {
+        match self.key_of(region, triple)? {
+            Some(key) => Ok(count(&self.index, key)),
+            None => Ok(0),
+        }
+    }
+
+    // The triple of slots of a triple, where each of its terms is in one.
+    fn key_of(&self, region: &Region, triple: &Triple) -> Result<Option<Key>, OutOfMemory>
+        requires { IsStored self.now region.now }
+        ensures found { IfOk result (λ found. IfSome found (λ key. HasTriple self.now.pool region.now key triple.now)) }
+        ensures nowhere { IfOk result (λ found. IfNone found ((key : TheKey) → HasTriple self.now.pool region.now key triple.now → ⊥)) }
+    {
+        let Some(first) = find_term(self.alloc, &self.pool, region, &triple.subject)? else {
+            return Ok(None);
+        };
+        let Some(second) = find_term(self.alloc, &self.pool, region, &triple.predicate)? else {
+            return Ok(None);
+        };
+        let Some(third) = find_term(self.alloc, &self.pool, region, &triple.object)? else {
+            return Ok(None);
+        };
+        Ok(Some(Key {
+            first: first.number,
+            second: second.number,
+            third: third.number,
+        }))
     }
 
     // The pattern of slots; `None` where a wanted term is in none.
@@ -116,12 +152,27 @@ fn slot_of(
     let Some(term) = wanted else {
         return Ok(Some(None));
     };
-    let mut text = Vec::new(alloc);
-    write_term(term, &mut text)?;
-    match pool.find_text(region, text.as_slice()) {
+    match find_term(alloc, pool, region, term)? {
         Some(slot) => Ok(Some(Some(slot.number))),
         None => Ok(None),
     }
+}
+
+// The slot of a term, where it is in one. Its text is written for that.
+fn find_term(
+    alloc: Global,
+    pool: &Pool,
+    region: &Region,
+    term: &Term,
+) -> Result<Option<Slot>, OutOfMemory>
+    requires { LiesIn pool.now region.now }
+    ensures found { IfOk result (λ found. IfSome found (λ slot. text_at pool.now region.now slot.number ≡ Some (term_text term.now))) }
+    ensures nowhere { IfOk result (λ found. IfNone found (IsNowhere pool.now region.now (term_text term.now))) }
+{
+    let mut text = Vec::new(alloc);
+    write_term(term, &mut text)?;
+    let found = pool.find_text(region, text.as_slice());
+    Ok(found)
 }
 
 // The term in a slot.
