@@ -80,14 +80,14 @@ matched p r c pattern w found alike is =
     let m = triple_at p r in
     same_rising triple_cmp-total triple_cmp-IsAntisymmetric _ _ (IsRising-sorted triple_cmp-total (mapped m found)) (IsRising-filter triple_cmp (agrees pattern) _ (keys_rising (image m c)))
     (λ q.
-        has-sorted triple_cmp-total q (mapped m found)
-        ∙ has_counted triple_cmp q (mapped m found)
-        ∙ ap (nat_lt 0) (count-map m (same_triple q) found ∙ is (λ k. same_triple q (m k))
-        ∙ count_same (λ k. slots_agree w k && same_triple q (m k)) (λ k. agrees pattern q && same_triple q (m k)) (map.keys c) (λ k there. by k q (same_triple q (m k)) refl (sym (has_key c k) ∙ there)))
-        ∙ count_both (agrees pattern q) (λ k. same_triple q (m k)) (map.keys c)
-        ∙ ap (λ b. agrees pattern q && b) (ap (nat_lt 0) (sym (count-map m (same_triple q) (map.keys c))) ∙ sym (has_counted triple_cmp q (mapped m (map.keys c)))
-        ∙ sym (has-sorted triple_cmp-total q (mapped m (map.keys c))) ∙ ap (has triple_cmp q) (sym (keys_mean p r c)))
-        ∙ sym (has-filter triple_cmp triple_cmp-IsAntisymmetric (agrees pattern) q (map.keys (image m c))))
+    has-sorted triple_cmp-total q (mapped m found)
+    ∙ has_counted triple_cmp q (mapped m found)
+    ∙ ap (nat_lt 0) (count-map m (same_triple q) found ∙ is (λ k. same_triple q (m k))
+    ∙ count_same (λ k. slots_agree w k && same_triple q (m k)) (λ k. agrees pattern q && same_triple q (m k)) (map.keys c) (λ k there. by k q (same_triple q (m k)) refl (sym (has_key c k) ∙ there)))
+    ∙ count_both (agrees pattern q) (λ k. same_triple q (m k)) (map.keys c)
+    ∙ ap (λ b. agrees pattern q && b) (ap (nat_lt 0) (sym (count-map m (same_triple q) (map.keys c))) ∙ sym (has_counted triple_cmp q (mapped m (map.keys c)))
+    ∙ sym (has-sorted triple_cmp-total q (mapped m (map.keys c))) ∙ ap (has triple_cmp q) (sym (keys_mean p r c)))
+    ∙ sym (has-filter triple_cmp triple_cmp-IsAntisymmetric (agrees pattern) q (map.keys (image m c))))
   where
     by : (k : Key) (q : Triple) (b : Bool) → same_triple q (triple_at p r k) ≡ b → map.contains_key c k ≡ true → (slots_agree w k && b) ≡ (agrees pattern q && b)
     by k q true e there = ap (λ b. b && true) (sym (alike k there) ∙ ap (agrees pattern) (sym (triple_cmp-IsAntisymmetric q _ (equal _ e))))
@@ -97,7 +97,7 @@ matched p r c pattern w found alike is =
 pub none_matched : (p : Pool) (r : Texts) (c : KeyCounts) (pattern : Pattern) → ((k : Key) → map.contains_key c k ≡ true → agrees pattern (triple_at p r k) ≡ false) → [] ≡ filter (agrees pattern) (map.keys (image (triple_at p r) c))
 none_matched p r c pattern none = sym (filter_none (map.keys (image (triple_at p r) c)) (λ t there.
     let x = mapped_has key_cmp-total key_cmp-IsAntisymmetric triple_cmp-total triple_cmp-IsAntisymmetric (triple_at p r) t (map.keys c)
-        (sym (has-sorted triple_cmp-total t (mapped (triple_at p r) (map.keys c))) ∙ ap (has triple_cmp t) (sym (keys_mean p r c)) ∙ there) in
+    (sym (has-sorted triple_cmp-total t (mapped (triple_at p r) (map.keys c))) ∙ ap (has triple_cmp t) (sym (keys_mean p r c)) ∙ there) in
     ap (agrees pattern) (sym x.2) ∙ none x.0 (sym (has_key c x.0) ∙ x.1)))
   where
     filter_none : (ts : List Triple) → ((t : Triple) → has triple_cmp t ts ≡ true → agrees pattern t ≡ false) → filter (agrees pattern) ts ≡ []

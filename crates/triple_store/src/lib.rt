@@ -1,6 +1,8 @@
 //! The triples of all entities, each with the number of its owners.
 //!
 //! `store` has the store, over a pool of terms and an index of triples of slots, and `fault` why it takes no triples.
+//! `holding` uses the terms of a triple once more, all or none, and once less, and `uncounted` calls the index where nobody
+//! counts its steps. On these `changing` gives a triple one owner more or less, and `matching` finds triples by a pattern.
 #![tactic(auto)]
 
 mod changing;

@@ -176,12 +176,7 @@ fn find_term(
 }
 
 // The term in a slot.
-fn term_of(
-    alloc: Global,
-    pool: &Pool,
-    region: &Region,
-    number: u32,
-) -> Result<Term, OutOfMemory>
+fn term_of(alloc: Global, pool: &Pool, region: &Region, number: u32) -> Result<Term, OutOfMemory>
     requires lies { LiesIn pool.now region.now }
     requires used { 0 < count_at pool.now number }
     ensures { IfOk result (λ term. term ≡ term_in (text_at pool.now region.now number)) }
