@@ -88,7 +88,8 @@ impl Store {
         let mut added = BTreeSet::new(self.alloc);
         for index in 0..new.len() {
             let texts = new.get(index);
-            if let Some(key) = self.find_held(region, &texts, old, &added) {
+            let near = keys.last().copied();
+            if let Some(key) = self.find_held(region, &texts, near, old, &added) {
                 keys.push_reserved(key);
                 continue;
             }
@@ -104,11 +105,13 @@ impl Store {
         Ok(())
     }
 
-    // The key of the triple with these texts, where it is among the old ones or those that were added.
+    // The key of the triple with these texts, where it is among the old ones or those that were added. A triple near by is tried
+    // first for the subject.
     fn find_held(
         &self,
         region: &Region,
         texts: &TripleText<'_>,
+        near: Option<Key>,
         old: &[Key],
         added: &BTreeSet<Key>,
     ) -> Option<Key>
@@ -118,7 +121,7 @@ impl Store {
         ensures held { IfSome result (λ key. has key_cmp key (old.now ++ added.now.keys) ≡ true) }
         ensures none { IfNone result ((key : TheKey) → HasTexts self.now.pool region.now key texts.now → has key_cmp key (old.now ++ added.now.keys) ≡ false) }
     {
-        let key = self.find_key(region, texts)?;
+        let key = self.find_key(region, texts, near)?;
         if old.binary_search(&key).is_ok() {
             return Some(key);
         }
