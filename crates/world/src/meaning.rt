@@ -8,8 +8,8 @@ ghost use Rattle.rdf_term.specs.Order.{triple_cmp};
 ghost use Rattle.entity_model.specs.Document.{IsSmall};
 ghost use Rattle.world.specs.Meaning.{document_triples};
 
-use crate::store_stub::direct_texts;
 use entity_model::{Document, EntityId};
+use entity_rdf::direct_texts;
 use rdf_term::OutOfMemory;
 use std::alloc::Global;
 use triple_sink::{MappingVersion, Setting};

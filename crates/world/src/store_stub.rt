@@ -3,14 +3,11 @@
 ghost use Rattle.std.specs.Prelude.{◌≡◌, ℕ, List, ◌+◌, ◌<◌, ◌≤◌, true, length, [], None, Some, Ok, Err, IfOk, OnErr, OnOk, IsSome};
 ghost use Rattle.std.specs.List.{AllByRecursion};
 ghost use Rattle.std.specs.FinMap as map;
-ghost use Rattle.rising.specs.Rising.{IsRising, has, sorted};
+ghost use Rattle.rising.specs.Rising.{IsRising, has};
 ghost use Rattle.rdf_term.specs.declared.triple.Triple.{Triple as TheTriple};
 ghost use Rattle.rdf_term.specs.Fit.{HasFitAndShortTerms};
 ghost use Rattle.rdf_term.specs.Order.{triple_cmp};
 ghost use Rattle.rdf_term.specs.Pattern.{rows};
-ghost use Rattle.entity_model.specs.Document.{IsSmall};
-ghost use Rattle.entity_rdf.specs.Dump.{dump};
-ghost use Rattle.munger.specs.Munging.{munge};
 ghost use Rattle.text_region.specs.declared.piece.Piece.{Piece as ThePiece};
 ghost use Rattle.text_region.specs.Region.{Texts, bytes_of};
 ghost use Rattle.slot_index.specs.declared.key.Key.{Key as TheKey};
@@ -20,13 +17,11 @@ ghost use Rattle.triple_store.specs.Room.{room_for};
 ghost use Rattle.triple_store.specs.Stored.{AreKeysOf, Changes, HasKey, IsStored, KeepsKeys, beside, counts_in, is_key, limit_of};
 ghost use Rattle.triple_store.specs.declared.fault.StoreFault.TheVariants.{Full};
 
-use entity_model::{Document, EntityId};
 use rdf_term::{OutOfMemory, Pattern, Triple, TripleSet};
 use slot_index::Key;
 use std::alloc::Global;
 use std::hash::RandomState;
 use text_region::{Piece, Region};
-use triple_sink::Setting;
 use triple_store::{Store, StoreFault};
 use triple_texts::TripleTexts;
 
@@ -146,19 +141,6 @@ pub fn release(store: &mut Store, region: &mut Region, old: &[Key])
     ensures keeps { KeepsKeys store.old region.old store.new region.new }
     ensures beside { (piece : ThePiece) → beside store.new region.new piece ≡ beside store.old region.old piece }
     ensures limit { limit_of store.new ≡ limit_of store.old }
-{
-    unreachable!()
-}
-
-// The texts of a page, until they come with entity_rdf.
-pub fn direct_texts(
-    setting: Setting,
-    id: EntityId,
-    rev: u64,
-    document: &Document,
-) -> Result<TripleTexts, OutOfMemory>
-    ensures value { IfOk result (λ texts. sorted triple_cmp texts ≡ munge id (sorted triple_cmp (dump setting.version id rev document.now))) }
-    ensures fit { IsSmall document.now → IfOk result (AllByRecursion HasFitAndShortTerms) }
 {
     unreachable!()
 }

@@ -1,0 +1,2 @@
+use Rattle.world.proofs.Moving.{kept_put}
+use Rattle.world.proofs.holding.hold.Goals as goal
