@@ -3,6 +3,8 @@ pub mod Fit
 pub mod Moving
 pub mod Owning
 pub mod Pieced
+pub mod Replacing
 mod Room
+pub mod Rooming
 pub mod StoreStub
 pub mod Values

@@ -53,7 +53,7 @@ kept_other kept x n y other = ⊎_elim
     (id_tells y x)
 
 module _ (f k : PieceTexts) where
-  held_same : (h : Option (Held Kept)) → ((p : Piece) → piece_held h ≡ Some p → k p ≡ f p) → held_with k h ≡ held_with f h
+  pub held_same : (h : Option (Held Kept)) → ((p : Piece) → piece_held h ≡ Some p → k p ≡ f p) → held_with k h ≡ held_with f h
   held_same None texts = refl
   held_same (Some h) texts = ap (λ (o : Option Bytes). Some (record { revision = h.revision; content = unwrap_or o [] })) (texts h.content.piece refl)
 
