@@ -6,5 +6,6 @@ pub mod Pieced
 pub mod Replacing
 mod Room
 pub mod Rooming
+pub mod Starting
 pub mod StoreStub
 pub mod Values

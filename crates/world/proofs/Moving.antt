@@ -10,7 +10,9 @@ use Rattle.entity_model.specs.declared.id.EntityId.{EntityId}
 use Rattle.entity_model.specs.EntityId.{entity_cmp, entity_cmp_total, entity_cmp_same}
 use Rattle.entity_state.specs.declared.record.Held.{Held}
 use Rattle.entity_state.specs.declared.record.Record.{Record}
-use Rattle.entity_state.specs.Record.{blank}
+use Rattle.entity_state.specs.Record.{blank, held_revision}
+use Rattle.entity_state.specs.declared.standing.Standing.{Standing}
+use Rattle.entity_state.specs.Standing.{standing_of}
 use Rattle.text_region.specs.declared.piece.Piece.{Piece}
 use Rattle.text_region.specs.Region.{Texts}
 use Rattle.slot_index.specs.declared.key.Key.{Key}
@@ -36,6 +38,22 @@ seen_of f kept x = ap (λ o. unwrap_or o blank) (get-values (record_with f) kept
     by : (found : Option (Record Kept)) → unwrap_or (changed (record_with f) found) blank ≡ record_with f (unwrap_or found blank)
     by None = refl
     by (Some r) = refl
+
+revision_same : (f : PieceTexts) (h : Option (Held Kept)) → held_revision (held_with f h) ≡ held_revision h
+revision_same f None = refl
+revision_same f (Some h) = refl
+
+-- what stands of a record doesn't need the texts
+pub standing_is : (st : Store) (r : Texts) (kept : KeptRecords) (x : EntityId) → standing_of (record_of (seen st r kept) x) ≡ standing_of (kept_of kept x)
+standing_is st r kept x =
+    ap (λ (was : Record Bytes). standing_of was) (seen_of (beside st r) kept x)
+    ∙ ap standing (revision_same (beside st r) (kept_of kept x).held)
+  where
+    standing : Option ℕ → Standing
+    standing held = record { state = (kept_of kept x).state; held = held; reconciled = (kept_of kept x).reconciled }
+
+pub held_is : (st : Store) (r : Texts) (kept : KeptRecords) (x : EntityId) → (record_of (seen st r kept) x).held ≡ held_with (beside st r) (kept_of kept x).held
+held_is st r kept x = ap (λ (was : Record Bytes). was.held) (seen_of (beside st r) kept x)
 
 -- the record of the entity after a record is put in
 pub kept_here : (kept : KeptRecords) (x : EntityId) (n : Record Kept) → kept_of (map.insert kept x n) x ≡ n

@@ -2,6 +2,7 @@
 use Rattle.std.proofs.Common.{◌≡◌, ℕ, ◌<◌, ◌≤◌, Bool, true, false, ◌||◌, List, [], ◌∷◌, ◌++◌, Option, Some, None, Ordering, is_some, unwrap_or, nat_lt, lt-ltb, length, refl, sym, ◌∙◌, ap, subst, arith}
 use Rattle.std.specs.List.{flat_map, list_any}
 use Rattle.std.specs.FinMap as map
+use Rattle.std.proofs.lemmas.List.{length-map}
 use Rattle.rising.specs.Rising.{has, sorted}
 use Rattle.rising.proofs.Finding.{list_any-sorted}
 use Rattle.rising.proofs.Rising.{has-append, same_rising, sorted_same}
@@ -16,14 +17,14 @@ use Rattle.triple_store.specs.Counts.{Counts, HaveOwners, count_of}
 use Rattle.triple_store.specs.Room.{distinct, room_for, terms_of}
 use Rattle.triple_store.specs.Stored.{beside, counts_in, limit_of}
 use Rattle.replay_model.specs.Records.{Records}
-use Rattle.replay_model.specs.Union.{union}
+use Rattle.replay_model.specs.Union.{triples_at, union}
 use Rattle.replay_model.proofs.Owners.{has-union, union-rises}
 use Rattle.world.specs.InStep.{IsCounted, IsKept}
 use Rattle.world.specs.Keeping.{KeptRecords, record_with, seen}
 use Rattle.world.specs.Meaning.{meaning}
 use Rattle.world.specs.Roomed.{room_with}
 use Rattle.world.proofs.Owning.{countable}
-use Rattle.world.proofs.StoreStub.{have_owners, terms_counted}
+use Rattle.world.proofs.StoreStub.{have_owners, len_counts, terms_counted}
 use Rattle.world.proofs.Values.{rising_keys, values_len}
 
 -- a triple is stored where it has an owner
@@ -86,3 +87,14 @@ countable_kept st r kept h c is n few t =
     let fewer : map.len (seen st r kept) < n = omega arith in
     let counts : count_of (counts_in st r) t < n = countable (counts_in st r) (seen st r kept) n h.counted fewer t in
     omega arith
+
+no_entries : {A : Type 0} (es : List A) → length es ≡ 0 → es ≡ []
+no_entries [] e = refl
+no_entries (x ∷ es) e = absurd (omega arith)
+
+-- without records nothing is stored
+pub no_keys : (st : Store) (r : Texts) (kept : KeptRecords) → IsKept st r kept → map.len (seen st r kept) ≡ 0 → map.len st.index ≡ 0
+no_keys st r kept h none =
+    let entries : map.entries (seen st r kept) ≡ [] = no_entries (map.entries (seen st r kept)) (sym (map.len-entries (seen st r kept)) ∙ none) in
+    let keys : map.keys (counts_in st r) ≡ [] = stored_union st r kept h ∙ ap (λ es. sorted triple_cmp (flat_map (triples_at meaning) es)) entries in
+    sym (len_counts st r h.stored) ∙ map.len-entries (counts_in st r) ∙ sym (length-map (map.entries (counts_in st r)) (λ e. e.0)) ∙ ap length keys

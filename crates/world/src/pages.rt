@@ -1,18 +1,19 @@
 // What is kept of the entities, and the side output.
 
-ghost use Rattle.std.specs.Prelude.{◌≡◌, ◌<◌, ◌≤◌, [], None, Some, Ok, Err, IsTrue, IfOk, OnErr, OnOk, MatchOption, is_some};
+ghost use Rattle.std.specs.Prelude.{◌≡◌, ◌<◌, ◌≤◌, [], None, Some, Ok, Err, IsTrue, IfOk, IfSome, IsSome, OnErr, OnOk, MatchOption, is_some};
 ghost use Rattle.std.specs.FinMap as map;
 ghost use Rattle.rdf_term.specs.Order.{triple_cmp};
 ghost use Rattle.rdf_term.specs.Pattern.{rows};
 ghost use Rattle.entity_state.specs.Standing.{standing_after, standing_of, standing_wants};
 ghost use Rattle.entity_state.specs.Table.{has_room};
+ghost use Rattle.triple_store.specs.Stored.{beside};
 ghost use Rattle.triple_store.specs.declared.fault.StoreFault.TheVariants.{Full};
 ghost use Rattle.replay_model.specs.Play.{apply, nothing_played};
 ghost use Rattle.replay_model.specs.Records.{record_of};
 ghost use Rattle.replay_model.specs.Union.{owners, union};
 ghost use Rattle.world.specs.Applying.{outcome_after};
 ghost use Rattle.world.specs.Fetched.{AreMeant, reply_or_any};
-ghost use Rattle.world.specs.Keeping.{kept_of};
+ghost use Rattle.world.specs.Keeping.{held_with, kept_of, piece_at};
 ghost use Rattle.world.specs.Meaning.{meaning};
 ghost use Rattle.world.specs.Roomed.{Overfills, room_with, triples_of_reply};
 
@@ -136,8 +137,7 @@ impl Pages {
         ensures { MatchOption result ((record_of self.now.played.records id).held ≡ None)
             (λ h. (record_of self.now.played.records id).held ≡ Some (record { revision = h.0; content = h.1.now })) }
     {
-        let held = self.table.get(id)?.held.as_ref()?;
-        Some((held.revision, read(&self.store, &self.region, &held.content.piece)))
+        held_in(&self.store, &self.region, &self.table, id)
     }
 
     /// The triples of all that is held, in memory of their own.
@@ -166,6 +166,26 @@ impl Pages {
         ensures { result ≡ room_with self.now.played.records [] }
     {
         terms(&self.store)
+    }
+}
+
+// The revision that an entity holds, and the text of its piece.
+fn held_in<'a>(
+    store: &Store,
+    region: &'a Region,
+    table: &Table<Kept>,
+    id: EntityId,
+) -> Option<(u64, &'a [u8])>
+    requires { IfSome (piece_at table.now.records id) (λ piece. IsSome (beside store.now region.now piece)) }
+    ensures { MatchOption result (held_with (beside store.now region.now) (kept_of table.now.records id).held ≡ None)
+        (λ h. held_with (beside store.now region.now) (kept_of table.now.records id).held ≡ Some (record { revision = h.0; content = h.1.now })) }
+{
+    let Some(record) = table.get(id) else {
+        return None;
+    };
+    match &record.held {
+        Some(held) => Some((held.revision, read(store, region, &held.content.piece))),
+        None => None,
     }
 }
 

@@ -1,0 +1,18 @@
+-- Without records, triples and texts all is in step.
+use Rattle.std.proofs.Common.{ap}
+use Rattle.entity_state.specs.Tabled.{Tabled}
+use Rattle.side_output.specs.declared.entry.Entry.{Entry}
+use Rattle.world.specs.declared.kept.Kept.{Kept}
+use Rattle.replay_model.specs.Play.{Played}
+use Rattle.world.specs.Roomed.{PlayedInRoom}
+use Rattle.world.proofs.Starting.{starts, started}
+use Rattle.world.proofs.pages.Pages.new.Goals as goal
+
+pub invariant_of-result : goal.invariant_of-result
+invariant_of-result c =
+    starts c.new_store.result c.in_ok-region.region c.in_ok-table.table.records (c.new_store.ensures.stored c.in_ok-region.region) (c.new_store.ensures.counts c.in_ok-region.region)
+    (c.new_store.ensures.beside c.in_ok-region.region) c.in_ok-region.ensures (ap (λ (t : Tabled Kept). t.records) c.in_ok-table.ensures)
+
+pub returns : goal.returns
+returns c = started c.new_store.result c.in_ok-region.region c.in_ok-table.table.records c.new-3.result.entries c.args.room
+    (ap (λ (t : Tabled Kept). t.records) c.in_ok-table.ensures) c.new-3.ensures c.new_store.ensures.limit
