@@ -1,5 +1,5 @@
 -- The store has room for the terms of the triples that the records mean.
-use Rattle.std.proofs.Common.{◌≡◌, ℕ, ◌<◌, ◌≤◌, Bool, true, false, ◌||◌, List, [], ◌∷◌, ◌++◌, Option, Some, None, Ordering, is_some, unwrap_or, nat_lt, lt-ltb, length, refl, sym, ◌∙◌, ap, subst, arith}
+use Rattle.std.proofs.Common.{◌≡◌, ℕ, ◌<◌, ◌≤◌, Bool, true, false, cond, ◌||◌, Result, Ok, Err, List, [], ◌∷◌, ◌++◌, Option, Some, None, Ordering, is_some, unwrap_or, nat_lt, lt-ltb, length, refl, sym, ◌∙◌, ap, subst, arith}
 use Rattle.std.specs.List.{flat_map, list_any}
 use Rattle.std.specs.FinMap as map
 use Rattle.std.proofs.lemmas.List.{length-map}
@@ -16,13 +16,25 @@ use Rattle.triple_store.specs.declared.store.Store.{Store}
 use Rattle.triple_store.specs.Counts.{Counts, HaveOwners, count_of}
 use Rattle.triple_store.specs.Room.{distinct, room_for, terms_of}
 use Rattle.triple_store.specs.Stored.{beside, counts_in, limit_of}
-use Rattle.replay_model.specs.Records.{Records}
-use Rattle.replay_model.specs.Union.{triples_at, union}
+use Rattle.std.specs.Ordering.{eq_by_cmp}
+use Rattle.std.specs.Cmp.{eq_by_cmp_equiv}
+use Rattle.entity_model.specs.declared.event.Event.{Event}
+use Rattle.entity_model.specs.EntityId.{entity_cmp, entity_cmp_total}
+use Rattle.entity_state.specs.declared.record.Record.{Record}
+use Rattle.entity_state.specs.Record.{blank, held_revision, wants}
+use Rattle.entity_state.specs.State.{is_deleted, state_after}
+use Rattle.side_output.specs.declared.entry.Cause.{Cause}
+use Rattle.replay_model.specs.Records.{Bytes, Records, record_of}
+use Rattle.replay_model.specs.Play.{held_after_fetch, record_after, records_after}
+use Rattle.world.specs.declared.applied.Outcome.{Outcome}
+use Rattle.world.specs.declared.applied.Outcome.TheVariants.{Dropped, Same, Stored}
+use Rattle.world.specs.Applying.{outcome_after, outcome_of_reply}
+use Rattle.replay_model.specs.Union.{triples_at, triples_held, union}
 use Rattle.replay_model.proofs.Owners.{has-union, union-rises}
 use Rattle.world.specs.InStep.{IsCounted, IsKept}
 use Rattle.world.specs.Keeping.{KeptRecords, record_with, seen}
 use Rattle.world.specs.Meaning.{meaning}
-use Rattle.world.specs.Roomed.{room_with}
+use Rattle.world.specs.Roomed.{room_with, triples_of_reply}
 use Rattle.world.proofs.Owning.{countable}
 use Rattle.world.proofs.StoreStub.{have_owners, len_counts, terms_counted}
 use Rattle.world.proofs.Values.{rising_keys, values_len}
@@ -98,3 +110,21 @@ no_keys st r kept h none =
     let entries : map.entries (seen st r kept) ≡ [] = no_entries (map.entries (seen st r kept)) (sym (map.len-entries (seen st r kept)) ∙ none) in
     let keys : map.keys (counts_in st r) ≡ [] = stored_union st r kept h ∙ ap (λ es. sorted triple_cmp (flat_map (triples_at meaning) es)) entries in
     sym (len_counts st r h.stored) ∙ map.len-entries (counts_in st r) ∙ sym (length-map (map.entries (counts_in st r)) (λ e. e.0)) ∙ ap length keys
+
+-- what an application stores is the page that came
+pub stored_page : (records : Records) (e : Event) (reply : Result Bytes Cause) (outcome : Outcome) → outcome ≡ outcome_after (record_of records e.entity) e reply → outcome ≡ Stored
+    → triples_held meaning e.entity (record_of (records_after (λ _ _. reply) records e) e.entity).held
+    ≡ triples_of_reply e.entity (state_after (record_of records e.entity).state e).rev reply
+stored_page records e reply outcome is stored =
+    ap (λ (o : Option (Record Bytes)). triples_held meaning e.entity (unwrap_or o blank).held)
+    (map.get-insert entity_cmp_total records e.entity (record_after (λ _ _. reply) e (record_of records e.entity)) e.entity
+        ∙ ap (λ b. cond b (Some (record_after (λ _ _. reply) e (record_of records e.entity))) (map.get records e.entity)) ((eq_by_cmp_equiv entity_cmp_total).refl e.entity))
+    ∙ by (wants (state_after (record_of records e.entity).state e) (held_revision (record_of records e.entity).held)) (is_deleted (state_after (record_of records e.entity).state e).mode) reply (sym is ∙ stored)
+  where
+    by : (b d : Bool) (reply : Result Bytes Cause) → cond b (outcome_of_reply reply) (cond d Dropped Same) ≡ Stored
+        → triples_held meaning e.entity (cond b (held_after_fetch (state_after (record_of records e.entity).state e).rev reply (record_of records e.entity).held) (cond d None (record_of records e.entity).held))
+        ≡ triples_of_reply e.entity (state_after (record_of records e.entity).state e).rev reply
+    by true d (Ok bytes) h = refl
+    by true d (Err cause) h = cc
+    by false true reply h = cc
+    by false false reply h = cc
