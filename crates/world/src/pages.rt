@@ -24,7 +24,7 @@ use crate::kept::Kept;
 use crate::store_stub::{all, count, matches, new_store, read, set_limit, terms};
 use entity_model::{EntityId, Event};
 use entity_state::{Record, Standing, Table};
-use rdf_term::{OutOfMemory, Pattern, Triple, TripleSet};
+use rdf_term::{List, OutOfMemory, Pattern, Triple, TripleSet};
 use side_output::{Entry, Side};
 use std::alloc::Global;
 use std::hash::RandomState;
@@ -38,7 +38,7 @@ use triple_store::{Store, StoreFault};
 #[derive(Drop)]
 pub struct Pages {
     region: Region,
-    pub table: Table<Kept>,
+    table: Table<Kept>,
     pub side: Side,
     store: Store,
 }
@@ -138,6 +138,13 @@ impl Pages {
             (λ h. (record_of self.now.played.records id).held ≡ Some (record { revision = h.0; content = h.1.now })) }
     {
         held_in(&self.store, &self.region, &self.table, id)
+    }
+
+    /// The ids of the entities with a record, in rising order.
+    pub fn entities(&self, alloc: Global) -> Result<List<EntityId>, OutOfMemory>
+        ensures { IfOk result (λ ids. ids ≡ map.keys self.now.played.records) }
+    {
+        self.table.ids(alloc)
     }
 
     /// The triples of all that is held, in memory of their own.

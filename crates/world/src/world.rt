@@ -193,7 +193,7 @@ impl World {
     pub fn entities(&self) -> Result<List<EntityId>, OutOfMemory>
         ensures { IfOk result (λ ids. ids ≡ map.keys self.now.replay.played.records) }
     {
-        self.pages.table.ids(self.alloc)
+        self.pages.entities(self.alloc)
     }
 
     /// The state of an entity; Unknown with revision 0 where it has no record.
