@@ -63,9 +63,8 @@ impl Pool {
         self.slots.len().min(self.limit as usize) as u32
     }
 
-    /// Sets another limit on the number of terms. No term is there.
+    /// Sets another limit on the number of terms. The pool lies in its region as before where no more terms are there.
     pub fn set_limit(&mut self, limit: u32)
-        requires { terms self.old ≡ 0 }
         ensures { self.new ≡ record self.old { limit = limit } }
     {
         self.limit = limit;
