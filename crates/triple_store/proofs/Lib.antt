@@ -1,9 +1,17 @@
+pub mod AtHand
 pub mod Distinct
+pub mod Exchanged
 pub mod Held
 pub mod Imaged
 pub mod Keyed
 pub mod Live
 pub mod Mapped
 pub mod Owners
+pub mod Removing
+pub mod Rooming
+pub mod Rows
 pub mod Standing
+pub mod Stocked
 pub mod Storing
+pub mod Taking
+pub mod Unchanged
