@@ -1,5 +1,6 @@
 pub mod Entries
 pub mod Fit
+pub mod Laying
 pub mod Moving
 pub mod Owning
 pub mod Pieced
@@ -7,5 +8,4 @@ pub mod Replacing
 mod Room
 pub mod Rooming
 pub mod Starting
-pub mod StoreStub
 pub mod Values

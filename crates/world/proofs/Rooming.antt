@@ -24,6 +24,9 @@ use Rattle.entity_state.specs.declared.record.Record.{Record}
 use Rattle.entity_state.specs.Record.{blank, held_revision, wants}
 use Rattle.entity_state.specs.State.{is_deleted, state_after}
 use Rattle.side_output.specs.declared.entry.Cause.{Cause}
+use Rattle.triple_store.proofs.Standing.{owned}
+use Rattle.triple_store.proofs.Stocked.{terms_counted}
+use Rattle.triple_store.proofs.Unchanged.{len_image}
 use Rattle.replay_model.specs.Records.{Bytes, Records, record_of}
 use Rattle.replay_model.specs.Play.{held_after_fetch, record_after, records_after}
 use Rattle.world.specs.declared.applied.Outcome.{Outcome}
@@ -36,7 +39,6 @@ use Rattle.world.specs.Keeping.{KeptRecords, record_with, seen}
 use Rattle.world.specs.Meaning.{meaning}
 use Rattle.world.specs.Roomed.{room_with, triples_of_reply}
 use Rattle.world.proofs.Owning.{countable}
-use Rattle.world.proofs.StoreStub.{have_owners, len_counts, terms_counted}
 use Rattle.world.proofs.Values.{rising_keys, values_len}
 
 -- a triple is stored where it has an owner
@@ -56,9 +58,9 @@ counted_union counts records owned h =
     (λ t. sym (map.contains_key-keys counts t) ∙ stored counts t owned ∙ ap (nat_lt 0) (h.owned t) ∙ sym (has-union triple_cmp-total meaning records t))
 
 pub stored_union : (st : Store) (r : Texts) (kept : KeptRecords) → IsKept st r kept → map.keys (counts_in st r) ≡ union triple_cmp meaning (seen st r kept)
-stored_union st r kept h = counted_union (counts_in st r) (seen st r kept) (have_owners st r h.stored) h.counted
+stored_union st r kept h = counted_union (counts_in st r) (seen st r kept) (owned st r h.stored) h.counted
 
-has_term : (q : Term) (ts : List Triple) → has term_cmp q (flat_map terms_of ts) ≡ list_any (λ t. has term_cmp q (terms_of t)) ts
+pub has_term : (q : Term) (ts : List Triple) → has term_cmp q (flat_map terms_of ts) ≡ list_any (λ t. has term_cmp q (terms_of t)) ts
 has_term q [] = refl
 has_term q (t ∷ ts) = has-append term_cmp q (terms_of t) (flat_map terms_of ts) ∙ ap (λ b. has term_cmp q (terms_of t) || b) (has_term q ts)
 
@@ -109,7 +111,7 @@ pub no_keys : (st : Store) (r : Texts) (kept : KeptRecords) → IsKept st r kept
 no_keys st r kept h none =
     let entries : map.entries (seen st r kept) ≡ [] = no_entries (map.entries (seen st r kept)) (sym (map.len-entries (seen st r kept)) ∙ none) in
     let keys : map.keys (counts_in st r) ≡ [] = stored_union st r kept h ∙ ap (λ es. sorted triple_cmp (flat_map (triples_at meaning) es)) entries in
-    sym (len_counts st r h.stored) ∙ map.len-entries (counts_in st r) ∙ sym (length-map (map.entries (counts_in st r)) (λ e. e.0)) ∙ ap length keys
+    sym (len_image st r h.stored) ∙ map.len-entries (counts_in st r) ∙ sym (length-map (map.entries (counts_in st r)) (λ e. e.0)) ∙ ap length keys
 
 -- what an application stores is the page that came
 pub stored_page : (records : Records) (e : Event) (reply : Result Bytes Cause) (outcome : Outcome) → outcome ≡ outcome_after (record_of records e.entity) e reply → outcome ≡ Stored

@@ -18,7 +18,6 @@ ghost use Rattle.world.specs.Standing.{unfetched_outcome, unless_deleted};
 use crate::applied::Outcome;
 use crate::fetching::Page;
 use crate::kept::Kept;
-use crate::store_stub::{exchange, free, place, release};
 use entity_model::EntityId;
 use entity_state::{Held, Mode, Record, Standing, Table};
 use slot_index::Key;
@@ -51,10 +50,10 @@ pub fn hold(
     // A triple has at most as many owners as there are records, so no count is at its last value.
     let entities = table.len();
     prove!(entities < usize::MAX);
-    let Ok(piece) = place(store, region, page.bytes.as_slice()) else {
+    let Ok(piece) = store.place(region, page.bytes.as_slice()) else {
         return Err(StoreFault::OutOfMemory);
     };
-    match exchange(store, region, keys_of(table, id), &page.triples) {
+    match store.exchange(region, keys_of(table, id), &page.triples) {
         Ok(keys) => {
             let held = Held {
                 revision: after.state.rev,
@@ -64,7 +63,7 @@ pub fn hold(
             Ok(())
         }
         Err(refused) => {
-            free(store, region, piece);
+            store.free(region, piece);
             Err(refused)
         }
     }
@@ -139,7 +138,7 @@ fn drop_held(
     }) }
     ensures limit { limit_of store.new ≡ limit_of store.old }
 {
-    release(store, region, keys_of(table, id));
+    store.release(region, keys_of(table, id));
     replace(store, region, table, id, after, None);
 }
 
@@ -174,7 +173,7 @@ fn replace(
         return;
     };
     if let Some(held) = before.held {
-        free(store, region, held.content.piece);
+        store.free(region, held.content.piece);
     }
 }
 

@@ -14,6 +14,7 @@ ghost use Rattle.replay_model.specs.Union.{owners, union};
 ghost use Rattle.world.specs.Applying.{outcome_after};
 ghost use Rattle.world.specs.Fetched.{AreMeant, reply_or_any};
 ghost use Rattle.world.specs.Keeping.{held_with, kept_of, piece_at};
+ghost use Rattle.world.specs.Laid.{IsLaid};
 ghost use Rattle.world.specs.Meaning.{meaning};
 ghost use Rattle.world.specs.Roomed.{Overfills, room_with, triples_of_reply};
 
@@ -21,7 +22,7 @@ use crate::applied::Outcome;
 use crate::fetching::Reply;
 use crate::holding::{hold, keep, settle_unfetched};
 use crate::kept::Kept;
-use crate::store_stub::{all, count, matches, new_store, read, set_limit, terms};
+use crate::store_stub::{all, count, matches};
 use entity_model::{EntityId, Event};
 use entity_state::{Record, Standing, Table};
 use rdf_term::{List, OutOfMemory, Pattern, Triple, TripleSet};
@@ -73,7 +74,7 @@ impl Pages {
             region,
             table,
             side: Side::new(alloc),
-            store: new_store(alloc, keys, room),
+            store: Store::new(alloc, keys, room),
         })
     }
 
@@ -82,7 +83,7 @@ impl Pages {
         requires { map.len self.old.played.records ≡ 0 }
         ensures { self.new ≡ record { played = self.old.played; room = room } }
     {
-        set_limit(&mut self.store, room);
+        self.store.set_limit(room);
     }
 
     /// What stands of an entity's record.
@@ -168,11 +169,18 @@ impl Pages {
         count(&self.store, &self.region, triple)
     }
 
-    /// How many different terms they have.
+    /// The region, which has the texts of the terms of all that is held, and the held pages, and nothing else.
+    pub fn region(&self) -> &Region
+        ensures { IsLaid result.now self.now.played.records }
+    {
+        &self.region
+    }
+
+    /// How many different terms the triples of all that is held have.
     pub fn terms(&self) -> u32
         ensures { result ≡ room_with self.now.played.records [] }
     {
-        terms(&self.store)
+        self.store.terms()
     }
 }
 
@@ -191,7 +199,7 @@ fn held_in<'a>(
         return None;
     };
     match &record.held {
-        Some(held) => Some((held.revision, read(store, region, &held.content.piece))),
+        Some(held) => Some((held.revision, store.read(region, &held.content.piece))),
         None => None,
     }
 }

@@ -17,6 +17,7 @@ ghost use Rattle.world.specs.Applying.{Applies, IsReply, IsShown, calls_after, o
 ghost use Rattle.entity_state.specs.Standing.{standing_after, standing_of, standing_wants};
 ghost use Rattle.entity_state.specs.State.{state_after};
 ghost use Rattle.world.specs.Fetched.{AreMeant, reply_of, reply_or_any};
+ghost use Rattle.world.specs.Laid.{IsLaid};
 ghost use Rattle.world.specs.Meaning.{meaning};
 ghost use Rattle.world.specs.Roomed.{IsOverfull, room_with};
 ghost use Rattle.world.specs.declared.applied.Outcome.TheVariants.{Stored};
@@ -34,6 +35,7 @@ use side_output::{Entry, Side, is_open};
 use std::alloc::Global;
 use std::hash::RandomState;
 use std::marker::Model;
+use text_region::Region;
 use triple_store::StoreFault;
 
 // For how many terms there is room, unless it is set otherwise.
@@ -180,6 +182,13 @@ impl World {
         ensures { result ≡ owners triple_cmp meaning self.now.replay.played.records triple.now }
     {
         self.pages.owners(triple)
+    }
+
+    /// The region, which has the texts of the terms of all that is held, each once, and the held pages, and nothing else.
+    pub fn region(&self) -> &Region
+        ensures { IsLaid result.now self.now.replay.played.records }
+    {
+        self.pages.region()
     }
 
     /// How many different terms the triples of all that is held have.

@@ -15,14 +15,14 @@ exchange-requires-clause-countable c =
 
 pub returns-in-Ok-exchange-clause-kept : goal.returns-in-Ok-exchange-clause-kept
 returns-in-Ok-exchange-clause-kept c = rw c.replace.ensures.records
-    (came c.args.store.now c.args.region.now c.place.new.region c.exchange.new.store c.exchange.new.region c.replace.new.region c.args.table.now.records c.args.id
+    (came c.args.store.now c.args.region.now c.place.new.region c.exchange.new.self c.exchange.new.region c.replace.new.region c.args.table.now.records c.args.id
     c.args.after.state c.args.after.reconciled c.args.after.state.rev (record { piece = c.in-Ok.piece; keys = c.in-Ok-exchange.keys }) c.args.page.bytes c.args.page.triples c.keys_of.result.now
     c.requires.kept (rw c.as_slice.ensures at c.in-Ok.ensures.ok) c.place.ensures.kept c.place.ensures.counts c.exchange.ensures.keeps c.exchange.ensures.beside c.replace.ensures.counts c.replace.ensures.kept c.replace.ensures.freed
     c.replace.ensures.stored c.keys_of.ensures c.in-Ok-exchange.ensures.ok c.in-Ok-exchange.ensures.keys c.requires.page.meant)
 
 pub returns-in-Ok-exchange-clause-ok : goal.returns-in-Ok-exchange-clause-ok
-returns-in-Ok-exchange-clause-ok c = ap (seen c.exchange.new.store c.replace.new.region) c.replace.ensures.records
-    ∙ came_seen c.args.store.now c.args.region.now c.place.new.region c.exchange.new.store c.exchange.new.region c.replace.new.region c.args.table.now.records c.args.id
+returns-in-Ok-exchange-clause-ok c = ap (seen c.exchange.new.self c.replace.new.region) c.replace.ensures.records
+    ∙ came_seen c.args.store.now c.args.region.now c.place.new.region c.exchange.new.self c.exchange.new.region c.replace.new.region c.args.table.now.records c.args.id
     c.args.after.state c.args.after.reconciled c.args.after.state.rev (record { piece = c.in-Ok.piece; keys = c.in-Ok-exchange.keys }) c.args.page.bytes c.args.page.triples c.keys_of.result.now
     c.requires.kept (rw c.as_slice.ensures at c.in-Ok.ensures.ok) c.place.ensures.kept c.place.ensures.counts c.exchange.ensures.keeps c.exchange.ensures.beside c.replace.ensures.counts c.replace.ensures.kept c.replace.ensures.freed
 
@@ -34,7 +34,7 @@ returns-in-Ok-exchange-clause-within c =
 
 pub returns-clause-kept : goal.returns-clause-kept
 returns-clause-kept c =
-    kept_undone c.args.store.now c.args.region.now c.place.new.region c.exchange.new.store c.exchange.new.region c.free.new.region c.args.table.now.records c.in-Ok.piece _
+    kept_undone c.args.store.now c.args.region.now c.place.new.region c.exchange.new.self c.exchange.new.region c.free.new.region c.args.table.now.records c.in-Ok.piece _
     c.requires.kept c.in-Ok.ensures.ok c.place.ensures.kept c.place.ensures.counts c.exchange.ensures.keeps c.exchange.ensures.beside c.in-Err.ensures.err c.free.ensures.stored c.free.ensures.counts c.free.ensures.kept c.free.ensures.freed
 
 pub returns-clause-full : goal.returns-clause-full

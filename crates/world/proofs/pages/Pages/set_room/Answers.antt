@@ -9,6 +9,6 @@ set_limit-requires c = no_keys c.self.inside.store c.self.inside.region c.self.i
 
 pub invariant_of-self : goal.invariant_of-self
 invariant_of-self c =
-    kept_refused c.self.inside.store c.self.inside.region c.set_limit.new.store c.self.inside.region c.self.inside.table.records c.self.invariant
+    kept_refused c.self.inside.store c.self.inside.region c.set_limit.new.self c.self.inside.region c.self.inside.table.records c.self.invariant
     (c.set_limit.ensures.stored c.self.inside.region c.self.invariant.stored) (c.set_limit.ensures.counts c.self.inside.region)
     (record { kept = λ key t is _. c.set_limit.ensures.kept c.self.inside.region key t is }) (c.set_limit.ensures.beside c.self.inside.region)
