@@ -66,8 +66,8 @@ pub kept_other : (kept : KeptRecords) (x : EntityId) (n : Record Kept) (y : Enti
 kept_other kept x n y other = ⊎_elim
     (λ own. absurd (other own.1))
     (λ apart.
-        ap (λ o. unwrap_or o blank) (map.get-insert entity_cmp_total kept x n y)
-        ∙ ap (λ b. unwrap_or (cond b (Some n) (map.get kept y)) blank) apart.0)
+    ap (λ o. unwrap_or o blank) (map.get-insert entity_cmp_total kept x n y)
+    ∙ ap (λ b. unwrap_or (cond b (Some n) (map.get kept y)) blank) apart.0)
     (id_tells y x)
 
 module _ (f k : PieceTexts) where
@@ -88,13 +88,13 @@ module _ (f k : PieceTexts) where
   seen_moved kept x n texts =
       values-insert (record_with k) kept x n
       ∙ map.same_map entity_cmp_total entity_cmp_same _ _ (λ y.
-          map.get-insert entity_cmp_total (records_with k kept) x (record_with k n) y
-          ∙ ⊎_elim
-            (λ own. ap (λ b. cond b (Some (record_with k n)) (map.get (records_with k kept) y)) own.0 ∙ ap (λ b. cond b (Some (record_with k n)) (map.get (records_with f kept) y)) (sym own.0))
-            (λ other. ap (cond (eq_by_cmp entity_cmp y x) (Some (record_with k n)))
-                (get-values (record_with k) kept y ∙ changed_same (map.get kept y) (λ p. texts y p other.1) ∙ sym (get-values (record_with f) kept y)))
-            (id_tells y x)
-          ∙ sym (map.get-insert entity_cmp_total (records_with f kept) x (record_with k n) y))
+      map.get-insert entity_cmp_total (records_with k kept) x (record_with k n) y
+      ∙ ⊎_elim
+      (λ own. ap (λ b. cond b (Some (record_with k n)) (map.get (records_with k kept) y)) own.0 ∙ ap (λ b. cond b (Some (record_with k n)) (map.get (records_with f kept) y)) (sym own.0))
+      (λ other. ap (cond (eq_by_cmp entity_cmp y x) (Some (record_with k n)))
+      (get-values (record_with k) kept y ∙ changed_same (map.get kept y) (λ p. texts y p other.1) ∙ sym (get-values (record_with f) kept y)))
+      (id_tells y x)
+      ∙ sym (map.get-insert entity_cmp_total (records_with f kept) x (record_with k n) y))
 
   -- where all pieces have their bytes
   pub seen_again : (kept : KeptRecords) → ((p : Piece) → k p ≡ f p) → records_with k kept ≡ records_with f kept
@@ -144,7 +144,6 @@ exchanged_same c d gone came other same h = record {
 
 module _ (st : Store) (r : Texts) (st2 : Store) (r2 : Texts) (kept : KeptRecords) (x : EntityId) (n : Record Kept) (h : IsKept st r kept)
     (texts : (y : EntityId) (p : Piece) → y ≢ x → piece_at kept y ≡ Some p → beside st2 r2 p ≡ beside st r p) where
-
   -- what is seen after the record is put in
   pub seen_put : seen st2 r2 (map.insert kept x n) ≡ map.insert (seen st r kept) x (record_with (beside st2 r2) n)
   seen_put = seen_moved (beside st r) (beside st2 r2) kept x n texts
@@ -154,24 +153,24 @@ module _ (st : Store) (r : Texts) (st2 : Store) (r2 : Texts) (kept : KeptRecords
   put_counted moves =
       subst (λ (records : Records). IsCounted (counts_in st2 r2) records) (sym seen_put)
       (counted_moved (counts_in st r) (counts_in st2 r2) (seen st r kept) x (record_with (beside st2 r2) n) h.counted
-          (subst (λ (was : Record Bytes). Exchanges (counts_in st r) (counts_in st2 r2) (triples_held meaning x was.held) (triples_held meaning x (held_with (beside st2 r2) n.held)))
-              (sym (seen_of (beside st r) kept x)) moves))
+      (subst (λ (was : Record Bytes). Exchanges (counts_in st r) (counts_in st2 r2) (triples_held meaning x was.held) (triples_held meaning x (held_with (beside st2 r2) n.held)))
+      (sym (seen_of (beside st r) kept x)) moves))
 
   others_keyed : IsCounted (counts_in st2 r2) (seen st2 r2 (map.insert kept x n)) → KeepsKeys st r st2 r2 → (y : EntityId) → y ≢ x
       → AreKeysOf st2 r2 (keys_held (kept_of (map.insert kept x n) y).held) (triples_kept (beside st2 r2) (map.insert kept x n) y)
   others_keyed counted keeps y other =
       let same : triples_kept (beside st2 r2) (map.insert kept x n) y ≡ triples_kept (beside st r) kept y =
-          ap (λ (was : Record Kept). triples_held meaning y (held_with (beside st2 r2) was.held)) (kept_other kept x n y other)
-          ∙ ap (triples_held meaning y) (held_same (beside st r) (beside st2 r2) (kept_of kept y).held (λ p. texts y p other)) in
+      ap (λ (was : Record Kept). triples_held meaning y (held_with (beside st2 r2) was.held)) (kept_other kept x n y other)
+      ∙ ap (triples_held meaning y) (held_same (beside st r) (beside st2 r2) (kept_of kept y).held (λ p. texts y p other)) in
       let owned : (t : Triple) → has triple_cmp t (triples_kept (beside st r) kept y) ≡ true → 0 < count_of (counts_in st2 r2) t = λ t there.
-          let held : triples_held meaning y (record_of (seen st2 r2 (map.insert kept x n)) y).held ≡ triples_kept (beside st r) kept y =
-              ap (λ (was : Record Bytes). triples_held meaning y was.held) (seen_of (beside st2 r2) (map.insert kept x n) y) ∙ same in
-          let some : 0 < owners triple_cmp meaning (seen st2 r2 (map.insert kept x n)) t = has_owner meaning (seen st2 r2 (map.insert kept x n)) y t (ap (has triple_cmp t) held ∙ there) in
-          let count : count_of (counts_in st2 r2) t ≡ owners triple_cmp meaning (seen st2 r2 (map.insert kept x n)) t = counted.owned t in
-          omega arith in
+      let held : triples_held meaning y (record_of (seen st2 r2 (map.insert kept x n)) y).held ≡ triples_kept (beside st r) kept y =
+      ap (λ (was : Record Bytes). triples_held meaning y was.held) (seen_of (beside st2 r2) (map.insert kept x n) y) ∙ same in
+      let some : 0 < owners triple_cmp meaning (seen st2 r2 (map.insert kept x n)) t = has_owner meaning (seen st2 r2 (map.insert kept x n)) y t (ap (has triple_cmp t) held ∙ there) in
+      let count : count_of (counts_in st2 r2) t ≡ owners triple_cmp meaning (seen st2 r2 (map.insert kept x n)) t = counted.owned t in
+      omega arith in
       subst (λ (ts : List Triple). AreKeysOf st2 r2 (keys_held (kept_of (map.insert kept x n) y).held) ts) (sym same)
       (subst (λ (was : Record Kept). AreKeysOf st2 r2 (keys_held was.held) (triples_kept (beside st r) kept y)) (sym (kept_other kept x n y other))
-          (keys_stay st r st2 r2 (keys_held (kept_of kept y).held) (triples_kept (beside st r) kept y) (h.keyed y) keeps owned))
+      (keys_stay st r st2 r2 (keys_held (kept_of kept y).held) (triples_kept (beside st r) kept y) (h.keyed y) keeps owned))
 
   -- a record is put in: what it holds is stored, and what was held there before is not
   pub kept_put : IsStored st2 r2 → IsHeld (beside st2 r2) (piece_at (map.insert kept x n))
@@ -185,7 +184,7 @@ module _ (st : Store) (r : Texts) (st2 : Store) (r2 : Texts) (kept : KeptRecords
     held = held;
     keyed = λ y. ⊎_elim
         (λ own. subst (λ (z : EntityId). AreKeysOf st2 r2 (keys_held (kept_of (map.insert kept x n) z).held) (triples_kept (beside st2 r2) (map.insert kept x n) z)) (sym own.1)
-            (subst (λ (was : Record Kept). AreKeysOf st2 r2 (keys_held was.held) (triples_held meaning x (held_with (beside st2 r2) was.held))) (sym (kept_here kept x n)) keyed))
+        (subst (λ (was : Record Kept). AreKeysOf st2 r2 (keys_held was.held) (triples_held meaning x (held_with (beside st2 r2) was.held))) (sym (kept_here kept x n)) keyed))
         (λ other. others_keyed (put_counted moves) keeps y other.1)
         (id_tells y x);
   }

@@ -30,7 +30,6 @@ module _ (f k : PieceTexts) (at after : EntityId → Option Piece) (x : EntityId
     (elsewhere : (y : EntityId) → y ≢ x → after y ≡ at y)
     (new : (p : Piece) → after x ≡ Some p → (f p ≡ None) × (is_some (k p) ≡ true))
     (same : (p : Piece) → at x ≢ Some p → after x ≢ Some p → k p ≡ f p) where
-
   -- a piece that comes is no other's
   fresh : (p : Piece) (y : EntityId) → at y ≡ Some p → after x ≢ Some p
   fresh p y there is = true≢false (sym (h.live y p there) ∙ ap is_some (new p is).0)
@@ -44,27 +43,27 @@ module _ (f k : PieceTexts) (at after : EntityId → Option Piece) (x : EntityId
     live = λ y p is. ⊎_elim
         (λ own. (new p (ap after (sym own.1) ∙ is)).1)
         (λ other.
-            let there : at y ≡ Some p = sym (elsewhere y other.1) ∙ is in
-            ap is_some (beside y p other.1 there) ∙ h.live y p there)
+        let there : at y ≡ Some p = sym (elsewhere y other.1) ∙ is in
+        ap is_some (beside y p other.1 there) ∙ h.live y p there)
         (id_tells y x);
     once = λ y z p is also. ⊎_elim
         (λ own. ⊎_elim
-            (λ one. own.1 ∙ sym one.1)
-            (λ other. absurd (fresh p z (sym (elsewhere z other.1) ∙ also) (ap after (sym own.1) ∙ is)))
-            (id_tells z x))
+        (λ one. own.1 ∙ sym one.1)
+        (λ other. absurd (fresh p z (sym (elsewhere z other.1) ∙ also) (ap after (sym own.1) ∙ is)))
+        (id_tells z x))
         (λ other. ⊎_elim
-            (λ own. absurd (fresh p y (sym (elsewhere y other.1) ∙ is) (ap after (sym own.1) ∙ also)))
-            (λ too. h.once y z p (sym (elsewhere y other.1) ∙ is) (sym (elsewhere z too.1) ∙ also))
-            (id_tells z x))
+        (λ own. absurd (fresh p y (sym (elsewhere y other.1) ∙ is) (ap after (sym own.1) ∙ also)))
+        (λ too. h.once y z p (sym (elsewhere y other.1) ∙ is) (sym (elsewhere z too.1) ∙ also))
+        (id_tells z x))
         (id_tells y x);
     only = λ p live. ⊎_elim
         (λ is. (x, is))
         (λ isnt. ⊎_elim
-            (λ was. absurd (true≢false (sym live ∙ ap is_some (gone p was))))
-            (λ wasnt.
-                let found : (y : EntityId) × (at y ≡ Some p) = h.only p (ap is_some (sym (same p wasnt isnt)) ∙ live) in
-                (found.0, elsewhere found.0 (λ own. wasnt (ap at (sym own) ∙ found.1)) ∙ found.1))
-            (held_tells (at x) p))
+        (λ was. absurd (true≢false (sym live ∙ ap is_some (gone p was))))
+        (λ wasnt.
+        let found : (y : EntityId) × (at y ≡ Some p) = h.only p (ap is_some (sym (same p wasnt isnt)) ∙ live) in
+        (found.0, elsewhere found.0 (λ own. wasnt (ap at (sym own) ∙ found.1)) ∙ found.1))
+        (held_tells (at x) p))
         (held_tells (after x) p);
   }
 

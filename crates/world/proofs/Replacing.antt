@@ -59,7 +59,6 @@ module _ (st : Store) (r : Texts) (st2 : Store) (r2 r3 : Texts) (kept : KeptReco
     (middle : (p : Piece) → piece_held n.held ≢ Some p → beside st2 r2 p ≡ beside st r p)
     (fresh : (p : Piece) → piece_held n.held ≡ Some p → (beside st r p ≡ None) × (is_some (beside st2 r2 p) ≡ true))
     (freed : Frees (piece_at kept x) (beside st2 r2) (beside st2 r3)) where
-
   after_is : piece_at (map.insert kept x n) x ≡ piece_held n.held
   after_is = ap (λ (was : Record Kept). piece_held was.held) (kept_here kept x n)
 
@@ -115,7 +114,6 @@ module _ (st : Store) (r r1 : Texts) (st2 : Store) (r2 r3 : Texts) (kept : KeptR
     (counts : counts_in st2 r3 ≡ counts_in st2 r2)
     (put_kept : (key : Key) (t : Triple) → HasKey st2 r2 key t → HasKey st2 r3 key t)
     (freed : Frees (piece_at kept x) (beside st2 r2) (beside st2 r3)) where
-
   page_middle : (p : Piece) → Some content.piece ≢ Some p → beside st2 r2 p ≡ beside st r p
   page_middle p other = texts p ∙ placed.others p (λ e. other (ap (λ z. Some z) (sym e)))
 
@@ -145,13 +143,13 @@ module _ (st : Store) (r r1 : Texts) (st2 : Store) (r2 r3 : Texts) (kept : KeptR
       → IsKept st2 r3 (map.insert kept x (with_page state reconciled rev content))
   came stored were exchanges keyed meant =
       let keys : AreKeysOf st r1 old (triples_kept (beside st r) kept x) =
-          keys_moved st r st r1 old (triples_kept (beside st r) kept x) place_kept
-          (subst (λ (ks : List Key). AreKeysOf st r ks (triples_kept (beside st r) kept x)) (sym were) (h.keyed x)) in
+      keys_moved st r st r1 old (triples_kept (beside st r) kept x) place_kept
+      (subst (λ (ks : List Key). AreKeysOf st r ks (triples_kept (beside st r) kept x)) (sym were) (h.keyed x)) in
       let moves : Exchanges (counts_in st r) (counts_in st2 r3) (triples_kept (beside st r) kept x) (meaning x rev bytes) =
-          exchanged_through (counts_in st r) (counts_in st r1) (counts_in st2 r2) (counts_in st2 r3) (triples_kept (beside st r) kept x) ts (meaning x rev bytes)
-          place_counts counts meant (exchanges (triples_kept (beside st r) kept x) keys) in
+      exchanged_through (counts_in st r) (counts_in st r1) (counts_in st2 r2) (counts_in st2 r3) (triples_kept (beside st r) kept x) ts (meaning x rev bytes)
+      place_counts counts meant (exchanges (triples_kept (beside st r) kept x) keys) in
       let new : AreKeysOf st2 r3 content.keys.items (meaning x rev bytes) =
-          keys_moved st2 r2 st2 r3 content.keys.items (meaning x rev bytes) put_kept (keys_same st2 r2 content.keys.items ts (meaning x rev bytes) meant keyed) in
+      keys_moved st2 r2 st2 r3 content.keys.items (meaning x rev bytes) put_kept (keys_same st2 r2 content.keys.items ts (meaning x rev bytes) meant keyed) in
       replaced st r st2 r2 r3 kept x (with_page state reconciled rev content) h page_middle page_fresh freed stored
       (keeps_through st r r1 st2 r2 r3 place_kept keeps counts put_kept)
       (subst (λ (held : Option (Held Bytes)). Exchanges (counts_in st r) (counts_in st2 r3) (triples_kept (beside st r) kept x) (triples_held meaning x held)) (sym page_held) moves)
@@ -167,14 +165,14 @@ kept_refused st r st2 r2 kept h stored counts keeps texts = record {
   held = held_again (beside st r) (beside st2 r2) (piece_at kept) (piece_at kept) h.held texts (λ _. refl);
   keyed = λ x.
       let same : triples_kept (beside st2 r2) kept x ≡ triples_kept (beside st r) kept x =
-          ap (triples_held meaning x) (held_same (beside st r) (beside st2 r2) (kept_of kept x).held (λ p _. texts p)) in
+      ap (triples_held meaning x) (held_same (beside st r) (beside st2 r2) (kept_of kept x).held (λ p _. texts p)) in
       let owned : (t : Triple) → has triple_cmp t (triples_kept (beside st r) kept x) ≡ true → 0 < count_of (counts_in st2 r2) t = λ t there.
-          let held : triples_held meaning x (record_of (seen st r kept) x).held ≡ triples_kept (beside st r) kept x =
-              ap (λ (was : Record Bytes). triples_held meaning x was.held) (seen_of (beside st r) kept x) in
-          let some : 0 < owners triple_cmp meaning (seen st r kept) t = has_owner meaning (seen st r kept) x t (ap (has triple_cmp t) held ∙ there) in
-          let count : count_of (counts_in st r) t ≡ owners triple_cmp meaning (seen st r kept) t = h.counted.owned t in
-          let now : count_of (counts_in st2 r2) t ≡ count_of (counts_in st r) t = ap (λ (m : Counts). count_of m t) counts in
-          omega arith in
+      let held : triples_held meaning x (record_of (seen st r kept) x).held ≡ triples_kept (beside st r) kept x =
+      ap (λ (was : Record Bytes). triples_held meaning x was.held) (seen_of (beside st r) kept x) in
+      let some : 0 < owners triple_cmp meaning (seen st r kept) t = has_owner meaning (seen st r kept) x t (ap (has triple_cmp t) held ∙ there) in
+      let count : count_of (counts_in st r) t ≡ owners triple_cmp meaning (seen st r kept) t = h.counted.owned t in
+      let now : count_of (counts_in st2 r2) t ≡ count_of (counts_in st r) t = ap (λ (m : Counts). count_of m t) counts in
+      omega arith in
       subst (λ (ts : List Triple). AreKeysOf st2 r2 (keys_held (kept_of kept x).held) ts) (sym same)
       (keys_stay st r st2 r2 (keys_held (kept_of kept x).held) (triples_kept (beside st r) kept x) (h.keyed x) keeps owned);
 }
@@ -209,7 +207,6 @@ module _ (st : Store) (r : Texts) (st2 : Store) (r2 r3 : Texts) (kept : KeptReco
     (h : IsKept st r kept)
     (texts : (p : Piece) → beside st2 r2 p ≡ beside st r p)
     (freed : Frees (piece_at kept x) (beside st2 r2) (beside st2 r3)) where
-
   abbrev empty_record : Record Kept
   empty_record = record { state = state; held = None; reconciled = reconciled }
 
@@ -231,11 +228,11 @@ module _ (st : Store) (r : Texts) (st2 : Store) (r2 r3 : Texts) (kept : KeptReco
       → IsKept st2 r3 (map.insert kept x empty_record)
   went old stored were exchanges keeps counts put_kept =
       let keys : AreKeysOf st r old (triples_kept (beside st r) kept x) =
-          subst (λ (ks : List Key). AreKeysOf st r ks (triples_kept (beside st r) kept x)) (sym were) (h.keyed x) in
+      subst (λ (ks : List Key). AreKeysOf st r ks (triples_kept (beside st r) kept x)) (sym were) (h.keyed x) in
       replaced st r st2 r2 r3 kept x empty_record h (λ p _. texts p) no_page freed stored
       (keeps_through st r r st2 r2 r3 (λ _ _ is. is) keeps counts put_kept)
       (exchanged_through (counts_in st r) (counts_in st r) (counts_in st2 r2) (counts_in st2 r3) (triples_kept (beside st r) kept x) [] []
-          refl counts (λ _. refl) (exchanges (triples_kept (beside st r) kept x) keys))
+      refl counts (λ _. refl) (exchanges (triples_kept (beside st r) kept x) keys))
       (record { rising = tt; each = λ _ there. absurd (true≢false (sym there)); all = λ _ there. absurd (true≢false (sym there)) })
 
 -- the page that is held stays

@@ -69,11 +69,11 @@ distinct_same : (ts us : List Triple) → ((t : Triple) → has triple_cmp t ts 
 distinct_same ts us same =
     let set : sorted triple_cmp ts ≡ sorted triple_cmp us = sorted_same triple_cmp-total triple_cmp-IsAntisymmetric ts us same in
     ap length (sorted_same term_cmp-total term_cmp-IsAntisymmetric (flat_map terms_of ts) (flat_map terms_of us) (λ q.
-        has_term q ts
-        ∙ sym (list_any-sorted triple_cmp triple_cmp-IsAntisymmetric (λ t. has term_cmp q (terms_of t)) ts)
-        ∙ ap (list_any (λ t. has term_cmp q (terms_of t))) set
-        ∙ list_any-sorted triple_cmp triple_cmp-IsAntisymmetric (λ t. has term_cmp q (terms_of t)) us
-        ∙ sym (has_term q us)))
+    has_term q ts
+    ∙ sym (list_any-sorted triple_cmp triple_cmp-IsAntisymmetric (λ t. has term_cmp q (terms_of t)) ts)
+    ∙ ap (list_any (λ t. has term_cmp q (terms_of t))) set
+    ∙ list_any-sorted triple_cmp triple_cmp-IsAntisymmetric (λ t. has term_cmp q (terms_of t)) us
+    ∙ sym (has_term q us)))
 
 -- the room that triples need beside the stored ones
 pub room_is : (st : Store) (r : Texts) (kept : KeptRecords) → IsKept st r kept → (c : Counts) → c ≡ counts_in st r → (ts us : List Triple)
@@ -81,9 +81,9 @@ pub room_is : (st : Store) (r : Texts) (kept : KeptRecords) → IsKept st r kept
 room_is st r kept h c is ts us same =
     ap (λ (xs : List Triple). distinct (flat_map terms_of (xs ++ ts))) (ap (λ (m : Counts). map.keys m) is ∙ stored_union st r kept h)
     ∙ distinct_same (union triple_cmp meaning (seen st r kept) ++ ts) (union triple_cmp meaning (seen st r kept) ++ us)
-      (λ t. has-append triple_cmp t (union triple_cmp meaning (seen st r kept)) ts
-          ∙ ap (λ b. has triple_cmp t (union triple_cmp meaning (seen st r kept)) || b) (same t)
-          ∙ sym (has-append triple_cmp t (union triple_cmp meaning (seen st r kept)) us))
+    (λ t. has-append triple_cmp t (union triple_cmp meaning (seen st r kept)) ts
+    ∙ ap (λ b. has triple_cmp t (union triple_cmp meaning (seen st r kept)) || b) (same t)
+    ∙ sym (has-append triple_cmp t (union triple_cmp meaning (seen st r kept)) us))
 
 -- what is held has room
 pub room_held : (st : Store) (r : Texts) (kept : KeptRecords) → IsKept st r kept → room_with (seen st r kept) [] ≤ limit_of st
@@ -120,7 +120,7 @@ pub stored_page : (records : Records) (e : Event) (reply : Result Bytes Cause) (
 stored_page records e reply outcome is stored =
     ap (λ (o : Option (Record Bytes)). triples_held meaning e.entity (unwrap_or o blank).held)
     (map.get-insert entity_cmp_total records e.entity (record_after (λ _ _. reply) e (record_of records e.entity)) e.entity
-        ∙ ap (λ b. cond b (Some (record_after (λ _ _. reply) e (record_of records e.entity))) (map.get records e.entity)) ((eq_by_cmp_equiv entity_cmp_total).refl e.entity))
+    ∙ ap (λ b. cond b (Some (record_after (λ _ _. reply) e (record_of records e.entity))) (map.get records e.entity)) ((eq_by_cmp_equiv entity_cmp_total).refl e.entity))
     ∙ by (wants (state_after (record_of records e.entity).state e) (held_revision (record_of records e.entity).held)) (is_deleted (state_after (record_of records e.entity).state e).mode) reply (sym is ∙ stored)
   where
     by : (b d : Bool) (reply : Result Bytes Cause) → cond b (outcome_of_reply reply) (cond d Dropped Same) ≡ Stored

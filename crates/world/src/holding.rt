@@ -101,13 +101,7 @@ pub fn settle_unfetched(
 }
 
 /// Sets the record of an entity, which holds what it held.
-pub fn keep(
-    store: &Store,
-    region: &Region,
-    table: &mut Table<Kept>,
-    id: EntityId,
-    after: Standing,
-)
+pub fn keep(store: &Store, region: &Region, table: &mut Table<Kept>, id: EntityId, after: Standing)
     requires kept { IsKept store.now region.now table.old.records }
     requires room { IsTrue (has_room table.old id) }
     ensures kept { IsKept store.now region.now table.new.records }

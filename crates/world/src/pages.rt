@@ -113,14 +113,29 @@ impl Pages {
         }
         match reply {
             Some(Ok(page)) => {
-                match hold(&mut self.store, &mut self.region, &mut self.table, event.entity, after, page) {
+                match hold(
+                    &mut self.store,
+                    &mut self.region,
+                    &mut self.table,
+                    event.entity,
+                    after,
+                    page,
+                ) {
                     Ok(()) => Ok(Outcome::Stored),
                     Err(refused) => Err(refused),
                 }
             }
             Some(Err(cause)) => {
-                keep(&self.store, &self.region, &mut self.table, event.entity, after);
-                let _ = self.side.push(Entry::Revision(event, after.state.rev, cause));
+                keep(
+                    &self.store,
+                    &self.region,
+                    &mut self.table,
+                    event.entity,
+                    after,
+                );
+                let _ = self
+                    .side
+                    .push(Entry::Revision(event, after.state.rev, cause));
                 Ok(Outcome::Sided(cause))
             }
             None => Ok(settle_unfetched(

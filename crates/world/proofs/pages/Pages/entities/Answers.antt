@@ -9,4 +9,4 @@ use Rattle.world.proofs.pages.Pages.entities.Goals as goal
 pub returns : goal.returns
 returns c =
     rw (← c.self.view_is) (subst (λ (keys : List EntityId). IfOk c.ids.result (λ ids. ids ≡ keys))
-        (sym (values_keys (record_with (beside c.self.inside.store c.self.inside.region)) c.self.inside.table.records)) c.ids.ensures)
+    (sym (values_keys (record_with (beside c.self.inside.store c.self.inside.region)) c.self.inside.table.records)) c.ids.ensures)

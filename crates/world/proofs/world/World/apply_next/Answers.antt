@@ -19,5 +19,5 @@ pub returns-in-Ok-clause-within : goal.returns-in-Ok-clause-within
 returns-in-Ok-clause-within g c = rw (← c.self.view_is) (λ stored.
     subst (λ (ts : List Triple). room_with c.self.inside.pages.played.records ts ≤ c.self.inside.pages.room)
     (sym (ap (λ (p : Played). triples_held meaning c.in-Some.event.entity (record_of p.records c.in-Some.event.entity).held) c.in-Ok.ensures.applied
-        ∙ stored_page c.self.inside.pages.played.records c.in-Some.event (reply_or_any c.in_ok-reply.reply) c.in-Ok.outcome c.in-Ok.ensures.outcome stored))
+    ∙ stored_page c.self.inside.pages.played.records c.in-Some.event (reply_or_any c.in_ok-reply.reply) c.in-Ok.outcome c.in-Ok.ensures.outcome stored))
     c.in-Ok.ensures.within)
