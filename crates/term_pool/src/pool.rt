@@ -165,8 +165,8 @@ impl Pool {
         }
     }
 
-    // Whether the term in a slot has this text.
-    fn has_text(&self, region: &Region, number: u32, text: &[u8]) -> bool
+    /// Whether there is a term in the slot of this number that has this text. It takes no memory and no look-up.
+    pub fn has_text(&self, region: &Region, number: u32, text: &[u8]) -> bool
         requires { LiesIn self.now region.now }
         ensures { IsTrue result ↔ (text_at self.now region.now number ≡ Some text.now) }
     {

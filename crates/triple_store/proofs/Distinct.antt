@@ -48,8 +48,8 @@ module _ {K : Type 0} {R : K → K → Ordering} (o : IsTotalOrder R) (same : Is
   pub fewer : (xs ys : List K) → ((k : K) → has R k xs ≡ true → has R k ys ≡ true) → length (sorted R xs) ≤ length (sorted R ys)
   fewer xs ys within =
       let is : sorted R xs ≡ filter (λ k. has R k xs) (sorted R ys) =
-          same_rising o same (sorted R xs) _ (IsRising-sorted o xs) (IsRising-filter R (λ k. has R k xs) (sorted R ys) (IsRising-sorted o ys))
-          (λ q. has-sorted o q xs ∙ by (has R q xs) (has R q ys) (within q) ∙ ap (λ b. has R q xs && b) (sym (has-sorted o q ys)) ∙ sym (has-filter R same (λ k. has R k xs) q (sorted R ys))) in
+      same_rising o same (sorted R xs) _ (IsRising-sorted o xs) (IsRising-filter R (λ k. has R k xs) (sorted R ys) (IsRising-sorted o ys))
+      (λ q. has-sorted o q xs ∙ by (has R q xs) (has R q ys) (within q) ∙ ap (λ b. has R q xs && b) (sym (has-sorted o q ys)) ∙ sym (has-filter R same (λ k. has R k xs) q (sorted R ys))) in
       omega (arith, ap length is, length-filter (λ k. has R k xs) (sorted R ys), count_by-le-length (λ k. has R k xs) (sorted R ys))
     where
       by : (a b : Bool) → (a ≡ true → b ≡ true) → a ≡ (a && b)
@@ -105,15 +105,16 @@ distinct_terms : (r : Texts) (slots : List (Option Entry)) → AreApart r slots 
 unfolding terms_in
 distinct_terms r [] a = tt
 distinct_terms r (None ∷ rest) a = distinct_terms r rest (behind r None rest a)
-distinct_terms r (Some e ∷ rest) a =
-    (both_ways (has term_cmp (term_in (bytes_of r e.piece)) (terms_in r rest)) false
-    (λ h. let s = slotted r rest _ h in
-    let t = a.textual 0 e refl in
-    let u = a.textual (suc s.slot) s.entry s.there in
-    let same = a.once 0 (suc s.slot) t.text t.is (ap (text_of r) s.there ∙ sym (term_of r s.entry u) ∙ ap (λ x. Some (term_text x)) (sym s.is) ∙ term_of r e t ∙ t.is) in
-    absurd (omega arith))
-    (λ h. clash h refl),
-    distinct_terms r rest (behind r (Some e) rest a))
+distinct_terms r (Some e ∷ rest) a = (
+  both_ways (has term_cmp (term_in (bytes_of r e.piece)) (terms_in r rest)) false
+      (λ h. let s = slotted r rest _ h in
+      let t = a.textual 0 e refl in
+      let u = a.textual (suc s.slot) s.entry s.there in
+      let same = a.once 0 (suc s.slot) t.text t.is (ap (text_of r) s.there ∙ sym (term_of r s.entry u) ∙ ap (λ x. Some (term_text x)) (sym s.is) ∙ term_of r e t ∙ t.is) in
+      absurd (omega arith))
+      (λ h. clash h refl),
+  distinct_terms r rest (behind r (Some e) rest a),
+)
 
 apart : (p : Pool) (r : Texts) → LiesIn p r → AreApart r p.slots.slots
 apart p r lies = record { textual = λ i e h. lies.textual i e h; once = λ i j text h g. lies.once i j text h g }
@@ -122,30 +123,34 @@ apart p r lies = record { textual = λ i e h. lies.textual i e h; once = λ i j 
 pub as_many : (p : Pool) (r : Texts) (ts : List Term) → LiesIn p r → HasTermsOf p r ts → terms p ≤ distinct ts
 as_many p r ts lies h =
     let mine = terms_in r p.slots.slots in
-    omega (arith, length-terms_in r p.slots.slots, length-distinct term_cmp-total term_cmp-IsAntisymmetric mine (distinct_terms r p.slots.slots (apart p r lies)),
-    fewer term_cmp-total term_cmp-IsAntisymmetric mine ts (λ t there.
-        let s = slotted r p.slots.slots t there in
-        let u = lies.textual s.slot s.entry s.there in
-        ap (λ x. has term_cmp x ts) (s.is ∙ ap term_in u.is) ∙ h.each s.slot u.text (ap (text_of r) s.there ∙ u.is)))
+    omega (
+      arith,
+      length-terms_in r p.slots.slots,
+      length-distinct term_cmp-total term_cmp-IsAntisymmetric mine (distinct_terms r p.slots.slots (apart p r lies)),
+      fewer term_cmp-total term_cmp-IsAntisymmetric mine ts (λ t there.
+          let s = slotted r p.slots.slots t there in
+          let u = lies.textual s.slot s.entry s.there in
+          ap (λ x. has term_cmp x ts) (s.is ∙ ap term_in u.is) ∙ h.each s.slot u.text (ap (text_of r) s.there ∙ u.is)),
+    )
 
 -- and one more, where it has a term that the pool hasn't
 pub one_more : (p : Pool) (r : Texts) (ts : List Term) (text : List ℕ) → LiesIn p r → IsCanonical text → IsNowhere p r text → HasTermsOf p r ts → has term_cmp (undo text) ts ≡ true → terms p < distinct ts
 one_more p r ts text lies canonical nowhere h there =
     let mine = terms_in r p.slots.slots in
     let fresh : has term_cmp (undo text) mine ≡ false = both_ways (has term_cmp (undo text) mine) false
-        (λ g. let s = slotted r p.slots.slots (undo text) g in
-        let u = lies.textual s.slot s.entry s.there in
-        absurd (nowhere.nowhere s.slot (ap (text_of r) s.there ∙ sym (term_of r s.entry u) ∙ ap (λ x. Some (term_text x)) (sym s.is)
-        ∙ ap Some (ap term_text (ap undo canonical.is ∙ undo-term_text canonical.term) ∙ sym canonical.is))))
-        (λ g. clash g refl) in
+    (λ g. let s = slotted r p.slots.slots (undo text) g in
+    let u = lies.textual s.slot s.entry s.there in
+    absurd (nowhere.nowhere s.slot (ap (text_of r) s.there ∙ sym (term_of r s.entry u) ∙ ap (λ x. Some (term_text x)) (sym s.is)
+    ∙ ap Some (ap term_text (ap undo canonical.is ∙ undo-term_text canonical.term) ∙ sym canonical.is))))
+    (λ g. clash g refl) in
     let n = length-distinct term_cmp-total term_cmp-IsAntisymmetric (undo text ∷ mine) (fresh, distinct_terms r p.slots.slots (apart p r lies)) in
     let m = length-terms_in r p.slots.slots in
     let few = fewer term_cmp-total term_cmp-IsAntisymmetric (undo text ∷ mine) ts (λ t g.
-        elim (eq_by_cmp term_cmp t (undo text)) as (λ b. eq_by_cmp term_cmp t (undo text) ≡ b → (b || has term_cmp t mine) ≡ true → has term_cmp t ts ≡ true) [
-          | true ↦ λ e _. ap (λ x. has term_cmp x ts) (term_cmp-IsAntisymmetric t _ (equal _ e)) ∙ there
-          | false ↦ λ _ later.
-            let s = slotted r p.slots.slots t later in
-            let u = lies.textual s.slot s.entry s.there in
-            ap (λ x. has term_cmp x ts) (s.is ∙ ap term_in u.is) ∙ h.each s.slot u.text (ap (text_of r) s.there ∙ u.is)
-        ] refl g) in
+    elim (eq_by_cmp term_cmp t (undo text)) as (λ b. eq_by_cmp term_cmp t (undo text) ≡ b → (b || has term_cmp t mine) ≡ true → has term_cmp t ts ≡ true) [
+      | true ↦ λ e _. ap (λ x. has term_cmp x ts) (term_cmp-IsAntisymmetric t _ (equal _ e)) ∙ there
+      | false ↦ λ _ later.
+          let s = slotted r p.slots.slots t later in
+          let u = lies.textual s.slot s.entry s.there in
+          ap (λ x. has term_cmp x ts) (s.is ∙ ap term_in u.is) ∙ h.each s.slot u.text (ap (text_of r) s.there ∙ u.is)
+    ] refl g) in
     omega arith

@@ -41,17 +41,21 @@ same_slots p q r s before after keeps counts = record {
 }
 
 pub keeps_interned : (p q : Pool) (r s : Texts) (slot : ℕ) (text : List ℕ) → Interned p r q s slot text → KeepsTexts p r q s
-keeps_interned p q r s slot text i = record { kept = λ x t e. ⊎_elim
-    (λ same. ⊎_elim
-    (λ a. let one : Some t ≡ Some text = sym e ∙ ap (text_at p r) same ∙ a in ap (text_at q s) same ∙ i.there ∙ sym one)
-    (λ b. let none : None ≡ Some t = sym b.0 ∙ ap (text_at p r) (sym same) ∙ e in absurd cc)
-    i.was)
-    (λ ne. i.others x ne ∙ e)
-    (cases_eq x slot) }
+keeps_interned p q r s slot text i = record {
+  kept = λ x t e. ⊎_elim
+      (λ same. ⊎_elim
+      (λ a. let one : Some t ≡ Some text = sym e ∙ ap (text_at p r) same ∙ a in ap (text_at q s) same ∙ i.there ∙ sym one)
+      (λ b. let none : None ≡ Some t = sym b.0 ∙ ap (text_at p r) (sym same) ∙ e in absurd cc)
+      i.was)
+      (λ ne. i.others x ne ∙ e)
+      (cases_eq x slot);
+}
 
 pub keeps_released : (p q u : Pool) (r s v : Texts) (slot : ℕ) → LiesIn p r → KeepsTexts p r q s → Released q s u v slot → ((x : ℕ) → count_at p x ≤ count_at u x) → KeepsTexts p r u v
-keeps_released p q u r s v slot lies keeps released most = record { kept = λ x t e.
-    released.texts x (omega (arith, used_at p r lies x t e, most x)) ∙ keeps.kept x t e }
+keeps_released p q u r s v slot lies keeps released most = record {
+  kept = λ x t e.
+      released.texts x (omega (arith, used_at p r lies x t e, most x)) ∙ keeps.kept x t e;
+}
 
 keeps_same : (p q u : Pool) (r s v : Texts) → KeepsTexts p r q s → SameSlots q s u v → KeepsTexts p r u v
 keeps_same p q u r s v keeps same = record { kept = λ x t e. same.texts x ∙ keeps.kept x t e }
@@ -79,10 +83,12 @@ held p a b q r s t v key of i j k =
 
 -- a list that has a pool's terms has them after one that it has comes
 pub terms_interned : (p q : Pool) (r s : Texts) (slot : ℕ) (text : List ℕ) (ts : List Term) → Interned p r q s slot text → HasTermsOf p r ts → has term_cmp (undo text) ts ≡ true → HasTermsOf q s ts
-terms_interned p q r s slot text ts i h there = record { each = λ x t e. ⊎_elim
-    (λ same. let one : Some text ≡ Some t = sym i.there ∙ ap (text_at q s) (sym same) ∙ e in let eq : text ≡ t = cc in subst (λ y. has term_cmp (undo y) ts ≡ true) eq there)
-    (λ ne. h.each x t (sym (i.others x ne) ∙ e))
-    (cases_eq x slot) }
+terms_interned p q r s slot text ts i h there = record {
+  each = λ x t e. ⊎_elim
+      (λ same. let one : Some text ≡ Some t = sym i.there ∙ ap (text_at q s) (sym same) ∙ e in let eq : text ≡ t = cc in subst (λ y. has term_cmp (undo y) ts ≡ true) eq there)
+      (λ ne. h.each x t (sym (i.others x ne) ∙ e))
+      (cases_eq x slot);
+}
 
 -- each of the three terms of a triple is in a list that has all
 pub record HasThree (t : Triple) (ts : List Term) : Type 0 where

@@ -6,6 +6,7 @@ pub mod Imaged
 pub mod Keyed
 pub mod Live
 pub mod Mapped
+pub mod Matched
 pub mod Owners
 pub mod Removing
 pub mod Rooming

@@ -77,11 +77,13 @@ pub uses_there : (c : KeyCounts) (k : Key) (slot : ℕ) → map.contains_key c k
 uses_there c k slot there = sum-has key_cmp-IsAntisymmetric (uses slot) k (map.keys c) (has_key c k ∙ there)
 
 pub live_counted : (p : Pool) (r : Texts) (c : KeyCounts) → LiesIn p r → ((slot : ℕ) → slots.used (map.keys c) slot ≤ count_at p slot) → AreLive p r c
-live_counted p r c lies enough = record { live = λ k there.
-    live_key p r k lies
-    (omega (arith, enough k.first, uses_there c k k.first there, uses_first k))
-    (omega (arith, enough k.second, uses_there c k k.second there, uses_second k))
-    (omega (arith, enough k.third, uses_there c k k.third there, uses_third k)) }
+live_counted p r c lies enough = record {
+  live = λ k there.
+      live_key p r k lies
+      (omega (arith, enough k.first, uses_there c k k.first there, uses_first k))
+      (omega (arith, enough k.second, uses_there c k k.second there, uses_second k))
+      (omega (arith, enough k.third, uses_there c k k.third there, uses_third k));
+}
 
 -- two triples of slots are equal where the triples that they stand for are
 same_tests : (p : Pool) (r : Texts) (k l : Key) (t u : Triple) → LiesIn p r → HasTriple p r k t → HasTriple p r l u → same_triple t u ≡ same_key k l
@@ -99,7 +101,7 @@ module _ (p : Pool) (r : Texts) (c : KeyCounts) (lies : LiesIn p r) (live : AreL
   get_image k t h =
       map.get-from_entries triple_cmp-total _ t
       ∙ find-pushed key_cmp triple_cmp key_cmp-total (triple_at p r) k t (map.entries c) (λ x there.
-          same_tests p r k x t (triple_at p r x) lies h (live.live x (sym (has_key c x) ∙ there)))
+      same_tests p r k x t (triple_at p r x) lies h (live.live x (sym (has_key c x) ∙ there)))
       ∙ sym (map.get-entries c k)
 
   -- what no key stands for isn't stored
@@ -108,9 +110,9 @@ module _ (p : Pool) (r : Texts) (c : KeyCounts) (lies : LiesIn p r) (live : AreL
   image_none t none =
       map.get-from_entries triple_cmp-total _ t
       ∙ find-pushed_none key_cmp triple_cmp key_cmp-total (triple_at p r) t (map.entries c) (λ x there.
-          both_ways (same_triple t (triple_at p r x)) false
-          (λ e. absurd (none x (sym (has_key c x) ∙ there) (sym (triple_cmp-IsAntisymmetric t _ (equal _ e)))))
-          (λ e. clash e refl))
+      both_ways (same_triple t (triple_at p r x)) false
+      (λ e. absurd (none x (sym (has_key c x) ∙ there) (sym (triple_cmp-IsAntisymmetric t _ (equal _ e)))))
+      (λ e. clash e refl))
 
   pub image_absent : (t : Triple) → ((k : Key) → HasTriple p r k t → ⊥) → map.get (image (triple_at p r) c) t ≡ None
   image_absent t none = image_none t (λ k there is. none k (subst (HasTriple p r k) is (live.live k there)))
@@ -128,10 +130,12 @@ counted_key c k n q there =
     ] refl (ap is_some (sym (get-counted c k n q)) ∙ there)
 
 pub live-with_count : (p : Pool) (r : Texts) (c : KeyCounts) (k : Key) (t : Triple) (n : ℕ) → AreLive p r c → HasTriple p r k t → AreLive p r (keyed.with_count c k n)
-live-with_count p r c k t n live h = record { live = λ q there. ⊎_elim
-    (λ e. subst (λ x. HasTriple p r x (triple_at p r x)) (sym e) (subst (HasTriple p r k) (sym (tells p r k t h)) h))
-    (λ was. live.live q was)
-    (counted_key c k n q there) }
+live-with_count p r c k t n live h = record {
+  live = λ q there. ⊎_elim
+      (λ e. subst (λ x. HasTriple p r x (triple_at p r x)) (sym e) (subst (HasTriple p r k) (sym (tells p r k t h)) h))
+      (λ was. live.live q was)
+      (counted_key c k n q there);
+}
 
 -- another count of a key is another count of its triple
 pub image-with_count : (p : Pool) (r : Texts) (c : KeyCounts) (k : Key) (t : Triple) (n : ℕ) → LiesIn p r → AreLive p r c → HasTriple p r k t
@@ -141,20 +145,20 @@ image-with_count p r c k t n lies live h =
     let now = live-with_count p r c k t n live h in
     map.same_map triple_cmp-total triple_cmp-IsAntisymmetric _ _ (λ q. ⊎_elim
     (λ some.
-        let has_l : HasTriple p r some.0 q = subst (HasTriple p r some.0) some.2
-            (⊎_elim (λ e. subst (λ x. HasTriple p r x (triple_at p r x)) (sym e) (subst (HasTriple p r k) (sym (tells p r k t h)) h)) (λ was. live.live some.0 was)
-            (in_front c k some.0 some.1)) in
-        get_image p r (keyed.with_count c k n) lies now some.0 q has_l
-        ∙ get-counted c k n some.0
-        ∙ ap (λ b. cond b (kept n) (map.get c some.0)) (sym (same_tests p r some.0 k q t lies has_l h))
-        ∙ ap (λ v. cond (same_triple q t) (kept n) v) (sym (get_image p r c lies live some.0 q has_l)))
+    let has_l : HasTriple p r some.0 q = subst (HasTriple p r some.0) some.2
+    (⊎_elim (λ e. subst (λ x. HasTriple p r x (triple_at p r x)) (sym e) (subst (HasTriple p r k) (sym (tells p r k t h)) h)) (λ was. live.live some.0 was)
+    (in_front c k some.0 some.1)) in
+    get_image p r (keyed.with_count c k n) lies now some.0 q has_l
+    ∙ get-counted c k n some.0
+    ∙ ap (λ b. cond b (kept n) (map.get c some.0)) (sym (same_tests p r some.0 k q t lies has_l h))
+    ∙ ap (λ v. cond (same_triple q t) (kept n) v) (sym (get_image p r c lies live some.0 q has_l)))
     (λ none.
-        let other : same_triple q t ≡ false = both_ways (same_triple q t) false
-            (λ e. absurd (none k (ap (λ b. b || has key_cmp k (map.keys c)) (ap is_eq (tied_itself key_cmp-total k))) (tells p r k t h ∙ sym (triple_cmp-IsAntisymmetric q t (equal _ e)))))
-            (λ e. clash e refl) in
-        image_none p r (keyed.with_count c k n) lies now q (λ x there. none x (put_in_front c k x (counted_key c k n x there)))
-        ∙ sym (ap (λ b. cond b (kept n) (map.get (image m c) q)) other
-        ∙ image_none p r c lies live q (λ x there. none x (put_in_front c k x (inr there)))))
+    let other : same_triple q t ≡ false = both_ways (same_triple q t) false
+    (λ e. absurd (none k (ap (λ b. b || has key_cmp k (map.keys c)) (ap is_eq (tied_itself key_cmp-total k))) (tells p r k t h ∙ sym (triple_cmp-IsAntisymmetric q t (equal _ e)))))
+    (λ e. clash e refl) in
+    image_none p r (keyed.with_count c k n) lies now q (λ x there. none x (put_in_front c k x (counted_key c k n x there)))
+    ∙ sym (ap (λ b. cond b (kept n) (map.get (image m c) q)) other
+    ∙ image_none p r c lies live q (λ x there. none x (put_in_front c k x (inr there)))))
     (among key_cmp-total key_cmp-IsAntisymmetric triple_cmp-total triple_cmp-IsAntisymmetric m q (k ∷ map.keys c))
     ∙ sym (get-with_count (image m c) t n q))
   where

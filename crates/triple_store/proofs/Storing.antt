@@ -78,7 +78,7 @@ module _ (c : KeyCounts) (k : Key) (slot : ℕ) where
       let there = stored_counted c k (omega (arith, one)) in
       let all = sum-insert_key key_cmp (uses slot) k (map.keys (map.remove c k)) (gone key_cmp-total key_cmp-IsAntisymmetric c k) in
       let is : slots.used (map.keys (map.remove c k)) slot + uses slot k ≡ slots.used (map.keys c) slot =
-          omega (arith, all, ap (λ ks. slots.used ks slot) (keys-remove key_cmp-total key_cmp-IsAntisymmetric c k there)) in
+      omega (arith, all, ap (λ ks. slots.used ks slot) (keys-remove key_cmp-total key_cmp-IsAntisymmetric c k there)) in
       subst (λ n. slots.used (map.keys (keyed.with_count c k n)) slot + uses slot k ≡ slots.used (map.keys c) slot) (sym e) is
 
 -- ---- the triples of keys
@@ -94,9 +94,11 @@ keeps_triple p q r s k t keeps h = record {
 }
 
 pub live_kept : (p q : Pool) (r s : Texts) (c : KeyCounts) → KeepsTexts p r q s → AreLive p r c → AreLive q s c
-live_kept p q r s c keeps live = record { live = λ k there.
-    let h = keeps_triple p q r s k _ keeps (live.live k there) in
-    subst (HasTriple q s k) (sym (tells q s k _ h)) h }
+live_kept p q r s c keeps live = record {
+  live = λ k there.
+      let h = keeps_triple p q r s k _ keeps (live.live k there) in
+      subst (HasTriple q s k) (sym (tells q s k _ h)) h;
+}
 
 -- the counts stay where the texts do
 pub counts_kept : (p q : Pool) (r s : Texts) (c : KeyCounts) → KeepsTexts p r q s → AreLive p r c → image (triple_at q s) c ≡ image (triple_at p r) c
@@ -163,21 +165,23 @@ user (k ∷ ks) slot some = ⊎_elim
 -- the terms of a pool are those of its stored triples
 pub terms_stored : (st : Store) (r : Texts) (ts : List Term) → IsStored st r → HasTermsIn (counts_in st r) ts → HasTermsOf st.pool r ts
 unfolding triple_at
-terms_stored st r ts h all = record { each = λ slot text e.
-    let some : 0 < slots.used (map.keys st.index) slot = omega (arith, h.counted slot, used_at st.pool r h.lies slot text e) in
-    let u = user (map.keys st.index) slot some in
-    let there : map.contains_key st.index u.key ≡ true = sym (has_key st.index u.key) ∙ u.there in
-    let live = live_stored st r h in
-    let t = triple_at st.pool r u.key in
-    let stored : map.contains_key (counts_in st r) t ≡ true = ap is_some (get_image st.pool r st.index h.lies live u.key t (live.live u.key there)) ∙ there in
-    let three = three t ts (all.each t stored) in
-    let at : (x : ℕ) → x ≡ slot → has term_cmp (term_in (text_at st.pool r x)) ts ≡ true → has term_cmp (undo text) ts ≡ true =
-        λ x same in_it. subst (λ y. has term_cmp y ts ≡ true) (ap (λ y. term_in (text_at st.pool r y)) same ∙ ap term_in e) in_it in
-    ⊎_elim (λ a. at u.key.first a three.subject)
-    (λ a. ⊎_elim (λ b. at u.key.second b three.predicate)
-    (λ b. ⊎_elim (λ d. at u.key.third d three.object)
-    (λ d. absurd (omega (arith, u.some, if_other u.key.first slot a, if_other u.key.second slot b, if_other u.key.third slot d)))
-    (cases_eq u.key.third slot)) (cases_eq u.key.second slot)) (cases_eq u.key.first slot) }
+terms_stored st r ts h all = record {
+  each = λ slot text e.
+      let some : 0 < slots.used (map.keys st.index) slot = omega (arith, h.counted slot, used_at st.pool r h.lies slot text e) in
+      let u = user (map.keys st.index) slot some in
+      let there : map.contains_key st.index u.key ≡ true = sym (has_key st.index u.key) ∙ u.there in
+      let live = live_stored st r h in
+      let t = triple_at st.pool r u.key in
+      let stored : map.contains_key (counts_in st r) t ≡ true = ap is_some (get_image st.pool r st.index h.lies live u.key t (live.live u.key there)) ∙ there in
+      let three = three t ts (all.each t stored) in
+      let at : (x : ℕ) → x ≡ slot → has term_cmp (term_in (text_at st.pool r x)) ts ≡ true → has term_cmp (undo text) ts ≡ true =
+      λ x same in_it. subst (λ y. has term_cmp y ts ≡ true) (ap (λ y. term_in (text_at st.pool r y)) same ∙ ap term_in e) in_it in
+      ⊎_elim (λ a. at u.key.first a three.subject)
+      (λ a. ⊎_elim (λ b. at u.key.second b three.predicate)
+      (λ b. ⊎_elim (λ d. at u.key.third d three.object)
+      (λ d. absurd (omega (arith, u.some, if_other u.key.first slot a, if_other u.key.second slot b, if_other u.key.third slot d)))
+      (cases_eq u.key.third slot)) (cases_eq u.key.second slot)) (cases_eq u.key.first slot);
+}
 
 -- ---- one owner more
 
@@ -225,9 +229,10 @@ triple_let_go p q r s k l t gone h a b c = record {
 
 pub used_slots : (q : Pool) (c : KeyCounts) (l : Key) → ((slot : ℕ) → count_at q slot ≡ slots.used (map.keys c) slot) → map.contains_key c l ≡ true → (0 < count_at q l.first) × (0 < count_at q l.second) × (0 < count_at q l.third)
 used_slots q c l counted there = (
-    omega (arith, counted l.first, uses_there c l l.first there, uses_first l),
-    omega (arith, counted l.second, uses_there c l l.second there, uses_second l),
-    omega (arith, counted l.third, uses_there c l l.third there, uses_third l))
+  omega (arith, counted l.first, uses_there c l l.first there, uses_first l),
+  omega (arith, counted l.second, uses_there c l l.second there, uses_second l),
+  omega (arith, counted l.third, uses_there c l l.third there, uses_third l),
+)
 
 -- a triple that was stored keeps its slots where the terms are held and let go of
 pub again : (st : Store) (q u : Pool) (r s v : Texts) (k : Key) (of : TripleText) → IsStored st r → HasCanonicalTexts of → 0 < keyed.count_of st.index k → Held st.pool r q s k of → LetGo q s u v k → HasTriple u v k (triple_of of)
@@ -263,9 +268,12 @@ module _ (st : Store) (r : Texts) (k : Key) (h : IsStored st r) (there : map.con
     counts_left = ap (λ c. image (triple_at st.pool r) c) e ∙ lowered_image
 
     pub keeps_left : KeepsKeys st r (record { alloc = st.alloc; pool = st.pool; index = d }) r
-    keeps_left = record { kept = λ l t was some. record {
-      stored = ap (λ c. map.contains_key c l) e ∙ still_counted l t was.has (subst (λ c. 0 < count_of (image (triple_at st.pool r) c) t) e some);
-      has = was.has } }
+    keeps_left = record {
+      kept = λ l t was some. record {
+        stored = ap (λ c. map.contains_key c l) e ∙ still_counted l t was.has (subst (λ c. 0 < count_of (image (triple_at st.pool r) c) t) e some);
+        has = was.has;
+      };
+    }
 
   module _ (new : Store) (s : Texts) (e : new.index ≡ keyed.lowered st.index k) (one : keyed.count_of st.index k ≡ 1) (gone_k : LetGo st.pool r new.pool s k) where
     counted_gone : (slot : ℕ) → count_at new.pool slot ≡ slots.used (map.keys (keyed.lowered st.index k)) slot
@@ -292,6 +300,8 @@ module _ (st : Store) (r : Texts) (k : Key) (h : IsStored st r) (there : map.con
     counts_gone = same_image ∙ lowered_image
 
     pub keeps_gone : KeepsKeys st r new s
-    keeps_gone = record { kept = λ l t was some.
-        let in_it = still_counted l t was.has (subst (λ c. 0 < count_of c t) same_image some) in
-        record { stored = ap (λ c. map.contains_key c l) e ∙ in_it; has = left_triple l t in_it was.has } }
+    keeps_gone = record {
+      kept = λ l t was some.
+          let in_it = still_counted l t was.has (subst (λ c. 0 < count_of c t) same_image some) in
+          record { stored = ap (λ c. map.contains_key c l) e ∙ in_it; has = left_triple l t in_it was.has };
+    }

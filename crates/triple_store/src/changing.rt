@@ -1,9 +1,10 @@
 // One owner of a triple more or less.
 
-ghost use Rattle.std.specs.Prelude.{◌≡◌, ◌<◌, true, Err, IfNone, IfOk, IfSome, List, OnErr, OnOk};
+ghost use Rattle.std.specs.Prelude.{◌≡◌, ◌<◌, true, Err, IfNone, IfOk, IfSome, List, OnErr, OnOk, Some};
 ghost use Rattle.rdf_term.specs.declared.term.Term.{Term};
 ghost use Rattle.rdf_term.specs.declared.triple.Triple.{Triple};
 ghost use Rattle.text_region.specs.declared.piece.Piece.{Piece as ThePiece};
+ghost use Rattle.term_pool.specs.Pool.{IsNowhere, LiesIn, text_at};
 ghost use Rattle.slot_index.specs.declared.key.Key.{Key as TheKey};
 ghost use Rattle.triple_store.specs.Counts.{count_of, lowered, raised};
 ghost use Rattle.triple_store.specs.Room.{distinct, terms_of};
@@ -15,22 +16,29 @@ use crate::holding::{hold, let_go};
 use crate::store::Store;
 use crate::uncounted::{lower, raise};
 use slot_index::Key;
-use term_pool::PoolFault;
+use term_pool::{Pool, PoolFault};
 use text_region::Region;
 use triple_texts::TripleText;
 
 impl Store {
-    // The triple of slots with these texts, where each of them is there; the triple need not be stored. Takes no memory.
-    pub(crate) fn find_key(&self, region: &Region, texts: &TripleText<'_>) -> Option<Key>
+    // The triple of slots with these texts, where each of them is there; the triple need not be stored. The subject is
+    // tried first in the slot that it has in a triple near by, since triples that follow each other share it. Takes no
+    // memory.
+    pub(crate) fn find_key(
+        &self,
+        region: &Region,
+        texts: &TripleText<'_>,
+        near: Option<Key>,
+    ) -> Option<Key>
         requires { IsStored self.now region.now }
         ensures found { IfSome result (λ key. HasTexts self.now.pool region.now key texts.now) }
         ensures nowhere { IfNone result ((key : TheKey) → HasTexts self.now.pool region.now key texts.now → ⊥) }
     {
-        let subject = self.pool.find_text(region, texts.subject)?;
+        let subject = find_near(&self.pool, region, texts.subject, near)?;
         let predicate = self.pool.find_text(region, texts.predicate)?;
         let object = self.pool.find_text(region, texts.object)?;
         Some(Key {
-            first: subject.number,
+            first: subject,
             second: predicate.number,
             third: object.number,
         })
@@ -88,4 +96,19 @@ impl Store {
             let_go(&mut self.pool, region, key);
         }
     }
+}
+
+// The slot with this text, which is tried first as the subject of a triple near by.
+fn find_near(pool: &Pool, region: &Region, text: &[u8], near: Option<Key>) -> Option<u32>
+    requires { LiesIn pool.now region.now }
+    ensures found { IfSome result (λ slot. text_at pool.now region.now slot ≡ Some text.now) }
+    ensures nowhere { IfNone result (IsNowhere pool.now region.now text.now) }
+{
+    if let Some(key) = near {
+        if pool.has_text(region, key.first, text) {
+            return Some(key.first);
+        }
+    }
+    let slot = pool.find_text(region, text)?;
+    Some(slot.number)
 }

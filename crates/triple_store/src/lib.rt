@@ -1,14 +1,17 @@
 //! The triples of all entities, each with the number of its owners.
 //!
 //! `store` has the store, over a pool of terms and an index of triples of slots, and `fault` why it takes no triples.
-//! `exchanging` puts the triples of one owner in the place of others, and `releasing` takes them away, triple by triple
-//! with `changing`, over `holding`. `room` says how many terms there are.
+//! `holding` uses the terms of a triple once more, all or none, and once less, and `uncounted` calls the index where nobody
+//! counts its steps. On these `changing` gives a triple one owner more or less, and `matching` finds triples by a pattern;
+//! triple by triple `exchanging` puts the triples of one owner in the place of others, and `releasing` takes them away.
+//! `room` says how many terms there are.
 #![tactic(auto)]
 
 mod changing;
 mod exchanging;
 mod fault;
 mod holding;
+mod matching;
 mod releasing;
 mod room;
 mod store;

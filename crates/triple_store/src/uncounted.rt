@@ -22,11 +22,7 @@ pub(crate) fn raise(index: &mut SlotIndex, key: Key) -> Result<bool, OutOfMemory
     raise_by::<Brand>(index, key, Blank::new(1))
 }
 
-fn raise_by<L: Ledger>(
-    index: &mut SlotIndex,
-    key: Key,
-    blank: Blank,
-) -> Result<bool, OutOfMemory>
+fn raise_by<L: Ledger>(index: &mut SlotIndex, key: Key, blank: Blank) -> Result<bool, OutOfMemory>
     requires few { count_of index.old key < 18446744073709551615 }
     requires name { blank.name ≡ L.name }
     requires parts { blank.parts ≡ L.parts }
