@@ -118,7 +118,7 @@ impl Store {
         ensures held { IfSome result (λ key. has key_cmp key (old.now ++ added.now.keys) ≡ true) }
         ensures none { IfNone result ((key : TheKey) → HasTexts self.now.pool region.now key texts.now → has key_cmp key (old.now ++ added.now.keys) ≡ false) }
     {
-        let key = self.find_key(region, texts)?;
+        let key = self.find_key(region, texts, None)?;
         if old.binary_search(&key).is_ok() {
             return Some(key);
         }

@@ -11,7 +11,6 @@ mod holding;
 mod kept;
 mod meaning;
 mod pages;
-mod store_stub;
 mod world;
 
 pub use applied::{Applied, Outcome, WorldFault};

@@ -22,7 +22,6 @@ use crate::applied::Outcome;
 use crate::fetching::Reply;
 use crate::holding::{hold, keep, settle_unfetched};
 use crate::kept::Kept;
-use crate::store_stub::{all, count, matches};
 use entity_model::{EntityId, Event};
 use entity_state::{Record, Standing, Table};
 use rdf_term::{List, OutOfMemory, Pattern, Triple, TripleSet};
@@ -167,21 +166,21 @@ impl Pages {
     pub fn triples(&self) -> Result<TripleSet, OutOfMemory>
         ensures { IfOk result (λ set. set ≡ union triple_cmp meaning self.now.played.records) }
     {
-        all(&self.store, &self.region)
+        self.store.all(&self.region)
     }
 
     /// Those of them that agree with the pattern, in memory of their own.
     pub fn matches(&self, pattern: &Pattern) -> Result<TripleSet, OutOfMemory>
         ensures { IfOk result (λ set. set ≡ rows (union triple_cmp meaning self.now.played.records) pattern.now) }
     {
-        matches(&self.store, &self.region, pattern)
+        self.store.matches(&self.region, pattern)
     }
 
     /// How many entities hold the triple.
-    pub fn owners(&self, triple: &Triple) -> u64
-        ensures { result ≡ owners triple_cmp meaning self.now.played.records triple.now }
+    pub fn owners(&self, triple: &Triple) -> Result<u64, OutOfMemory>
+        ensures { IfOk result (λ count. count ≡ owners triple_cmp meaning self.now.played.records triple.now) }
     {
-        count(&self.store, &self.region, triple)
+        self.store.count(&self.region, triple)
     }
 
     /// The region, which has the texts of the terms of all that is held, and the held pages, and nothing else.
