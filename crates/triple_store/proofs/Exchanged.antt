@@ -19,7 +19,7 @@ use Rattle.triple_store.specs.Moves.{Removes, Takes, meant}
 use Rattle.triple_store.proofs.Owners.{same_counts}
 use Rattle.triple_store.proofs.Removing.{apart}
 use Rattle.triple_store.proofs.Live.{tells}
-use Rattle.triple_store.proofs.Meanings.{counted_key, has-meant, meant-has, owned}
+use Rattle.triple_store.proofs.Standing.{counted_key, has-meant, meant-has, owned}
 use Rattle.triple_store.proofs.Taking.{had_key, never}
 
 -- tests that imply each other

@@ -7,7 +7,6 @@ pub mod Keyed
 pub mod Live
 pub mod Mapped
 pub mod Matched
-pub mod Meanings
 pub mod Owners
 pub mod Removing
 pub mod Rooming
@@ -16,3 +15,4 @@ pub mod Standing
 pub mod Stocked
 pub mod Storing
 pub mod Taking
+pub mod Unchanged

@@ -1,11 +1,12 @@
 -- The triples that agree with a pattern are those whose keys agree with the pattern of slots.
-use Rattle.std.proofs.Common.{◌≡◌, ℕ, ◌<◌, ◌≤◌, Bool, true, false, cond, ◌&&◌, List, [], ◌∷◌, length, get_or, filter, count_by, nat_lt, Some, zero, suc, is_eq, refl, sym, ◌∙◌, ap, subst, arith, lt-ltb, ltb-true}
+use Rattle.std.proofs.Common.{◌≡◌, ℕ, ◌+◌, ◌<◌, ◌≤◌, Bool, true, false, cond, ◌&&◌, ◌||◌, List, [], ◌∷◌, length, get_or, filter, count_by, nat_lt, Option, Some, None, zero, suc, is_eq, refl, sym, ◌∙◌, ap, subst, arith, lt-ltb, ltb-true}
 use Rattle.std.specs.Prelude.{map as mapped}
 use Rattle.std.specs.FinMap as map
 use Rattle.std.specs.Cmp.{both_ways, nat_cmp_total}
 use Rattle.std.specs.FinMap.{nat_cmp-IsAntisymmetric}
 use Rattle.std.specs.Ordering.{eq_by_cmp, nat_cmp}
 use Rattle.std.proofs.lemmas.Cmp.{tied_itself}
+use Rattle.std.proofs.lemmas.List.Sums.{sum_by-cons}
 use Rattle.rising.specs.Rising.{has, sorted}
 use Rattle.rising.proofs.Bools.{and_none, clash, equal, or_true}
 use Rattle.rising.proofs.Filtering.{IsRising-filter, has-filter}
@@ -32,7 +33,7 @@ use Rattle.triple_store.specs.Stored.{image}
 use Rattle.triple_store.proofs.Keyed.{has_key, keys_rising}
 use Rattle.triple_store.proofs.Live.{live_slot}
 use Rattle.triple_store.proofs.Owners.{same_triple}
-use Rattle.triple_store.proofs.Standing.{keys_mean, mapped_has}
+use Rattle.triple_store.proofs.Unchanged.{keys_mean, mapped_has}
 
 -- an element of a list is in it
 pub has_at : (xs : List Key) (i : ℕ) (d : Key) → i < length xs → has key_cmp (get_or xs i d) xs ≡ true

@@ -24,7 +24,7 @@ use Rattle.triple_store.specs.Stored.{HasKey, IsStored, KeepsKeys, beside, count
 use Rattle.triple_store.specs.Moves.{Removes, meant}
 use Rattle.triple_store.proofs.Owners.{same_triple, count_of-lowered}
 use Rattle.triple_store.proofs.Live.{key_same, tells}
-use Rattle.triple_store.proofs.Meanings.{counted_key, meant-has, stored_key}
+use Rattle.triple_store.proofs.Standing.{counted_key, meant-has, stored_key}
 
 module _ {K : Type 0} {R : K → K → Ordering} (o : IsTotalOrder R) where
   above_at : (k : K) (xs : List K) (i : ℕ) (d : K) → i < length xs → Above R k xs → R k (get_or xs i d) ≡ Less

@@ -22,7 +22,7 @@ use Rattle.triple_store.specs.Stored.{counts_in, limit_of}
 use Rattle.triple_store.specs.Moves.{Takes, meant}
 use Rattle.triple_store.proofs.Owners.{same_triple}
 use Rattle.triple_store.proofs.Removing.{in_take}
-use Rattle.triple_store.proofs.Meanings.{owned, stored_if}
+use Rattle.triple_store.proofs.Standing.{owned, stored_if}
 use Rattle.triple_store.proofs.Taking.{one_of, or_left}
 
 -- the terms of a triple of a list are among those of the list

@@ -23,7 +23,7 @@ use Rattle.triple_store.specs.Slots.{HasCanonicalTexts, HasTermsIn, HasTexts, Ha
 use Rattle.triple_store.specs.Stored.{HasKey, IsStored, beside, counts_in, is_key, limit_of}
 use Rattle.triple_store.proofs.Removing.{has_at}
 use Rattle.triple_store.proofs.Rooming.{no_room}
-use Rattle.triple_store.proofs.Meanings.{texts_triple, triple_of_texts, triple_texts}
+use Rattle.triple_store.proofs.Standing.{texts_triple, triple_of_texts, triple_texts}
 use Rattle.triple_store.proofs.Taking.{as_many, held_taken, new_taken}
 
 -- the texts are those of the triple at a place

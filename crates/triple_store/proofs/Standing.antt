@@ -1,148 +1,119 @@
--- What the calls say that change no triple.
-use Rattle.std.proofs.Common.{◌≡◌, ℕ, true, false, ◌||◌, List, [], ◌∷◌, length, Option, Some, None, Ordering, is_some, count_by, refl, sym, ◌∙◌, ap, subst, arith, cond}
+-- What the triples of slots of a store stand for.
+use Rattle.std.proofs.Common.{◌≡◌, ℕ, ◌<◌, true, false, ◌||◌, List, [], ◌∷◌, Option, Some, None, is_some, unwrap_or, refl, sym, ◌∙◌, ap, subst, arith, true≢false}
 use Rattle.std.specs.Prelude.{map as mapped}
 use Rattle.std.specs.FinMap as map
-use Rattle.std.specs.FinMap.{IsAntisymmetric}
-use Rattle.std.specs.Cmp.{IsTotalOrder, both_ways}
+use Rattle.std.specs.Map.{keys_of}
 use Rattle.std.specs.Ordering.{eq_by_cmp}
-use Rattle.std.specs.List.{list_any}
-use Rattle.std.proofs.lemmas.List.{length-map}
-use Rattle.std.proofs.lemmas.List.Sums.{sum_by-cons}
-use Rattle.rising.specs.Rising.{IsRising, has, sorted}
-use Rattle.rising.proofs.Bools.{clash, equal, or_true}
-use Rattle.rising.proofs.Rising.{has-above, has_itself, sorted_rising, sorted_same}
+use Rattle.std.proofs.lemmas.Map.Made.{is_some-lookup}
+use Rattle.rising.specs.Rising.{has}
+use Rattle.rising.proofs.Bools.{equal, or_true}
+use Rattle.rising.proofs.Rising.{has_itself}
 use Rattle.rdf_term.specs.declared.triple.Triple.{Triple}
 use Rattle.rdf_term.specs.Order.{triple_cmp, triple_cmp-total}
-use Rattle.rdf_term.proofs.Texts.{triple_cmp-IsAntisymmetric}
-use Rattle.text_region.specs.declared.piece.Piece.{Piece}
-use Rattle.text_region.specs.Region.{Texts, bytes_of}
-use Rattle.term_pool.specs.declared.slots.Entry.{Entry}
+use Rattle.rdf_term.specs.Undo.{undo}
+use Rattle.rdf_term.proofs.Texts.{undo-term_text, triple_cmp-IsAntisymmetric}
+use Rattle.text_region.specs.Region.{Texts}
 use Rattle.term_pool.specs.declared.pool.Pool.{Pool}
-use Rattle.term_pool.specs.Pool.{LiesIn, count_at, foreign, has_piece, terms}
-use Rattle.term_pool.proofs.Beside.{MovesBeside}
-use Rattle.term_pool.proofs.Lying.{used_at}
+use Rattle.term_pool.specs.Pool.{LiesIn}
 use Rattle.slot_index.specs.declared.key.Key.{Key}
-use Rattle.slot_index.specs.Keys.{key_cmp, key_cmp-total, key_cmp-IsAntisymmetric}
+use Rattle.slot_index.specs.Keys.{key_cmp, key_cmp-total, key_cmp-IsAntisymmetric, same_key}
 use Rattle.slot_index.specs.Counts.{Counts as KeyCounts}
+use Rattle.triple_texts.specs.declared.triple_text.TripleText.{TripleText}
+use Rattle.triple_texts.specs.Texts.{IsTextOf}
 use Rattle.triple_store.specs.declared.store.Store.{Store}
-use Rattle.triple_store.specs.Holding.{KeepsTexts}
-use Rattle.triple_store.specs.Slots.{HasTriple, triple_at}
-use Rattle.triple_store.specs.Slots as slots
-use Rattle.triple_store.specs.Stored.{Changes, HasKey, IsStored, beside, counts_in, image}
-use Rattle.triple_store.proofs.Distinct.{AreDistinct, as_many, length-distinct}
-use Rattle.triple_store.proofs.Imaged.{keys-pushed, pushed}
-use Rattle.triple_store.proofs.Keyed.{has_key, keys_rising}
-use Rattle.triple_store.proofs.Live.{key_same}
-use Rattle.triple_store.proofs.Mapped.{there}
-use Rattle.triple_store.proofs.Storing.{counts_kept, keeps_triple, live_stored}
+use Rattle.triple_store.specs.Counts.{Counts, HaveOwners, count_of}
+use Rattle.triple_store.specs.Slots.{HasTexts, HasTriple, triple_at, triple_of}
+use Rattle.triple_store.specs.Stored.{HasKey, IsStored, counts_in, image, is_key}
+use Rattle.triple_store.proofs.Live.{AreLive, count_image, live_counted}
+use Rattle.triple_store.proofs.Mapped.{got}
 
--- ---- no triples
+-- two triples of slots with the same texts are one
+pub one_of_texts : (pool : Pool) (region : Texts) → LiesIn pool region → (a b : Key) (texts : TripleText) → HasTexts pool region a texts → HasTexts pool region b texts → a ≡ b
+one_of_texts pool region lies a b texts ha hb =
+    let first = lies.once a.first b.first _ ha.subject hb.subject in
+    let second = lies.once a.second b.second _ ha.predicate hb.predicate in
+    let third = lies.once a.third b.third _ ha.object hb.object in
+    λ i. record { first = first i; second = second i; third = third i }
 
-none_long : {A : Type 0} (xs : List A) → length xs ≡ 0 → xs ≡ []
-none_long [] e = refl
-none_long (x ∷ xs) e = absurd (omega (arith, e))
+-- the triple of a triple's texts
+pub triple_of_texts : (texts : TripleText) (triple : Triple) → IsTextOf texts triple → triple_of texts ≡ triple
+triple_of_texts texts triple h =
+    let subject = ap undo h.subject ∙ undo-term_text triple.subject in
+    let predicate = ap undo h.predicate ∙ undo-term_text triple.predicate in
+    let object = ap undo h.object ∙ undo-term_text triple.object in
+    λ i. record { subject = subject i; predicate = predicate i; object = object i }
 
-no_entries : (c : KeyCounts) → map.len c ≡ 0 → map.entries c ≡ []
-no_entries c e = none_long (map.entries c) (sym (map.len-entries c) ∙ e)
+-- the slots with a triple's texts stand for it, and those that stand for it have its texts
+pub texts_triple : (pool : Pool) (region : Texts) (key : Key) (texts : TripleText) (triple : Triple) → IsTextOf texts triple → HasTexts pool region key texts → HasTriple pool region key triple
+texts_triple pool region key texts triple is h = record {
+  subject = h.subject ∙ ap Some is.subject;
+  predicate = h.predicate ∙ ap Some is.predicate;
+  object = h.object ∙ ap Some is.object;
+}
 
-pub none_used : (c : KeyCounts) (slot : ℕ) → map.len c ≡ 0 → slots.used (map.keys c) slot ≡ 0
-none_used c slot e = ap (λ (es : List (Key × ℕ)). slots.used (mapped (λ e. e.0) es) slot) (no_entries c e)
+pub triple_texts : (pool : Pool) (region : Texts) (key : Key) (texts : TripleText) (triple : Triple) → IsTextOf texts triple → HasTriple pool region key triple → HasTexts pool region key texts
+triple_texts pool region key texts triple is h = record {
+  subject = h.subject ∙ ap Some (sym is.subject);
+  predicate = h.predicate ∙ ap Some (sym is.predicate);
+  object = h.object ∙ ap Some (sym is.object);
+}
 
-pub empty_len : (c : KeyCounts) → c ≡ map.empty → map.len c ≡ 0
-empty_len c e = ap (λ m. map.len m) e ∙ map.len-empty key_cmp ℕ
+-- a stored triple of slots has the triple that it stands for
+pub are_live : (store : Store) (texts : Texts) → IsStored store texts → AreLive store.pool texts store.index
+are_live store texts h = live_counted store.pool texts store.index h.lies (λ slot. omega (arith, h.counted slot))
 
-pub none_counted : (p : Pool) (r : Texts) (c : KeyCounts) → c ≡ map.empty → image (triple_at p r) c ≡ map.empty
-unfolding image
-none_counted p r c e = ap (λ (es : List (Key × ℕ)). map.from_entries {R = triple_cmp} (pushed key_cmp triple_cmp (triple_at p r) es)) (no_entries c (empty_len c e))
+pub stored_key : (store : Store) (texts : Texts) → IsStored store texts → (key : Key) → is_key store key ≡ true → HasKey store texts key (triple_at store.pool texts key)
+stored_key store texts h key is = record { stored = is; has = (are_live store texts h).live key is }
 
-no_piece : (piece : Piece) (slots : List (Option Entry)) → count_by is_some slots ≡ 0 → list_any (has_piece piece) slots ≡ false
-no_piece piece [] e = refl
-no_piece piece (None ∷ rest) e = no_piece piece rest (omega (arith, e, sum_by-cons (λ (o : Option Entry). cond (is_some o) 1 0) None rest))
-no_piece piece (Some entry ∷ rest) e = absurd (omega (arith, e, sum_by-cons (λ (o : Option Entry). cond (is_some o) 1 0) (Some entry) rest))
-
-pub all_beside : (p : Pool) (r : Texts) (piece : Piece) → terms p ≡ 0 → foreign p r piece ≡ bytes_of r piece
-unfolding foreign
-all_beside p r piece e = ap (λ b. cond b None (bytes_of r piece)) (no_piece piece p.slots.slots e)
-
--- ---- another limit
-
-no_terms : (p : Pool) (r : Texts) → LiesIn p r → ((slot : ℕ) → count_at p slot ≡ 0) → terms p ≡ 0
-no_terms p r lies none = omega (arith, as_many p r [] lies (record { each = λ x t e. absurd (omega (arith, none x, used_at p r lies x t e)) }))
-
-pub limited : (st : Store) (r : Texts) (limit : ℕ) → map.len st.index ≡ 0 → IsStored st r → IsStored (record { alloc = st.alloc; pool = record st.pool { limit = limit }; index = st.index }) r
-limited st r limit none h =
-    let empty = no_terms st.pool r h.lies (λ slot. h.counted slot ∙ none_used st.index slot none) in
-    record {
-      lies = record { textual = h.lies.textual; once = h.lies.once; indexed = h.lies.indexed; few = omega (arith, empty) };
-      counted = h.counted;
-      owned = h.owned;
-    }
-
-pub limited_counts : (st : Store) (r : Texts) (limit : ℕ) → counts_in (record { alloc = st.alloc; pool = record st.pool { limit = limit }; index = st.index }) r ≡ counts_in st r
-unfolding image triple_at
-limited_counts st r limit = refl
-
-pub limited_beside : (p : Pool) (r : Texts) (limit : ℕ) (piece : Piece) → foreign (record p { limit = limit }) r piece ≡ foreign p r piece
-unfolding foreign
-limited_beside p r limit piece = refl
-
--- ---- texts beside the store's
-
-module _ (st : Store) (r s : Texts) (piece : Piece) (before after : Option (List ℕ)) (h : IsStored st r) (moves : MovesBeside st.pool r s piece before after) where
-  keeps : KeepsTexts st.pool r st.pool s
-  keeps = record { kept = λ x t e. moves.texts x ∙ e }
-
-  pub moved_stored : IsStored st s
-  moved_stored = record { lies = moves.lies; counted = h.counted; owned = h.owned }
-
-  pub moved_counts : counts_in st s ≡ counts_in st r
-  moved_counts = counts_kept st.pool st.pool r s st.index keeps (live_stored st r h)
-
-  pub moved_keys : (key : Key) (triple : Triple) → HasKey st r key triple → HasKey st s key triple
-  moved_keys key triple k = record { stored = k.stored; has = keeps_triple st.pool st.pool r s key triple keeps k.has }
-
-  pub moved : Changes (beside st r) (beside st s) piece before after
-  moved = record { was = moves.was; is = moves.is; others = moves.others }
-
--- ---- the stored triples
-
--- they are those that the keys stand for
-pub keys_mean : (p : Pool) (r : Texts) (c : KeyCounts) → map.keys (image (triple_at p r) c) ≡ sorted triple_cmp (mapped (triple_at p r) (map.keys c))
-unfolding image
-keys_mean p r c =
-    sym (sorted_rising triple_cmp-total triple_cmp-IsAntisymmetric _ (keys_rising (image (triple_at p r) c)))
-    ∙ sorted_same triple_cmp-total triple_cmp-IsAntisymmetric _ _ (λ q.
-    has_key (image (triple_at p r) c) q ∙ there triple_cmp-total q (pushed key_cmp triple_cmp (triple_at p r) (map.entries c))
-    ∙ ap (has triple_cmp q) (keys-pushed key_cmp triple_cmp (triple_at p r) (map.entries c)))
-
-module _ {K T : Type 0} {R : K → K → Ordering} {S : T → T → Ordering} (o : IsTotalOrder R) (apart : IsAntisymmetric R) (s : IsTotalOrder S) (distinct : IsAntisymmetric S) where
-  pub mapped_has : (m : K → T) (t : T) (xs : List K) → has S t (mapped m xs) ≡ true → (x : K) × (has R x xs ≡ true) × (m x ≡ t)
-  mapped_has m t [] h = clash h refl
-  mapped_has m t (x ∷ xs) h =
-      elim (eq_by_cmp S t (m x)) as (λ b. eq_by_cmp S t (m x) ≡ b → (b || has S t (mapped m xs)) ≡ true → (y : K) × (has R y (x ∷ xs) ≡ true) × (m y ≡ t)) [
-        | true ↦ λ e _. (x, has_itself o x xs, sym (distinct t (m x) (equal _ e)))
-        | false ↦ λ _ later. let y = mapped_has m t xs later in (y.0, or_true (eq_by_cmp R y.0 x) _ y.1, y.2)
+-- what triples of slots stand for, by a meaning
+module _ (m : Key → Triple) where
+  -- the triple of one that is there is there
+  pub has-meant : (keys : List Key) (key : Key) → has key_cmp key keys ≡ true → has triple_cmp (m key) (mapped m keys) ≡ true
+  has-meant [] key h = absurd (true≢false (sym h))
+  has-meant (k ∷ keys) key h =
+      elim (same_key key k) as (λ b. same_key key k ≡ b → (b || has key_cmp key keys) ≡ true → has triple_cmp (m key) (mapped m (k ∷ keys)) ≡ true) [
+        | true ↦ λ e _. subst (λ (x : Key). has triple_cmp (m key) (m x ∷ mapped m keys) ≡ true) (key_cmp-IsAntisymmetric key k (equal _ e)) (has_itself triple_cmp-total (m key) (mapped m keys))
+        | false ↦ λ _ rest. or_true (eq_by_cmp triple_cmp (m key) (m k)) _ (has-meant keys key rest)
       ] refl h
 
-  -- where different ones stand for different ones, a rising list stands for as many
-  pub mapped_distinct : (m : K → T) (xs : List K) → IsRising R xs → ((x y : K) → has R x xs ≡ true → has R y xs ≡ true → m x ≡ m y → x ≡ y) → AreDistinct {R = S} s distinct (mapped m xs)
-  mapped_distinct m [] rises one = tt
-  mapped_distinct m (x ∷ xs) rises one = (
-    both_ways (has S (m x) (mapped m xs)) false
-        (λ h. let y = mapped_has m (m x) xs h in
-        let same = one y.0 x (or_true (eq_by_cmp R y.0 x) _ y.1) (has_itself o x xs) y.2 in
-        sym (sym y.1 ∙ ap (λ z. has R z xs) same ∙ has-above R x xs rises.0))
-        (λ e. clash e refl),
-    mapped_distinct m xs rises.1 (λ a b ha hb e. one a b (or_true (eq_by_cmp R a x) _ ha) (or_true (eq_by_cmp R b x) _ hb) e),
-  )
+  -- and a triple that is there is that of one
+  pub meant-has : (keys : List Key) (t : Triple) → has triple_cmp t (mapped m keys) ≡ true → (key : Key) × (has key_cmp key keys ≡ true) × (m key ≡ t)
+  meant-has [] t h = absurd (true≢false (sym h))
+  meant-has (k ∷ keys) t h =
+      elim (eq_by_cmp triple_cmp t (m k)) as (λ b. eq_by_cmp triple_cmp t (m k) ≡ b → (b || has triple_cmp t (mapped m keys)) ≡ true → (key : Key) × (has key_cmp key (k ∷ keys) ≡ true) × (m key ≡ t)) [
+        | true ↦ λ e _. (k, has_itself key_cmp-total k keys, sym (triple_cmp-IsAntisymmetric t (m k) (equal _ e)))
+        | false ↦ λ _ rest. let one : (key : Key) × (has key_cmp key keys ≡ true) × (m key ≡ t) = meant-has keys t rest in (one.0, or_true (same_key one.0 k) _ one.1, one.2)
+      ] refl h
 
-pub len_image : (st : Store) (r : Texts) → IsStored st r → map.len (counts_in st r) ≡ map.len st.index
-len_image st r h =
-    let m = triple_at st.pool r in
-    let live = live_stored st r h in
-    let has_it : (x : Key) → has key_cmp x (map.keys st.index) ≡ true → HasTriple st.pool r x (m x) = λ x e. live.live x (sym (has_key st.index x) ∙ e) in
-    let apart = mapped_distinct key_cmp-total key_cmp-IsAntisymmetric triple_cmp-total triple_cmp-IsAntisymmetric m (map.keys st.index) (keys_rising st.index)
-    (λ x y a b e. key_same st.pool r x y (m y) h.lies (subst (HasTriple st.pool r x) e (has_it x a)) (has_it y b)) in
-    map.len-entries (counts_in st r) ∙ sym (length-map (map.entries (counts_in st r)) (λ e. e.0)) ∙ ap length (keys_mean st.pool r st.index)
-    ∙ length-distinct triple_cmp-total triple_cmp-IsAntisymmetric (mapped m (map.keys st.index)) apart
-    ∙ length-map (map.keys st.index) m ∙ length-map (map.entries st.index) (λ e. e.0) ∙ sym (map.len-entries st.index)
+  keys_meant : (es : List (Key × ℕ)) (t : Triple) → has triple_cmp t (keys_of (mapped (λ e. (m e.0, e.1)) es)) ≡ has triple_cmp t (mapped m (keys_of es))
+  keys_meant [] t = refl
+  keys_meant (e ∷ es) t = ap (λ b. eq_by_cmp triple_cmp t (m e.0) || b) (keys_meant es t)
+
+  -- the triples that are stored are those of the triples of slots
+  pub contains-image : (counts : KeyCounts) (t : Triple) → map.contains_key (image m counts) t ≡ has triple_cmp t (mapped m (map.keys counts))
+  unfolding image
+  contains-image counts t = ap is_some (got triple_cmp-total t (mapped (λ e. (m e.0, e.1)) (map.entries counts))) ∙ is_some-lookup (eq_by_cmp triple_cmp t) (mapped (λ e. (m e.0, e.1)) (map.entries counts)) ∙ keys_meant (map.entries counts) t
+
+owned_stored : (v : Option ℕ) → 0 < unwrap_or v 0 → is_some v ≡ true
+owned_stored None h = absurd (omega (arith, h))
+owned_stored (Some n) h = refl
+
+-- a triple with an owner is stored
+pub stored_if : (counts : Counts) (t : Triple) → 0 < count_of counts t → map.contains_key counts t ≡ true
+stored_if counts t some = owned_stored (map.get counts t) some
+
+module _ (store : Store) (texts : Texts) (h : IsStored store texts) where
+  -- the triple that a stored triple of slots stands for has an owner
+  pub counted_key : (key : Key) (t : Triple) → HasKey store texts key t → 0 < count_of (counts_in store texts) t
+  counted_key key t k = omega (arith, h.owned key k.stored, count_image store.pool texts store.index key t h.lies (are_live store texts h) k.has)
+
+  -- and a stored triple is that of a triple of slots
+  pub key_stored : (t : Triple) → map.contains_key (counts_in store texts) t ≡ true → (key : Key) × HasKey store texts key t
+  key_stored t there =
+      let m = triple_at store.pool texts in
+      let one : (key : Key) × (has key_cmp key (map.keys store.index) ≡ true) × (m key ≡ t) = meant-has m (map.keys store.index) t (sym (contains-image m store.index t) ∙ there) in
+      (one.0, subst (HasKey store texts one.0) one.2 (stored_key store texts h one.0 (map.contains_key-keys store.index one.0 ∙ one.1)))
+
+  -- which has an owner
+  pub owned : HaveOwners (counts_in store texts)
+  owned t there = let one : (key : Key) × HasKey store texts key t = key_stored t there in counted_key one.0 t one.1

@@ -31,7 +31,7 @@ use Rattle.triple_store.specs.Slots.{HasTriple, term_in, triple_at, used, uses}
 use Rattle.triple_store.specs.Stored.{HasKey, IsStored, counts_in, limit_of}
 use Rattle.triple_store.proofs.Distinct.{as_many, fewer}
 use Rattle.triple_store.proofs.Rooming.{positive_sum, terms_among}
-use Rattle.triple_store.proofs.Meanings.{contains-image, has-meant, key_stored, stored_key}
+use Rattle.triple_store.proofs.Standing.{contains-image, has-meant, key_stored, stored_key}
 use Rattle.triple_store.proofs.Taking.{one_of, or_left}
 
 module _ {K : Type 0} (R : K → K → Ordering) where

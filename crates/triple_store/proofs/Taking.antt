@@ -22,7 +22,7 @@ use Rattle.triple_store.specs.Stored.{HasKey, IsStored, beside, counts_in, is_ke
 use Rattle.triple_store.specs.Moves.{Takes, meant}
 use Rattle.triple_store.proofs.Owners.{same_triple, count_of-raised}
 use Rattle.triple_store.proofs.Live.{tells}
-use Rattle.triple_store.proofs.Meanings.{has-meant, meant-has, stored_key}
+use Rattle.triple_store.proofs.Standing.{has-meant, meant-has, stored_key}
 
 -- one more element at the end of a list
 pub has-push : {K : Type 0} (R : K → K → Ordering) (q : K) (xs : List K) (x : K) → has R q (xs ++ x ∷ []) ≡ (has R q xs || eq_by_cmp R q x)

@@ -3,7 +3,7 @@ use Rattle.rising.specs.Rising.{has}
 use Rattle.slot_index.specs.declared.key.Key.{Key}
 use Rattle.slot_index.specs.Keys.{key_cmp}
 use Rattle.triple_store.proofs.AtHand.{held_old, not_held}
-use Rattle.triple_store.proofs.Meanings.{one_of_texts}
+use Rattle.triple_store.proofs.Standing.{one_of_texts}
 use Rattle.triple_store.proofs.store.Store.find_held.Goals as goal
 
 pub returns-then-is_ok-clause-held : goal.returns-then-is_ok-clause-held

@@ -3,7 +3,7 @@ use Rattle.std.proofs.Common.{None, ap, sym, ◌∙◌}
 use Rattle.std.specs.Prelude.{is_some}
 use Rattle.term_pool.specs.Pool.{foreign}
 use Rattle.term_pool.proofs.Beside.{MovesBeside, freed, live_beside}
-use Rattle.triple_store.proofs.Standing.{moved, moved_counts, moved_keys, moved_stored}
+use Rattle.triple_store.proofs.Unchanged.{moved, moved_counts, moved_keys, moved_stored}
 use Rattle.triple_store.proofs.store.Store.free.Goals as goal
 
 pub free-requires : goal.free-requires

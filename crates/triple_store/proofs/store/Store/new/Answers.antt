@@ -1,7 +1,7 @@
 use Rattle.std.proofs.Common.{sym, ◌∙◌, subst}
 use Rattle.slot_index.specs.Counts.{HaveOwners}
 use Rattle.slot_index.proofs.Owners.{HaveOwners-empty}
-use Rattle.triple_store.proofs.Standing.{all_beside, empty_len, none_counted, none_used}
+use Rattle.triple_store.proofs.Unchanged.{all_beside, empty_len, none_counted, none_used}
 use Rattle.triple_store.proofs.store.Store.new.Goals as goal
 
 pub returns-clause-stored : goal.returns-clause-stored

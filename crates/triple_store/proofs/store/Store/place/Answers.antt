@@ -1,7 +1,7 @@
 -- The new piece lies beside the store's.
 use Rattle.std.proofs.Common.{Some, None}
 use Rattle.term_pool.proofs.Beside.{MovesBeside, placed}
-use Rattle.triple_store.proofs.Standing.{moved, moved_counts, moved_keys, moved_stored}
+use Rattle.triple_store.proofs.Unchanged.{moved, moved_counts, moved_keys, moved_stored}
 use Rattle.triple_store.proofs.store.Store.place.Goals as goal
 
 moves : (c : goal.In_ok-piece) → MovesBeside c.args.self.now.pool c.args.region.now c.place.new.self c.in_ok-piece.piece None (Some c.args.bytes.now)

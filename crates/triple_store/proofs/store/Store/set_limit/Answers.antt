@@ -3,7 +3,7 @@ use Rattle.std.proofs.Common.{ap, sym, subst, ◌∙◌}
 use Rattle.term_pool.specs.declared.pool.Pool.{Pool}
 use Rattle.term_pool.specs.Pool.{foreign}
 use Rattle.triple_store.specs.Stored.{IsStored, counts_in}
-use Rattle.triple_store.proofs.Standing.{limited, limited_beside, limited_counts}
+use Rattle.triple_store.proofs.Unchanged.{limited, limited_beside, limited_counts}
 use Rattle.triple_store.proofs.store.Store.set_limit.Goals as goal
 
 pub returns-clause-stored : goal.returns-clause-stored

@@ -1,5 +1,5 @@
 use Rattle.std.proofs.Common.{sym, ◌∙◌}
-use Rattle.triple_store.proofs.Standing.{len_image}
+use Rattle.triple_store.proofs.Unchanged.{len_image}
 use Rattle.triple_store.proofs.store.Store.triples.Goals as goal
 
 pub returns : goal.returns
