@@ -1,14 +1,12 @@
 -- As many terms as a list has are different in each list that has them.
-use Rattle.std.proofs.Common.{◌≡◌, ℕ, zero, suc, ◌+◌, ◌<◌, ◌≤◌, Bool, true, false, cond, ◌&&◌, ◌||◌, List, [], ◌∷◌, length, get_or, Option, Some, None, Ordering, Less, Equal, Greater, is_eq, is_some, count_by, filter, refl, sym, ◌∙◌, ap, arith, ⊎_elim}
+use Rattle.std.proofs.Common.{◌≡◌, ℕ, suc, ◌+◌, ◌<◌, ◌≤◌, Bool, true, false, cond, ◌&&◌, ◌||◌, List, [], ◌∷◌, length, get_or, Option, Some, None, Ordering, Less, Equal, Greater, is_eq, is_some, count_by, filter, refl, sym, ◌∙◌, ap, arith}
 use Rattle.std.specs.Cmp.{IsTotalOrder, both_ways}
 use Rattle.std.specs.FinMap.{IsAntisymmetric}
 use Rattle.std.specs.Ordering.{eq_by_cmp, match_ordering}
 use Rattle.std.specs.BTreeSet.{insert_key}
-use Rattle.std.proofs.lemmas.Bool.{cases_Bool}
-use Rattle.std.proofs.lemmas.Cmp.{tied_itself}
 use Rattle.std.proofs.lemmas.List.Sums.{count_by-le-length, length-filter, sum_by-cons}
 use Rattle.rising.specs.Rising.{has, sorted}
-use Rattle.rising.proofs.Bools.{clash, equal, or_false_left, or_false_right, or_true}
+use Rattle.rising.proofs.Bools.{clash, equal, or_false_left, or_false_right}
 use Rattle.rising.proofs.Filtering.{IsRising-filter, has-filter}
 use Rattle.rising.proofs.Rising.{IsRising-sorted, has-sorted, same_rising}
 use Rattle.rdf_term.specs.declared.term.Term.{Term}
@@ -16,11 +14,10 @@ use Rattle.rdf_term.specs.Order.{term_cmp, term_cmp-total}
 use Rattle.rdf_term.specs.Text.{term_text}
 use Rattle.rdf_term.specs.Undo.{undo}
 use Rattle.rdf_term.proofs.Texts.{term_cmp-IsAntisymmetric, undo-term_text}
-use Rattle.slab.specs.Slab.{get}
 use Rattle.text_region.specs.Region.{Texts, bytes_of}
 use Rattle.term_pool.specs.declared.slots.Entry.{Entry}
 use Rattle.term_pool.specs.declared.pool.Pool.{Pool}
-use Rattle.term_pool.specs.Pool.{IsCanonical, IsNowhere, IsTextual, LiesIn, terms, text_at, text_of}
+use Rattle.term_pool.specs.Pool.{IsCanonical, IsNowhere, IsTextual, LiesIn, terms, text_of}
 use Rattle.triple_store.specs.Holding.{HasTermsOf}
 use Rattle.triple_store.specs.Room.{distinct}
 use Rattle.triple_store.specs.Slots.{term_in}

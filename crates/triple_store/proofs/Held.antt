@@ -1,5 +1,5 @@
 -- The terms of a triple, used once more and once less.
-use Rattle.std.proofs.Common.{◌≡◌, ◌≢◌, ℕ, ◌+◌, ◌<◌, ◌≤◌, ◌==◌, true, ◌||◌, List, [], ◌∷◌, Option, Some, None, is_eq, refl, sym, ◌∙◌, ap, subst, arith, ⊎_elim}
+use Rattle.std.proofs.Common.{◌≡◌, ℕ, ◌<◌, ◌≤◌, true, List, [], ◌∷◌, Option, Some, None, refl, sym, ◌∙◌, ap, subst, arith, ⊎_elim}
 use Rattle.std.specs.Ordering.{eq_by_cmp}
 use Rattle.std.proofs.lemmas.Bool.{cases_eq, cases_lt}
 use Rattle.rising.specs.Rising.{has}
@@ -13,13 +13,13 @@ use Rattle.slab.specs.Slab.{get}
 use Rattle.text_region.specs.Region.{Texts}
 use Rattle.term_pool.specs.declared.slots.Entry.{Entry}
 use Rattle.term_pool.specs.declared.pool.Pool.{Pool}
-use Rattle.term_pool.specs.Pool.{IsCanonical, IsNowhere, Interned, LiesIn, Released, SameSlots, count_at, count_of, one_if, terms, text_at, text_of}
+use Rattle.term_pool.specs.Pool.{IsCanonical, IsNowhere, Interned, LiesIn, Released, SameSlots, count_at, count_of, terms, text_at, text_of}
 use Rattle.term_pool.proofs.Lying.{text_there, used, used_at}
 use Rattle.slot_index.specs.declared.key.Key.{Key}
 use Rattle.triple_texts.specs.declared.triple_text.TripleText.{TripleText}
-use Rattle.triple_store.specs.Holding.{HasTermsOf, Held, KeepsTexts, LetGo}
+use Rattle.triple_store.specs.Holding.{HasTermsOf, Held, KeepsTexts}
 use Rattle.triple_store.specs.Room.{distinct, terms_of}
-use Rattle.triple_store.specs.Slots.{HasTexts, IsAllOf}
+use Rattle.triple_store.specs.Slots.{IsAllOf}
 use Rattle.triple_store.proofs.Distinct.{one_more}
 
 -- a slot that isn't used has no text

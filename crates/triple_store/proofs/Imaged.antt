@@ -1,9 +1,9 @@
 -- A map, pushed along a function of its keys.
-use Rattle.std.proofs.Common.{◌≡◌, ◌≢◌, ℕ, suc, Bool, true, false, cond, ◌||◌, List, [], ◌∷◌, length, ◌+◌, Option, Some, None, Ordering, is_eq, refl, sym, ◌∙◌, ap, arith, ⊎_elim, ◌⊎◌, inl, inr}
+use Rattle.std.proofs.Common.{◌≡◌, ◌≢◌, Bool, true, false, cond, ◌||◌, List, [], ◌∷◌, Some, None, Ordering, is_eq, refl, sym, ◌∙◌, ap, ⊎_elim, ◌⊎◌, inl, inr}
 use Rattle.std.specs.Prelude.{map as mapped}
 use Rattle.std.specs.Cmp.{IsTotalOrder}
 use Rattle.std.specs.FinMap as map
-use Rattle.std.specs.FinMap.{FinMap, IsAntisymmetric}
+use Rattle.std.specs.FinMap.{IsAntisymmetric}
 use Rattle.std.specs.Ordering.{eq_by_cmp}
 use Rattle.rising.specs.Rising.{has}
 use Rattle.std.proofs.lemmas.Cmp.{tied_itself}

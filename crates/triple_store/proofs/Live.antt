@@ -1,9 +1,7 @@
 -- The triples that stored triples of slots stand for.
-use Rattle.std.proofs.Common.{◌≡◌, ◌≢◌, ℕ, zero, suc, ◌+◌, ◌-◌, ◌<◌, ◌≤◌, Bool, true, false, cond, ◌||◌, List, [], ◌∷◌, length, Option, Some, None, is_eq, is_some, unwrap_or, refl, sym, ◌∙◌, ap, subst, arith, ⊎_elim, ◌⊎◌, inl, inr, add-one}
-use Rattle.std.specs.Prelude.{map as mapped}
+use Rattle.std.proofs.Common.{◌≡◌, ◌≢◌, ℕ, zero, suc, ◌<◌, ◌≤◌, true, false, cond, ◌||◌, ◌∷◌, Some, None, is_eq, is_some, unwrap_or, refl, sym, ◌∙◌, ap, subst, arith, ⊎_elim, ◌⊎◌, inl, inr}
 use Rattle.std.specs.FinMap as map
 use Rattle.std.specs.Cmp.{both_ways}
-use Rattle.std.specs.Ordering.{eq_by_cmp}
 use Rattle.std.proofs.lemmas.Cmp.{tied_itself}
 use Rattle.rising.specs.Rising.{has}
 use Rattle.rising.proofs.Bools.{clash, equal, or_true}
@@ -14,14 +12,13 @@ use Rattle.rdf_term.specs.Undo.{undo}
 use Rattle.rdf_term.proofs.Texts.{triple_cmp-IsAntisymmetric, undo-term_text}
 use Rattle.text_region.specs.Region.{Texts}
 use Rattle.term_pool.specs.declared.pool.Pool.{Pool}
-use Rattle.term_pool.specs.Pool.{LiesIn, count_at, one_if, text_at, text_of}
+use Rattle.term_pool.specs.Pool.{LiesIn, count_at, text_at, text_of}
 use Rattle.term_pool.proofs.Lying.{if_same, used}
 use Rattle.slot_index.specs.declared.key.Key.{Key}
 use Rattle.slot_index.specs.Keys.{key_cmp, key_cmp-total, key_cmp-IsAntisymmetric, same_key}
 use Rattle.slot_index.specs.Counts.{Counts as KeyCounts}
 use Rattle.slot_index.specs.Counts as keyed
-use Rattle.slot_index.proofs.Owners as keyed_owners
-use Rattle.triple_store.specs.Counts.{Counts, count_of, with_count}
+use Rattle.triple_store.specs.Counts.{count_of, with_count}
 use Rattle.triple_store.specs.Slots.{HasTriple, term_in, triple_at, uses}
 use Rattle.triple_store.specs.Slots as slots
 use Rattle.triple_store.specs.Stored.{image}

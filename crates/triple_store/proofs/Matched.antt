@@ -1,12 +1,11 @@
 -- The triples that agree with a pattern are those whose keys agree with the pattern of slots.
-use Rattle.std.proofs.Common.{◌≡◌, ℕ, ◌+◌, ◌<◌, ◌≤◌, Bool, true, false, cond, ◌&&◌, ◌||◌, List, [], ◌∷◌, length, get_or, filter, count_by, nat_lt, Option, Some, None, zero, suc, is_eq, refl, sym, ◌∙◌, ap, subst, arith, lt-ltb, ltb-true}
+use Rattle.std.proofs.Common.{◌≡◌, ℕ, ◌<◌, ◌≤◌, Bool, true, false, cond, ◌&&◌, List, [], ◌∷◌, length, get_or, filter, count_by, nat_lt, Some, zero, suc, is_eq, refl, sym, ◌∙◌, ap, subst, arith, lt-ltb, ltb-true}
 use Rattle.std.specs.Prelude.{map as mapped}
 use Rattle.std.specs.FinMap as map
 use Rattle.std.specs.Cmp.{both_ways, nat_cmp_total}
 use Rattle.std.specs.FinMap.{nat_cmp-IsAntisymmetric}
 use Rattle.std.specs.Ordering.{eq_by_cmp, nat_cmp}
 use Rattle.std.proofs.lemmas.Cmp.{tied_itself}
-use Rattle.std.proofs.lemmas.List.Sums.{sum_by-cons}
 use Rattle.rising.specs.Rising.{has, sorted}
 use Rattle.rising.proofs.Bools.{and_none, clash, equal, or_true}
 use Rattle.rising.proofs.Filtering.{IsRising-filter, has-filter}

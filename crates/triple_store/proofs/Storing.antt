@@ -1,5 +1,5 @@
 -- A store after one owner more or less of a triple.
-use Rattle.std.proofs.Common.{◌≡◌, ℕ, zero, suc, ◌+◌, ◌-◌, ◌*◌, ◌^◌, ◌<◌, ◌≤◌, ◌==◌, length, [], ◌∷◌, ◌||◌, Bool, true, false, cond, List, Option, Some, None, is_eq, is_some, unwrap_or, refl, sym, ◌∙◌, ap, subst, arith, add-one, ⊎_elim, true≢false}
+use Rattle.std.proofs.Common.{◌≡◌, ℕ, suc, ◌+◌, ◌-◌, ◌*◌, ◌^◌, ◌<◌, ◌≤◌, ◌==◌, length, [], ◌∷◌, Bool, true, false, List, Option, Some, None, is_eq, is_some, unwrap_or, refl, sym, ◌∙◌, ap, subst, arith, add-one, ⊎_elim}
 use Rattle.std.specs.FinMap as map
 use Rattle.std.proofs.lemmas.Bool.{cases_eq, cases_lt}
 use Rattle.std.proofs.lemmas.List.{length-map}
@@ -16,7 +16,7 @@ use Rattle.rdf_term.specs.Undo.{undo}
 use Rattle.rdf_term.proofs.Texts.{undo-term_text}
 use Rattle.text_region.specs.Region.{Texts}
 use Rattle.term_pool.specs.declared.pool.Pool.{Pool}
-use Rattle.term_pool.specs.Pool.{IsCanonical, LiesIn, SameSlots, count_at, one_if, text_at}
+use Rattle.term_pool.specs.Pool.{IsCanonical, LiesIn, count_at, one_if, text_at}
 use Rattle.term_pool.proofs.Lying.{if_other, used_at}
 use Rattle.slot_index.specs.declared.key.Key.{Key}
 use Rattle.slot_index.specs.Keys.{key_cmp, key_cmp-total, key_cmp-IsAntisymmetric, same_key}
@@ -25,15 +25,14 @@ use Rattle.slot_index.specs.Counts as keyed
 use Rattle.slot_index.proofs.Owners as keyed_owners
 use Rattle.triple_texts.specs.declared.triple_text.TripleText.{TripleText}
 use Rattle.triple_store.specs.declared.store.Store.{Store}
-use Rattle.triple_store.specs.Counts.{Counts, count_of, lowered, raised}
+use Rattle.triple_store.specs.Counts.{count_of, lowered, raised}
 use Rattle.triple_store.specs.Holding.{HasTermsOf, Held, KeepsTexts, LetGo}
-use Rattle.triple_store.specs.Room.{terms_of}
 use Rattle.triple_store.specs.Slots.{HasCanonicalTexts, HasTermsIn, HasTexts, HasTriple, term_in, triple_at, triple_of, uses}
 use Rattle.triple_store.specs.Slots as slots
 use Rattle.triple_store.specs.Stored.{HasKey, IsStored, KeepsKeys, counts_in, image}
 use Rattle.triple_store.proofs.Held.{three}
 use Rattle.triple_store.proofs.Keyed.{gone, keys-insert, keys-insert_again, keys-remove, sum-insert_key, has_key}
-use Rattle.triple_store.proofs.Live.{AreLive, count_image, get_image, image_changed, image_kept, live_counted, live-with_count, tells, uses_first, uses_second, uses_third, uses_there, get-counted}
+use Rattle.triple_store.proofs.Live.{AreLive, count_image, get_image, image_changed, image_kept, live_counted, live-with_count, tells, uses_first, uses_second, uses_third, uses_there}
 
 -- ---- counts of keys
 

@@ -1,5 +1,5 @@
 -- What the calls say that change no triple.
-use Rattle.std.proofs.Common.{◌≡◌, ◌≢◌, ℕ, ◌+◌, ◌<◌, ◌≤◌, Bool, true, false, ◌||◌, List, [], ◌∷◌, length, Option, Some, None, Ordering, is_eq, is_some, count_by, refl, sym, ◌∙◌, ap, subst, arith, cond}
+use Rattle.std.proofs.Common.{◌≡◌, ℕ, true, false, ◌||◌, List, [], ◌∷◌, length, Option, Some, None, Ordering, is_some, count_by, refl, sym, ◌∙◌, ap, subst, arith, cond}
 use Rattle.std.specs.Prelude.{map as mapped}
 use Rattle.std.specs.FinMap as map
 use Rattle.std.specs.FinMap.{IsAntisymmetric}
@@ -18,23 +18,21 @@ use Rattle.text_region.specs.declared.piece.Piece.{Piece}
 use Rattle.text_region.specs.Region.{Texts, bytes_of}
 use Rattle.term_pool.specs.declared.slots.Entry.{Entry}
 use Rattle.term_pool.specs.declared.pool.Pool.{Pool}
-use Rattle.term_pool.specs.Pool.{LiesIn, count_at, foreign, has_piece, terms, text_at}
+use Rattle.term_pool.specs.Pool.{LiesIn, count_at, foreign, has_piece, terms}
 use Rattle.term_pool.proofs.Beside.{MovesBeside}
 use Rattle.term_pool.proofs.Lying.{used_at}
 use Rattle.slot_index.specs.declared.key.Key.{Key}
-use Rattle.slot_index.specs.Keys.{key_cmp, key_cmp-total, key_cmp-IsAntisymmetric, same_key}
+use Rattle.slot_index.specs.Keys.{key_cmp, key_cmp-total, key_cmp-IsAntisymmetric}
 use Rattle.slot_index.specs.Counts.{Counts as KeyCounts}
-use Rattle.slot_index.specs.Counts as keyed
 use Rattle.triple_store.specs.declared.store.Store.{Store}
-use Rattle.triple_store.specs.Counts.{Counts}
-use Rattle.triple_store.specs.Holding.{HasTermsOf, KeepsTexts}
+use Rattle.triple_store.specs.Holding.{KeepsTexts}
 use Rattle.triple_store.specs.Slots.{HasTriple, triple_at}
 use Rattle.triple_store.specs.Slots as slots
 use Rattle.triple_store.specs.Stored.{Changes, HasKey, IsStored, beside, counts_in, image}
 use Rattle.triple_store.proofs.Distinct.{AreDistinct, as_many, length-distinct}
 use Rattle.triple_store.proofs.Imaged.{keys-pushed, pushed}
 use Rattle.triple_store.proofs.Keyed.{has_key, keys_rising}
-use Rattle.triple_store.proofs.Live.{AreLive, key_same}
+use Rattle.triple_store.proofs.Live.{key_same}
 use Rattle.triple_store.proofs.Mapped.{there}
 use Rattle.triple_store.proofs.Storing.{counts_kept, keeps_triple, live_stored}
 

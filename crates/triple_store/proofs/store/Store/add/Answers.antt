@@ -1,7 +1,6 @@
 -- A triple comes with its first owner; a further one leaves the uses of its terms as they were.
-use Rattle.std.proofs.Common.{◌≡◌, ◌<◌, ℕ, Err, ap, sym, ◌∙◌, refl, arith, subst}
+use Rattle.std.proofs.Common.{◌≡◌, ◌<◌, ℕ, Err, ap, sym, ◌∙◌, refl, arith}
 use Rattle.std.proofs.lemmas.Bool.{eqb-false, eqb-true}
-use Rattle.rdf_term.specs.declared.triple.Triple.{Triple}
 use Rattle.term_pool.specs.Pool.{count_at}
 use Rattle.slot_index.specs.Counts.{count_of as key_count}
 use Rattle.triple_store.specs.Counts.{count_of}

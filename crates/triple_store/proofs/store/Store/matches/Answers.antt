@@ -1,11 +1,8 @@
 -- The triples of the range of slots are those that agree.
-use Rattle.std.proofs.Common.{Bool, ap, ◌∙◌, count_by}
-use Rattle.std.specs.Prelude.{map as mapped}
+use Rattle.std.proofs.Common.{ap, ◌∙◌, count_by}
 use Rattle.rising.specs.Rising.{sorted}
 use Rattle.rdf_term.specs.Order.{triple_cmp}
-use Rattle.slot_index.specs.declared.key.Key.{Key}
 use Rattle.triple_store.specs.Matching.{key_agrees}
-use Rattle.triple_store.specs.Slots.{triple_at}
 use Rattle.triple_store.proofs.Matched.{found_stored, matched, none_matched}
 use Rattle.triple_store.proofs.store.Store.matches.Goals as goal
 

@@ -1,5 +1,5 @@
 -- A triple goes with its last owner.
-use Rattle.std.proofs.Common.{◌<◌, sym, ◌∙◌, arith}
+use Rattle.std.proofs.Common.{sym, ◌∙◌, arith}
 use Rattle.std.proofs.lemmas.Bool.{eqb-false, eqb-true}
 use Rattle.slot_index.specs.Counts.{count_of}
 use Rattle.triple_store.proofs.Live.{uses_there}
