@@ -110,11 +110,14 @@ module _ (st : Store) (r : Texts) (kept : KeptRecords) (h : IsKept st r kept) wh
       (one_of (eq_by_cmp term_cmp t u.predicate) (eq_by_cmp term_cmp t u.object || false) rest))
       (one_of (eq_by_cmp term_cmp t u.subject) (eq_by_cmp term_cmp t u.predicate || (eq_by_cmp term_cmp t u.object || false)) there)
 
+  was_stored : (u : Triple) → has triple_cmp u (union triple_cmp meaning (seen st r kept)) ≡ true → has triple_cmp u (map.keys (counts_in st r)) ≡ true
+  was_stored u there = ap (has triple_cmp u) (stored_union st r kept h) ∙ there
+
   term_stored : (t : Term) → has term_cmp t (terms_in (seen st r kept)) ≡ true → (slot : ℕ) × (slot_term slot ≡ Some t)
   term_stored t there =
       let one : (u : Triple) × (has triple_cmp u (union triple_cmp meaning (seen st r kept)) ≡ true) × (has term_cmp t (terms_of u) ≡ true) =
       passing (λ u. has term_cmp t (terms_of u)) (union triple_cmp meaning (seen st r kept)) (sym (has_term t (union triple_cmp meaning (seen st r kept))) ∙ there) in
-      let stored : map.contains_key (counts_in st r) one.0 ≡ true = map.contains_key-keys (counts_in st r) one.0 ∙ ap (has triple_cmp one.0) (stored_union st r kept h) ∙ one.1 in
+      let stored : map.contains_key (counts_in st r) one.0 ≡ true = map.contains_key-keys (counts_in st r) one.0 ∙ was_stored one.0 one.1 in
       let key : (k : Key) × HasKey st r k one.0 = key_stored st r h.stored one.0 stored in
       let slot : (slot : ℕ) × (text_at st.pool r slot ≡ Some (term_text t)) = in_place t one.0 key.0 key.1.has one.2 in
       (slot.0, ap term_read slot.1 ∙ ap (λ z. Some z) (undo-term_text t))
