@@ -1,5 +1,5 @@
 -- The region has the texts of the stored terms and the held pages, and nothing else.
-use Rattle.std.proofs.Common.{◌≡◌, ◌≢◌, ℕ, ◌⊎◌, inl, inr, Bool, true, false, ◌||◌, List, [], ◌∷◌, Option, Some, None, is_some, unwrap_or, refl, sym, ◌∙◌, ap, subst, true≢false, ⊎_elim}
+use Rattle.std.proofs.Common.{◌≡◌, ℕ, ◌⊎◌, inl, inr, Bool, true, false, ◌||◌, List, [], ◌∷◌, Option, Some, None, is_some, unwrap_or, refl, sym, ◌∙◌, ap, subst, true≢false, ⊎_elim}
 use Rattle.std.specs.Prelude.{slice_index_or}
 use Rattle.std.specs.List.{flat_map, list_any}
 use Rattle.std.specs.FinMap as map
@@ -18,21 +18,20 @@ use Rattle.entity_state.specs.declared.record.Held.{Held}
 use Rattle.text_region.specs.declared.piece.Piece.{Piece}
 use Rattle.text_region.specs.Region.{Texts, bytes_of}
 use Rattle.term_pool.specs.declared.slots.Entry.{Entry}
-use Rattle.term_pool.specs.declared.pool.Pool.{Pool}
-use Rattle.term_pool.specs.Pool.{IsCanonical, LiesIn, foreign, owns, text_at, text_of}
+use Rattle.term_pool.specs.Pool.{IsCanonical, owns, text_at, text_of}
 use Rattle.term_pool.proofs.Beside.{beside_is, live_beside, not_mine}
 use Rattle.term_pool.proofs.Foreign.{Owner, owned, owner}
 use Rattle.term_pool.proofs.Lying.{stands, text_there}
 use Rattle.triple_store.specs.declared.store.Store.{Store}
 use Rattle.triple_store.specs.Holding.{HasTermsOf}
 use Rattle.triple_store.specs.Room.{terms_of}
-use Rattle.triple_store.specs.Slots.{HasTermsIn, HasTriple}
-use Rattle.triple_store.specs.Stored.{HasKey, IsStored, beside, counts_in}
+use Rattle.triple_store.specs.Slots.{HasTriple}
+use Rattle.triple_store.specs.Stored.{HasKey, beside, counts_in}
 use Rattle.slot_index.specs.declared.key.Key.{Key}
 use Rattle.triple_store.proofs.Rooming.{terms_among}
 use Rattle.triple_store.proofs.Standing.{key_stored}
 use Rattle.triple_store.proofs.Storing.{canonical_back, terms_stored}
-use Rattle.replay_model.specs.Records.{Bytes, Records, record_of}
+use Rattle.replay_model.specs.Records.{Bytes, record_of}
 use Rattle.replay_model.specs.Union.{union}
 use Rattle.world.specs.declared.kept.Kept.{Kept}
 use Rattle.world.specs.InStep.{IsKept}
@@ -110,11 +109,14 @@ module _ (st : Store) (r : Texts) (kept : KeptRecords) (h : IsKept st r kept) wh
       (one_of (eq_by_cmp term_cmp t u.predicate) (eq_by_cmp term_cmp t u.object || false) rest))
       (one_of (eq_by_cmp term_cmp t u.subject) (eq_by_cmp term_cmp t u.predicate || (eq_by_cmp term_cmp t u.object || false)) there)
 
+  was_stored : (u : Triple) → has triple_cmp u (union triple_cmp meaning (seen st r kept)) ≡ true → has triple_cmp u (map.keys (counts_in st r)) ≡ true
+  was_stored u there = subst (λ (ts : List Triple). has triple_cmp u ts ≡ true) (sym (stored_union st r kept h)) there
+
   term_stored : (t : Term) → has term_cmp t (terms_in (seen st r kept)) ≡ true → (slot : ℕ) × (slot_term slot ≡ Some t)
   term_stored t there =
       let one : (u : Triple) × (has triple_cmp u (union triple_cmp meaning (seen st r kept)) ≡ true) × (has term_cmp t (terms_of u) ≡ true) =
       passing (λ u. has term_cmp t (terms_of u)) (union triple_cmp meaning (seen st r kept)) (sym (has_term t (union triple_cmp meaning (seen st r kept))) ∙ there) in
-      let stored : map.contains_key (counts_in st r) one.0 ≡ true = map.contains_key-keys (counts_in st r) one.0 ∙ ap (has triple_cmp one.0) (stored_union st r kept h) ∙ one.1 in
+      let stored : map.contains_key (counts_in st r) one.0 ≡ true = map.contains_key-keys (counts_in st r) one.0 ∙ was_stored one.0 one.1 in
       let key : (k : Key) × HasKey st r k one.0 = key_stored st r h.stored one.0 stored in
       let slot : (slot : ℕ) × (text_at st.pool r slot ≡ Some (term_text t)) = in_place t one.0 key.0 key.1.has one.2 in
       (slot.0, ap term_read slot.1 ∙ ap (λ z. Some z) (undo-term_text t))

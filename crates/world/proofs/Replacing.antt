@@ -1,5 +1,5 @@
 -- A page comes, goes or stays, or is refused: what is kept stays in step with store and region.
-use Rattle.std.proofs.Common.{◌≡◌, ◌≢◌, ℕ, ◌+◌, ◌<◌, ◌⊎◌, Bool, true, false, List, [], Option, Some, None, is_some, unwrap_or, refl, sym, ◌∙◌, ap, subst, true≢false, ⊎_elim, arith}
+use Rattle.std.proofs.Common.{◌≡◌, ◌≢◌, ℕ, ◌+◌, ◌<◌, true, List, [], Option, Some, None, is_some, unwrap_or, refl, sym, ◌∙◌, ap, subst, true≢false, ⊎_elim, arith}
 use Rattle.std.specs.FinMap as map
 use Rattle.rising.specs.Rising.{has}
 use Rattle.rdf_term.specs.declared.triple.Triple.{Triple}
@@ -21,7 +21,7 @@ use Rattle.replay_model.specs.Records.{Bytes, Records, record_of}
 use Rattle.replay_model.specs.Union.{owners, triples_held}
 use Rattle.world.specs.declared.kept.Kept.{Kept}
 use Rattle.world.specs.InStep.{IsCounted, IsHeld, IsKept, triples_kept}
-use Rattle.world.specs.Keeping.{Frees, KeptRecords, PieceTexts, held_with, kept_of, keys_held, piece_at, piece_held, record_with, records_with, seen}
+use Rattle.world.specs.Keeping.{Frees, KeptRecords, PieceTexts, held_with, kept_of, keys_held, piece_at, piece_held, record_with, seen}
 use Rattle.world.specs.Meaning.{meaning}
 use Rattle.world.proofs.Moving.{held_same, kept_here, kept_other, kept_put, keys_moved, keys_same, keys_stay, seen_again, seen_of, seen_put}
 use Rattle.world.proofs.Owning.{has_owner}

@@ -1,5 +1,5 @@
 -- Without records, triples and texts all is in step.
-use Rattle.std.proofs.Common.{◌≡◌, Bool, true, List, [], Option, Some, None, is_some, unwrap_or, ℕ, ◌∷◌, length, arith, refl, sym, ◌∙◌, ap, subst, true≢false}
+use Rattle.std.proofs.Common.{◌≡◌, List, [], Some, None, is_some, unwrap_or, ℕ, ◌∷◌, length, arith, refl, sym, ◌∙◌, ap, subst, true≢false}
 use Rattle.std.specs.FinMap as map
 use Rattle.entity_model.specs.declared.id.EntityId.{EntityId}
 use Rattle.entity_model.specs.EntityId.{entity_cmp}
@@ -9,7 +9,6 @@ use Rattle.text_region.specs.declared.piece.Piece.{Piece}
 use Rattle.text_region.specs.Region.{Texts, blocks_of, bytes_of}
 use Rattle.text_region.specs.Blocks.{Blocks, block_at}
 use Rattle.text_region.specs.Peak.{IsNew}
-use Rattle.slot_index.specs.declared.key.Key.{Key}
 use Rattle.triple_store.specs.declared.store.Store.{Store}
 use Rattle.triple_store.specs.Counts.{Counts}
 use Rattle.triple_store.specs.Stored.{AreKeysOf, IsStored, beside, counts_in, limit_of}
@@ -18,7 +17,7 @@ use Rattle.replay_model.specs.Play.{nothing_played}
 use Rattle.world.specs.Roomed.{PlayedInRoom}
 use Rattle.replay_model.specs.Records.{Records}
 use Rattle.world.specs.declared.kept.Kept.{Kept}
-use Rattle.world.specs.InStep.{IsCounted, IsKept, triples_kept}
+use Rattle.world.specs.InStep.{IsCounted, IsKept}
 use Rattle.world.specs.Keeping.{KeptRecords, held_with, kept_of, keys_held, piece_at, piece_held, record_with, seen}
 use Rattle.world.specs.Meaning.{meaning}
 use Rattle.replay_model.specs.Union.{triples_held}

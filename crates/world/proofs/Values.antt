@@ -1,5 +1,5 @@
 -- A map with other values at its keys.
-use Rattle.std.proofs.Common.{◌≡◌, ℕ, Bool, true, false, cond, ◌&&◌, T, List, [], ◌∷◌, Option, Some, None, Ordering, Less, Equal, Greater, is_lt, is_some, length, refl, sym, ◌∙◌, ap}
+use Rattle.std.proofs.Common.{◌≡◌, Bool, true, false, cond, ◌&&◌, T, List, [], ◌∷◌, Option, Some, None, Ordering, Less, Equal, Greater, is_lt, is_some, length, refl, sym, ◌∙◌, ap}
 use Rattle.std.specs.Prelude.{map as mapped}
 use Rattle.std.specs.FinMap as map
 use Rattle.std.specs.FinMap.{find}

@@ -1,5 +1,5 @@
 -- Store and region in step with what is kept of the entities.
-use Rattle.std.specs.Prelude.{◌≡◌, Bool, true, List, Option, Some, is_some}
+use Rattle.std.specs.Prelude.{◌≡◌, true, List, Option, Some, is_some}
 use Rattle.rdf_term.specs.declared.triple.Triple.{Triple}
 use Rattle.rdf_term.specs.Order.{triple_cmp}
 use Rattle.entity_model.specs.declared.id.EntityId.{EntityId}

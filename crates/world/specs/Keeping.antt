@@ -1,5 +1,5 @@
 -- What is kept of each entity, and the records that this is with the texts of the region.
-use Rattle.std.specs.Prelude.{◌≡◌, ℕ, List, [], Option, None, Some, unwrap_or}
+use Rattle.std.specs.Prelude.{◌≡◌, List, [], Option, None, Some, unwrap_or}
 use Rattle.std.specs.Prelude.{map as mapped}
 use Rattle.std.specs.FinMap as map
 use Rattle.entity_model.specs.declared.id.EntityId.{EntityId}

@@ -1,11 +1,10 @@
 -- How many terms the store needs room for, and the values that have this room.
-use Rattle.std.specs.Prelude.{◌≡◌, ℕ, ◌<◌, true, List, [], ◌++◌, Option, Some, Result, Ok, Err}
+use Rattle.std.specs.Prelude.{◌≡◌, ℕ, ◌<◌, List, [], ◌++◌, Option, Some, Result, Ok, Err}
 use Rattle.std.specs.List.{flat_map}
 use Rattle.rdf_term.specs.declared.triple.Triple.{Triple}
 use Rattle.rdf_term.specs.Order.{triple_cmp}
 use Rattle.entity_model.specs.declared.id.EntityId.{EntityId}
 use Rattle.entity_model.specs.declared.event.Event.{Event}
-use Rattle.entity_state.specs.Record.{held_revision, wants}
 use Rattle.entity_state.specs.State.{state_after}
 use Rattle.reorder_buffer.specs.Buffered.{first_due}
 use Rattle.revisions.specs.Revisions.{Contents}

@@ -1,5 +1,5 @@
 -- The page comes in the place of what was held, or all is as it was.
-use Rattle.std.proofs.Common.{◌≡◌, ◌<◌, ◌≤◌, Err, ap, subst, sym, ◌∙◌, arith}
+use Rattle.std.proofs.Common.{◌≡◌, ◌<◌, ◌≤◌, Err, ap, subst, ◌∙◌, arith}
 use Rattle.std.specs.FinMap as map
 use Rattle.triple_store.specs.Stored.{limit_of}
 use Rattle.triple_store.specs.declared.fault.StoreFault.TheVariants.{Full}

@@ -8,4 +8,4 @@ use Rattle.world.proofs.pages.Pages.matches.Goals as goal
 pub returns : goal.returns
 returns c =
     let all = stored_union c.self.inside.store c.self.inside.region c.self.inside.table.records c.self.invariant in
-    rw (← c.self.view_is) (subst (λ (ts : List Triple). IfOk c.matches.result (λ set. set ≡ rows ts c.args.pattern.now)) all c.matches.ensures)
+    rw (← c.self.view_is) (subst (λ (ts : List Triple). IfOk c.matches.result (λ set. set ≡ rows ts c.args.pattern.now)) all c.matches.ensures.rows)

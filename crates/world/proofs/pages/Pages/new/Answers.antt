@@ -1,10 +1,7 @@
 -- Without records, triples and texts all is in step.
 use Rattle.std.proofs.Common.{ap}
 use Rattle.entity_state.specs.Tabled.{Tabled}
-use Rattle.side_output.specs.declared.entry.Entry.{Entry}
 use Rattle.world.specs.declared.kept.Kept.{Kept}
-use Rattle.replay_model.specs.Play.{Played}
-use Rattle.world.specs.Roomed.{PlayedInRoom}
 use Rattle.world.proofs.Starting.{starts, started}
 use Rattle.world.proofs.pages.Pages.new.Goals as goal
 

@@ -1,5 +1,4 @@
 -- Without records nothing is stored, and another limit changes nothing else.
-use Rattle.std.proofs.Common.{sym, ap, ◌∙◌}
 use Rattle.world.proofs.Replacing.{kept_refused}
 use Rattle.world.proofs.Rooming.{no_keys}
 use Rattle.world.proofs.pages.Pages.set_room.Goals as goal

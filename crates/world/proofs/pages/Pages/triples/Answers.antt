@@ -7,4 +7,4 @@ use Rattle.world.proofs.pages.Pages.triples.Goals as goal
 pub returns : goal.returns
 returns c =
     let all = stored_union c.self.inside.store c.self.inside.region c.self.inside.table.records c.self.invariant in
-    rw (← c.self.view_is) (subst (λ (ts : List Triple). IfOk c.all.result (λ set. set ≡ ts)) all c.all.ensures)
+    rw (← c.self.view_is) (subst (λ (ts : List Triple). IfOk c.all.result (λ set. set ≡ ts)) all c.all.ensures.rows)

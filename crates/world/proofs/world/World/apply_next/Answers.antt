@@ -1,5 +1,5 @@
 -- An application keeps what is held in step with the side output, and what it stores has room.
-use Rattle.std.proofs.Common.{◌≡◌, ◌≤◌, List, ap, subst, sym, ◌∙◌}
+use Rattle.std.proofs.Common.{◌≤◌, List, ap, subst, sym, ◌∙◌}
 use Rattle.rdf_term.specs.declared.triple.Triple.{Triple}
 use Rattle.replay_model.specs.Play.{Played}
 use Rattle.replay_model.specs.Records.{record_of}
