@@ -1,6 +1,6 @@
 // A source and a sink in memory, with calls that are to fail.
 
-ghost use Rattle.std.specs.Prelude.{◌≡◌, ◌↔◌, ◌<◌, ◌≤◌, Some, [], length, min, nat_le, vec_len, IfOk, IsErr, IsTrue, OnErr, OnOk, Err};
+ghost use Rattle.std.specs.Prelude.{◌≡◌, ◌↔◌, ◌<◌, ◌≤◌, Some, [], length, min, nat_le, vec_len, IfErr, IfOk, IsErr, IsTrue, OnErr, OnOk, Err};
 ghost use Rattle.std.proofs.lemmas.List.Sums.{count_by-le-length};
 ghost use Rattle.wq_io.specs.Failing.{after_call, fails_next, failures};
 ghost use Rattle.wq_io.specs.Streams.{ReadTakes, Rose, WritePuts};
@@ -70,11 +70,13 @@ impl Source for MemorySource {
         ensures called { self.new.calls ≡ after_call self.old.calls }
         ensures fails { IsErr result ↔ IsTrue (fails_next self.old.calls) }
         ensures count { IfOk result (λ n. n ≡ min (min self.old.piece (length buf.old)) (length self.old.left)) }
-        ensures bytes { ReadTakes (Some self.old.left) (Some self.new.left) result buf.new }
         ensures piece { self.new.piece ≡ self.old.piece }
+        ensures bound { IfOk result (λ n. n ≤ length buf.new) }
+        ensures bytes { ReadTakes (Some self.old.left) (Some self.new.left) result buf.new }
         ensures later { failures self.old.calls ≤ failures self.new.calls }
         ensures quiet { OnOk result (failures self.new.calls ≡ failures self.old.calls) }
         ensures cause { OnErr result (Rose (failures self.old.calls) (failures self.new.calls)) }
+        ensures most { Some (length self.new.calls.numbers) ≡ Some (length self.old.calls.numbers) }
     {
         if self.failing.next_fails() {
             return Err(Failed);
@@ -145,11 +147,14 @@ impl Sink for MemorySink {
         ensures called { self.new.calls ≡ after_call self.old.calls }
         ensures fails { (result ≡ Err NoWrite.Failed) ↔ IsTrue (fails_next self.old.calls) }
         ensures count { IfOk result (λ n. n ≡ min self.old.piece (length bytes.now)) }
-        ensures bytes { WritePuts (Some self.old.held) (Some self.new.held) result bytes.now }
         ensures piece { self.new.piece ≡ self.old.piece }
+        ensures bound { IfOk result (λ n. (0 < n) × (n ≤ length bytes.now)) }
+        ensures bytes { WritePuts (Some self.old.held) (Some self.new.held) result bytes.now }
         ensures later { failures self.old.calls ≤ failures self.new.calls }
-        ensures quiet { (result ≡ Err NoWrite.Failed → ⊥) → failures self.new.calls ≡ failures self.old.calls }
-        ensures cause { result ≡ Err NoWrite.Failed → Rose (failures self.old.calls) (failures self.new.calls) }
+        ensures quiet { OnOk result (failures self.new.calls ≡ failures self.old.calls) }
+        ensures refused { IfErr result (λ e. e ≡ NoWrite.OutOfMemory → failures self.new.calls ≡ failures self.old.calls) }
+        ensures cause { IfErr result (λ e. e ≡ NoWrite.Failed → Rose (failures self.old.calls) (failures self.new.calls)) }
+        ensures most { Some (length self.new.calls.numbers) ≡ Some (length self.old.calls.numbers) }
     {
         if self.failing.next_fails() {
             return Err(NoWrite::Failed);
