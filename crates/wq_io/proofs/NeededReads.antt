@@ -1,9 +1,9 @@
 -- What the reads of a call took so far, and that each was needed.
-use Rattle.std.proofs.Common.{refl, sym, ◌∙◌, ap, ◌≡◌, ◌⊎◌, inl, inr, ℕ, ◌+◌, ◌<◌, ◌≤◌, Bool, true, false, List, [], ◌∷◌, Option, Some, None, ◌++◌, length, arith, append_assoc, length-append}
+use Rattle.std.proofs.Common.{refl, sym, ◌∙◌, ap, ◌≡◌, inl, inr, ℕ, ◌+◌, ◌<◌, ◌≤◌, false, List, [], Option, Some, None, ◌++◌, length, arith, append_assoc, length-append}
 use Rattle.std.proofs.lemmas.List.{append-nil}
 use Rattle.wq_io.specs.Streams.{before_known}
-use Rattle.wq_io.specs.Lines.{Reading, IsOneLine, IsSound, IsUndecided, ReadsAsNeeded, longest_line, longest_read, room, taken}
-use Rattle.wq_io.specs.Taking.{ReadsByNeed, Refills}
+use Rattle.wq_io.specs.Lines.{Reading, IsOneLine, IsSound, IsUndecided, ReadsAsNeeded, longest_line, longest_read, room}
+use Rattle.wq_io.specs.Taking.{ReadsByNeed}
 
 -- the bytes that were held at the start and what the reads gave went by, but for those that are held
 pub record HasRead (start now : Reading) (left_start left : Option (List ℕ)) (gone : List ℕ) : Type 0 where
