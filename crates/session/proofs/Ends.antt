@@ -23,15 +23,18 @@ use Rattle.replay_model.proofs.ToldContents.{entries-told, held-told}
 use Rattle.world.specs.Meaning.{meaning}
 use Rattle.transcript.specs.declared.write.Unwritten.{Unwritten}
 use Rattle.transcript.specs.declared.write.Unwritten.TheVariants.{WriteFault as NotWritten, OutOfMemory as Refused}
-use Rattle.transcript.specs.Printing.{IsCutShort, Output, Prints}
+use Rattle.transcript.specs.Printing.{Output, Prints}
 use Rattle.transcript.proofs.Parts.{after_twice}
 use Rattle.session.specs.Counts.{RoseBy, HasCounted}
 use Rattle.session.specs.Headline.{BrokenOff, Ending, HasFates, HasReplayed, HoldsRightly, IsFunction, IsInterrupted, IsPlayed, IsReplayed, NamesRightly, Stopped}
 use Rattle.session.specs.Moment.{Moment, Run, Setting, Stage, with_output}
 use Rattle.session.specs.Reading.{AreDeliveries}
 use Rattle.session.specs.Sections.{sections_of}
-use Rattle.session.specs.Stop.{stop_of_unwritten}
-use Rattle.session.specs.Taking.{AtEnd, Course, HoldsDocuments, Leads, course_printed, course_to_end, judgement, replies_there, said_behind}
+use Rattle.session.specs.Stop.{stop_of_unapplied, stop_of_unwritten}
+use Rattle.session.specs.Stops.{IsStarved}
+use Rattle.session.specs.declared.stop.Unapplied.{Unapplied}
+use Rattle.session.specs.declared.stop.Unapplied.TheVariants.{StoreFull as NoRoom, OutOfMemory as Starved}
+use Rattle.session.specs.Taking.{AtEnd, Course, HoldsDocuments, IsHeldUp, Leads, course_printed, course_to_end, judgement, replies_there, said_behind}
 use Rattle.words.specs.Options.{limit_of}
 
 -- where no event is due, a world that leads to a play is played
@@ -163,6 +166,11 @@ pub interrupted : (why : Unwritten) (run : Run) (before now : Moment) (between :
     Stopped (stop_of_unwritten why) run before now
 interrupted NotWritten run before now between earlier rose stands = (rose_since before.stage.output.faults between.faults now.stage.output.faults earlier (rose refl), stands)
 interrupted Refused run before now between earlier rose stands = inr stands
+
+-- not all that was due was applied
+pub halted : (why : Unapplied) (run : Run) (before now : Moment) → IsHeldUp why run.setting now.stage.world → IsStarved run before now → Stopped (stop_of_unapplied why) run before now
+halted NoRoom run before now full stands = (full, stands)
+halted Starved run before now held_up stands = inl stands
 
 -- the sections weren't all written
 pub broken_off : (why : Unwritten) (run : Run) (before now : Moment) (out : Output) → HasReplayed run before now → before.stage.output.faults ≤ now.stage.output.faults →

@@ -1,4 +1,5 @@
 mod Deliveries
+mod Drills
 mod Due
 mod Ends
 mod Progress

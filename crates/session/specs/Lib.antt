@@ -1,4 +1,5 @@
 pub mod Counts
+pub mod Drilling
 pub mod Headline
 pub mod Moment
 pub mod Reading

@@ -1,8 +1,8 @@
 //! What a replay prints: the answer to a question, and the sections after the end, written to a sink.
 //!
 //! What the bytes are is said by the definitions of `replay_model`; this crate writes them, or a prefix of them. `sections`
-//! has the two public calls; `triples`, `states` and `entries` print the parts, `lines` makes a line's text, and `write`
-//! writes bytes whole.
+//! has the answer and the sections; `triples`, `states` and `entries` print the parts, `lines` makes a line's text, and `write`
+//! writes bytes whole, and the lines that a caller made.
 #![tactic(auto)]
 
 mod entries;
@@ -13,4 +13,4 @@ mod triples;
 mod write;
 
 pub use sections::{Sections, print_answer, print_closing};
-pub use write::Unwritten;
+pub use write::{Unwritten, print_lines};

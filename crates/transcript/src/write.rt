@@ -1,6 +1,6 @@
-// Bytes are written whole.
+// Bytes, and lines that are made already, are written whole.
 
-ghost use Rattle.std.specs.Prelude.{◌≡◌};
+ghost use Rattle.std.specs.Prelude.{◌≡◌, flat_map, string_bytes};
 ghost use Rattle.transcript.specs.Printing.{Prints, output};
 ghost use Rattle.transcript.specs.declared.write.Unwritten.TheVariants.{OutOfMemory as Refused};
 
@@ -35,6 +35,19 @@ pub(crate) fn write_all<K: Sink>(bytes: &[u8], out: &mut K) -> Result<(), Unwrit
             Err(NoWrite::Failed) => return Err(Unwritten::WriteFault),
             Err(NoWrite::OutOfMemory) => return Err(Unwritten::OutOfMemory),
         }
+    }
+    Ok(())
+}
+
+/// Prints lines as they are, one by one.
+///
+/// # Errors
+/// The output could not be written, or memory was refused: then a prefix of the lines was written, and nothing else.
+pub fn print_lines<K: Sink>(lines: &[String], out: &mut K) -> Result<(), Unwritten>
+    ensures { Prints (flat_map string_bytes lines.now) (output K.Sink out.old) (output K.Sink out.new) result }
+{
+    for line in lines {
+        write_all(line.as_bytes(), out)?;
     }
     Ok(())
 }

@@ -1,10 +1,10 @@
 -- What the words after the program's name ask for.
-use Rattle.std.specs.Prelude.{ℕ, ◌≤◌, cond, List, [], ◌∷◌, Option, None, Some, codes, option_map}
+use Rattle.std.specs.Prelude.{ℕ, ◌≤◌, cond, List, [], ◌∷◌, Option, None, codes, option_map}
 use Rattle.std.specs.Option.{option_and_then}
 use Rattle.std.specs.Str.{bytes_eq}
 use Rattle.words.specs.Items.{Item, items_of}
 use Rattle.words.specs.Numbers.{number_between}
-use Rattle.words.specs.Options.{Choices, nothing_chosen, with_items}
+use Rattle.words.specs.Options.{nothing_chosen, with_items}
 use Rattle.words.specs.declared.plan.Plan.{Plan}
 use Rattle.words.specs.declared.plan.Plan.TheVariants.{Replay, Drill}
 
@@ -37,12 +37,3 @@ plan_of (command ∷ words) = plan_from command (items_of words)
 abbrev pub IsSized : Plan → Type 0
 IsSized (Replay choices) = Unit {0}
 IsSized (Drill size) = (1 ≤ size) × (size ≤ greatest_size)
-
--- the choices of a replay
-abbrev pub choices_of : Plan → Option Choices
-choices_of (Replay choices) = Some choices
-choices_of (Drill size) = None
-
--- the replay that the words are
-abbrev pub replay_of : List (List ℕ) → Option Choices
-replay_of words = option_and_then choices_of (plan_of words)

@@ -13,7 +13,7 @@ mod plan;
 
 pub use arguments::{Arguments, take_arguments, take_size};
 pub use options::ReplayOptions;
-pub use plan::{Plan, read_plan, read_replay};
+pub use plan::{Plan, read_plan};
 
 #[cfg(test)]
 mod tests;

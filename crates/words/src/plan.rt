@@ -3,7 +3,7 @@
 ghost use Rattle.std.specs.Prelude.{◌≡◌, ◌≤◌, ◌∷◌, map, string_bytes, IfSome};
 ghost use Rattle.words.specs.Items.{items_of};
 ghost use Rattle.words.specs.Options.{nothing_chosen, with_items};
-ghost use Rattle.words.specs.Plan.{IsSized, greatest_size, plan_of, replay_of, size_in, size_of};
+ghost use Rattle.words.specs.Plan.{IsSized, greatest_size, plan_of, size_in, size_of};
 
 use crate::items::next_item;
 use crate::numbers::read_number;
@@ -31,16 +31,6 @@ pub fn read_plan<'a>(words: &'a [String]) -> Option<Plan<'a>>
         "replay" => Some(Plan::Replay(read_items(items)?)),
         "drill" => Some(Plan::Drill(read_size_item(items)?)),
         _ => None,
-    }
-}
-
-/// The replay that the words are.
-pub fn read_replay<'a>(words: &'a [String]) -> Option<ReplayOptions<'a>>
-    ensures { result ≡ replay_of (map (λ w. string_bytes w) words.now) }
-{
-    match read_plan(words)? {
-        Plan::Replay(options) => Some(options),
-        Plan::Drill(_) => None,
     }
 }
 

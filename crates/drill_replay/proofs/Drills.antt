@@ -1,0 +1,82 @@
+-- How drills follow one another, and parts of them.
+use Rattle.std.proofs.Common.{◌≡◌, ◌∙◌, refl, sym, ap, subst, inl, inr, ℕ, zero, suc, ◌+◌, ◌-◌, ◌%◌, ◌≤◌, ◌<◌, ◌==◌, Bool, true, false, cond, List, [], ◌∷◌, ◌++◌, append_assoc, append-nil, length, length-append, ⊎_elim, arith}
+use Rattle.std.specs.List.{flat_map, range_with_len}
+use Rattle.std.proofs.lemmas.List.Concat.{flat_map-append}
+use Rattle.entity_model.specs.declared.delivery.Delivery.{Delivery}
+use Rattle.replay_model.specs.ReplayState.{ReplayState, nothing_delivered}
+use Rattle.drill.specs.Drill.{deletion, deliveries_of, drill, edits, late_edit}
+use Rattle.drill_replay.specs.Playing.{HasBegun, IsPartOf, StandsBetween, StandsWithin}
+
+-- before the first delivery a drill has begun
+pub nothing_taken : (size : ℕ) → HasBegun size nothing_delivered
+nothing_taken size = inl (inl (record { before = []; after = drill size; all = refl; is = refl }))
+
+-- one number more
+range_more : (a n j : ℕ) → a + n ≡ j → range_with_len a (n + 1) ≡ range_with_len a n ++ j ∷ []
+range_more a zero j is =
+    let same : a ≡ j = omega arith in
+    ap (λ i. i ∷ []) same
+range_more a (suc n) j is =
+    let longer : suc n + 1 ≡ suc (n + 1) = omega arith in
+    let next : a + 1 + n ≡ j = omega arith in
+    ap (range_with_len a) longer ∙ ap (λ l. a ∷ l) (range_more (a + 1) n j next)
+
+-- the drill with one item more
+pub drill-next : (n : ℕ) → drill (n + 1) ≡ drill n ++ deliveries_of (n + 1)
+drill-next n =
+    let next : 1 + n ≡ n + 1 = omega arith in
+    ap (flat_map deliveries_of) (range_more 1 n (n + 1) next) ∙ flat_map-append deliveries_of (range_with_len 1 n) ((n + 1) ∷ [])
+    ∙ ap (λ l. drill n ++ l) (append-nil (deliveries_of (n + 1)))
+
+-- the deliveries of the items after so many
+rest_of : (m k : ℕ) → (rest : List Delivery) × (drill (m + k) ≡ drill m ++ rest)
+rest_of m zero =
+    let same : m + zero ≡ m = omega arith in
+    ([], ap drill same ∙ sym (append-nil (drill m)))
+rest_of m (suc k) =
+    let before = rest_of m k in
+    let same : m + suc k ≡ m + k + 1 = omega arith in (
+      before.0 ++ deliveries_of (m + k + 1),
+      ap drill same ∙ drill-next (m + k) ∙ ap (λ l. l ++ deliveries_of (m + k + 1)) before.1 ∙ append_assoc (drill m) before.0 (deliveries_of (m + k + 1)),
+    )
+
+-- a part of the first deliveries is a part of all
+pub part_longer : (size : ℕ) (ds more : List Delivery) (world : ReplayState) → IsPartOf size ds world → IsPartOf size (ds ++ more) world
+part_longer size ds more world = ⊎_elim
+    (λ (x : StandsBetween size ds world). inl (record {
+      before = x.before;
+      after = x.after ++ more;
+      all = ap (λ l. l ++ more) x.all ∙ append_assoc x.before x.after more;
+      is = x.is;
+    }))
+    (λ (x : StandsWithin size ds world). inr (record {
+      before = x.before;
+      last = x.last;
+      after = x.after ++ more;
+      all = ap (λ l. l ++ more) x.all ∙ append_assoc x.before (x.last ∷ x.after) more;
+      steps = x.steps;
+      is = x.is;
+    }))
+
+-- a part of a drill is one of each longer drill
+pub part_in : (size m n : ℕ) (world : ReplayState) → m ≤ n → IsPartOf size (drill m) world → IsPartOf size (drill n) world
+part_in size m n world below part =
+    let rest = rest_of m (n - m) in
+    let same : m + (n - m) ≡ n = omega arith in
+    let Part : List Delivery → Type 0 = λ ds. IsPartOf size ds world in
+    subst Part (sym rest.1 ∙ ap drill same) (part_longer size (drill m) rest.0 world part)
+
+-- a list that is there or not
+at_most : {A : Type 0} (b : Bool) (xs : List A) (n : ℕ) → length xs ≤ n → length (cond b xs []) ≤ n
+at_most true xs n low = low
+at_most false xs n low = omega arith
+
+-- an item has at most six deliveries
+pub few_deliveries : (i : ℕ) → length (deliveries_of i) ≤ 6
+few_deliveries i =
+    let joined : length (deliveries_of i) ≡ length (edits i) + length (deletion i) + length (late_edit i) =
+    length-append (edits i ++ deletion i) (late_edit i) ∙ ap (λ n. n + length (late_edit i)) (length-append (edits i) (deletion i)) in
+    let deleted : length (deletion i) ≤ 1 = at_most (i % 5 == 0) _ 1 (omega arith) in
+    let late : length (late_edit i) ≤ 2 = at_most (i % 10 == 0) _ 2 (omega arith) in
+    let three : length (edits i) ≡ 3 = refl in
+    omega (arith, joined, deleted, late, three)

@@ -1,0 +1,4 @@
+mod Applying
+mod Counting
+pub mod Drills
+mod Taking

@@ -1,0 +1,8 @@
+-- The lines of the triples so far were hashed.
+use Rattle.std.proofs.Common.{take}
+use Rattle.md5.specs.Md5.{Holds}
+use Rattle.drill_replay.specs.Summary.{triple_lines}
+use Rattle.drill_replay.proofs.summary.digest.Given as goal
+
+abbrev pub invariant-loop-triple : goal.invariant-loop-triple
+invariant-loop-triple l = Holds l.hasher (triple_lines (take l.triple-index l.triples))

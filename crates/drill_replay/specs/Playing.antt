@@ -1,0 +1,68 @@
+-- How far a drill has come.
+use Rattle.std.specs.Prelude.{◌≡◌, ◌⊎◌, ℕ, ◌+◌, ◌≤◌, List, ◌∷◌, ◌++◌, Option, None, Some, length}
+use Rattle.entity_model.specs.declared.delivery.Delivery.{Delivery}
+use Rattle.entity_model.specs.declared.delivery.Delivery.TheVariants.{Event as Told, Watermark, Ask}
+use Rattle.reorder_buffer.specs.Buffered.{Buffered, answer_to}
+use Rattle.reorder_buffer.specs.declared.taken.Taken.{Taken}
+use Rattle.reorder_buffer.specs.declared.taken.Taken.TheVariants.{New, Repeat, Late}
+use Rattle.replay_model.specs.Acceptance.{accepted, late}
+use Rattle.replay_model.specs.ReplayState.{ReplayState, after_end, after_some, entered, following}
+use Rattle.drill.specs.Drill.{drill}
+use Rattle.drill_replay.specs.declared.playing.Counts.{Counts}
+use Rattle.drill_replay.specs.Summary.{replies_of}
+
+-- these deliveries were counted
+pub record Counted (ds : List Delivery) (counts : Counts) : Type 0 where
+  pub deliveries : counts.deliveries ≡ length ds
+  pub accepted : counts.accepted ≡ length (accepted ds)
+  pub late : counts.late ≡ length (late ds)
+
+-- each count is at most this
+abbrev pub HasFew : Counts → ℕ → Type 0
+HasFew counts most = (counts.deliveries ≤ most) × (counts.accepted ≤ most) × (counts.late ≤ most)
+
+-- what the event of a delivery is, if it is one
+abbrev pub answer_of : Buffered → Delivery → Option Taken
+answer_of b (Told e) = Some (answer_to b e)
+answer_of b (Watermark w) = None
+answer_of b (Ask pattern) = None
+
+-- the counts with one delivery more, whose event was this
+abbrev pub with_answer : Option Taken → Counts → Counts
+with_answer None c = record c { deliveries = c.deliveries + 1 }
+with_answer (Some New) c = record c { deliveries = c.deliveries + 1; accepted = c.accepted + 1 }
+with_answer (Some Late) c = record c { deliveries = c.deliveries + 1; late = c.late + 1 }
+with_answer (Some Repeat) c = record c { deliveries = c.deliveries + 1 }
+
+-- the world has taken these deliveries of a drill and has applied what they made due
+abbrev pub IsAfter : ℕ → List Delivery → ReplayState → Type 0
+IsAfter size ds world = world ≡ following (replies_of size) ds
+
+-- the world has taken the first deliveries
+pub record StandsBetween (size : ℕ) (ds : List Delivery) (world : ReplayState) : Type 0 where
+  pub before : List Delivery
+  pub after : List Delivery
+  pub all : ds ≡ before ++ after
+  pub is : world ≡ following (replies_of size) before
+
+-- the world has taken the first deliveries, and has applied some of the events that the last of them made due
+pub record StandsWithin (size : ℕ) (ds : List Delivery) (world : ReplayState) : Type 0 where
+  pub before : List Delivery
+  pub last : Delivery
+  pub after : List Delivery
+  pub all : ds ≡ before ++ last ∷ after
+  pub steps : ℕ
+  pub is : world ≡ after_some (replies_of size) steps (entered (following (replies_of size) before) last)
+
+-- the world has come to a part of these deliveries
+abbrev pub IsPartOf : ℕ → List Delivery → ReplayState → Type 0
+IsPartOf size ds world = StandsBetween size ds world ⊎ StandsWithin size ds world
+
+-- the world has taken all deliveries and the end, and has applied some of the events that the end made due
+pub record StandsAtEnd (size : ℕ) (world : ReplayState) : Type 0 where
+  pub steps : ℕ
+  pub is : world ≡ after_some (replies_of size) steps (after_end (following (replies_of size) (drill size)))
+
+-- the world of a first part of the drill: each due event was applied whole or not at all
+abbrev pub HasBegun : ℕ → ReplayState → Type 0
+HasBegun size world = IsPartOf size (drill size) world ⊎ StandsAtEnd size world

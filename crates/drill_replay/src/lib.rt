@@ -1,0 +1,13 @@
+//! The replay of a drill, and what is told of it.
+//!
+//! `playing` takes the deliveries that the crate `drill` makes from a number, and their end, in a world, over the pages that
+//! are made too, and counts; `summary` adds what stands at the end, and makes the seven lines.
+#![tactic(auto)]
+
+mod playing;
+mod summary;
+
+pub use summary::{Summary, run_drill, summary_lines};
+
+#[cfg(test)]
+mod tests;

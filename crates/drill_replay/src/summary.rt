@@ -1,0 +1,123 @@
+// What is told of a drill.
+
+ghost use Rattle.std.specs.Prelude.{◌≡◌, ◌++◌, IfOk, OnOk, map, string_bytes};
+ghost use Rattle.replay_model.specs.ReplayState.{nothing_delivered};
+ghost use Rattle.md5.specs.Md5.{md5};
+ghost use Rattle.drill.specs.Drill.{IsSize, drill};
+ghost use Rattle.drill_replay.specs.Playing.{Counted, HasBegun};
+ghost use Rattle.drill_replay.specs.Summary.{digest_line, drilled, kept_in, lines_of, number_line, summary_of, triple_lines};
+
+use crate::playing::{Counts, play};
+use entity_state::Mode;
+use md5::{Digest, Md5};
+use rdf_term::{OutOfMemory, Triple, write_triple};
+use std::alloc::Global;
+use world::World;
+
+/// What is told of a drill: its size, its deliveries, how many distinct events were accepted and were late, how many
+/// entities' pages are kept and how many triples there are at its end, and the MD5 (RFC 1321) of the lines of these triples.
+#[derive(Clone, Copy, Debug, PartialEq, Eq)]
+pub struct Summary {
+    pub size: u32,
+    pub deliveries: u64,
+    pub accepted: u64,
+    pub late: u64,
+    pub kept: u64,
+    pub triples: usize,
+    pub digest: [u8; 16],
+}
+
+/// Runs the drill of this size in an empty world. For each answer the world is that of a first part of the drill, and for a
+/// summary that of all of it.
+pub fn run_drill(alloc: Global, size: u32, world: &mut World) -> Result<Summary, OutOfMemory>
+    requires size { IsSize size }
+    requires world { world.old.replay ≡ nothing_delivered }
+    ensures summary { IfOk result (λ summary. summary ≡ summary_of size) }
+    ensures ok { OnOk result (world.new.replay ≡ drilled size) }
+    ensures begun { HasBegun size world.new.replay }
+{
+    let counts = play(alloc, size, world)?;
+    summarize(alloc, size, counts, world)
+}
+
+/// The seven lines of a summary, each with its line feed.
+pub fn summary_lines(alloc: Global, summary: &Summary) -> Result<Vec<String>, OutOfMemory>
+    ensures { IfOk result (λ lines. map (λ line. string_bytes line) lines.items ≡ lines_of summary.now) }
+{
+    let mut lines = Vec::new(alloc);
+    lines.push(number_line(alloc, "drill", u64::from(summary.size))?)?;
+    lines.push(number_line(alloc, "deliveries", summary.deliveries)?)?;
+    lines.push(number_line(alloc, "accepted", summary.accepted)?)?;
+    lines.push(number_line(alloc, "late", summary.late)?)?;
+    lines.push(number_line(alloc, "kept", summary.kept)?)?;
+    lines.push(number_line(alloc, "triples", summary.triples as u64)?)?;
+    lines.push(digest_line(alloc, &summary.digest)?)?;
+    Ok(lines)
+}
+
+// What is told of a drill whose deliveries were counted so, by the world at its end.
+fn summarize(
+    alloc: Global,
+    size: u32,
+    counts: Counts,
+    world: &World,
+) -> Result<Summary, OutOfMemory>
+    requires counted { Counted (drill size) counts }
+    requires world { world.now.replay ≡ drilled size }
+    ensures { IfOk result (λ summary. summary ≡ summary_of size) }
+{
+    let kept = kept(world)?;
+    let triples = world.export()?;
+    Ok(Summary {
+        size,
+        deliveries: counts.deliveries,
+        accepted: counts.accepted,
+        late: counts.late,
+        kept,
+        triples: triples.items().len(),
+        digest: digest(alloc, triples.items())?,
+    })
+}
+
+// How many entities' pages are kept.
+fn kept(world: &World) -> Result<u64, OutOfMemory>
+    ensures { IfOk result (λ count. count ≡ kept_in world.now.replay.played.records) }
+{
+    let ids = world.entities()?;
+    let mut count = 0;
+    for id in ids.as_slice() {
+        if world.state(*id).mode == Mode::Kept {
+            count += 1;
+        }
+    }
+    Ok(count)
+}
+
+// The MD5 of the lines of the triples, line by line.
+fn digest(alloc: Global, triples: &[Triple]) -> Result<[u8; 16], OutOfMemory>
+    ensures { IfOk result (λ digest. digest ≡ md5 (triple_lines triples.now)) }
+{
+    let mut hasher = Md5::new();
+    let mut line = Vec::new(alloc);
+    for triple in triples {
+        line.clear();
+        write_triple(triple, &mut line)?;
+        hasher.update(line.as_slice());
+    }
+    Ok(hasher.finalize())
+}
+
+// The line of a number under a word.
+fn number_line(alloc: Global, word: &str, number: u64) -> Result<String, OutOfMemory>
+    ensures { IfOk result (λ line. string_bytes line ≡ number_line word.now number) }
+{
+    Ok(format!(in alloc; "# {word} {number}\n")?)
+}
+
+// The line of the MD5, in lower-case hexadecimal digits.
+fn digest_line(alloc: Global, digest: &[u8; 16]) -> Result<String, OutOfMemory>
+    ensures { IfOk result (λ line. string_bytes line ≡ digest_line digest.now) }
+{
+    let digits = hex::encode(alloc, *digest)?;
+    Ok(format!(in alloc; "# export {digits}\n")?)
+}

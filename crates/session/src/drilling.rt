@@ -1,0 +1,36 @@
+// A drill: a replay of deliveries and pages that are made from its size, and its summary.
+
+ghost use Rattle.std.specs.Prelude.{◌≡◌, ◌≤◌, IfErr, OnOk};
+ghost use Rattle.replay_model.specs.ReplayState.{nothing_delivered};
+ghost use Rattle.transcript.specs.Printing.{output};
+ghost use Rattle.session.specs.Drilling.{DrillStopped, HasDrilled};
+ghost use Rattle.words.specs.Plan.{greatest_size};
+
+use drill_replay::{run_drill, summary_lines};
+use std::alloc::Global;
+use transcript::{Unwritten, print_lines};
+use words::take_size;
+use world::World;
+use wq_io::Sink;
+
+/// For how many terms a drill has room.
+const ROOM: u32 = 20_000_000;
+
+// Runs the drill of this size, and prints its summary.
+pub fn drill<K: Sink>(
+    alloc: Global,
+    size: u32,
+    out: &mut K,
+    world: &mut World,
+) -> Result<(), Unwritten>
+    requires size { (1 ≤ size) × (size ≤ greatest_size) }
+    requires world { world.old.replay ≡ nothing_delivered }
+    ensures ok { OnOk result (HasDrilled size (output K.Sink out.old) (output K.Sink out.new) world.new.replay) }
+    ensures err { IfErr result (λ why. DrillStopped why size (output K.Sink out.old) (output K.Sink out.new) world.new.replay) }
+{
+    let size = take_size(alloc, size)?;
+    world.set_room(ROOM);
+    let summary = run_drill(alloc, size, world)?;
+    let lines = summary_lines(alloc, &summary)?;
+    print_lines(lines.as_slice(), out)
+}

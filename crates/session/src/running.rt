@@ -1,0 +1,85 @@
+// The top call.
+
+ghost use Rattle.std.specs.Prelude.{◌≡◌, ◌⊎◌, ◌↔◌, ℕ, ◌≤◌, None, Some, map, string_bytes, IfSome};
+ghost use Rattle.wq_io.specs.Streams.{IsAtEnd, Rose};
+ghost use Rattle.replay_model.specs.ReplayState.{nothing_delivered};
+ghost use Rattle.session.specs.Drilling.{DrillEnding};
+ghost use Rattle.session.specs.Headline.{Ending, Stopped};
+ghost use Rattle.session.specs.Moment.{moment, run_of, stage};
+ghost use Rattle.session.specs.Stop.{stop_of};
+ghost use Rattle.words.specs.Options.{Choices};
+ghost use Rattle.words.specs.Plan.{plan_of};
+ghost use Rattle.words.specs.declared.plan.Plan.TheVariants.{Replay, Drill};
+
+use crate::drilling::drill;
+use crate::replaying::replay;
+use crate::status::Status;
+use crate::stop::Stop;
+use revisions::Revisions;
+use std::alloc::Global;
+use words::{Plan, read_plan};
+use world::World;
+use wq_io::{Sink, Source};
+
+/// Does what the words ask for. A replay reads the event lines, applies what is due, answers each question at once, and prints
+/// at the end what the words ask for; a drill replays deliveries and pages that are made from its size, and prints its summary.
+///
+/// `words` are those after the program's name; each line of `events` is one delivery; `revisions` has the pages.
+pub fn run<S: Source, R: Revisions, K: Sink>(
+    alloc: Global,
+    words: &[String],
+    events: &mut S,
+    revisions: &mut R,
+    out: &mut K,
+    world: &mut World,
+) -> Status
+    requires { world.old.replay ≡ nothing_delivered }
+    ensures bad_words { (result ≡ Status.BadWords) ↔ (plan_of (map (λ w. string_bytes w) words.now) ≡ None) }
+    ensures untouched { result ≡ Status.BadWords →
+        (events.new ≡ events.old) × (revisions.new ≡ revisions.old) × (out.new ≡ out.old) × (world.new ≡ world.old) }
+
+    // The input was read to its end, everything was applied, and every answer and section was written.
+    ensures ok { result ≡ Status.Ok → (choices : Choices) → plan_of (map (λ w. string_bytes w) words.now) ≡ Some (Replay choices) →
+        Ending (run_of (R.contents revisions.old) choices)
+        (moment S.Source R.Revisions K.Sink events.old revisions.old out.old world.old.replay)
+        (moment S.Source R.Revisions K.Sink events.new revisions.new out.new world.new.replay) }
+
+    ensures read { result ≡ Status.Ok → (choices : Choices) → plan_of (map (λ w. string_bytes w) words.now) ≡ Some (Replay choices) →
+        IsAtEnd (S.left events.new) }
+
+    // Each other ending has its cause, and leaves the world of the lines before, with the answers to their questions.
+    ensures stopped { IfSome (stop_of result) (λ stop. (choices : Choices) → plan_of (map (λ w. string_bytes w) words.now) ≡ Some (Replay choices) →
+        Stopped stop (run_of (R.contents revisions.old) choices)
+        (moment S.Source R.Revisions K.Sink events.old revisions.old out.old world.old.replay)
+        (moment S.Source R.Revisions K.Sink events.new revisions.new out.new world.new.replay)) }
+
+    // A drill ends well, or while it printed, or for want of memory.
+    ensures drilled { (size : ℕ) → plan_of (map (λ w. string_bytes w) words.now) ≡ Some (Drill size) →
+        DrillEnding result size
+        (stage R.Revisions K.Sink revisions.old out.old world.old.replay)
+        (stage R.Revisions K.Sink revisions.new out.new world.new.replay) }
+
+    ensures drilled_alone { (size : ℕ) → plan_of (map (λ w. string_bytes w) words.now) ≡ Some (Drill size) →
+        (events.new ≡ events.old) × (revisions.new ≡ revisions.old) }
+
+    ensures drill_unwritten { (size : ℕ) → plan_of (map (λ w. string_bytes w) words.now) ≡ Some (Drill size) →
+        (result ≡ Status.Ok) ⊎ (result ≡ Status.OutOfMemory) ⊎ Rose (K.faults out.old) (K.faults out.new) }
+
+    ensures told { R.contents revisions.new ≡ R.contents revisions.old }
+    ensures more_faults { R.faults revisions.old ≤ R.faults revisions.new }
+    ensures more_misses { R.misses revisions.old ≤ R.misses revisions.new }
+{
+    match read_plan(words) {
+        None => Status::BadWords,
+        Some(Plan::Replay(options)) => {
+            match replay(alloc, &options, events, revisions, out, world) {
+                Ok(()) => Status::Ok,
+                Err(stop) => stop.status(),
+            }
+        }
+        Some(Plan::Drill(size)) => match drill(alloc, size, out, world) {
+            Ok(()) => Status::Ok,
+            Err(why) => Stop::from(why).status(),
+        },
+    }
+}
