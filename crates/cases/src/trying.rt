@@ -33,7 +33,9 @@ pub fn tried(alloc: Global, keys: RandomState, case: &Case) -> Result<Trial> {
 fn tried_with_rows(alloc: Global, keys: RandomState, case: &Case, rows: &str) -> Result<Trial> {
     let mut runs = 0u64;
     for row in rows.lines() {
-        let trial = tried_alone(alloc, keys, &filled(alloc, case, row)?).context(format_args!("{row}"))?;
+        let trial = tried_alone(alloc, keys, &filled(alloc, case, row)?).context(format_args!(
+            "{row}"
+        ))?;
         runs = runs.saturating_add(trial.runs);
         if let Some(difference) = trial.difference {
             return Ok(Trial {
@@ -69,12 +71,22 @@ fn tried_alone(alloc: Global, keys: RandomState, case: &Case) -> Result<Trial> {
 }
 
 // Makes one run, and says how it differs.
-fn tried_once(alloc: Global, keys: RandomState, given: &Given, expected: &Expected) -> Result<Option<String>> {
+fn tried_once(
+    alloc: Global,
+    keys: RandomState,
+    given: &Given,
+    expected: &Expected,
+) -> Result<Option<String>> {
     difference(alloc, expected, &run_over(alloc, keys, given)?)
 }
 
 // Tries each read failing in turn, and then none: what the lines before it ask is answered.
-fn tried_with_reads(alloc: Global, keys: RandomState, mut given: Given, expected: Expected) -> Result<Trial> {
+fn tried_with_reads(
+    alloc: Global,
+    keys: RandomState,
+    mut given: Given,
+    expected: Expected,
+) -> Result<Trial> {
     let pieces = pieces_of_reads(alloc, given.input.as_slice(), given.reads.bytes.max(1))?;
     let mut taken = Vec::new(alloc);
     let mut call = 1u64;
@@ -96,7 +108,12 @@ fn tried_with_reads(alloc: Global, keys: RandomState, mut given: Given, expected
 }
 
 // Tries each write failing in turn, and then none: what the writes before it took stands.
-fn tried_with_writes(alloc: Global, keys: RandomState, mut given: Given, expected: Expected) -> Result<Trial> {
+fn tried_with_writes(
+    alloc: Global,
+    keys: RandomState,
+    mut given: Given,
+    expected: Expected,
+) -> Result<Trial> {
     let pieces = pieces_of_writes(alloc, expected.out.as_slice(), given.writes.bytes.max(1))?;
     let mut taken = Vec::new(alloc);
     let mut call = 1u64;

@@ -9,7 +9,11 @@ use std::test::Fail;
 use world::World;
 
 // The lines of a drill of this size begin with these.
-fn check_drill(rt: &(impl Abort + AllocGlobal + RandomSource), size: u32, want: &[&str]) -> Result<(), Fail>
+fn check_drill(
+    rt: &(impl Abort + AllocGlobal + RandomSource),
+    size: u32,
+    want: &[&str],
+) -> Result<(), Fail>
     requires { IsSize size }
 {
     let alloc = rt.alloc();
