@@ -5,6 +5,7 @@ ghost use Rattle.drill.specs.Drill.{IsSize};
 use crate::{run_drill, summary_lines};
 use std::hash::RandomState;
 use std::process::Abort;
+use std::random::RandomSource;
 use std::test::Fail;
 use world::World;
 
