@@ -21,6 +21,7 @@ use folder::case_files;
 use sections::{Case, cases_of};
 use statuses::print_statuses;
 use std::env;
+use std::hash::RandomState;
 use std::process::ExitCode;
 use trying::tried;
 
@@ -68,7 +69,8 @@ fn is_wanted(case: &Case, wanted: &[String]) -> bool {
 // Tries a case, and prints its line.
 fn try_case(rt: &HostRuntime, case: &Case, tally: Tally) -> Result<Tally> {
     let name = case.name.as_str();
-    let trial = tried(rt.alloc(), case)?;
+    let keys = RandomState::new(rt)?;
+    let trial = tried(rt.alloc(), keys, case)?;
     let runs = trial.runs;
     match &trial.difference {
         None if runs == 1 => println!(rt; "ok   {name}")?,

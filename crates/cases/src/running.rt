@@ -6,6 +6,7 @@ use rdf_term::{List, Text};
 use revisions::{MemoryRevisions, RevisionBytes};
 use session::{Status, run};
 use std::alloc::Global;
+use std::hash::RandomState;
 use world::World;
 use wq_io::{MemorySink, MemorySource};
 
@@ -19,7 +20,7 @@ pub struct Left {
 }
 
 // Makes one run.
-pub fn run_over(alloc: Global, given: &Given) -> Result<Left> {
+pub fn run_over(alloc: Global, keys: RandomState, given: &Given) -> Result<Left> {
     let input = Vec::from_slice(alloc, given.input.as_slice())?;
     let failing = list(alloc, given.reads.failing.as_slice())?;
     let mut events = MemorySource::new(input, given.reads.bytes.max(1), failing);
@@ -27,7 +28,7 @@ pub fn run_over(alloc: Global, given: &Given) -> Result<Left> {
     let mut revisions = MemoryRevisions::new(entries(alloc, given.pages.as_slice())?, failing);
     let failing = list(alloc, given.writes.failing.as_slice())?;
     let mut out = MemorySink::new(alloc, given.writes.bytes.max(1), failing);
-    let mut world = World::new(alloc)?;
+    let mut world = World::new(alloc, keys)?;
     let status = run(
         alloc,
         given.words.as_slice(),

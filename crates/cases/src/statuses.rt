@@ -5,7 +5,7 @@ use event_line::LineCause;
 use session::{Status, status_number, status_text};
 
 // Some statuses of each kind.
-const STATUSES: [Status; 8] = [
+const STATUSES: [Status; 9] = [
     Status::Ok,
     Status::BadWords,
     Status::BadLine(4, LineCause::Rev),
@@ -13,6 +13,7 @@ const STATUSES: [Status; 8] = [
     Status::ReadFault,
     Status::WriteFault,
     Status::TooLong,
+    Status::StoreFull,
     Status::OutOfMemory,
 ];
 

@@ -7,6 +7,7 @@ use crate::running::run_over;
 use crate::sections::Case;
 use anyhow::{Context, Result};
 use std::alloc::Global;
+use std::hash::RandomState;
 use std::str;
 
 // How many runs were made, up to the first that differed, and how that differed.
@@ -17,11 +18,11 @@ pub struct Trial {
 }
 
 // Tries a case.
-pub fn tried(alloc: Global, case: &Case) -> Result<Trial> {
+pub fn tried(alloc: Global, keys: RandomState, case: &Case) -> Result<Trial> {
     check_names(case).context(format_args!("{}", case.name))?;
     match case.section("rows") {
-        None => tried_alone(alloc, case).context(format_args!("{}", case.name)),
-        Some((_, rows)) => tried_with_rows(alloc, case, rows).context(format_args!(
+        None => tried_alone(alloc, keys, case).context(format_args!("{}", case.name)),
+        Some((_, rows)) => tried_with_rows(alloc, keys, case, rows).context(format_args!(
             "{}",
             case.name
         )),
@@ -29,10 +30,12 @@ pub fn tried(alloc: Global, case: &Case) -> Result<Trial> {
 }
 
 // Tries a case with each row in turn.
-fn tried_with_rows(alloc: Global, case: &Case, rows: &str) -> Result<Trial> {
+fn tried_with_rows(alloc: Global, keys: RandomState, case: &Case, rows: &str) -> Result<Trial> {
     let mut runs = 0u64;
     for row in rows.lines() {
-        let trial = tried_alone(alloc, &filled(alloc, case, row)?).context(format_args!("{row}"))?;
+        let trial = tried_alone(alloc, keys, &filled(alloc, case, row)?).context(format_args!(
+            "{row}"
+        ))?;
         runs = runs.saturating_add(trial.runs);
         if let Some(difference) = trial.difference {
             return Ok(Trial {
@@ -53,27 +56,37 @@ fn at_row(alloc: Global, row: &str, difference: &str) -> Result<String> {
 }
 
 // Tries a case without a table.
-fn tried_alone(alloc: Global, case: &Case) -> Result<Trial> {
+fn tried_alone(alloc: Global, keys: RandomState, case: &Case) -> Result<Trial> {
     let given = given_of(alloc, case)?;
     let expected = expected_of(alloc, case)?;
     match turns_of(case)? {
         Turns::Once => Ok(Trial {
             runs: 1,
-            difference: tried_once(alloc, &given, &expected)?,
+            difference: tried_once(alloc, keys, &given, &expected)?,
         }),
-        Turns::EachRead => tried_with_reads(alloc, given, expected),
-        Turns::EachWrite => tried_with_writes(alloc, given, expected),
-        Turns::EachFront(rev) => tried_with_fronts(alloc, given, &expected, rev),
+        Turns::EachRead => tried_with_reads(alloc, keys, given, expected),
+        Turns::EachWrite => tried_with_writes(alloc, keys, given, expected),
+        Turns::EachFront(rev) => tried_with_fronts(alloc, keys, given, &expected, rev),
     }
 }
 
 // Makes one run, and says how it differs.
-fn tried_once(alloc: Global, given: &Given, expected: &Expected) -> Result<Option<String>> {
-    difference(alloc, expected, &run_over(alloc, given)?)
+fn tried_once(
+    alloc: Global,
+    keys: RandomState,
+    given: &Given,
+    expected: &Expected,
+) -> Result<Option<String>> {
+    difference(alloc, expected, &run_over(alloc, keys, given)?)
 }
 
 // Tries each read failing in turn, and then none: what the lines before it ask is answered.
-fn tried_with_reads(alloc: Global, mut given: Given, expected: Expected) -> Result<Trial> {
+fn tried_with_reads(
+    alloc: Global,
+    keys: RandomState,
+    mut given: Given,
+    expected: Expected,
+) -> Result<Trial> {
     let pieces = pieces_of_reads(alloc, given.input.as_slice(), given.reads.bytes.max(1))?;
     let mut taken = Vec::new(alloc);
     let mut call = 1u64;
@@ -81,7 +94,7 @@ fn tried_with_reads(alloc: Global, mut given: Given, expected: Expected) -> Resu
         given.reads.failing = vec![in alloc; call]?;
         let out = answers(alloc, expected.out.as_slice(), questions(taken.as_slice()))?;
         let before = stopped(alloc, "3 wdq: read fault", out)?;
-        if let Some(difference) = tried_once(alloc, &given, &before)? {
+        if let Some(difference) = tried_once(alloc, keys, &given, &before)? {
             return at_call(alloc, "read", call, difference.as_str());
         }
         taken.extend_from_slice(piece.as_slice())?;
@@ -90,12 +103,17 @@ fn tried_with_reads(alloc: Global, mut given: Given, expected: Expected) -> Resu
     given.reads.failing = vec![in alloc; call]?;
     Ok(Trial {
         runs: call,
-        difference: tried_once(alloc, &given, &expected)?,
+        difference: tried_once(alloc, keys, &given, &expected)?,
     })
 }
 
 // Tries each write failing in turn, and then none: what the writes before it took stands.
-fn tried_with_writes(alloc: Global, mut given: Given, expected: Expected) -> Result<Trial> {
+fn tried_with_writes(
+    alloc: Global,
+    keys: RandomState,
+    mut given: Given,
+    expected: Expected,
+) -> Result<Trial> {
     let pieces = pieces_of_writes(alloc, expected.out.as_slice(), given.writes.bytes.max(1))?;
     let mut taken = Vec::new(alloc);
     let mut call = 1u64;
@@ -103,7 +121,7 @@ fn tried_with_writes(alloc: Global, mut given: Given, expected: Expected) -> Res
         given.writes.failing = vec![in alloc; call]?;
         let out = Vec::from_slice(alloc, taken.as_slice())?;
         let before = stopped(alloc, "4 wdq: write fault", out)?;
-        if let Some(difference) = tried_once(alloc, &given, &before)? {
+        if let Some(difference) = tried_once(alloc, keys, &given, &before)? {
             return at_call(alloc, "write", call, difference.as_str());
         }
         taken.extend_from_slice(piece.as_slice())?;
@@ -112,13 +130,14 @@ fn tried_with_writes(alloc: Global, mut given: Given, expected: Expected) -> Res
     given.writes.failing = vec![in alloc; call]?;
     Ok(Trial {
         runs: call,
-        difference: tried_once(alloc, &given, &expected)?,
+        difference: tried_once(alloc, keys, &given, &expected)?,
     })
 }
 
 // Tries each front of a page, from no byte to all but the last: each must show the same.
 fn tried_with_fronts(
     alloc: Global,
+    keys: RandomState,
     mut given: Given,
     expected: &Expected,
     rev: u64,
@@ -129,7 +148,7 @@ fn tried_with_fronts(
         let front = page.as_slice().split_at_checked(length).context("a front")?;
         set_page(alloc, &mut given, rev, front.0)?;
         runs = runs.saturating_add(1);
-        if let Some(difference) = tried_once(alloc, &given, expected)? {
+        if let Some(difference) = tried_once(alloc, keys, &given, expected)? {
             return at_call(alloc, "after byte", length as u64, difference.as_str());
         }
     }

@@ -1,6 +1,7 @@
 // The revisions of a drill, as a source.
 
 ghost use Rattle.std.specs.Prelude.{◌≡◌, ◌+◌, ◌-◌, ◌*◌, ◌^◌, ◌≤◌, Some, IsTrue, ◌↔◌, MatchResult, min};
+ghost use Rattle.std.proofs.Common.{rules};
 ghost use Rattle.drill.specs.Drill.{IsSize, contents_of};
 ghost use Rattle.drill.specs.Source.{Explains, after_fetch};
 
@@ -66,6 +67,8 @@ impl Revisions for DrillRevisions {
 
     ghost misses = { λ s. s.misses };
 
+    ghost most_faults = { λ _. Some 0 };
+
     fn fetch(&mut self, alloc: Global, _place: &str, rev: u64) -> Result<Vec<u8>, NoRevision>
         ensures source { self.new ≡ after_fetch rev self.old }
         ensures answer { let there = contents_of self.old.size rev in
@@ -78,4 +81,6 @@ impl Revisions for DrillRevisions {
         }
         Ok(page(alloc, rev)?.into_bytes())
     }
+
+    ghost within_most = { λ _. Prim.search rules };
 }

@@ -51,10 +51,10 @@ impl Counts {
 /// Takes all deliveries of the drill of this size and the end, and applies all that they make due.
 pub fn play(alloc: Global, size: u32, world: &mut World) -> Result<Counts, OutOfMemory>
     requires size { IsSize size }
-    requires world { world.old ≡ nothing_delivered }
+    requires world { world.old.replay ≡ nothing_delivered }
     ensures counts { IfOk result (λ counts. Counted (drill size) counts) }
-    ensures ok { OnOk result (world.new ≡ drilled size) }
-    ensures begun { HasBegun size world.new }
+    ensures ok { OnOk result (world.new.replay ≡ drilled size) }
+    ensures begun { HasBegun size world.new.replay }
 {
     let mut counts = Counts::new();
     for done in 0..size {
@@ -75,13 +75,13 @@ fn take_item(
 ) -> Result<(), OutOfMemory>
     requires size { IsSize size }
     requires next { done < size }
-    requires after { IsAfter size (drill done) world.old }
+    requires after { IsAfter size (drill done) world.old.replay }
     requires counted { Counted (drill done) counts.old }
     requires few { HasFew counts.old (6 * done) }
-    ensures after { OnOk result (IsAfter size (drill (done + 1)) world.new) }
+    ensures after { OnOk result (IsAfter size (drill (done + 1)) world.new.replay) }
     ensures counted { OnOk result (Counted (drill (done + 1)) counts.new) }
     ensures few { OnOk result (HasFew counts.new (6 * (done + 1))) }
-    ensures err { OnErr result (IsPartOf size (drill (done + 1)) world.new) }
+    ensures err { OnErr result (IsPartOf size (drill (done + 1)) world.new.replay) }
 {
     let list = deliveries(alloc, done + 1)?;
     for delivery in list.as_slice() {
@@ -94,11 +94,11 @@ fn take_item(
 // Takes one delivery, applies what it makes due, and says what its event was.
 fn take(size: u32, delivery: &Delivery, world: &mut World) -> Result<Option<Taken>, OutOfMemory>
     requires size { IsSize size }
-    requires open { world.old.buffer.closed ≡ false }
-    ensures ok { OnOk result ((ds : List Delivery) → IsAfter size ds world.old → IsAfter size (ds ++ delivery.now ∷ []) world.new) }
-    ensures answer { IfOk result (λ answer. answer ≡ answer_of world.old.buffer delivery.now) }
-    ensures err { OnErr result ((ds : List Delivery) → IsAfter size ds world.old → (world.new ≡ world.old)
-        ⊎ ((steps : ℕ) × (world.new ≡ after_some (replies_of size) steps (entered (following (replies_of size) ds) delivery.now)))) }
+    requires open { world.old.replay.buffer.closed ≡ false }
+    ensures ok { OnOk result ((ds : List Delivery) → IsAfter size ds world.old.replay → IsAfter size (ds ++ delivery.now ∷ []) world.new.replay) }
+    ensures answer { IfOk result (λ answer. answer ≡ answer_of world.old.replay.buffer delivery.now) }
+    ensures err { OnErr result ((ds : List Delivery) → IsAfter size ds world.old.replay → (world.new.replay ≡ world.old.replay)
+        ⊎ ((steps : ℕ) × (world.new.replay ≡ after_some (replies_of size) steps (entered (following (replies_of size) ds) delivery.now)))) }
 {
     match delivery {
         Delivery::Event(event) => Ok(Some(world.take(*event)?)),
@@ -113,7 +113,7 @@ fn take(size: u32, delivery: &Delivery, world: &mut World) -> Result<Option<Take
 
 // Takes a watermark.
 fn raise(mark: &i64, world: &mut World)
-    ensures { world.new ≡ after_mark world.old mark.now }
+    ensures { world.new.replay ≡ after_mark world.old.replay mark.now }
 {
     world.raise(*mark);
 }
@@ -121,14 +121,16 @@ fn raise(mark: &i64, world: &mut World)
 // Applies all due events, the least first, over the pages of the drill of this size.
 fn apply_due(size: u32, world: &mut World) -> Result<(), OutOfMemory>
     requires { IsSize size }
-    ensures ok { OnOk result (world.new ≡ after_due (replies_of size) world.old) }
-    ensures steps { (steps : ℕ) × (world.new ≡ after_some (replies_of size) steps world.old) }
+    ensures ok { OnOk result (world.new.replay ≡ after_due (replies_of size) world.old.replay) }
+    ensures steps { (steps : ℕ) × (world.new.replay ≡ after_some (replies_of size) steps world.old.replay) }
 {
     let mut pages = DrillRevisions::new(size);
     loop {
         match world.apply_next(&mut pages, ".") {
             Ok(_) => {}
             Err(WorldFault::Nothing) => return Ok(()),
+            // no proof counts the terms of a drill, so a drill for which there is no room has too little memory
+            Err(WorldFault::Full) => return Err(OutOfMemory),
             Err(WorldFault::OutOfMemory) => return Err(OutOfMemory),
         }
     }

@@ -31,10 +31,10 @@ pub struct Summary {
 /// summary that of all of it.
 pub fn run_drill(alloc: Global, size: u32, world: &mut World) -> Result<Summary, OutOfMemory>
     requires size { IsSize size }
-    requires world { world.old ≡ nothing_delivered }
+    requires world { world.old.replay ≡ nothing_delivered }
     ensures summary { IfOk result (λ summary. summary ≡ summary_of size) }
-    ensures ok { OnOk result (world.new ≡ drilled size) }
-    ensures begun { HasBegun size world.new }
+    ensures ok { OnOk result (world.new.replay ≡ drilled size) }
+    ensures begun { HasBegun size world.new.replay }
 {
     let counts = play(alloc, size, world)?;
     summarize(alloc, size, counts, world)
@@ -63,7 +63,7 @@ fn summarize(
     world: &World,
 ) -> Result<Summary, OutOfMemory>
     requires counted { Counted (drill size) counts }
-    requires world { world.now ≡ drilled size }
+    requires world { world.now.replay ≡ drilled size }
     ensures { IfOk result (λ summary. summary ≡ summary_of size) }
 {
     let kept = kept(world)?;
@@ -81,7 +81,7 @@ fn summarize(
 
 // How many entities' pages are kept.
 fn kept(world: &World) -> Result<u64, OutOfMemory>
-    ensures { IfOk result (λ count. count ≡ kept_in world.now.played.records) }
+    ensures { IfOk result (λ count. count ≡ kept_in world.now.replay.played.records) }
 {
     let ids = world.entities()?;
     let mut count = 0;

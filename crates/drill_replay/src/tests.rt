@@ -3,16 +3,22 @@
 ghost use Rattle.drill.specs.Drill.{IsSize};
 
 use crate::{run_drill, summary_lines};
+use std::hash::RandomState;
 use std::process::Abort;
+use std::random::RandomSource;
 use std::test::Fail;
 use world::World;
 
 // The lines of a drill of this size begin with these.
-fn check_drill(rt: &(impl Abort + AllocGlobal), size: u32, want: &[&str]) -> Result<(), Fail>
+fn check_drill(
+    rt: &(impl Abort + AllocGlobal + RandomSource),
+    size: u32,
+    want: &[&str],
+) -> Result<(), Fail>
     requires { IsSize size }
 {
     let alloc = rt.alloc();
-    let mut world = World::new(alloc)?;
+    let mut world = World::new(alloc, RandomState::new(rt)?)?;
     let summary = run_drill(alloc, size, &mut world)?;
     let lines = summary_lines(alloc, &summary)?;
     assert_eq!(rt; lines.len(), 7, "of {size}");

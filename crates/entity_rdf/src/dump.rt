@@ -1,6 +1,6 @@
 // The dump of a document as a set, and what the store keeps of it.
 
-ghost use Rattle.std.specs.Prelude.{◌≡◌, IfOk};
+ghost use Rattle.std.specs.Prelude.{◌≡◌, ◌++◌, IfOk};
 ghost use Rattle.std.specs.List.{AllByRecursion, flat_map};
 ghost use Rattle.rdf_term.specs.Fit.{HasFitAndShortTerms};
 ghost use Rattle.rising.specs.Rising.{sorted};
@@ -14,7 +14,8 @@ use crate::walk::emit_dump;
 use entity_model::{Document, EntityId};
 use munger::{Munged, Page};
 use rdf_term::{List, OutOfMemory, Triple, TripleSet};
-use triple_sink::Setting;
+use triple_sink::{Setting, TripleSink};
+use triple_texts::TripleTexts;
 
 /// The set of triples that the rules of the dump give for the document of a revision of `id`.
 #[tactic(auto, using(crate::proofs::Fit::dump_fit, crate::proofs::Labels::dump_labels))]
@@ -51,6 +52,23 @@ pub fn direct_triples(
     TripleSet::from_list(triples)
 }
 
+/// The triples that munging leaves of the dump of the document of a revision of `id`, by their texts, made by one walk. A
+/// triple may stand there more than once.
+#[tactic(auto, using(crate::proofs::Direct::direct_list_fit, munger::proofs::MungedList::munge_of_list))]
+pub fn direct_texts(
+    setting: Setting,
+    id: EntityId,
+    rev: u64,
+    document: &Document,
+) -> Result<TripleTexts, OutOfMemory>
+    ensures value { IfOk result (λ texts. sorted triple_cmp texts ≡ munge id (sorted triple_cmp (dump setting.version id rev document.now))) }
+
+    // The terms are fit and short where the document is small.
+    ensures fit { IsSmall document.now → IfOk result (AllByRecursion HasFitAndShortTerms) }
+{
+    munged_texts(setting, id, rev, document)
+}
+
 // The triples of the dump, one rule after the other.
 #[tactic(auto, using(triple_sink::proofs::Gained::all_of))]
 fn dump_list(
@@ -76,9 +94,35 @@ fn munged_list(
 ) -> Result<List<Triple>, OutOfMemory>
     ensures { IfOk result (λ triples. triples ≡ flat_map (munged id) (dump setting.version id rev document.now)) }
 {
+    munge_into(setting, id, rev, document, List::new(setting.alloc))
+}
+
+// What is left of the triples of the dump, by their texts, in their order.
+#[tactic(auto, using(munger::proofs::Kept::kept_is))]
+fn munged_texts(
+    setting: Setting,
+    id: EntityId,
+    rev: u64,
+    document: &Document,
+) -> Result<TripleTexts, OutOfMemory>
+    ensures { IfOk result (λ texts. texts ≡ flat_map (munged id) (dump setting.version id rev document.now)) }
+{
+    munge_into(setting, id, rev, document, TripleTexts::new(setting.alloc))
+}
+
+// The sink with what it keeps of what is left of each triple of the dump.
+fn munge_into<S: TripleSink + Drop>(
+    setting: Setting,
+    id: EntityId,
+    rev: u64,
+    document: &Document,
+    inner: S,
+) -> Result<S, OutOfMemory>
+    ensures { IfOk result (λ sink. S.items sink ≡ S.items inner ++ flat_map (λ triple. flat_map (S.keeps inner) (munged id triple)) (dump setting.version id rev document.now)) }
+{
     let mut out = Munged {
         page: Page::new(setting.alloc, id)?,
-        inner: List::new(setting.alloc),
+        inner,
     };
     emit_dump(setting, id, rev, document, &mut out)?;
     Ok(out.inner)

@@ -1,8 +1,8 @@
 //! The RDF of entity pages ("Wikibase RDF Dump Format").
 //!
 //! `about` has what a page says of its entity, `dataset` what it says of itself, `property` what a property's page says of
-//! its predicates, and `statements` what its statements say; `walk` puts the rules together. `dump` has the sets that a walk
-//! makes, of the dump and of what munging leaves of it, and `laws` what holds of the rules.
+//! its predicates, and `statements` what its statements say; `walk` puts the rules together. `dump` has what a walk
+//! makes, of the dump and of what munging leaves of it, as sets and as texts, and `laws` what holds of the rules.
 #![tactic(auto)]
 
 mod about;
@@ -15,6 +15,6 @@ mod statements;
 mod tests;
 mod walk;
 
-pub use dump::{direct_triples, dump_triples};
+pub use dump::{direct_texts, direct_triples, dump_triples};
 pub use laws::dump_triples_are_given;
 pub use walk::emit_dump;

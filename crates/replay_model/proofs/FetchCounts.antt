@@ -1,5 +1,5 @@
 -- The fetches of a replay, delivery by delivery and event by event, and how a count rises by them.
-use Rattle.std.proofs.Common.{◌≡◌, ℕ, ◌<◌, Bool, true, false, cond, min, ◌^◌, ◌-◌, ◌+◌, List, [], ◌∷◌, ◌++◌, None, Some, refl, ◌∙◌, ap, arith}
+use Rattle.std.proofs.Common.{◌≡◌, ℕ, ◌<◌, Bool, true, false, cond, max, min, ◌^◌, ◌-◌, ◌+◌, List, [], ◌∷◌, ◌++◌, None, Some, refl, ◌∙◌, ap, arith}
 use Rattle.entity_model.specs.declared.event.Event.{Event}
 use Rattle.entity_model.specs.declared.delivery.Delivery.{Delivery}
 use Rattle.entity_model.specs.declared.delivery.Delivery.TheVariants.{Event as Told, Watermark, Ask}
@@ -43,6 +43,6 @@ risen_by-risen_by m n count = omega arith
 pub risen_by-none : (count : ℕ) → count < 2 ^ 64 → risen_by 0 count ≡ count
 risen_by-none count fits = omega arith
 
-pub risen_by-more : (made count : ℕ) (fetching : Bool) → risen_by (made + cond fetching 1 0) count ≡ cond fetching (min (risen_by made count + 1) (2 ^ 64 - 1)) (risen_by made count)
+pub risen_by-more : (made count : ℕ) (fetching : Bool) → risen_by (made + cond fetching 1 0) count ≡ cond fetching (max (risen_by made count) (min (risen_by made count + 1) (2 ^ 64 - 1))) (risen_by made count)
 risen_by-more made count true = omega arith
 risen_by-more made count false = ap (λ n. min n (2 ^ 64 - 1)) (omega arith)

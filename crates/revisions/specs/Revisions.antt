@@ -1,6 +1,7 @@
 -- What a source of revisions has, and what a fetch from it gives.
-use Rattle.std.specs.Prelude.{◌≡◌, ℕ, ◌+◌, ◌-◌, ◌^◌, List, Option, None, min, ⊤}
+use Rattle.std.specs.Prelude.{◌≡◌, ℕ, List, Option, None, ⊤}
 use Rattle.wq_io.specs.Streams.{Rose}
+pub use Rattle.wq_io.specs.Streams.{counted}
 use Rattle.revisions.specs.declared.revisions.NoRevision.{NoRevision}
 use Rattle.revisions.specs.declared.revisions.NoRevision.TheVariants.{Missing, Failed, OutOfMemory}
 
@@ -25,7 +26,3 @@ abbrev pub IsOtherwiseStill : NoRevision → ℕ → ℕ → ℕ → ℕ → Typ
 IsOtherwiseStill Missing misses misses_now faults faults_now = faults_now ≡ faults
 IsOtherwiseStill Failed misses misses_now faults faults_now = misses_now ≡ misses
 IsOtherwiseStill OutOfMemory misses misses_now faults faults_now = (misses_now ≡ misses) × (faults_now ≡ faults)
-
--- a count in 64 bits after one more
-abbrev pub counted : ℕ → ℕ
-counted n = min (n + 1) (2 ^ 64 - 1)

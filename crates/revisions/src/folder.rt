@@ -1,6 +1,6 @@
 // The revisions of a folder.
 
-ghost use Rattle.std.specs.Prelude.{◌≡◌, ◌+◌, ◌-◌, ◌^◌, ◌≤◌, None, min};
+ghost use Rattle.std.specs.Prelude.{◌≡◌, ◌≤◌, None, IfErr, MatchResult};
 ghost use Rattle.revisions.specs.Revisions.{HasCause, IsOtherwiseStill, counted};
 
 use crate::revisions::{NoRevision, Revisions};
@@ -79,7 +79,18 @@ impl<R: Files> Revisions for Folder<R> {
 
     ghost misses = { λ s. s.misses };
 
-    fn fetch(&mut self, alloc: Global, place: &str, rev: u64) -> Result<Vec<u8>, NoRevision> {
+    ghost most_faults = { λ _. None };
+
+    fn fetch(&mut self, alloc: Global, place: &str, rev: u64) -> Result<Vec<u8>, NoRevision>
+        ensures called { self.new.calls ≡ counted self.old.calls }
+        ensures cause { IfErr result (λ e.
+            HasCause e self.old.misses self.new.misses self.old.faults self.new.faults) }
+        ensures quiet { MatchResult result
+            (λ _. (self.new.misses ≡ self.old.misses) × (self.new.faults ≡ self.old.faults))
+            (λ e. IsOtherwiseStill e self.old.misses self.new.misses self.old.faults self.new.faults) }
+        ensures more_faults { self.old.faults ≤ self.new.faults }
+        ensures more_misses { self.old.misses ≤ self.new.misses }
+    {
         self.calls = self.calls.saturating_add(1);
         let outcome = self.read(alloc, place, rev);
         if let Err(why) = &outcome {
@@ -87,4 +98,6 @@ impl<R: Files> Revisions for Folder<R> {
         }
         outcome
     }
+
+    ghost within_most = { λ _. tt };
 }

@@ -1,9 +1,11 @@
 // Revisions in memory, with calls that are to fail.
 
-ghost use Rattle.std.specs.Prelude.{◌≡◌, ◌+◌, ◌-◌, ◌^◌, ◌≤◌, Some, min};
+ghost use Rattle.std.specs.Prelude.{◌≡◌, ◌≢◌, ◌↔◌, ◌≤◌, Err, None, Some, IfErr, IsTrue, MatchResult, length, nat_le};
 ghost use Rattle.std.specs.Option.{option_copied};
-ghost use Rattle.wq_io.specs.Failing.{failures};
+ghost use Rattle.std.proofs.lemmas.List.Sums.{count_by-le-length};
+ghost use Rattle.wq_io.specs.Failing.{after_call, fails_next, failures};
 ghost use Rattle.revisions.specs.Memory.{bytes_at, entry_at};
+ghost use Rattle.revisions.specs.Revisions.{AgreesWith, HasCause, IsOtherwiseStill, counted};
 
 use crate::revisions::{NoRevision, Revisions};
 use rdf_term::{List, Text};
@@ -72,7 +74,7 @@ impl MemoryRevisions {
     // A fetch found nothing.
     fn miss(&mut self) -> NoRevision
         ensures missing { result ≡ NoRevision.Missing }
-        ensures counted { self.new ≡ record self.old { misses = min (self.old.misses + 1) (2 ^ 64 - 1) } }
+        ensures counted { self.new ≡ record self.old { misses = counted self.old.misses } }
         ensures more { self.old.misses ≤ self.new.misses }
     {
         self.misses = self.misses.saturating_add(1);
@@ -89,7 +91,26 @@ impl Revisions for MemoryRevisions {
 
     ghost misses = { λ s. s.misses };
 
-    fn fetch(&mut self, alloc: Global, place: &str, rev: u64) -> Result<Vec<u8>, NoRevision> {
+    ghost most_faults = { λ s. Some (length s.calls.numbers) };
+
+    fn fetch(&mut self, alloc: Global, place: &str, rev: u64) -> Result<Vec<u8>, NoRevision>
+        ensures listed { self.new.calls ≡ after_call self.old.calls }
+        ensures fails { (result ≡ Err NoRevision.Failed) ↔ IsTrue (fails_next self.old.calls) }
+        ensures refused { result ≡ Err NoRevision.OutOfMemory → bytes_at self.old.entries place.now rev ≢ None }
+        ensures entries { self.new.entries ≡ self.old.entries }
+        ensures told { Some (bytes_at self.new.entries) ≡ Some (bytes_at self.old.entries) }
+        ensures called { self.new.calls.calls ≡ counted self.old.calls.calls }
+        ensures bytes { let there = bytes_at self.old.entries place.now rev in
+            MatchResult result (λ v. there ≡ Some v.items) (λ e. AgreesWith e there) }
+        ensures cause { IfErr result (λ e.
+            HasCause e self.old.misses self.new.misses (failures self.old.calls) (failures self.new.calls)) }
+        ensures quiet { MatchResult result
+            (λ _. (self.new.misses ≡ self.old.misses) × (failures self.new.calls ≡ failures self.old.calls))
+            (λ e. IsOtherwiseStill e self.old.misses self.new.misses (failures self.old.calls) (failures self.new.calls)) }
+        ensures more_faults { failures self.old.calls ≤ failures self.new.calls }
+        ensures more_misses { self.old.misses ≤ self.new.misses }
+        ensures most { Some (length self.new.calls.numbers) ≡ Some (length self.old.calls.numbers) }
+    {
         if self.failing.next_fails() {
             return Err(NoRevision::Failed);
         }
@@ -98,4 +119,6 @@ impl Revisions for MemoryRevisions {
         };
         Vec::from_slice(alloc, entry.bytes.as_slice()).map_err(|_| NoRevision::OutOfMemory)
     }
+
+    ghost within_most = { λ s. count_by-le-length (λ k. nat_le k s.calls.calls) s.calls.numbers };
 }

@@ -1,7 +1,7 @@
 // The trait of the outside for revisions.
 
 ghost use Rattle.std.specs.Prelude.{◌≡◌, ℕ, ◌≤◌, Option, Some, IfSome, IfErr, MatchResult};
-ghost use Rattle.revisions.specs.Revisions.{Contents, AgreesWith, HasCause, IsOtherwiseStill, counted};
+ghost use Rattle.revisions.specs.Revisions.{Contents, AgreesWith, HasCause, counted};
 ghost use Rattle.revisions.specs.declared.revisions.NoRevision.TheVariants.{OutOfMemory as Refused};
 
 use rdf_term::OutOfMemory;
@@ -42,6 +42,9 @@ pub trait Revisions {
 
     ghost misses: { Self → ℕ };
 
+    // the most calls that ever fail, where it is told; calls don't change it
+    ghost most_faults: { Self → Option ℕ };
+
     /// The bytes of revision `rev` at `place`.
     fn fetch(&mut self, alloc: Global, place: &str, rev: u64) -> Result<Vec<u8>, NoRevision>
         ensures told { contents self.new ≡ contents self.old }
@@ -50,9 +53,9 @@ pub trait Revisions {
             MatchResult result (λ v. there place.now rev ≡ Some v.items) (λ e. AgreesWith e (there place.now rev))) }
         ensures cause { IfErr result (λ e.
             HasCause e (misses self.old) (misses self.new) (faults self.old) (faults self.new)) }
-        ensures quiet { MatchResult result
-            (λ _. (misses self.new ≡ misses self.old) × (faults self.new ≡ faults self.old))
-            (λ e. IsOtherwiseStill e (misses self.old) (misses self.new) (faults self.old) (faults self.new)) }
         ensures more_faults { faults self.old ≤ faults self.new }
-        ensures more_misses { misses self.old ≤ misses self.new };
+        ensures more_misses { misses self.old ≤ misses self.new }
+        ensures most { most_faults self.new ≡ most_faults self.old };
+
+    ghost within_most: { (s : Self) → IfSome (most_faults s) (λ most. faults s ≤ most) };
 }

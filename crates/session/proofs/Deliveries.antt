@@ -27,9 +27,11 @@ use Rattle.transcript.specs.declared.write.Unwritten.{Unwritten}
 use Rattle.transcript.specs.Printing.{Output, Prints}
 use Rattle.transcript.proofs.Parts.{after_twice}
 use Rattle.session.specs.declared.stop.Stop.TheVariants.{OutOfMemory}
+use Rattle.session.specs.declared.stop.Unapplied.{Unapplied}
+use Rattle.session.specs.declared.stop.Unapplied.TheVariants.{OutOfMemory as Starved}
 use Rattle.session.specs.Moment.{Setting, Stage, onward, with_output}
-use Rattle.session.specs.Stop.{stop_of_unwritten}
-use Rattle.session.specs.Taking.{AppliesDue, AtEnd, AtRest, Course, CutsOff, IsWithin, Leads, StaysWithin, course_after, course_to_end, judgement, said_behind, turn}
+use Rattle.session.specs.Stop.{stop_of_unapplied, stop_of_unwritten}
+use Rattle.session.specs.Taking.{AppliesDue, AtEnd, AtRest, Course, CutsOff, IsHeldUp, IsWithin, Leads, StaysWithin, course_after, course_to_end, judgement, said_behind, turn}
 use Rattle.session.proofs.Due.{within}
 
 -- one delivery more: how many questions were asked
@@ -188,12 +190,12 @@ module _ (setting : Setting) (ds : List Delivery) (start : Stage) where
 
 -- an event wasn't taken
 pub event_cut_off : (setting : Setting) (e : Event) (asked : ℕ) (now : Stage) (new : ReplayState) → new ≡ now.world → CutsOff OutOfMemory setting (turn asked (Told e)) now (onward now now.counts new)
-event_cut_off setting e asked now new same = inr (refl, record { output = refl; world = λ ds start at_rest. inl same })
+event_cut_off setting e asked now new same = inr (Starved, refl, record { held_up = tt; output = refl; world = λ ds start at_rest. inl same })
 
 -- a watermark was taken, and some of what is due was applied
-pub mark_cut_off : (setting : Setting) (m : ℤ) (asked : ℕ) (now : Stage) (counts : Counts) (new : ReplayState) → StaysWithin setting now.counts counts (after_mark now.world m) new →
-    CutsOff OutOfMemory setting (turn asked (Watermark m)) now (onward now counts new)
-mark_cut_off setting m asked now counts new stays = inr (refl, record { output = refl; world = λ ds start at_rest. inr (mark_begun setting ds start now counts new m stays at_rest) })
+pub mark_cut_off : (why : Unapplied) (setting : Setting) (m : ℤ) (asked : ℕ) (now : Stage) (counts : Counts) (new : ReplayState) → IsHeldUp why setting new →
+    StaysWithin setting now.counts counts (after_mark now.world m) new → CutsOff (stop_of_unapplied why) setting (turn asked (Watermark m)) now (onward now counts new)
+mark_cut_off why setting m asked now counts new held_up stays = inr (why, refl, record { held_up = held_up; output = refl; world = λ ds start at_rest. inr (mark_begun setting ds start now counts new m stays at_rest) })
 
 -- a question was answered in part
 pub ask_cut_off : (why : Unwritten) (setting : Setting) (q : Pattern) (asked : ℕ) (now : Stage) (out : Output) → Prints (ask_section asked (rows (union triple_cmp meaning now.world.played.records) q)) now.output out (Err why) →

@@ -14,19 +14,21 @@ use Rattle.replay_model.specs.Records.{Bytes, record_of}
 use Rattle.replay_model.specs.Play.{Replies}
 use Rattle.replay_model.specs.Replies.{GivesDocument, HasUnfit, failed_events, missing_events, reply_there}
 use Rattle.replay_model.specs.ReplayState.{ReplayState, after_next}
-use Rattle.replay_model.specs.Explained.{AgreeOnApplied, is_fetching}
+use Rattle.replay_model.specs.Explained.{AgreeOnApplied, is_fetching, revision_wanted}
 use Rattle.replay_model.proofs.Documents.{documents-apply}
 use Rattle.replay_model.proofs.Explaining.{Explained-next, Next, next_by}
 use Rattle.replay_model.proofs.FetchCounts.{risen_by-more}
 use Rattle.replay_model.proofs.Fetching.{failed-applying, failed_by, missing-applying, missing_of}
 use Rattle.world.specs.Applying.{Applies, IsReply, IsShown, calls_after, outcome_of_reply}
+use Rattle.world.specs.Meaning.{meaning}
+use Rattle.world.specs.Roomed.{IsOverfull, ReplayInRoom, room_with}
 use Rattle.world.specs.declared.applied.Applied.{Applied}
 use Rattle.world.specs.declared.applied.Outcome.{Outcome}
 use Rattle.world.specs.declared.applied.Outcome.TheVariants.{Same, Dropped}
 use Rattle.session.specs.Counts.{Counts, HasCounted, HasGoneOn, RoseBy}
 use Rattle.revisions.specs.declared.revisions.Revisions.{Ghosts as RevisionsOf}
 use Rattle.session.specs.Moment.{Setting, Stage, onward, setting}
-use Rattle.session.specs.Taking.{AppliesDue, Course, IsUnderWay, IsWithin, Leads, StaysWithin, judgement, replies_there}
+use Rattle.session.specs.Taking.{AppliesDue, Course, IsFull, IsUnderWay, IsWithin, Leads, StaysWithin, judgement, replies_there}
 
 -- events are applied: the world leads where it led
 pub record Goes (setting : Setting) (before now : Counts) (old new : ReplayState) : Type 0 where
@@ -44,20 +46,20 @@ unfit_there x unfit None has = absurd has
 unfit_there x unfit (Some bytes) has = rw has refl
 
 -- a reply that agrees with what the source has is honest
-pub reply_is_honest : (contents : Option Contents) (directory : List ℕ) (x : EntityId) (r : ℕ) (reply : Result Bytes Cause) →
-    IsReply contents directory x r reply → (there : ℕ → Option Bytes) → (setting contents directory).known ≡ Some there →
+pub reply_is_honest : (contents : Option Contents) (directory : List ℕ) (room : ℕ) (x : EntityId) (r : ℕ) (reply : Result Bytes Cause) →
+    IsReply contents directory x r reply → (there : ℕ → Option Bytes) → (setting contents directory room).known ≡ Some there →
     (reply ≡ Err Failed) ⊎ (reply ≡ reply_there judgement x (there r))
-reply_is_honest None directory x r reply is there known = cc
-reply_is_honest (Some c) directory x r (Ok bytes) is there known =
+reply_is_honest None directory room x r reply is there known = cc
+reply_is_honest (Some c) directory room x r (Ok bytes) is there known =
     let same : c directory ≡ there = cc in
     let found : there r ≡ Some bytes = ap (λ (f : ℕ → Option Bytes). f r) (sym same) ∙ is.1 in
     inr (rw (found, is.0) refl)
-reply_is_honest (Some c) directory x r (Err Missing) is there known =
+reply_is_honest (Some c) directory room x r (Err Missing) is there known =
     let same : c directory ≡ there = cc in
     let found : there r ≡ None = ap (λ (f : ℕ → Option Bytes). f r) (sym same) ∙ is in
     inr (rw found refl)
-reply_is_honest (Some c) directory x r (Err Failed) is there known = inl refl
-reply_is_honest (Some c) directory x r (Err (NoDocument unfit)) is there known =
+reply_is_honest (Some c) directory room x r (Err Failed) is there known = inl refl
+reply_is_honest (Some c) directory room x r (Err (NoDocument unfit)) is there known =
     let same : c directory ≡ there = cc in
     inr (unfit_there x unfit (c directory r) is ∙ ap (λ (f : ℕ → Option Bytes). reply_there judgement x (f r)) same)
 
@@ -123,19 +125,19 @@ reply_gives contents directory x r (Ok bytes) is = is.0
 reply_gives contents directory x r (Err cause) is = tt
 
 -- the world still leads to its play, one application further
-pub applies-leads : (contents : Option Contents) (directory : List ℕ) (before now : Counts) (old new : ReplayState) (applied : Applied) → Applies contents directory old new applied → Rises applied.outcome before now →
-    Goes (setting contents directory) before now old new
-applies-leads contents directory before now old new applied a rises = record {
+pub applies-leads : (contents : Option Contents) (directory : List ℕ) (room : ℕ) (before now : Counts) (old new : ReplayState) (applied : Applied) → Applies contents directory old new applied → Rises applied.outcome before now →
+    Goes (setting contents directory room) before now old new
+applies-leads contents directory room before now old new applied a rises = record {
   leads = λ course begun start s under_way.
-      let known : Option (ℕ → Option Bytes) = (setting contents directory).known in
+      let known : Option (ℕ → Option Bytes) = (setting contents directory room).known in
       let e : Event = applied.event in
-      let leads : Leads (setting contents directory) course start (onward s before old) = under_way.leads in
+      let leads : Leads (setting contents directory room) course start (onward s before old) = under_way.leads in
       let made : ℕ = leads.made + cond (is_fetching old e) 1 0 in
       let next : Next judgement known course.state course.fetched leads.made old e a.reply leads.explained =
       Explained-next judgement known course.state course.fetched leads.made old e a.reply leads.explained a.due
-      (λ there is _. reply_is_honest contents directory e.entity _ a.reply a.is_reply there is) in
+      (λ there is _. reply_is_honest contents directory room e.entity _ a.reply a.is_reply there is) in
       let Counted : ReplayState → Type 0 = λ w. HasCounted start.counts now made w.played.side in
-      let There : ReplayState → Type 0 = λ w. IsUnderWay (setting contents directory) course begun start (onward s now w) in
+      let There : ReplayState → Type 0 = λ w. IsUnderWay (setting contents directory room) course begun start (onward s now w) in
       let there : There (next_by old e a.reply) = record {
         leads = record {
           made = made;
@@ -212,6 +214,26 @@ within setting course begun start now counts under_way =
       documents = under_way.leads.documents;
     }
 
--- memory was refused: the world is that before
+-- an event isn't applied: the world is that before
 pub starved : (setting : Setting) (before now last : Counts) (old world new : ReplayState) → Goes setting before now old world → new ≡ world → StaysWithin setting before last old new
 starved setting before now last old world new goes same = rw same (λ course begun start s under_way. within setting course begun start (onward s now world) last (goes.leads course begun start s under_way))
+
+-- where the world says that there is no room, the store is full
+full_there : (contents : Option Contents) (directory : List ℕ) (room : ℕ) (x : EntityId) (r : ℕ) (bytes : Bytes) → IsReply contents directory x r (Ok bytes) → (there : ℕ → Option Bytes) →
+    (setting contents directory room).known ≡ Some there → there r ≡ Some bytes
+full_there None directory room x r bytes is there known = cc
+full_there (Some c) directory room x r bytes is there known =
+    let same : c directory ≡ there = cc in
+    ap (λ (f : ℕ → Option Bytes). f r) (sym same) ∙ is.1
+
+pub is_full : (contents : Option Contents) (directory : List ℕ) (room : ℕ) (old new : ReplayInRoom) → old.room ≡ room → new ≡ old → IsOverfull contents directory old → IsFull (setting contents directory room) new.replay
+is_full contents directory room old new same stays over =
+    let Over : ℕ → Type 0 = λ n. n < room_with old.replay.played.records (meaning over.event.entity (revision_wanted old.replay over.event) over.bytes) in
+    rw stays (record {
+      event = over.event;
+      due = over.due;
+      bytes = over.bytes;
+      document = over.is_reply.0;
+      there = full_there contents directory room over.event.entity _ over.bytes over.is_reply;
+      over = subst Over same over.over;
+    })

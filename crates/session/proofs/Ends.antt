@@ -1,5 +1,5 @@
 -- What a world at rest and at the end shows.
-use Rattle.std.proofs.Common.{refl, sym, subst, ◌∙◌, ap, inr, ◌≡◌, ℕ, ◌-◌, ◌^◌, ◌<◌, ◌≤◌, length, arith, true, false, not, List, [], ◌∷◌, ◌++◌, Option, None, Some, IfSome, Result, Ok, Err}
+use Rattle.std.proofs.Common.{refl, sym, subst, ◌∙◌, ap, inl, inr, ◌≡◌, ℕ, ◌-◌, ◌^◌, ◌<◌, ◌≤◌, length, arith, true, false, not, List, [], ◌∷◌, ◌++◌, Option, None, Some, IfSome, Result, Ok, Err}
 use Rattle.rising.specs.Rising.{Each}
 use Rattle.wq_io.specs.Streams.{Rose, after_known}
 use Rattle.entity_model.specs.declared.event.Event.{Event}
@@ -30,8 +30,11 @@ use Rattle.session.specs.Headline.{BrokenOff, Ending, HasFates, HasReplayed, Hol
 use Rattle.session.specs.Moment.{Moment, Run, Setting, Stage, with_output}
 use Rattle.session.specs.Reading.{AreDeliveries}
 use Rattle.session.specs.Sections.{sections_of}
-use Rattle.session.specs.Stop.{stop_of_unwritten}
-use Rattle.session.specs.Taking.{AtEnd, Course, HoldsDocuments, Leads, course_printed, course_to_end, judgement, replies_there, said_behind}
+use Rattle.session.specs.Stop.{stop_of_unapplied, stop_of_unwritten}
+use Rattle.session.specs.Stops.{IsStarved}
+use Rattle.session.specs.declared.stop.Unapplied.{Unapplied}
+use Rattle.session.specs.declared.stop.Unapplied.TheVariants.{StoreFull as NoRoom, OutOfMemory as Starved}
+use Rattle.session.specs.Taking.{AtEnd, Course, HoldsDocuments, IsHeldUp, Leads, course_printed, course_to_end, judgement, replies_there, said_behind}
 use Rattle.words.specs.Options.{limit_of}
 
 -- where no event is due, a world that leads to a play is played
@@ -163,6 +166,11 @@ pub interrupted : (why : Unwritten) (run : Run) (before now : Moment) (between :
     Stopped (stop_of_unwritten why) run before now
 interrupted NotWritten run before now between earlier rose stands = (rose_since before.stage.output.faults between.faults now.stage.output.faults earlier (rose refl), stands)
 interrupted Refused run before now between earlier rose stands = inr stands
+
+-- not all that was due was applied
+pub halted : (why : Unapplied) (run : Run) (before now : Moment) → IsHeldUp why run.setting now.stage.world → IsStarved run before now → Stopped (stop_of_unapplied why) run before now
+halted NoRoom run before now full stands = (full, stands)
+halted Starved run before now held_up stands = inl stands
 
 -- the sections weren't all written
 pub broken_off : (why : Unwritten) (run : Run) (before now : Moment) (out : Output) → HasReplayed run before now → before.stage.output.faults ≤ now.stage.output.faults →

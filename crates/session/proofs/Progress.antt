@@ -25,6 +25,7 @@ use Rattle.transcript.specs.Printing.{IsCutShort, Output}
 use Rattle.transcript.proofs.Parts.{after_nothing}
 use Rattle.session.specs.declared.stop.Stop.{Stop}
 use Rattle.session.specs.declared.stop.Stop.TheVariants.{BadLine, OutOfMemory}
+use Rattle.session.specs.declared.stop.Unapplied.{Unapplied}
 use Rattle.session.specs.Counts.{Counts}
 use Rattle.session.specs.Headline.{IsPlayedAfter, StandsAtQuestion, Stopped}
 use Rattle.session.specs.Moment.{Input, Moment, Run, Setting, Stage, onward, with_output}
@@ -34,7 +35,7 @@ use Rattle.session.specs.Stops.{HasTaken, StopsWithin}
 use Rattle.session.specs.Taking.{AnswersInPart, AtRest, CutsOff, TakesDelivery, TakesInPart, course_after, judgement, turn}
 use Rattle.words.specs.Options.{limit_of}
 use Rattle.session.proofs.Deliveries.{asks-push, rest_within}
-use Rattle.session.proofs.Ends.{interrupted, is_played, rose_since}
+use Rattle.session.proofs.Ends.{halted, interrupted, is_played, rose_since}
 use Rattle.session.proofs.Reading.{IsNextLine, all_read, bad_line, first_lines, first_with, nothing_read, over_long, past_limit, read_more, whole_read}
 
 -- the lines so far were read, the world has taken them, and so many of them asked
@@ -151,9 +152,9 @@ module _ (run : Run) (before now : Moment) (reader : Reading) (asked : ℕ) (so_
         first = subst (λ q. IfSome before.input.left (λ bytes. AreFirst (limit_of run.choices) bytes (so_far.deliveries ++ q ∷ []))) in_part.is first;
       }
 
-      -- memory was refused at a delivery
-      starves : TakesInPart run.setting d now.stage after.stage → StopsWithin run before after
-      starves in_part = ⊎_elim
+      -- a delivery wasn't taken wholly, and nothing was printed
+      starves : (why : Unapplied) → TakesInPart why run.setting d now.stage after.stage → StopsWithin run before after
+      starves why in_part = ⊎_elim
           (λ same. subst (λ o. StopsWithin run before (record after { stage = with_output after.stage o })) (sym in_part.output)
           (subst (λ w. StopsWithin run before (record { input = after.input; stage = onward now.stage after.stage.counts w })) (sym same) (stands after.input after.stage.counts)))
           (λ begun. record { deliveries = so_far.deliveries; last = Some d; within = begun; first = first })
@@ -164,7 +165,7 @@ module _ (run : Run) (before now : Moment) (reader : Reading) (asked : ℕ) (so_
       delivery_stops stop cut = ⊎_elim
           (λ printing. subst (λ s. Stopped s run before after) (sym printing.1)
           (interrupted printing.0 run before after now.stage.output so_far.at_rest.later (λ fault. (printing.2.cut_short.failed fault).1) (inl (at_question printing.0 printing.2))))
-          (λ starving. subst (λ s. Stopped s run before after) (sym starving.0) (inl (inl (starves starving.1))))
+          (λ starving. subst (λ s. Stopped s run before after) (sym starving.1) (halted starving.0 run before after starving.2.held_up (inl (starves starving.0 starving.2))))
           cut
 
       -- a line that is taken

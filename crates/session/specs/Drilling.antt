@@ -9,7 +9,7 @@ use Rattle.transcript.specs.Printing.{IsCutShort, Output}
 use Rattle.drill_replay.specs.Playing.{HasBegun}
 use Rattle.drill_replay.specs.Summary.{drilled, lines_of, summary_of}
 use Rattle.session.specs.declared.status.Status.{Status}
-use Rattle.session.specs.declared.status.Status.TheVariants.{Ok as Ended, BadWords, BadLine, ReadFault, WriteFault, TooLong, OutOfMemory}
+use Rattle.session.specs.declared.status.Status.TheVariants.{Ok as Ended, BadWords, BadLine, ReadFault, WriteFault, TooLong, StoreFull, OutOfMemory}
 use Rattle.session.specs.Moment.{Stage}
 
 -- the text of a drill's summary
@@ -40,4 +40,5 @@ DrillEnding (BadLine number cause) size before now = ⊥
 DrillEnding ReadFault size before now = ⊥
 DrillEnding WriteFault size before now = DrillStopped NotWritten size before.output now.output now.world
 DrillEnding TooLong size before now = ⊥
+DrillEnding StoreFull size before now = ⊥
 DrillEnding OutOfMemory size before now = DrillStopped Refused size before.output now.output now.world

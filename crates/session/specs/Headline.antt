@@ -26,13 +26,13 @@ use Rattle.transcript.specs.declared.write.Unwritten.TheVariants.{WriteFault as 
 use Rattle.transcript.specs.Printing.{IsCutShort, Output}
 use Rattle.words.specs.Options.{limit_of}
 use Rattle.session.specs.declared.stop.Stop.{Stop}
-use Rattle.session.specs.declared.stop.Stop.TheVariants.{BadLine, ReadFault, WriteFault, TooLong, OutOfMemory}
+use Rattle.session.specs.declared.stop.Stop.TheVariants.{BadLine, ReadFault, WriteFault, TooLong, StoreFull, OutOfMemory}
 use Rattle.session.specs.Counts.{HasCounted}
 use Rattle.session.specs.Moment.{Moment, Run, Setting, Stage, with_output}
 use Rattle.session.specs.Reading.{AreDeliveries, AreFirst, AreWhole, IsPastLimit, IsRefusedLine}
 use Rattle.session.specs.Sections.{sections_of}
 use Rattle.session.specs.Stops.{IsStarved}
-use Rattle.session.specs.Taking.{Course, HoldsDocuments, course_after, course_printed, course_to_end, judgement, replies_there}
+use Rattle.session.specs.Taking.{Course, HoldsDocuments, IsFull, course_after, course_printed, course_to_end, judgement, replies_there}
 
 -- the world is where a play leads, with some replies to its fetches, the output has what the play says, and the counts of the
 -- source rose by these fetches; where it is known what the source has, the replies are those of what is there, but for the
@@ -146,4 +146,5 @@ Stopped (BadLine number cause) run before now = StandsBeforeLine number cause ru
 Stopped ReadFault run before now = Rose before.input.faults now.input.faults × StandsAfter run before now
 Stopped WriteFault run before now = Rose before.stage.output.faults now.stage.output.faults × IsInterrupted NotWritten run before now
 Stopped TooLong run before now = StandsAtLimit run before now
+Stopped StoreFull run before now = IsFull run.setting now.stage.world × IsStarved run before now
 Stopped OutOfMemory run before now = IsStarved run before now ⊎ IsInterrupted Refused run before now

@@ -9,15 +9,17 @@ use Rattle.replay_model.specs.Records.{Bytes}
 use Rattle.replay_model.specs.ReplayState.{ReplayState}
 use Rattle.transcript.specs.Printing.{Output, output}
 use Rattle.session.specs.Counts.{Counts, counts}
-use Rattle.words.specs.Options.{Choices, place_of}
+use Rattle.words.specs.Options.{Choices, place_of, terms_of}
 
--- what deliveries are taken under: what the source of revisions has in its directory, where it is known
+-- what deliveries are taken under: what the source of revisions has in its directory, where it is known, and for how many terms
+-- there is room
 pub record Setting : Type 0 where
   pub known : Option (ℕ → Option Bytes)
+  pub room : ℕ
 
--- the setting of a source with these contents, and of a directory
-abbrev pub setting : Option Contents → List ℕ → Setting
-setting contents directory = record { known = option_map (λ (c : Contents). c directory) contents }
+-- the setting of a source with these contents, of a directory, and of a store with this room
+abbrev pub setting : Option Contents → List ℕ → ℕ → Setting
+setting contents directory room = record { known = option_map (λ (c : Contents). c directory) contents; room = room }
 
 -- what the taking of deliveries changes: the output, the counts of the source of revisions, and the world
 pub record Stage : Type 0 where
@@ -62,4 +64,4 @@ pub record Run : Type 0 where
 
 -- the run of these choices over a source with these contents
 abbrev pub run_of : Option Contents → Choices → Run
-run_of contents choices = record { choices = choices; setting = setting contents (place_of choices) }
+run_of contents choices = record { choices = choices; setting = setting contents (place_of choices) (terms_of choices) }

@@ -3,7 +3,7 @@ use Rattle.std.specs.Prelude.{ℕ, List, [], ◌++◌, decimal, codes}
 use Rattle.event_line.specs.declared.faults.LineCause.{LineCause}
 use Rattle.event_line.specs.declared.faults.LineCause.TheVariants.{LineLong, NotJson, NoForm, Kind, Entity, Rev, Time, Mode, Pattern}
 use Rattle.session.specs.declared.status.Status.{Status}
-use Rattle.session.specs.declared.status.Status.TheVariants.{Ok as Ended, BadWords, BadLine, ReadFault, WriteFault, TooLong, OutOfMemory}
+use Rattle.session.specs.declared.status.Status.TheVariants.{Ok as Ended, BadWords, BadLine, ReadFault, WriteFault, TooLong, StoreFull, OutOfMemory}
 
 -- the name of a cause
 unfoldable pub cause_name : LineCause → List ℕ
@@ -29,6 +29,7 @@ text_of (BadLine number cause) = bad_line_text number cause
 text_of ReadFault = codes "wdq: read fault"
 text_of WriteFault = codes "wdq: write fault"
 text_of TooLong = codes "wdq: input too long"
+text_of StoreFull = codes "wdq: store full"
 text_of OutOfMemory = codes "wdq: out of memory"
 
 -- the exit status of the process
@@ -39,4 +40,5 @@ number_of (BadLine number cause) = 2
 number_of ReadFault = 3
 number_of WriteFault = 4
 number_of TooLong = 5
+number_of StoreFull = 6
 number_of OutOfMemory = 7

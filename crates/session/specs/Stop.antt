@@ -6,9 +6,11 @@ use Rattle.event_line.specs.declared.faults.LineCause.TheVariants.{LineLong}
 use Rattle.transcript.specs.declared.write.Unwritten.{Unwritten}
 use Rattle.transcript.specs.declared.write.Unwritten.TheVariants.{WriteFault as NotWritten, OutOfMemory as Refused}
 use Rattle.session.specs.declared.stop.Stop.{Stop}
-use Rattle.session.specs.declared.stop.Stop.TheVariants.{BadLine, ReadFault, WriteFault, TooLong, OutOfMemory}
+use Rattle.session.specs.declared.stop.Unapplied.{Unapplied}
+use Rattle.session.specs.declared.stop.Unapplied.TheVariants.{StoreFull as NoRoom, OutOfMemory as Starved}
+use Rattle.session.specs.declared.stop.Stop.TheVariants.{BadLine, ReadFault, WriteFault, TooLong, StoreFull, OutOfMemory}
 use Rattle.session.specs.declared.status.Status.{Status}
-use Rattle.session.specs.declared.status.Status.TheVariants.{Ok as Ended, BadWords as WordsRefused, BadLine as LineRefused, ReadFault as ReadFailed, WriteFault as WriteFailed, TooLong as LimitPassed, OutOfMemory as MemoryRefused}
+use Rattle.session.specs.declared.status.Status.TheVariants.{Ok as Ended, BadWords as WordsRefused, BadLine as LineRefused, ReadFault as ReadFailed, WriteFault as WriteFailed, TooLong as LimitPassed, StoreFull as RoomPassed, OutOfMemory as MemoryRefused}
 
 -- why a run stopped at a fault of the reader of lines
 abbrev pub stop_of_fault : LineFault → Stop
@@ -22,6 +24,11 @@ abbrev pub stop_of_unwritten : Unwritten → Stop
 stop_of_unwritten NotWritten = WriteFault
 stop_of_unwritten Refused = OutOfMemory
 
+-- why a run stopped where not all that was due was applied
+abbrev pub stop_of_unapplied : Unapplied → Stop
+stop_of_unapplied NoRoom = StoreFull
+stop_of_unapplied Starved = OutOfMemory
+
 -- why a run with this status stopped, if it was begun and stopped
 abbrev pub stop_of : Status → Option Stop
 stop_of Ended = None
@@ -30,4 +37,5 @@ stop_of (LineRefused number cause) = Some (BadLine number cause)
 stop_of ReadFailed = Some ReadFault
 stop_of WriteFailed = Some WriteFault
 stop_of LimitPassed = Some TooLong
+stop_of RoomPassed = Some StoreFull
 stop_of MemoryRefused = Some OutOfMemory

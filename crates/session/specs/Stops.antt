@@ -1,4 +1,4 @@
--- What stands where memory was refused while nothing was printed, and where all lines were taken.
+-- What stands where memory was refused, or the store was full, while nothing was printed, and where all lines were taken.
 use Rattle.std.specs.Prelude.{◌⊎◌, List, ◌++◌, Option, IfSome}
 use Rattle.std.specs.Option.{option_to_list}
 use Rattle.entity_model.specs.declared.delivery.Delivery.{Delivery}
@@ -27,6 +27,6 @@ pub record StopsAtEnd (run : Run) (before now : Moment) : Type 0 where
   pub within : IsWithin run.setting (said_behind deliveries before.stage) (λ replies. after_end (following replies deliveries)) now.stage
   pub are : IfSome before.input.left (λ bytes. AreDeliveries (limit_of run.choices) bytes deliveries)
 
--- what stands where memory was refused while nothing was printed
+-- what stands where memory was refused, or the store was full, while nothing was printed
 abbrev pub IsStarved : Run → Moment → Moment → Type 0
 IsStarved run before now = StopsWithin run before now ⊎ StopsAtEnd run before now

@@ -1,10 +1,11 @@
 -- How far a world has come in a play while deliveries are taken, and what the taking of one delivery leaves.
-use Rattle.std.specs.Prelude.{◌≡◌, ◌⊎◌, ℕ, ◌≤◌, List, [], ◌∷◌, ◌++◌, Option, None, Some}
+use Rattle.std.specs.Prelude.{◌≡◌, ◌⊎◌, ⊤, ℕ, ◌<◌, ◌≤◌, List, [], ◌∷◌, ◌++◌, Option, None, Some}
 use Rattle.wq_io.specs.Streams.{after_known}
 use Rattle.rdf_term.specs.declared.pattern.Pattern.{Pattern}
 use Rattle.rdf_term.specs.Order.{triple_cmp}
 use Rattle.entity_model.specs.declared.id.EntityId.{EntityId}
 use Rattle.entity_json.specs.Document.{unfit_of}
+use Rattle.entity_model.specs.declared.event.Event.{Event}
 use Rattle.entity_model.specs.declared.delivery.Delivery.{Delivery}
 use Rattle.entity_model.specs.declared.delivery.Delivery.TheVariants.{Ask}
 use Rattle.reorder_buffer.specs.Buffered.{first_due}
@@ -12,18 +13,20 @@ use Rattle.replay_model.specs.Records.{Bytes, record_of}
 use Rattle.replay_model.specs.Play.{Fetch, Replies, fetches, fetches_to_end}
 use Rattle.replay_model.specs.Replies.{HoldsDocument, Judgement, failed_events, source_replies}
 use Rattle.replay_model.specs.ReplayState.{ReplayState, after_some, entered, following, following_to_end}
-use Rattle.replay_model.specs.Explained.{AgreeOnApplied, Explained}
+use Rattle.replay_model.specs.Explained.{AgreeOnApplied, Explained, revision_wanted}
 use Rattle.replay_model.specs.Transcript.{Sections, ask_section, asks, said as answers_said, transcript}
 use Rattle.replay_model.specs.Union.{union}
 use Rattle.rdf_term.specs.Pattern.{rows}
 use Rattle.world.specs.Meaning.{meaning}
+use Rattle.world.specs.Roomed.{room_with}
 use Rattle.transcript.specs.declared.write.Unwritten.{Unwritten}
 use Rattle.transcript.specs.Printing.{IsCutShort}
 use Rattle.session.specs.declared.stop.Stop.{Stop}
-use Rattle.session.specs.declared.stop.Stop.TheVariants.{OutOfMemory}
+use Rattle.session.specs.declared.stop.Unapplied.{Unapplied}
+use Rattle.session.specs.declared.stop.Unapplied.TheVariants.{StoreFull, OutOfMemory}
 use Rattle.session.specs.Counts.{Counts, HasCounted}
 use Rattle.session.specs.Moment.{Setting, Stage, onward}
-use Rattle.session.specs.Stop.{stop_of_unwritten}
+use Rattle.session.specs.Stop.{stop_of_unapplied, stop_of_unwritten}
 
 -- why bytes are no document of an entity
 abbrev pub judgement : Judgement
@@ -110,7 +113,22 @@ pub record AppliesDue (setting : Setting) (before now : Counts) (old new : Repla
   pub leads : (course : Course) (start s : Stage) → Leads setting course start (onward s before old) → Leads setting course start (onward s now new)
   pub rests : first_due new.buffer ≡ None
 
--- memory was refused at a due event: where the world was under way in a play, it is so still
+-- the least due event wants a page: a document of its entity, and what the source has where it is known; and the triples of
+-- all that is held and of this page have more terms than there is room for
+pub record IsFull (setting : Setting) (world : ReplayState) : Type 0 where
+  pub event : Event
+  pub due : first_due world.buffer ≡ Some event
+  pub bytes : Bytes
+  pub document : judgement event.entity bytes ≡ None
+  pub there : (contents : ℕ → Option Bytes) → setting.known ≡ Some contents → contents (revision_wanted world event) ≡ Some bytes
+  pub over : setting.room < room_with world.played.records (meaning event.entity (revision_wanted world event) bytes)
+
+-- why the least due event isn't applied
+abbrev pub IsHeldUp : Unapplied → Setting → ReplayState → Type 0
+IsHeldUp StoreFull setting world = IsFull setting world
+IsHeldUp OutOfMemory setting world = ⊤
+
+-- a due event wasn't applied: where the world was under way in a play, it is so still
 abbrev pub StaysWithin : Setting → Counts → Counts → ReplayState → ReplayState → Type 0
 StaysWithin setting before now old new =
     (course : Course) (begun : Replies → ReplayState) (start s : Stage) → IsUnderWay setting course begun start (onward s before old) → IsWithin setting course.bytes begun (onward s now new)
@@ -137,14 +155,16 @@ pub record AnswersInPart (why : Unwritten) (t : Turn) (before now : Stage) : Typ
   pub counts : now.counts ≡ before.counts
   pub cut_short : IsCutShort why (ask_section t.asked (rows (union triple_cmp meaning before.world.played.records) pattern)) before.output now.output
 
--- memory was refused at an event or a watermark: nothing was printed, and a world that was at rest is as it was, or has taken
--- it, with some of what it makes due
-pub record TakesInPart (setting : Setting) (d : Delivery) (before now : Stage) : Type 0 where
+-- an event or a watermark wasn't taken wholly: nothing was printed, and a world that was at rest is as it was, or has taken it,
+-- with some of what it makes due
+pub record TakesInPart (why : Unapplied) (setting : Setting) (d : Delivery) (before now : Stage) : Type 0 where
+  pub held_up : IsHeldUp why setting now.world
   pub output : now.output ≡ before.output
   pub world : (ds : List Delivery) (start : Stage) → AtRest setting ds start before →
       (now.world ≡ before.world) ⊎ IsWithin setting (said_behind ds start) (λ replies. entered (following replies ds) d) now
 
--- a delivery wasn't taken, or not wholly: its answer wasn't written, or memory was refused
+-- a delivery wasn't taken, or not wholly: its answer wasn't written, or it or what it makes due wasn't applied
 abbrev pub CutsOff : Stop → Setting → Turn → Stage → Stage → Type 0
 CutsOff stop setting t before now =
-    ((why : Unwritten) × (stop ≡ stop_of_unwritten why) × AnswersInPart why t before now) ⊎ ((stop ≡ OutOfMemory) × TakesInPart setting t.delivery before now)
+    ((why : Unwritten) × (stop ≡ stop_of_unwritten why) × AnswersInPart why t before now)
+    ⊎ ((why : Unapplied) × (stop ≡ stop_of_unapplied why) × TakesInPart why setting t.delivery before now)

@@ -5,9 +5,9 @@ ghost use Rattle.replay_model.specs.ReplayState.{after_end, after_event, after_m
 ghost use Rattle.replay_model.specs.Transcript.{asks};
 ghost use Rattle.session.specs.Counts.{HasGoneOn, counts};
 ghost use Rattle.session.specs.Moment.{setting, stage};
-ghost use Rattle.session.specs.Taking.{AppliesDue, CutsOff, StaysWithin, TakesDelivery, turn};
+ghost use Rattle.session.specs.Taking.{AppliesDue, CutsOff, IsHeldUp, StaysWithin, TakesDelivery, turn};
 
-use crate::stop::Stop;
+use crate::stop::{Stop, Unapplied};
 use entity_model::{Delivery, Event};
 use rdf_term::OutOfMemory;
 use revisions::Revisions;
@@ -37,11 +37,12 @@ pub fn deliver<R: Revisions, K: Sink>(
     out: &mut K,
     world: &mut World,
 ) -> Result<(), Stop>
-    requires { world.old.buffer.closed ≡ false }
-    ensures ok { OnOk result (TakesDelivery (setting (R.contents revisions.old) directory.now) (turn asked delivery.now)
-        (stage R.Revisions K.Sink revisions.old out.old world.old) (stage R.Revisions K.Sink revisions.new out.new world.new)) }
-    ensures err { IfErr result (λ stop. CutsOff stop (setting (R.contents revisions.old) directory.now) (turn asked delivery.now)
-        (stage R.Revisions K.Sink revisions.old out.old world.old) (stage R.Revisions K.Sink revisions.new out.new world.new)) }
+    requires { world.old.replay.buffer.closed ≡ false }
+    ensures ok { OnOk result (TakesDelivery (setting (R.contents revisions.old) directory.now world.old.room) (turn asked delivery.now)
+        (stage R.Revisions K.Sink revisions.old out.old world.old.replay) (stage R.Revisions K.Sink revisions.new out.new world.new.replay)) }
+    ensures err { IfErr result (λ stop. CutsOff stop (setting (R.contents revisions.old) directory.now world.old.room) (turn asked delivery.now)
+        (stage R.Revisions K.Sink revisions.old out.old world.old.replay) (stage R.Revisions K.Sink revisions.new out.new world.new.replay)) }
+    ensures room { world.new.room ≡ world.old.room }
     ensures source { HasGoneOn R.Revisions revisions.old revisions.new }
 {
     match delivery {
@@ -56,11 +57,13 @@ pub fn take_end<R: Revisions>(
     directory: &str,
     revisions: &mut R,
     world: &mut World,
-) -> Result<(), OutOfMemory>
-    ensures ok { OnOk result (AppliesDue (setting (R.contents revisions.old) directory.now)
-        (counts R.Revisions revisions.old) (counts R.Revisions revisions.new) (after_end world.old) world.new) }
-    ensures err { OnErr result (StaysWithin (setting (R.contents revisions.old) directory.now)
-        (counts R.Revisions revisions.old) (counts R.Revisions revisions.new) (after_end world.old) world.new) }
+) -> Result<(), Unapplied>
+    ensures ok { OnOk result (AppliesDue (setting (R.contents revisions.old) directory.now world.old.room)
+        (counts R.Revisions revisions.old) (counts R.Revisions revisions.new) (after_end world.old.replay) world.new.replay) }
+    ensures err { OnErr result (StaysWithin (setting (R.contents revisions.old) directory.now world.old.room)
+        (counts R.Revisions revisions.old) (counts R.Revisions revisions.new) (after_end world.old.replay) world.new.replay) }
+    ensures held_up { IfErr result (λ why. IsHeldUp why (setting (R.contents revisions.old) directory.now world.old.room) world.new.replay) }
+    ensures room { world.new.room ≡ world.old.room }
     ensures source { HasGoneOn R.Revisions revisions.old revisions.new }
 {
     world.close();
@@ -73,11 +76,13 @@ fn take_mark<R: Revisions>(
     mark: &i64,
     revisions: &mut R,
     world: &mut World,
-) -> Result<(), OutOfMemory>
-    ensures ok { OnOk result (AppliesDue (setting (R.contents revisions.old) directory.now)
-        (counts R.Revisions revisions.old) (counts R.Revisions revisions.new) (after_mark world.old mark.now) world.new) }
-    ensures err { OnErr result (StaysWithin (setting (R.contents revisions.old) directory.now)
-        (counts R.Revisions revisions.old) (counts R.Revisions revisions.new) (after_mark world.old mark.now) world.new) }
+) -> Result<(), Unapplied>
+    ensures ok { OnOk result (AppliesDue (setting (R.contents revisions.old) directory.now world.old.room)
+        (counts R.Revisions revisions.old) (counts R.Revisions revisions.new) (after_mark world.old.replay mark.now) world.new.replay) }
+    ensures err { OnErr result (StaysWithin (setting (R.contents revisions.old) directory.now world.old.room)
+        (counts R.Revisions revisions.old) (counts R.Revisions revisions.new) (after_mark world.old.replay mark.now) world.new.replay) }
+    ensures held_up { IfErr result (λ why. IsHeldUp why (setting (R.contents revisions.old) directory.now world.old.room) world.new.replay) }
+    ensures room { world.new.room ≡ world.old.room }
     ensures source { HasGoneOn R.Revisions revisions.old revisions.new }
 {
     raise(mark, world);
@@ -86,16 +91,18 @@ fn take_mark<R: Revisions>(
 
 // Takes a watermark.
 fn raise(mark: &i64, world: &mut World)
-    ensures { world.new ≡ after_mark world.old mark.now }
+    ensures mark { world.new.replay ≡ after_mark world.old.replay mark.now }
+    ensures room { world.new.room ≡ world.old.room }
 {
     world.raise(*mark);
 }
 
 // Takes one event.
 fn take_event(event: Event, world: &mut World) -> Result<(), OutOfMemory>
-    requires { world.old.buffer.closed ≡ false }
-    ensures ok { OnOk result (world.new ≡ after_event world.old event) }
-    ensures err { OnErr result (world.new ≡ world.old) }
+    requires { world.old.replay.buffer.closed ≡ false }
+    ensures ok { OnOk result (world.new.replay ≡ after_event world.old.replay event) }
+    ensures room { world.new.room ≡ world.old.room }
+    ensures err { OnErr result (world.new.replay ≡ world.old.replay) }
 {
     world.take(event)?;
     Ok(())
@@ -106,18 +113,21 @@ fn apply_due<R: Revisions>(
     directory: &str,
     revisions: &mut R,
     world: &mut World,
-) -> Result<(), OutOfMemory>
-    ensures ok { OnOk result (AppliesDue (setting (R.contents revisions.old) directory.now)
-        (counts R.Revisions revisions.old) (counts R.Revisions revisions.new) world.old world.new) }
-    ensures err { OnErr result (StaysWithin (setting (R.contents revisions.old) directory.now)
-        (counts R.Revisions revisions.old) (counts R.Revisions revisions.new) world.old world.new) }
+) -> Result<(), Unapplied>
+    ensures ok { OnOk result (AppliesDue (setting (R.contents revisions.old) directory.now world.old.room)
+        (counts R.Revisions revisions.old) (counts R.Revisions revisions.new) world.old.replay world.new.replay) }
+    ensures err { OnErr result (StaysWithin (setting (R.contents revisions.old) directory.now world.old.room)
+        (counts R.Revisions revisions.old) (counts R.Revisions revisions.new) world.old.replay world.new.replay) }
+    ensures held_up { IfErr result (λ why. IsHeldUp why (setting (R.contents revisions.old) directory.now world.old.room) world.new.replay) }
+    ensures room { world.new.room ≡ world.old.room }
     ensures source { HasGoneOn R.Revisions revisions.old revisions.new }
 {
     loop {
         match world.apply_next(revisions, directory) {
             Ok(_) => {}
             Err(WorldFault::Nothing) => return Ok(()),
-            Err(WorldFault::OutOfMemory) => return Err(OutOfMemory),
+            Err(WorldFault::Full) => return Err(Unapplied::StoreFull),
+            Err(WorldFault::OutOfMemory) => return Err(Unapplied::OutOfMemory),
         }
     }
 }

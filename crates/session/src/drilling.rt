@@ -13,6 +13,9 @@ use words::take_size;
 use world::World;
 use wq_io::Sink;
 
+/// For how many terms a drill has room.
+const ROOM: u32 = 20_000_000;
+
 // Runs the drill of this size, and prints its summary.
 pub fn drill<K: Sink>(
     alloc: Global,
@@ -21,11 +24,12 @@ pub fn drill<K: Sink>(
     world: &mut World,
 ) -> Result<(), Unwritten>
     requires size { (1 ≤ size) × (size ≤ greatest_size) }
-    requires world { world.old ≡ nothing_delivered }
-    ensures ok { OnOk result (HasDrilled size (output K.Sink out.old) (output K.Sink out.new) world.new) }
-    ensures err { IfErr result (λ why. DrillStopped why size (output K.Sink out.old) (output K.Sink out.new) world.new) }
+    requires world { world.old.replay ≡ nothing_delivered }
+    ensures ok { OnOk result (HasDrilled size (output K.Sink out.old) (output K.Sink out.new) world.new.replay) }
+    ensures err { IfErr result (λ why. DrillStopped why size (output K.Sink out.old) (output K.Sink out.new) world.new.replay) }
 {
     let size = take_size(alloc, size)?;
+    world.set_room(ROOM);
     let summary = run_drill(alloc, size, world)?;
     let lines = summary_lines(alloc, &summary)?;
     print_lines(lines.as_slice(), out)

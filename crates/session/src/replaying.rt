@@ -8,6 +8,7 @@ ghost use Rattle.session.specs.Counts.{HasGoneOn};
 ghost use Rattle.session.specs.Headline.{Ending, HasReplayed, Stopped};
 ghost use Rattle.session.specs.Moment.{moment, run_of};
 ghost use Rattle.session.specs.Sections.{sections_of};
+ghost use Rattle.words.specs.Options.{terms_of};
 
 use crate::delivering::take_end;
 use crate::stop::Stop;
@@ -28,17 +29,18 @@ pub fn replay<S: Source, R: Revisions, K: Sink>(
     out: &mut K,
     world: &mut World,
 ) -> Result<(), Stop>
-    requires { world.old ≡ nothing_delivered }
+    requires { world.old.replay ≡ nothing_delivered }
     ensures ok { OnOk result (Ending (run_of (R.contents revisions.old) options.now)
-        (moment S.Source R.Revisions K.Sink events.old revisions.old out.old world.old)
-        (moment S.Source R.Revisions K.Sink events.new revisions.new out.new world.new)) }
+        (moment S.Source R.Revisions K.Sink events.old revisions.old out.old world.old.replay)
+        (moment S.Source R.Revisions K.Sink events.new revisions.new out.new world.new.replay)) }
     ensures read { OnOk result (IsAtEnd (S.left events.new)) }
     ensures err { IfErr result (λ stop. Stopped stop (run_of (R.contents revisions.old) options.now)
-        (moment S.Source R.Revisions K.Sink events.old revisions.old out.old world.old)
-        (moment S.Source R.Revisions K.Sink events.new revisions.new out.new world.new)) }
+        (moment S.Source R.Revisions K.Sink events.old revisions.old out.old world.old.replay)
+        (moment S.Source R.Revisions K.Sink events.new revisions.new out.new world.new.replay)) }
     ensures source { HasGoneOn R.Revisions revisions.old revisions.new }
 {
     let arguments = take_arguments(alloc, options)?;
+    world.set_room(arguments.terms());
     take_all(alloc, &arguments, events, revisions, out, world)?;
     Ok(print_closing(alloc, sections(&arguments), world, out)?)
 }
@@ -63,14 +65,15 @@ fn take_all<S: Source, R: Revisions, K: Sink>(
     out: &mut K,
     world: &mut World,
 ) -> Result<(), Stop>
-    requires { world.old ≡ nothing_delivered }
+    requires world { world.old.replay ≡ nothing_delivered }
+    requires room { world.old.room ≡ terms_of plan.now }
     ensures ok { OnOk result (HasReplayed (run_of (R.contents revisions.old) plan.now)
-        (moment S.Source R.Revisions K.Sink events.old revisions.old out.old world.old)
-        (moment S.Source R.Revisions K.Sink events.new revisions.new out.new world.new)) }
+        (moment S.Source R.Revisions K.Sink events.old revisions.old out.old world.old.replay)
+        (moment S.Source R.Revisions K.Sink events.new revisions.new out.new world.new.replay)) }
     ensures read { OnOk result (IsAtEnd (S.left events.new)) }
     ensures err { IfErr result (λ stop. Stopped stop (run_of (R.contents revisions.old) plan.now)
-        (moment S.Source R.Revisions K.Sink events.old revisions.old out.old world.old)
-        (moment S.Source R.Revisions K.Sink events.new revisions.new out.new world.new)) }
+        (moment S.Source R.Revisions K.Sink events.old revisions.old out.old world.old.replay)
+        (moment S.Source R.Revisions K.Sink events.new revisions.new out.new world.new.replay)) }
     ensures source { HasGoneOn R.Revisions revisions.old revisions.new }
     ensures later { OnOk result (K.faults out.old ≤ K.faults out.new) }
 {

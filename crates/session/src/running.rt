@@ -33,7 +33,7 @@ pub fn run<S: Source, R: Revisions, K: Sink>(
     out: &mut K,
     world: &mut World,
 ) -> Status
-    requires { world.old ≡ nothing_delivered }
+    requires { world.old.replay ≡ nothing_delivered }
     ensures bad_words { (result ≡ Status.BadWords) ↔ (plan_of (map (λ w. string_bytes w) words.now) ≡ None) }
     ensures untouched { result ≡ Status.BadWords →
         (events.new ≡ events.old) × (revisions.new ≡ revisions.old) × (out.new ≡ out.old) × (world.new ≡ world.old) }
@@ -41,8 +41,8 @@ pub fn run<S: Source, R: Revisions, K: Sink>(
     // The input was read to its end, everything was applied, and every answer and section was written.
     ensures ok { result ≡ Status.Ok → (choices : Choices) → plan_of (map (λ w. string_bytes w) words.now) ≡ Some (Replay choices) →
         Ending (run_of (R.contents revisions.old) choices)
-        (moment S.Source R.Revisions K.Sink events.old revisions.old out.old world.old)
-        (moment S.Source R.Revisions K.Sink events.new revisions.new out.new world.new) }
+        (moment S.Source R.Revisions K.Sink events.old revisions.old out.old world.old.replay)
+        (moment S.Source R.Revisions K.Sink events.new revisions.new out.new world.new.replay) }
 
     ensures read { result ≡ Status.Ok → (choices : Choices) → plan_of (map (λ w. string_bytes w) words.now) ≡ Some (Replay choices) →
         IsAtEnd (S.left events.new) }
@@ -50,14 +50,14 @@ pub fn run<S: Source, R: Revisions, K: Sink>(
     // Each other ending has its cause, and leaves the world of the lines before, with the answers to their questions.
     ensures stopped { IfSome (stop_of result) (λ stop. (choices : Choices) → plan_of (map (λ w. string_bytes w) words.now) ≡ Some (Replay choices) →
         Stopped stop (run_of (R.contents revisions.old) choices)
-        (moment S.Source R.Revisions K.Sink events.old revisions.old out.old world.old)
-        (moment S.Source R.Revisions K.Sink events.new revisions.new out.new world.new)) }
+        (moment S.Source R.Revisions K.Sink events.old revisions.old out.old world.old.replay)
+        (moment S.Source R.Revisions K.Sink events.new revisions.new out.new world.new.replay)) }
 
     // A drill ends well, or while it printed, or for want of memory.
     ensures drilled { (size : ℕ) → plan_of (map (λ w. string_bytes w) words.now) ≡ Some (Drill size) →
         DrillEnding result size
-        (stage R.Revisions K.Sink revisions.old out.old world.old)
-        (stage R.Revisions K.Sink revisions.new out.new world.new) }
+        (stage R.Revisions K.Sink revisions.old out.old world.old.replay)
+        (stage R.Revisions K.Sink revisions.new out.new world.new.replay) }
 
     ensures drilled_alone { (size : ℕ) → plan_of (map (λ w. string_bytes w) words.now) ≡ Some (Drill size) →
         (events.new ≡ events.old) × (revisions.new ≡ revisions.old) }

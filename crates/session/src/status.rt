@@ -22,6 +22,8 @@ pub enum Status {
     WriteFault,
     /// The input has more bytes than it may have.
     TooLong,
+    /// There is no room for the terms of a page.
+    StoreFull,
     /// A request for memory was refused.
     OutOfMemory,
 }
@@ -38,6 +40,7 @@ pub fn status_text(alloc: Global, status: &Status) -> Result<Text, OutOfMemory>
         Status::ReadFault => Text::new(alloc, "wdq: read fault"),
         Status::WriteFault => Text::new(alloc, "wdq: write fault"),
         Status::TooLong => Text::new(alloc, "wdq: input too long"),
+        Status::StoreFull => Text::new(alloc, "wdq: store full"),
         Status::OutOfMemory => Text::new(alloc, "wdq: out of memory"),
     }
 }
@@ -61,6 +64,7 @@ pub fn status_number(status: &Status) -> u8
         Status::ReadFault => 3,
         Status::WriteFault => 4,
         Status::TooLong => 5,
+        Status::StoreFull => 6,
         Status::OutOfMemory => 7,
     }
 }

@@ -10,6 +10,15 @@ use rdf_term::OutOfMemory;
 use transcript::Unwritten;
 use wq_io::LineFault;
 
+// Why not all due events were applied; the least of them stays due.
+#[derive(Clone, Copy, Debug, PartialEq, Eq)]
+pub enum Unapplied {
+    // There is no room for the terms of its page.
+    StoreFull,
+    // A request for memory was refused.
+    OutOfMemory,
+}
+
 // Why a run that was begun stopped.
 #[derive(Clone, Copy, Debug, PartialEq, Eq)]
 pub enum Stop {
@@ -21,6 +30,8 @@ pub enum Stop {
     WriteFault,
     // The input has more bytes than it may have.
     TooLong,
+    // There is no room for the terms of a page.
+    StoreFull,
     // A request for memory was refused.
     OutOfMemory,
 }
@@ -43,6 +54,20 @@ impl From<Unwritten> for Stop {
         match why {
             Unwritten::WriteFault => Stop::WriteFault,
             Unwritten::OutOfMemory => Stop::OutOfMemory,
+        }
+    }
+}
+
+impl From<Unapplied> for Stop {
+    ghost use Rattle.std.specs.Prelude.{◌≡◌};
+    ghost use Rattle.session.specs.Stop.{stop_of_unapplied};
+
+    ghost from_gives = { λ why stop. stop ≡ stop_of_unapplied why };
+
+    fn from(why: Unapplied) -> Stop {
+        match why {
+            Unapplied::StoreFull => Stop::StoreFull,
+            Unapplied::OutOfMemory => Stop::OutOfMemory,
         }
     }
 }
@@ -73,6 +98,7 @@ impl Stop {
             Stop::ReadFault => Status::ReadFault,
             Stop::WriteFault => Status::WriteFault,
             Stop::TooLong => Status::TooLong,
+            Stop::StoreFull => Status::StoreFull,
             Stop::OutOfMemory => Status::OutOfMemory,
         }
     }

@@ -10,6 +10,7 @@ ghost use Rattle.session.specs.Counts.{HasGoneOn};
 ghost use Rattle.session.specs.Headline.{Stopped};
 ghost use Rattle.session.specs.Moment.{moment, run_of};
 ghost use Rattle.session.specs.Stops.{HasTaken};
+ghost use Rattle.words.specs.Options.{terms_of};
 
 use crate::delivering::{asks, deliver};
 use crate::stop::Stop;
@@ -31,14 +32,16 @@ pub fn take_lines<S: Source, R: Revisions, K: Sink>(
     out: &mut K,
     world: &mut World,
 ) -> Result<(), Stop>
-    requires { world.old ≡ nothing_delivered }
+    requires world { world.old.replay ≡ nothing_delivered }
+    requires room { world.old.room ≡ terms_of plan.now }
     ensures ok { OnOk result (HasTaken (run_of (R.contents revisions.old) plan.now)
-        (moment S.Source R.Revisions K.Sink events.old revisions.old out.old world.old)
-        (moment S.Source R.Revisions K.Sink events.new revisions.new out.new world.new)) }
+        (moment S.Source R.Revisions K.Sink events.old revisions.old out.old world.old.replay)
+        (moment S.Source R.Revisions K.Sink events.new revisions.new out.new world.new.replay)) }
     ensures read { OnOk result (IsAtEnd (S.left events.new)) }
+    ensures room { OnOk result (world.new.room ≡ world.old.room) }
     ensures err { IfErr result (λ stop. Stopped stop (run_of (R.contents revisions.old) plan.now)
-        (moment S.Source R.Revisions K.Sink events.old revisions.old out.old world.old)
-        (moment S.Source R.Revisions K.Sink events.new revisions.new out.new world.new)) }
+        (moment S.Source R.Revisions K.Sink events.old revisions.old out.old world.old.replay)
+        (moment S.Source R.Revisions K.Sink events.new revisions.new out.new world.new.replay)) }
     ensures source { HasGoneOn R.Revisions revisions.old revisions.new }
 {
     let directory = plan.place();

@@ -1,5 +1,5 @@
 -- The map to counts, from the set of its triples and the counts of the owners after the first.
-use Rattle.std.proofs.Common.{◌≡◌, ℕ, ◌+◌, ◌-◌, ◌<◌, ◌≤◌, Bool, true, false, cond, ◌||◌, List, [], ◌∷◌, length, Option, Some, None, Ordering, Less, Equal, Greater, is_eq, is_some, unwrap_or, refl, sym, ◌∙◌, ap, subst, arith, true≢false, ⊎_elim}
+use Rattle.std.proofs.Common.{◌≡◌, ℕ, ◌+◌, ◌-◌, ◌<◌, ◌≤◌, ◌==◌, eq-eqb, Bool, true, false, cond, ◌||◌, List, [], ◌∷◌, length, Option, Some, None, Ordering, Less, Equal, Greater, is_eq, is_some, unwrap_or, refl, sym, ◌∙◌, ap, subst, arith, true≢false, ⊎_elim}
 use Rattle.std.specs.Prelude.{map as mapped}
 use Rattle.std.specs.FinMap as map
 use Rattle.std.specs.Map.{lookup}
@@ -199,6 +199,14 @@ counted_there keys more k there = count_of-with_more keys more k ∙ ap (λ b. c
 
 pub counted_absent : (keys : List Key) (more : Counts) (k : Key) → has key_cmp k keys ≡ false → count_of (with_more keys more) k ≡ 0
 counted_absent keys more k absent = count_of-with_more keys more k ∙ ap (λ b. cond b (count_of more k + 1) 0) absent
+
+-- whether a triple has one owner or none is whether it is in the list, where no further owner is counted
+owner_alone : (b : Bool) (n : ℕ) → n ≡ 0 → b ≡ (cond b (n + 1) 0 == 1)
+owner_alone true n e = sym (eq-eqb (n + 1) 1 (omega arith))
+owner_alone false n e = refl
+
+pub alone : (keys : List Key) (more : Counts) (k : Key) → count_of more k ≡ 0 → has key_cmp k keys ≡ (count_of (with_more keys more) k == 1)
+alone keys more k none = owner_alone (has key_cmp k keys) (count_of more k) none ∙ ap (λ n. n == 1) (sym (count_of-with_more keys more k))
 
 none_counted : (k : Key) → count_of map.empty k ≡ 0
 none_counted k = ap (λ v. unwrap_or v 0) (map.get-empty key_cmp k)

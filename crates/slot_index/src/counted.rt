@@ -1,6 +1,6 @@
 // The triples of slots, each with the number of its owners.
 
-ghost use Rattle.std.specs.Prelude.{◌≡◌, ◌+◌, ◌*◌, ◌^◌, ◌<◌, ◌≤◌, ◌&&◌, ℕ, Bool, [], length, fold, count_by, IsOk, IfOk, OnOk, OnErr};
+ghost use Rattle.std.specs.Prelude.{◌≡◌, ◌+◌, ◌*◌, ◌^◌, ◌<◌, ◌≤◌, ◌==◌, ◌&&◌, ℕ, Bool, [], length, fold, count_by, IsOk, IfOk, OnOk, OnErr};
 ghost use Rattle.std.specs.FinMap as map;
 ghost use Rattle.rising.specs.Rising.{IsRising};
 ghost use Rattle.block_index.specs.Steps.{Within};
@@ -74,34 +74,36 @@ impl SlotIndex {
         }
     }
 
-    /// Raises the count of the triple by one. After `OutOfMemory` nothing has changed.
-    pub fn raise<L: Ledger>(&mut self, key: Key, steps: &mut Steps<L>) -> Result<(), OutOfMemory>
+    /// Raises the count of the triple by one, and says whether it wasn't stored. After `OutOfMemory` nothing has changed.
+    pub fn raise<L: Ledger>(&mut self, key: Key, steps: &mut Steps<L>) -> Result<bool, OutOfMemory>
         // It has fewer than 2^64 - 1 owners.
         requires { count_of self.old key < 18446744073709551615 }
         ensures ok { OnOk result (self.new ≡ raised self.old key) }
+        ensures answer { IfOk result (λ new. new ≡ (count_of self.old key == 0)) }
         ensures err { OnErr result (self.new ≡ self.old) }
         ensures forward { steps.old ≤ steps.new }
         ensures cost { (d : ℕ) → map.len self.old + 1 < 2 ^ d → steps.new ≤ steps.old + 5 * (d + 8) }
     {
         if self.orders.insert(key, steps)? {
-            return Ok(());
+            return Ok(true);
         }
         raise(&mut self.more, key)?;
-        Ok(())
+        Ok(false)
     }
 
     /// Lowers the count of the triple by one, which takes no memory; where it becomes 0 the triple is no longer
-    /// stored. A triple that isn't stored stays so.
-    pub fn lower<L: Ledger>(&mut self, key: Key, steps: &mut Steps<L>)
+    /// stored. It says whether that is so. A triple that isn't stored stays so.
+    pub fn lower<L: Ledger>(&mut self, key: Key, steps: &mut Steps<L>) -> bool
         ensures lowered { self.new ≡ lowered self.old key }
+        ensures answer { result ≡ (count_of self.old key == 1) }
         ensures forward { steps.old ≤ steps.new }
         ensures cost { (d : ℕ) → map.len self.old < 2 ^ d → steps.new ≤ steps.old + 3 * (d + 8) }
     {
         if owners(&self.more, key) > 0 {
             lower(&mut self.more, key);
-            return;
+            return false;
         }
-        self.orders.remove(key, steps);
+        self.orders.remove(key, steps)
     }
 
     /// The stored triples that agree with the pattern, each once, in memory of their own: one range of one

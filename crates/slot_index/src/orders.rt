@@ -98,8 +98,9 @@ impl Orders {
         Ok(true)
     }
 
-    /// Takes a triple out, if it is there, which takes no memory.
-    pub fn remove<L: Ledger>(&mut self, key: Key, steps: &mut Steps<L>)
+    /// Takes a triple out, which takes no memory; false where it wasn't there.
+    pub fn remove<L: Ledger>(&mut self, key: Key, steps: &mut Steps<L>) -> bool
+        ensures answer { result ≡ has key_cmp key self.old }
         ensures keys { self.new ≡ remove_key (eq_by_cmp key_cmp key) self.old }
         ensures rising { IsRising key_cmp self.old }
         ensures forward { steps.old ≤ steps.new }
@@ -107,9 +108,10 @@ impl Orders {
     {
         let second = key.turned();
         let third = second.turned();
-        self.subjects.remove(key, steps);
+        let there = self.subjects.remove(key, steps);
         self.predicates.remove(second, steps);
         self.objects.remove(third, steps);
+        there
     }
 
     /// The triples that agree with the pattern, each once, in memory of their own: one range of one index.

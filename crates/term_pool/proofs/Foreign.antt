@@ -21,7 +21,7 @@ pub record Owner (piece : Piece) (slots : List (Option Entry)) : Type 0 where
 later : (piece : Piece) (first : Option Entry) (slots : List (Option Entry)) → Owner piece slots → Owner piece (first ∷ slots)
 later piece first slots o = record { slot = suc o.slot; entry = o.entry; there = o.there; is = o.is }
 
-owner : (piece : Piece) (slots : List (Option Entry)) → list_any (has_piece piece) slots ≡ true → Owner piece slots
+pub owner : (piece : Piece) (slots : List (Option Entry)) → list_any (has_piece piece) slots ≡ true → Owner piece slots
 owner piece [] h = cc
 owner piece (None ∷ slots) h = later piece None slots (owner piece slots h)
 owner piece (Some entry ∷ slots) h =
@@ -37,7 +37,7 @@ or_true false = refl
 itself : (entry : Entry) (piece : Piece) → entry.piece ≡ piece → same_piece entry.piece piece ≡ true
 itself entry piece e = ⊎_elim (λ t. t.0) (λ f. absurd (f.1 e)) (piece_tells entry.piece piece)
 
-owned : (piece : Piece) (slots : List (Option Entry)) (slot : ℕ) (entry : Entry) → slice_index_or slots slot None ≡ Some entry → entry.piece ≡ piece → list_any (has_piece piece) slots ≡ true
+pub owned : (piece : Piece) (slots : List (Option Entry)) (slot : ℕ) (entry : Entry) → slice_index_or slots slot None ≡ Some entry → entry.piece ≡ piece → list_any (has_piece piece) slots ≡ true
 owned piece [] slot entry h is = absurd (cc)
 owned piece (None ∷ slots) zero entry h is = absurd (cc)
 owned piece (None ∷ slots) (suc slot) entry h is = owned piece slots slot entry h is
@@ -53,7 +53,7 @@ unfolding foreign
 foreign_same p q r piece e = ap (λ slots. cond (list_any (has_piece piece) slots) None (bytes_of r piece)) e
 
 -- what is foreign to a pool, by whether the piece is its own
-of_owned : (p : Pool) (r : Texts) (piece : Piece) → owns p piece ≡ true → foreign p r piece ≡ None
+pub of_owned : (p : Pool) (r : Texts) (piece : Piece) → owns p piece ≡ true → foreign p r piece ≡ None
 unfolding foreign
 of_owned p r piece h = ap (λ b. cond b None (bytes_of r piece)) h
 
@@ -61,11 +61,11 @@ nothing : (b : Bool) → (λ (o : Option (List ℕ)). cond b None o) None ≡ No
 nothing true = refl
 nothing false = refl
 
-of_dead : (p : Pool) (r : Texts) (piece : Piece) → bytes_of r piece ≡ None → foreign p r piece ≡ None
+pub of_dead : (p : Pool) (r : Texts) (piece : Piece) → bytes_of r piece ≡ None → foreign p r piece ≡ None
 unfolding foreign
 of_dead p r piece h = ap (λ (o : Option (List ℕ)). cond (owns p piece) None o) h ∙ nothing (owns p piece)
 
-of_others : (p q : Pool) (r s : Texts) (piece : Piece) → owns q piece ≡ owns p piece → bytes_of s piece ≡ bytes_of r piece → foreign q s piece ≡ foreign p r piece
+pub of_others : (p q : Pool) (r s : Texts) (piece : Piece) → owns q piece ≡ owns p piece → bytes_of s piece ≡ bytes_of r piece → foreign q s piece ≡ foreign p r piece
 unfolding foreign
 of_others p q r s piece e f = ap (λ b. cond b None (bytes_of s piece)) e ∙ ap (λ (o : Option (List ℕ)). cond (owns p piece) None o) f
 

@@ -1,3 +1,4 @@
+pub mod Beside
 pub mod Foreign
 pub mod Indexed
 pub mod Lying

@@ -63,9 +63,8 @@ impl Pool {
         self.slots.len().min(self.limit as usize) as u32
     }
 
-    /// Sets another limit on the number of terms. No term is there.
+    /// Sets another limit on the number of terms. The pool lies in its region as before where no more terms are there.
     pub fn set_limit(&mut self, limit: u32)
-        requires { terms self.old ≡ 0 }
         ensures { self.new ≡ record self.old { limit = limit } }
     {
         self.limit = limit;
@@ -166,8 +165,8 @@ impl Pool {
         }
     }
 
-    // Whether the term in a slot has this text.
-    fn has_text(&self, region: &Region, number: u32, text: &[u8]) -> bool
+    /// Whether there is a term in the slot of this number that has this text. It takes no memory and no look-up.
+    pub fn has_text(&self, region: &Region, number: u32, text: &[u8]) -> bool
         requires { LiesIn self.now region.now }
         ensures { IsTrue result ↔ (text_at self.now region.now number ≡ Some text.now) }
     {

@@ -18,7 +18,7 @@ pub(crate) fn print_entries<K: Sink>(
     world: &World,
     out: &mut K,
 ) -> Result<(), Unwritten>
-    ensures { Prints (side_section world.now.played.records world.now.played.side) (output K.Sink out.old) (output K.Sink out.new) result }
+    ensures { Prints (side_section world.now.replay.played.records world.now.replay.played.side) (output K.Sink out.old) (output K.Sink out.new) result }
 {
     for index in 0..world.side_len() {
         print_entry(alloc, world, index, out)?;
@@ -33,8 +33,8 @@ fn print_entry<K: Sink>(
     index: usize,
     out: &mut K,
 ) -> Result<(), Unwritten>
-    requires { index < length world.now.played.side }
-    ensures { Prints (unwrap_or (option_map (entry_text world.now.played.records) (slice_get world.now.played.side index)) [])
+    requires { index < length world.now.replay.played.side }
+    ensures { Prints (unwrap_or (option_map (entry_text world.now.replay.played.records) (slice_get world.now.replay.played.side index)) [])
         (output K.Sink out.old) (output K.Sink out.new) result }
 {
     let Some(entry) = world.side(index) else {

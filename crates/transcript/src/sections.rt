@@ -42,7 +42,7 @@ pub fn print_answer<K: Sink>(
     world: &World,
     out: &mut K,
 ) -> Result<(), Unwritten>
-    ensures { Prints (ask_section number (rows (union triple_cmp meaning world.now.played.records) pattern.now))
+    ensures { Prints (ask_section number (rows (union triple_cmp meaning world.now.replay.played.records) pattern.now))
         (output K.Sink out.old) (output K.Sink out.new) result }
 {
     let triples = world.matches(pattern)?;
@@ -60,7 +60,7 @@ pub fn print_closing<K: Sink>(
     world: &World,
     out: &mut K,
 ) -> Result<(), Unwritten>
-    ensures { Prints (closing meaning (chosen sections) world.now.played) (output K.Sink out.old) (output K.Sink out.new) result }
+    ensures { Prints (closing meaning (chosen sections) world.now.replay.played) (output K.Sink out.old) (output K.Sink out.new) result }
 {
     print_export(alloc, sections.export, world, out)?;
     print_state(alloc, sections.state, world, out)?;
@@ -74,7 +74,7 @@ fn print_export<K: Sink>(
     world: &World,
     out: &mut K,
 ) -> Result<(), Unwritten>
-    ensures { Prints (cond wanted (export_section (union triple_cmp meaning world.now.played.records)) [])
+    ensures { Prints (cond wanted (export_section (union triple_cmp meaning world.now.replay.played.records)) [])
         (output K.Sink out.old) (output K.Sink out.new) result }
 {
     if !wanted {
@@ -92,7 +92,7 @@ fn print_state<K: Sink>(
     world: &World,
     out: &mut K,
 ) -> Result<(), Unwritten>
-    ensures { Prints (cond wanted (state_section world.now.played.records) []) (output K.Sink out.old) (output K.Sink out.new) result }
+    ensures { Prints (cond wanted (state_section world.now.replay.played.records) []) (output K.Sink out.old) (output K.Sink out.new) result }
 {
     if !wanted {
         return Ok(());
@@ -107,7 +107,7 @@ fn print_side<K: Sink>(
     world: &World,
     out: &mut K,
 ) -> Result<(), Unwritten>
-    ensures { Prints (cond wanted (side_section world.now.played.records world.now.played.side) [])
+    ensures { Prints (cond wanted (side_section world.now.replay.played.records world.now.replay.played.side) [])
         (output K.Sink out.old) (output K.Sink out.new) result }
 {
     if !wanted {

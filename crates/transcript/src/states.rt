@@ -18,7 +18,7 @@ pub(crate) fn print_states<K: Sink>(
     world: &World,
     out: &mut K,
 ) -> Result<(), Unwritten>
-    ensures { Prints (state_section world.now.played.records) (output K.Sink out.old) (output K.Sink out.new) result }
+    ensures { Prints (state_section world.now.replay.played.records) (output K.Sink out.old) (output K.Sink out.new) result }
 {
     let ids = world.entities()?;
     print_states_of(alloc, world, ids.as_slice(), out)
@@ -31,7 +31,7 @@ fn print_states_of<K: Sink>(
     ids: &[EntityId],
     out: &mut K,
 ) -> Result<(), Unwritten>
-    ensures { Prints (flat_map (λ x. state_line x (record_of world.now.played.records x).state) ids.now)
+    ensures { Prints (flat_map (λ x. state_line x (record_of world.now.replay.played.records x).state) ids.now)
         (output K.Sink out.old) (output K.Sink out.new) result }
 {
     for id in ids {

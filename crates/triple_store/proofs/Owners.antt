@@ -1,22 +1,17 @@
 -- Counts that are raised and lowered, triple by triple.
 use Rattle.std.proofs.Common.{◌≡◌, ℕ, zero, suc, ◌+◌, ◌-◌, ◌<◌, Bool, true, false, cond, List, [], ◌∷◌, Option, Some, None, is_some, unwrap_or, fold, count_by, refl, sym, ◌∙◌, ap, subst, arith, true≢false}
 use Rattle.std.specs.FinMap as map
-use Rattle.std.specs.Map.{lookup}
 use Rattle.std.specs.Ordering.{eq_by_cmp}
 use Rattle.std.proofs.lemmas.List.Sums.{sum_by-cons}
 use Rattle.rising.proofs.Bools.{equal}
 use Rattle.rdf_term.specs.declared.triple.Triple.{Triple}
 use Rattle.rdf_term.specs.Order.{triple_cmp, triple_cmp-total}
 use Rattle.rdf_term.proofs.Texts.{triple_cmp-IsAntisymmetric}
-use Rattle.triple_store.specs.Counts.{Counts, counts_of, count_of, with_count, raised, lowered, HaveOwners}
-use Rattle.triple_store.proofs.Mapped.{changed, got}
+use Rattle.term_pool.specs.Pool.{one_if}
+use Rattle.triple_store.specs.Counts.{Counts, count_of, with_count, raised, lowered, HaveOwners}
 
 abbrev pub same_triple : Triple → Triple → Bool
 same_triple = eq_by_cmp triple_cmp
-
--- a test as a number
-abbrev pub one_if : Bool → ℕ
-one_if b = cond b 1 0
 
 -- what the map has at a triple with this count
 abbrev pub kept : ℕ → Option ℕ
@@ -31,11 +26,11 @@ unwrap_kept : (n : ℕ) → unwrap_or (kept n) 0 ≡ n
 unwrap_kept zero = refl
 unwrap_kept (suc n) = refl
 
-get-with_count : (counts : Counts) (t : Triple) (n : ℕ) (q : Triple) → map.get (with_count counts t n) q ≡ cond (same_triple q t) (kept n) (map.get counts q)
+pub get-with_count : (counts : Counts) (t : Triple) (n : ℕ) (q : Triple) → map.get (with_count counts t n) q ≡ cond (same_triple q t) (kept n) (map.get counts q)
 get-with_count counts t zero q = map.get-remove triple_cmp-total counts t q
 get-with_count counts t (suc n) q = map.get-insert triple_cmp-total counts t (suc n) q
 
-count_of-with_count : (counts : Counts) (t : Triple) (n : ℕ) (q : Triple) → count_of (with_count counts t n) q ≡ cond (same_triple q t) n (count_of counts q)
+pub count_of-with_count : (counts : Counts) (t : Triple) (n : ℕ) (q : Triple) → count_of (with_count counts t n) q ≡ cond (same_triple q t) n (count_of counts q)
 count_of-with_count counts t n q = ap (λ v. unwrap_or v 0) (get-with_count counts t n q) ∙ by (same_triple q t) (map.get counts q)
   where
     by : (b : Bool) (v : Option ℕ) → unwrap_or (cond b (kept n) v) 0 ≡ cond b n (unwrap_or v 0)
@@ -46,7 +41,7 @@ count_of-with_count counts t n q = ap (λ v. unwrap_or v 0) (get-with_count coun
 abbrev IsOwned : Option ℕ → Type 0
 IsOwned v = is_some v ≡ true → 0 < unwrap_or v 0
 
-HaveOwners-with_count : (counts : Counts) (t : Triple) (n : ℕ) → HaveOwners counts → HaveOwners (with_count counts t n)
+pub HaveOwners-with_count : (counts : Counts) (t : Triple) (n : ℕ) → HaveOwners counts → HaveOwners (with_count counts t n)
 HaveOwners-with_count counts t n h q = subst IsOwned (sym (get-with_count counts t n q)) (by (same_triple q t) n (map.get counts q) (h q))
   where
     by : (b : Bool) (n : ℕ) (v : Option ℕ) → IsOwned v → IsOwned (cond b (kept n) v)
@@ -55,7 +50,7 @@ HaveOwners-with_count counts t n h q = subst IsOwned (sym (get-with_count counts
     by false n v h some = h some
 
 -- where each stored triple has an owner, the counts fix the map
-same_counts : (m n : Counts) → HaveOwners m → HaveOwners n → ((q : Triple) → count_of m q ≡ count_of n q) → m ≡ n
+pub same_counts : (m n : Counts) → HaveOwners m → HaveOwners n → ((q : Triple) → count_of m q ≡ count_of n q) → m ≡ n
 same_counts m n hm hn e = map.same_map triple_cmp-total triple_cmp-IsAntisymmetric m n (λ q. alike (map.get m q) (map.get n q) (hm q) (hn q) (e q))
   where
     alike : (v w : Option ℕ) → IsOwned v → IsOwned w → unwrap_or v 0 ≡ unwrap_or w 0 → v ≡ w
@@ -64,40 +59,11 @@ same_counts m n hm hn e = map.same_map triple_cmp-total triple_cmp-IsAntisymmetr
     alike (Some x) None hv hw e = let some : 0 < x = hv refl in absurd (omega arith)
     alike (Some x) (Some y) hv hw e = ap Some e
 
--- where a look-up finds another count at one triple, the map has this count
-pub written : (t : Triple) (n : ℕ) (w : Option ℕ) (es fs : List (Triple × ℕ)) → w ≡ kept n → ((q : Triple) → lookup (same_triple q) fs ≡ cond (same_triple t q) w (lookup (same_triple q) es)) → counts_of fs ≡ with_count (counts_of es) t n
-written t n w es fs is finds = map.same_map triple_cmp-total triple_cmp-IsAntisymmetric (counts_of fs) (with_count (counts_of es) t n) (λ q.
-    changed triple_cmp-total t w es fs finds q ∙ ap (λ v. cond (same_triple q t) v (map.get (counts_of es) q)) is ∙ sym (get-with_count (counts_of es) t n q))
-
--- the count of a triple is what a look-up finds
-pub found : (t : Triple) (es : List (Triple × ℕ)) (v : Option ℕ) → v ≡ lookup (same_triple t) es → count_of (counts_of es) t ≡ unwrap_or v 0
-found t es v is = ap (λ w. unwrap_or w 0) (got triple_cmp-total t es ∙ sym is)
-
--- taking a triple out, after its own count was written, takes it out
-pub taken_out : (t : Triple) (n : ℕ) (w : Option ℕ) (es fs gs : List (Triple × ℕ)) → n ≡ 0 → ((q : Triple) → lookup (same_triple q) fs ≡ cond (same_triple t q) w (lookup (same_triple q) es)) → ((q : Triple) → lookup (same_triple q) gs ≡ cond (same_triple t q) None (lookup (same_triple q) fs)) → counts_of gs ≡ with_count (counts_of es) t n
-taken_out t n w es fs gs none wrote took = written t n None es gs (ap kept (sym none)) (λ q. took q ∙ ap (λ v. cond (same_triple t q) None v) (wrote q) ∙ by (same_triple t q) (lookup (same_triple q) es))
-  where
-    by : (b : Bool) (v : Option ℕ) → cond b None (cond b w v) ≡ cond b None v
-    by true v = refl
-    by false v = refl
-
--- a triple that isn't there has no owner to lose
-pub not_lowered : (t : Triple) (es : List (Triple × ℕ)) → None ≡ lookup (same_triple t) es → counts_of es ≡ lowered (counts_of es) t
-not_lowered t es absent =
-    map.same_map triple_cmp-total triple_cmp-IsAntisymmetric (counts_of es) (with_count (counts_of es) t 0) (λ q. still q ∙ sym (get-with_count (counts_of es) t 0 q))
-    ∙ ap (λ n. with_count (counts_of es) t (n - 1)) (sym (found t es None absent))
-  where
-    still : (q : Triple) → map.get (counts_of es) q ≡ cond (same_triple q t) None (map.get (counts_of es) q)
-    still q = elim (same_triple q t) as (λ b. same_triple q t ≡ b → map.get (counts_of es) q ≡ cond b None (map.get (counts_of es) q)) [
-      | true ↦ λ e. sym (map.get_tied triple_cmp-total (counts_of es) q t (equal _ e)) ∙ got triple_cmp-total t es ∙ sym absent
-      | false ↦ λ e. refl
-    ] refl
-
 -- the empty map has no triple without an owner
 pub HaveOwners-empty : HaveOwners map.empty
 HaveOwners-empty t there = absurd (true≢false (sym there ∙ ap is_some (map.get-empty triple_cmp t)))
 
-count_of-raised : (counts : Counts) (t q : Triple) → count_of (raised counts t) q ≡ count_of counts q + one_if (same_triple q t)
+pub count_of-raised : (counts : Counts) (t q : Triple) → count_of (raised counts t) q ≡ count_of counts q + one_if (same_triple q t)
 count_of-raised counts t q =
     count_of-with_count counts t (count_of counts t + 1) q
     ∙ elim (same_triple q t) as (λ b. same_triple q t ≡ b → cond b (count_of counts t + 1) (count_of counts q) ≡ count_of counts q + one_if b) [
@@ -105,7 +71,7 @@ count_of-raised counts t q =
       | false ↦ λ e. omega arith
     ] refl
 
-count_of-lowered : (counts : Counts) (t q : Triple) → count_of (lowered counts t) q ≡ count_of counts q - one_if (same_triple q t)
+pub count_of-lowered : (counts : Counts) (t q : Triple) → count_of (lowered counts t) q ≡ count_of counts q - one_if (same_triple q t)
 count_of-lowered counts t q =
     count_of-with_count counts t (count_of counts t - 1) q
     ∙ elim (same_triple q t) as (λ b. same_triple q t ≡ b → cond b (count_of counts t - 1) (count_of counts q) ≡ count_of counts q - one_if b) [

@@ -1,23 +1,14 @@
 -- The stored triples, with the number of entities that own each.
-use Rattle.std.specs.Prelude.{◌≡◌, ℕ, zero, suc, ◌+◌, ◌-◌, ◌<◌, true, List, fold, unwrap_or}
-use Rattle.std.specs.Coded.{Coded, coded_ℕ}
+use Rattle.std.specs.Prelude.{◌≡◌, ℕ, zero, suc, ◌+◌, ◌-◌, ◌<◌, true, List, unwrap_or}
 use Rattle.std.specs.FinMap as map
+use Rattle.rising.specs.Rising.{has}
 use Rattle.rdf_term.specs.declared.triple.Triple.{Triple}
-use Rattle.rdf_term.specs.contracts.triple.Triple as triple
 use Rattle.rdf_term.specs.Order.{triple_cmp}
-use Rattle.triple_patch.specs.declared.changes.Patch.{Patch}
+use Rattle.term_pool.specs.Pool.{one_if}
 
 -- the count of each stored triple
 abbrev pub Counts : Type 0
 Counts = map.FinMap triple_cmp ℕ
-
--- how counts are stored as a value
-abbrev pub counts_code : Coded Counts
-counts_code = map.code (triple.the_row).coded coded_ℕ
-
--- triples and their counts as a map
-abbrev pub counts_of : List (Triple × ℕ) → Counts
-counts_of entries = map.from_entries entries
 
 -- how many entities own a triple: none where it isn't stored
 abbrev pub count_of : Counts → Triple → ℕ
@@ -36,10 +27,10 @@ raised counts t = with_count counts t (count_of counts t + 1)
 abbrev pub lowered : Counts → Triple → Counts
 lowered counts t = with_count counts t (count_of counts t - 1)
 
--- after a patch of one entity: what comes has one owner more, and what goes has one less
-abbrev pub after_patch : Counts → Patch → Counts
-after_patch counts patch = fold lowered (fold raised counts patch.adds) patch.removes
-
 -- each stored triple has an owner
 abbrev pub HaveOwners : Counts → Type 0
 HaveOwners counts = (t : Triple) → map.contains_key counts t ≡ true → 0 < count_of counts t
+
+-- one owner more of each triple that came and one less of each that is gone: what is in both, or in neither, has as many as before
+pub record Exchanges (old new : Counts) (gone came : List Triple) : Type 0 where
+  pub counts : (t : Triple) → count_of new t + one_if (has triple_cmp t gone) ≡ count_of old t + one_if (has triple_cmp t came)

@@ -1,13 +1,21 @@
-//! The triples of all entities, each with the number of entities that own it.
+//! The triples of all entities, each with the number of its owners.
+//!
+//! `store` has the store, over a pool of terms and an index of triples of slots, and `fault` why it takes no triples.
+//! `holding` uses the terms of a triple once more, all or none, and once less, and `uncounted` calls the index where nobody
+//! counts its steps. On these `changing` gives a triple one owner more or less, and `matching` finds triples by a pattern;
+//! triple by triple `exchanging` puts the triples of one owner in the place of others, and `releasing` takes them away.
+//! `room` says how many terms there are.
 #![tactic(auto)]
 
-mod counting;
-mod laws;
+mod changing;
+mod exchanging;
+mod fault;
+mod holding;
 mod matching;
+mod releasing;
+mod room;
 mod store;
+mod uncounted;
 
-pub use laws::patch_changes_by_one;
+pub use fault::StoreFault;
 pub use store::Store;
-
-#[cfg(test)]
-mod tests;

@@ -1,108 +1,96 @@
 // The stored triples and their counts.
 
-ghost use Rattle.std.specs.Prelude.{◌≡◌, ◌<◌, [], true, false, IsOk, OnOk, OnErr, IfOk};
+ghost use Rattle.std.specs.Prelude.{◌≡◌, ◌≤◌, length, Some, None, IfOk, IsSome, OnErr};
 ghost use Rattle.std.specs.FinMap as map;
-ghost use Rattle.rising.specs.Rising.{has};
 ghost use Rattle.rdf_term.specs.declared.triple.Triple.{Triple};
-ghost use Rattle.rdf_term.specs.Order.{triple_cmp};
-ghost use Rattle.triple_store.specs.Counts.{HaveOwners, count_of, after_patch};
-ghost use Rattle.rdf_term.specs.Pattern.{rows};
+ghost use Rattle.text_region.specs.declared.piece.Piece.{Piece as ThePiece};
+ghost use Rattle.text_region.specs.Region.{Texts, bytes_of};
+ghost use Rattle.slot_index.specs.declared.key.Key.{Key};
+ghost use Rattle.triple_store.specs.Stored.{Changes, HasKey, IsStored, beside, counts_in, limit_of};
 
-use crate::counting::{lower_all, raise_all};
-use crate::matching::copies_that_agree;
-use rdf_term::{OutOfMemory, Pattern, Triple, TripleSet};
+use rdf_term::OutOfMemory;
+use slot_index::SlotIndex;
 use std::alloc::Global;
-use std::collections::BTreeMap;
-use std::marker::Model;
-use triple_patch::Patch;
+use std::hash::RandomState;
+use term_pool::Pool;
+use text_region::{Piece, Region};
 
-/// The triples that some entity owns, with the number of their owners. Contracts see the map from the stored
-/// triples to their counts, which begin at 1.
+/// The triples that some entity owns, with the number of their owners. Each term is in a pool once, and a triple is
+/// three slots of it. The terms' texts lie in a region that each call is given, where the caller may have texts of its own.
 #[derive(Drop)]
 pub struct Store {
-    alloc: Global,
-    counts: BTreeMap<Triple, u64>,
-}
-
-impl Model for Store {
-    ghost use Rattle.triple_store.specs.Counts.{Counts, counts_code, counts_of, HaveOwners};
-
-    ghost Value = { Counts };
-
-    ghost coded = { counts_code };
-
-    ghost view = { λ s. counts_of s.counts.entries };
-
-    ghost invariant = { λ s. HaveOwners (counts_of s.counts.entries) };
+    pub(crate) alloc: Global,
+    pub(crate) pool: Pool,
+    pub(crate) index: SlotIndex,
 }
 
 impl Store {
-    /// The store without triples, which takes no memory.
-    pub fn new(alloc: Global) -> Store
-        ensures { result ≡ map.empty }
+    /// The store without triples, which takes no memory. Terms are found by hashes under these keys, and there are at most
+    /// as many as the limit says.
+    pub fn new(alloc: Global, keys: RandomState, limit: u32) -> Store
+        ensures stored { (region : Texts) → IsStored result region }
+        ensures counts { (region : Texts) → counts_in result region ≡ map.empty }
+        ensures beside { (region : Texts) (piece : ThePiece) → beside result region piece ≡ bytes_of region piece }
+        ensures limit { limit_of result ≡ limit }
     {
         Store {
             alloc,
-            counts: BTreeMap::new(alloc),
+            pool: Pool::new(alloc, keys, limit),
+            index: SlotIndex::new(alloc),
         }
     }
 
-    /// Raises the count of each triple that comes by one and lowers that of each triple that goes by one; a
-    /// triple whose count becomes 0 is no longer stored. After `OutOfMemory` nothing has changed. What goes takes
-    /// no memory. Each triple of the patch costs a few searches in the ordered triples.
-    pub fn apply(&mut self, patch: &Patch) -> Result<(), OutOfMemory>
-        // No triple both comes and goes.
-        requires disjoint { (t : Triple) → has triple_cmp t patch.now.adds ≡ true → has triple_cmp t patch.now.removes ≡ false }
-
-        // What goes is stored.
-        requires stored { (t : Triple) → has triple_cmp t patch.now.removes ≡ true → map.contains_key self.old t ≡ true }
-
-        // What comes has fewer than 2^64 - 1 owners.
-        requires countable { (t : Triple) → has triple_cmp t patch.now.adds ≡ true → count_of self.old t < 18446744073709551615 }
-        ensures ok { OnOk result (self.new ≡ after_patch self.old patch.now) }
-        ensures err { OnErr result (self.new ≡ self.old) }
-
-        // With nothing that comes it succeeds.
-        ensures free { patch.now.adds ≡ [] → IsOk result }
+    /// Sets another limit on the number of terms, which takes no memory. No triple is stored.
+    pub fn set_limit(&mut self, limit: u32)
+        requires { map.len self.old.index ≡ 0 }
+        ensures stored { (region : Texts) → IsStored self.old region → IsStored self.new region }
+        ensures counts { (region : Texts) → counts_in self.new region ≡ counts_in self.old region }
+        ensures beside { (region : Texts) (piece : ThePiece) → beside self.new region piece ≡ beside self.old region piece }
+        ensures kept { (region : Texts) (key : Key) (triple : Triple) → HasKey self.old region key triple → HasKey self.new region key triple }
+        ensures limit { limit_of self.new ≡ limit }
     {
-        raise_all(self.alloc, &mut self.counts, patch.adds.items())?;
-        lower_all(&mut self.counts, patch.removes.items());
-        Ok(())
+        self.pool.set_limit(limit);
     }
 
-    /// How many entities own the triple: one search in the ordered triples, which takes no memory.
-    pub fn count(&self, triple: &Triple) -> u64
-        ensures count { result ≡ count_of self.now triple.now }
-        ensures owned { HaveOwners self.now }
+    /// Puts a copy of the bytes into the region, beside the store's texts. It takes memory only where no block of their
+    /// size is in no use; after `OutOfMemory` the region is as it was.
+    pub fn place(&self, region: &mut Region, bytes: &[u8]) -> Result<Piece, OutOfMemory>
+        requires stored { IsStored self.now region.old }
+        requires short { length bytes.now ≤ 33554432 }
+        ensures stored { IsStored self.now region.new }
+        ensures counts { counts_in self.now region.new ≡ counts_in self.now region.old }
+        ensures ok { IfOk result (λ piece. Changes (beside self.now region.old) (beside self.now region.new) piece None (Some bytes.now)) }
+        ensures err { OnErr result (region.new ≡ region.old) }
+        ensures kept { (key : Key) (triple : Triple) → HasKey self.now region.old key triple → HasKey self.now region.new key triple }
     {
-        self.counts.get(triple).copied().unwrap_or(0)
+        let piece = region.place(bytes)?;
+        Ok(piece)
     }
 
-    /// The stored triples that agree with the pattern, in memory of their own. It looks at every stored triple.
-    pub fn matches(&self, pattern: &Pattern) -> Result<TripleSet, OutOfMemory>
-        ensures rows { IfOk result (λ set. set ≡ rows (map.keys self.now) pattern.now) }
-        ensures owned { HaveOwners self.now }
+    /// Gives back the block of a text beside the store's, which takes no memory.
+    pub fn free(&self, region: &mut Region, piece: Piece)
+        requires stored { IsStored self.now region.old }
+        requires live { IsSome (beside self.now region.old piece) }
+        ensures stored { IsStored self.now region.new }
+        ensures counts { counts_in self.now region.new ≡ counts_in self.now region.old }
+        ensures freed { Changes (beside self.now region.old) (beside self.now region.new) piece (beside self.now region.old piece) None }
+        ensures kept { (key : Key) (triple : Triple) → HasKey self.now region.old key triple → HasKey self.now region.new key triple }
     {
-        let rows = copies_that_agree(self.alloc, &self.counts, pattern)?;
-        Ok(TripleSet::from_rising(rows))
+        region.free(piece);
     }
 
-    /// The stored triples, in memory of their own.
-    pub fn all(&self) -> Result<TripleSet, OutOfMemory>
-        ensures rows { IfOk result (λ set. set ≡ map.keys self.now) }
-        ensures owned { HaveOwners self.now }
+    /// A text beside the store's, which takes no memory.
+    pub fn read<'a>(&self, region: &'a Region, piece: &Piece) -> &'a [u8]
+        requires live { IsSome (beside self.now region.now piece.now) }
+        ensures { beside self.now region.now piece.now ≡ Some result.now }
     {
-        self.matches(&Pattern {
-            subject: None,
-            predicate: None,
-            object: None,
-        })
+        region.read(piece)
     }
 
-    /// The number of stored triples.
+    /// The number of stored triples, which takes no memory and no search.
     pub fn triples(&self) -> usize
-        ensures { result ≡ map.len self.now }
+        ensures { (region : Texts) → IsStored self.now region → result ≡ map.len (counts_in self.now region) }
     {
-        self.counts.len()
+        self.index.len()
     }
 }

@@ -13,7 +13,7 @@ use Rattle.clap.specs.Words.{Text, first_of, matches_of, one_of, takes}
 use Rattle.clap.proofs.OnLiterals.{clap_on_literals}
 use Rattle.clap.proofs.TakesLemmas.{leaf_takes}
 use Rattle.words.specs.Arguments.{Gives, drill_command, drill_words, flag_rule, flag_text, option_rule, replay_command, word_of_flag, word_of_value, words_of}
-use Rattle.words.specs.Options.{Choices, greatest_limit, limit_in}
+use Rattle.words.specs.Options.{Choices, greatest_limit, greatest_terms, limit_in, terms_in}
 use Rattle.words.specs.Plan.{greatest_size, size_in}
 use Rattle.words.proofs.Written.{number_between-decimal}
 use Rattle.words.proofs.Slots.{AreTaken, IsTaken, Slot, Use, WalksOver, default_row, found, found-slots, found_at, is_distinct, or_else, resting, rows_in, use_row, used_new, walks_over, words_at, words_in, defaults_at}
@@ -40,6 +40,7 @@ abbrev slots_of : Choices → List Slot
 slots_of c =
     value_slot (codes "from") c.place
     ∷ value_slot (codes "max-bytes") (option_map decimal c.limit)
+    ∷ value_slot (codes "max-terms") (option_map decimal c.terms)
     ∷ flag_slot (codes "export") c.export
     ∷ flag_slot (codes "state") c.state
     ∷ flag_slot (codes "side") c.side
@@ -59,6 +60,11 @@ unfolding clap_on_literals
 limit_taken None = tt
 limit_taken (Some value) = record { walks = λ rows none. ap resting (used_new _ _ value rows none); passes = λ rows none. rw none refl }
 
+terms_taken : (value : Option Text) → let slot = value_slot (codes "max-terms") value in IsTaken replay_shape slot.id slot.how slot.given
+unfolding clap_on_literals
+terms_taken None = tt
+terms_taken (Some value) = record { walks = λ rows none. ap resting (used_new _ _ value rows none); passes = λ rows none. rw none refl }
+
 export_taken : (flag : Bool) → let slot = flag_slot (codes "export") flag in IsTaken replay_shape slot.id slot.how slot.given
 unfolding clap_on_literals
 export_taken false = tt
@@ -76,7 +82,8 @@ side_taken true = record { walks = λ rows none. ap resting (used_new _ _ _ rows
 
 -- all of them, in their order
 are_taken : (c : Choices) → AreTaken replay_shape (slots_of c)
-are_taken c = (place_taken c.place, (limit_taken (option_map decimal c.limit), (export_taken c.export, (state_taken c.state, (side_taken c.side, tt)))))
+are_taken c =
+    (place_taken c.place, (limit_taken (option_map decimal c.limit), (terms_taken (option_map decimal c.terms), (export_taken c.export, (state_taken c.state, (side_taken c.side, tt))))))
 
 are_distinct : (c : Choices) → is_distinct (slots_of c) ≡ true
 are_distinct c = refl
@@ -97,9 +104,10 @@ slot_words c =
     ap (λ (l : List Text). codes "replay" ∷ l)
     (then_words _ _ _ _ (value_words (codes "from") c.place)
     (then_words _ _ _ _ (value_words (codes "max-bytes") (option_map decimal c.limit))
+    (then_words _ _ _ _ (value_words (codes "max-terms") (option_map decimal c.terms))
     (then_words _ _ _ _ (flag_words (codes "export") c.export)
     (then_words _ _ _ _ (flag_words (codes "state") c.state)
-    (then_words _ _ _ _ (flag_words (codes "side") c.side) refl)))))
+    (then_words _ _ _ _ (flag_words (codes "side") c.side) refl))))))
     ∙ simp (append_assoc, append-nil)
 
 walked_over : (c : Choices) → WalksOver replay_shape [] (words_in (slots_of c)) (rows_in (slots_of c))
@@ -158,6 +166,7 @@ pub gives : (c : Choices) → Gives (matches_of replay_command (words_of c)) c
 gives c = record {
   place = value_matched c (codes "from") c.place (value_there (codes "from") (codes "from") (reading_by (filled (option_rule (codes "from")))) c.place);
   limit = value_matched c (codes "max-bytes") (option_map decimal c.limit) (value_there (codes "max-bytes") (codes "max-bytes") (reading_by (filled (option_rule (codes "max-bytes")))) (option_map decimal c.limit));
+  terms = value_matched c (codes "max-terms") (option_map decimal c.terms) (value_there (codes "max-terms") (codes "max-terms") (reading_by (filled (option_rule (codes "max-terms")))) (option_map decimal c.terms));
   export = flag_matched c (codes "export") c.export (flag_there (codes "export") (codes "export") c.export);
   state = flag_matched c (codes "state") c.state (flag_there (codes "state") (codes "state") c.state);
   side = flag_matched c (codes "side") c.side (flag_there (codes "side") (codes "side") c.side);
@@ -167,6 +176,10 @@ gives c = record {
 pub limit_again : (limit : Option ℕ) → unwrap_or limit 0 ≤ greatest_limit → option_and_then limit_in (option_map decimal limit) ≡ limit
 limit_again None low = refl
 limit_again (Some n) low = number_between-decimal 0 greatest_limit n (omega arith) low (omega arith)
+
+pub terms_again : (terms : Option ℕ) → 1 ≤ unwrap_or terms 1 → unwrap_or terms 1 ≤ greatest_terms → option_and_then terms_in (option_map decimal terms) ≡ terms
+terms_again None low high = refl
+terms_again (Some n) low high = number_between-decimal 1 greatest_terms n low high (omega arith)
 
 -- a flag is read from its text
 pub flag_again : (flag now : Bool) (text : Option Text) → text ≡ Some (flag_text flag) →

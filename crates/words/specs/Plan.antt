@@ -1,10 +1,10 @@
 -- What the words after the program's name ask for.
-use Rattle.std.specs.Prelude.{ℕ, ◌≤◌, cond, List, [], ◌∷◌, Option, None, Some, codes, option_map}
+use Rattle.std.specs.Prelude.{ℕ, ◌≤◌, cond, List, [], ◌∷◌, Option, None, codes, option_map}
 use Rattle.std.specs.Option.{option_and_then}
 use Rattle.std.specs.Str.{bytes_eq}
 use Rattle.words.specs.Items.{Item, items_of}
 use Rattle.words.specs.Numbers.{number_between}
-use Rattle.words.specs.Options.{Choices, nothing_chosen, with_items}
+use Rattle.words.specs.Options.{nothing_chosen, with_items}
 use Rattle.words.specs.declared.plan.Plan.{Plan}
 use Rattle.words.specs.declared.plan.Plan.TheVariants.{Replay, Drill}
 

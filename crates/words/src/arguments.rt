@@ -5,10 +5,10 @@ ghost use Rattle.std.specs.Fmt.{decimal};
 ghost use Rattle.std.specs.Option.{option_and_then};
 ghost use Rattle.clap.specs.Words.{app_of, first_of, first_value, found_of, kind_of, matches_of, one_text, rows_of, rule_of, takes};
 ghost use Rattle.words.specs.Arguments.{Gives, drill_command, drill_words, flag_rule, option_rule, replay_command, word_of_flag, word_of_value, words_of};
-ghost use Rattle.words.specs.Options.{Choices, IsWithin, limit_in, limit_of, place_of};
+ghost use Rattle.words.specs.Options.{Choices, IsWithin, limit_in, limit_of, place_of, terms_in, terms_of};
 ghost use Rattle.words.specs.Plan.{greatest_size, size_in};
 
-use crate::options::{ReplayOptions, read_limit};
+use crate::options::{ReplayOptions, read_limit, read_terms};
 use crate::plan::read_size;
 use clap::error::ErrorKind;
 use clap::{Arg, ArgAction, ArgMatches, Command, Error};
@@ -22,11 +22,15 @@ const PLACE: &str = ".";
 /// The most bytes of the input where the words don't say how many.
 const LIMIT: u64 = 1_073_741_824;
 
+/// For how many terms there is room where the words don't say how many.
+const TERMS: u32 = 20_000_000;
+
 /// What a replay is asked for, as clap takes it from the words.
 #[derive(Debug, Drop)]
 pub struct Arguments {
     place: Option<String>,
     limit: Option<u64>,
+    terms: Option<u32>,
     export: bool,
     state: bool,
     side: bool,
@@ -35,19 +39,20 @@ pub struct Arguments {
 impl Model for Arguments {
     ghost use Rattle.std.specs.Prelude.{unwrap_or, string_bytes, ◌≤◌};
     ghost use Rattle.std.specs.Option.{option_map};
-    ghost use Rattle.words.specs.Options.{Choices, greatest_limit};
+    ghost use Rattle.words.specs.Options.{Choices, greatest_limit, greatest_terms};
 
     ghost Value = { Choices };
 
     ghost view = { λ a. record {
       place = option_map (λ p. string_bytes p) a.place;
       limit = a.limit;
+      terms = a.terms;
       export = a.export;
       state = a.state;
       side = a.side;
     } };
 
-    ghost invariant = { λ a. unwrap_or a.limit 0 ≤ greatest_limit };
+    ghost invariant = { λ a. (unwrap_or a.limit 0 ≤ greatest_limit) × (1 ≤ unwrap_or a.terms 1) × (unwrap_or a.terms 1 ≤ greatest_terms) };
 }
 
 impl Arguments {
@@ -67,6 +72,13 @@ impl Arguments {
         ensures bounded { result ≤ 2 ^ 40 }
     {
         self.limit.unwrap_or(LIMIT)
+    }
+
+    /// For how many terms there is room.
+    pub fn terms(&self) -> u32
+        ensures { result ≡ terms_of self.now }
+    {
+        self.terms.unwrap_or(TERMS)
     }
 
     /// Whether all triples are printed at the end.
@@ -112,23 +124,36 @@ fn item_words(alloc: Global, options: &ReplayOptions<'_>) -> Result<Vec<String>,
     let mut words = Vec::new(alloc);
     words.push(String::from_str(alloc, "replay")?)?;
     push_value(alloc, &mut words, "--from", options.place())?;
-    push_limit(alloc, &mut words, options.limit())?;
+    push_number(alloc, &mut words, "--max-bytes", options.limit())?;
+    push_number(alloc, &mut words, "--max-terms", widened(options.terms()))?;
     push_flag(alloc, &mut words, "--export", options.export())?;
     push_flag(alloc, &mut words, "--state", options.state())?;
     push_flag(alloc, &mut words, "--side", options.side())?;
     Ok(words)
 }
 
-// Adds the word of the most bytes, if they are there.
-fn push_limit(alloc: Global, words: &mut Vec<String>, limit: Option<u64>) -> Result<(), OutOfMemory>
-    ensures { IfOk result (λ _. map (λ w. string_bytes w) words.new.items
-        ≡ map (λ w. string_bytes w) words.old.items ++ word_of_value (codes "--max-bytes") (option_map decimal limit)) }
+// The same number, if there is one, of 64 bits.
+fn widened(number: Option<u32>) -> Option<u64>
+    ensures { result ≡ number }
 {
-    let Some(limit) = limit else {
+    Some(u64::from(number?))
+}
+
+// Adds the word of an item whose value is a number, if the item is there.
+fn push_number(
+    alloc: Global,
+    words: &mut Vec<String>,
+    name: &str,
+    number: Option<u64>,
+) -> Result<(), OutOfMemory>
+    ensures { IfOk result (λ _. map (λ w. string_bytes w) words.new.items
+        ≡ map (λ w. string_bytes w) words.old.items ++ word_of_value name.now (option_map decimal number)) }
+{
+    let Some(number) = number else {
         return Ok(());
     };
-    let digits = format!(in alloc; "{limit}")?;
-    push_value(alloc, words, "--max-bytes", Some(digits.as_str()))
+    let digits = format!(in alloc; "{number}")?;
+    push_value(alloc, words, name, Some(digits.as_str()))
 }
 
 // Adds the word of an item with a value, if the item is there.
@@ -177,6 +202,7 @@ fn replay_command<'a>(alloc: Global) -> Result<Command<'a>, AllocError>
     Command::new(alloc, "replay")
         .arg(option(alloc, "from"))?
         .arg(option(alloc, "max-bytes"))?
+        .arg(option(alloc, "max-terms"))?
         .arg(flag(alloc, "export"))?
         .arg(flag(alloc, "state"))?
         .arg(flag(alloc, "side"))
@@ -205,6 +231,7 @@ fn arguments_in(alloc: Global, matches: &ArgMatches<'_>) -> Result<Arguments, Ou
     Ok(Arguments {
         place: place_in(alloc, matches)?,
         limit: limit_in(matches),
+        terms: terms_in(matches),
         export: matches.get_flag("export"),
         state: matches.get_flag("state"),
         side: matches.get_flag("side"),
@@ -226,6 +253,13 @@ fn limit_in(matches: &ArgMatches<'_>) -> Option<u64>
     ensures { result ≡ option_and_then limit_in (first_value (found_of matches.now) (codes "max-bytes")) }
 {
     read_limit(matches.get_str("max-bytes")?)
+}
+
+// The most terms that clap matched.
+fn terms_in(matches: &ArgMatches<'_>) -> Option<u32>
+    ensures { result ≡ option_and_then terms_in (first_value (found_of matches.now) (codes "max-terms")) }
+{
+    read_terms(matches.get_str("max-terms")?)
 }
 
 // The refusal that clap's is, where memory was refused.

@@ -3,7 +3,7 @@
 ghost use Rattle.std.specs.Prelude.{◌≡◌, ◌≤◌, not, true, IfSome};
 ghost use Rattle.std.specs.Option.{option_map};
 ghost use Rattle.words.specs.Items.{is_value};
-ghost use Rattle.words.specs.Options.{IsAdded, IsWithin, greatest_limit, limit_in, nothing_chosen, with_flag, with_item, with_limit, with_place, with_value};
+ghost use Rattle.words.specs.Options.{IsAdded, IsWithin, greatest_limit, greatest_terms, limit_in, nothing_chosen, terms_in, with_flag, with_item, with_limit, with_place, with_terms, with_value};
 
 use crate::items::is_value;
 use crate::numbers::read_number;
@@ -13,11 +13,15 @@ use std::mem;
 /// The most bytes that the words may allow.
 const GREATEST_LIMIT: u64 = 1_099_511_627_776;
 
+/// The most terms that the words may allow.
+const GREATEST_TERMS: u64 = 4_294_967_295;
+
 /// What a replay is asked for, as the words say it.
 #[derive(Debug, Drop)]
 pub struct ReplayOptions<'a> {
     place: Option<&'a str>,
     limit: Option<u64>,
+    terms: Option<u32>,
     export: bool,
     state: bool,
     side: bool,
@@ -26,19 +30,20 @@ pub struct ReplayOptions<'a> {
 impl<'a> Model for ReplayOptions<'a> {
     ghost use Rattle.std.specs.Prelude.{unwrap_or, ◌≤◌};
     ghost use Rattle.std.specs.Option.{option_map};
-    ghost use Rattle.words.specs.Options.{Choices, greatest_limit};
+    ghost use Rattle.words.specs.Options.{Choices, greatest_limit, greatest_terms};
 
     ghost Value = { Choices };
 
     ghost view = { λ a. record {
       place = option_map (λ p. p.now) a.place;
       limit = a.limit;
+      terms = a.terms;
       export = a.export;
       state = a.state;
       side = a.side;
     } };
 
-    ghost invariant = { λ a. unwrap_or a.limit 0 ≤ greatest_limit };
+    ghost invariant = { λ a. (unwrap_or a.limit 0 ≤ greatest_limit) × (1 ≤ unwrap_or a.terms 1) × (unwrap_or a.terms 1 ≤ greatest_terms) };
 }
 
 impl<'a> ReplayOptions<'a> {
@@ -49,6 +54,7 @@ impl<'a> ReplayOptions<'a> {
         ReplayOptions {
             place: None,
             limit: None,
+            terms: None,
             export: false,
             state: false,
             side: false,
@@ -68,6 +74,13 @@ impl<'a> ReplayOptions<'a> {
         ensures within { IsWithin self.now }
     {
         self.limit
+    }
+
+    /// The most terms, if the words say how many.
+    pub fn terms(&self) -> Option<u32>
+        ensures { result ≡ self.now.terms }
+    {
+        self.terms
     }
 
     /// Whether all triples are printed at the end.
@@ -122,7 +135,10 @@ impl<'a> ReplayOptions<'a> {
         if name == "--from" {
             return self.add_place(value);
         }
-        name == "--max-bytes" && self.add_limit(value)
+        if name == "--max-bytes" {
+            return self.add_limit(value);
+        }
+        name == "--max-terms" && self.add_terms(value)
     }
 
     // Adds the place of the revisions.
@@ -149,6 +165,20 @@ impl<'a> ReplayOptions<'a> {
         self.limit = Some(limit);
         true
     }
+
+    // Adds the most terms.
+    fn add_terms(&mut self, digits: &str) -> bool
+        ensures { IsAdded result (with_terms self.old (terms_in digits.now)) self.new }
+    {
+        let Some(terms) = read_terms(digits) else {
+            return false;
+        };
+        if self.terms.is_some() {
+            return false;
+        }
+        self.terms = Some(terms);
+        true
+    }
 }
 
 // Sets what isn't set yet, and says whether it wasn't.
@@ -165,4 +195,13 @@ pub fn read_limit(digits: &str) -> Option<u64>
     ensures within { IfSome result (λ n. n ≤ greatest_limit) }
 {
     read_number(digits, 0, GREATEST_LIMIT)
+}
+
+/// The most terms that the text says.
+pub fn read_terms(digits: &str) -> Option<u32>
+    ensures value { result ≡ terms_in digits.now }
+    ensures within { IfSome result (λ n. (1 ≤ n) × (n ≤ greatest_terms)) }
+{
+    let terms = read_number(digits, 1, GREATEST_TERMS)?;
+    Some(terms as u32)
 }

@@ -17,25 +17,37 @@ fn words(alloc: Global, text: &str) -> Result<Vec<String>, Fail> {
     Ok(list)
 }
 
-// The items of a replay, in any order and in both forms: its place, its limit, and whether each section is printed.
-const REPLAYS: &[(&str, &str, u64, [bool; 3])] = &[
-    ("replay", ".", 1_073_741_824, [false, false, false]),
+// A replay: its words, its place, its most bytes, its most terms, and whether each section is printed.
+type Row = (&'static str, &'static str, u64, u32, [bool; 3]);
+
+// The items of a replay, in any order and in both forms.
+const REPLAYS: &[Row] = &[
+    (
+        "replay",
+        ".",
+        1_073_741_824,
+        20_000_000,
+        [false, false, false],
+    ),
     (
         "replay --from=a=b --side",
         "a=b",
         1_073_741_824,
+        20_000_000,
         [false, false, true],
     ),
     (
-        "replay --max-bytes 0 --state --from x",
+        "replay --max-bytes 0 --state --from x --max-terms 1",
         "x",
         0,
+        1,
         [false, true, false],
     ),
     (
-        "replay --side --export --state --max-bytes=1099511627776",
+        "replay --max-terms=4294967295 --side --export --state --max-bytes=1099511627776",
         ".",
         1_099_511_627_776,
+        4_294_967_295,
         [true, true, true],
     ),
 ];
@@ -44,11 +56,12 @@ const REPLAYS: &[(&str, &str, u64, [bool; 3])] = &[
 fn check_replay(
     rt: &(impl Abort + AllocGlobal),
     options: &ReplayOptions<'_>,
-    (text, place, limit, sections): &(&str, &str, u64, [bool; 3]),
+    (text, place, limit, terms, sections): &Row,
 ) -> Result<(), Fail> {
     let arguments = take_arguments(rt.alloc(), options)?;
     assert_eq!(rt; arguments.place(), *place, "of {text}");
     assert_eq!(rt; arguments.limit(), *limit, "of {text}");
+    assert_eq!(rt; arguments.terms(), *terms, "of {text}");
     let found = [arguments.export(), arguments.state(), arguments.side()];
     assert_eq!(rt; found, *sections, "of {text}");
     Ok(())
@@ -84,7 +97,7 @@ fn drills(rt: HostRuntime) -> Result<(), Fail> {
 }
 
 // Words that aren't understood, a list each line: a drill without its size, with two, with a size that isn't one, with an
-// item of a replay; and a replay with the item of a drill.
+// item of a replay; a replay with the item of a drill, and with most terms that aren't a number from 1 to 4,294,967,295.
 const NOT_UNDERSTOOD: &str = "drill
 drill --size
 drill --size=
@@ -106,7 +119,19 @@ Drill --size 10
 drill --help
 replay --size 10
 replay --size=10
-replay drill --size 10";
+replay drill --size 10
+replay --max-terms
+replay --max-terms=
+replay --max-terms 0
+replay --max-terms 01
+replay --max-terms +1
+replay --max-terms -1
+replay --max-terms 4294967296
+replay --max-terms 18446744073709551617
+replay --max-terms 1 --max-terms 1
+replay --Max-terms 1
+drill --max-terms 1
+drill --size 1 --max-terms 1";
 
 #[test]
 fn words_that_are_not_understood(rt: HostRuntime) -> Result<(), Fail> {

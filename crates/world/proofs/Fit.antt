@@ -1,14 +1,19 @@
 -- What a page means has fit and short terms.
-use Rattle.std.proofs.Common.{◌≡◌, ℕ, List, [], ◌∷◌, Option, Some, None, refl, flat_map}
+use Rattle.std.proofs.Common.{◌≡◌, ℕ, ◌≤◌, Bool, true, false, cond, nat_lt, List, [], ◌∷◌, Option, Some, None, Result, Err, is_some, length, refl, sym, ◌∙◌, ap, subst, true≢false, flat_map, arith}
 use Rattle.std.specs.FinMap as map
 use Rattle.std.specs.List.{AllByRecursion}
-use Rattle.rising.specs.Rising.{sorted}
+use Rattle.std.proofs.lemmas.Bool.{ltb-false}
+use Rattle.rising.specs.Rising.{has, sorted}
+use Rattle.rising.proofs.Rising.{has-sorted}
+use Rattle.rdf_term.specs.declared.triple.Triple.{Triple}
 use Rattle.rdf_term.specs.Fit.{HasFitAndShortTerms}
-use Rattle.rdf_term.specs.Order.{triple_cmp}
+use Rattle.rdf_term.specs.Order.{triple_cmp, triple_cmp-total}
 use Rattle.entity_model.specs.declared.id.EntityId.{EntityId}
 use Rattle.entity_model.specs.declared.document.Document.{Document}
 use Rattle.entity_model.specs.Document.{IsSmall}
-use Rattle.entity_json.specs.Document.{document_of}
+use Rattle.entity_model.specs.declared.unfit.Unfit.{Unfit}
+use Rattle.entity_model.specs.declared.unfit.Unfit.TheVariants.{Large}
+use Rattle.entity_json.specs.Document.{document_of, outcome_of, page_limit, unfit_by, unfit_of}
 use Rattle.entity_json.proofs.Fitness.{document_small}
 use Rattle.entity_rdf.proofs.Direct.{direct_fit}
 use Rattle.triple_sink.specs.declared.setting.MappingVersion.TheVariants.{One}
@@ -17,6 +22,7 @@ use Rattle.entity_state.specs.declared.record.Record.{Record}
 use Rattle.munger.proofs.Fit.{flat_map_each, sorted_each}
 use Rattle.replay_model.specs.Records.{Bytes, Records}
 use Rattle.replay_model.specs.Union.{triples_at, triples_held, union}
+use Rattle.world.specs.Fetched.{IsPageOf}
 use Rattle.world.specs.Meaning.{document_triples, meaning, triples_if}
 
 -- the triples of a small document
@@ -45,3 +51,21 @@ pub union_fit : (records : Records) → AllByRecursion HasFitAndShortTerms (unio
 union_fit records =
     sorted_each HasFitAndShortTerms triple_cmp (flat_map (triples_at meaning) (map.entries records))
     (flat_map_each (λ (entry : EntityId × Record Bytes). Unit {0}) HasFitAndShortTerms (triples_at meaning) (λ entry _. held_fit entry.0 entry.1.held) (map.entries records) (anything (map.entries records)))
+
+-- a page has few bytes
+pub page_short : (x : EntityId) (bytes : List ℕ) → unfit_of x bytes ≡ None → length bytes ≤ 33554432
+unfolding outcome_of
+page_short x bytes fit = by (nat_lt page_limit (length bytes)) refl _ fit
+  where
+    by : (b : Bool) → nat_lt page_limit (length bytes) ≡ b → (found : Result Document Unfit) → unfit_by (cond b (Err Large) found) ≡ None → length bytes ≤ 33554432
+    by true large found e = absurd (true≢false (ap is_some e))
+    by false small found e = let few : length bytes ≤ 8388608 = ltb-false page_limit (length bytes) small in omega arith
+
+-- texts of the triples that the bytes mean are those of a page
+pub page_of : (x : EntityId) (rev : ℕ) (bytes other : List ℕ) (ts : List Triple) → other ≡ bytes → sorted triple_cmp ts ≡ meaning x rev bytes → AllByRecursion HasFitAndShortTerms ts → length bytes ≤ 33554432
+    → IsPageOf x rev (record { bytes = other; triples = ts })
+page_of x rev bytes other ts is meant fit short = record {
+  meant = λ t. sym (has-sorted triple_cmp-total t ts) ∙ ap (has triple_cmp t) (meant ∙ ap (meaning x rev) (sym is));
+  fit = fit;
+  short = subst (λ (b : List ℕ). length b ≤ 33554432) (sym is) short;
+}

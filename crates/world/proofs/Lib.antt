@@ -1,5 +1,11 @@
-pub mod Counting
 pub mod Entries
 pub mod Fit
+pub mod Laying
+pub mod Moving
+pub mod Owning
+pub mod Pieced
+pub mod Replacing
 mod Room
-pub mod Stored
+pub mod Rooming
+pub mod Starting
+pub mod Values

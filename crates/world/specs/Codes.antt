@@ -1,5 +1,5 @@
 -- How the values of a replay are stored, so that contracts can tell them apart.
-use Rattle.std.specs.Prelude.{ℤ, Bool, List, Option, refl}
+use Rattle.std.specs.Prelude.{ℤ, ℕ, Bool, List, Option, refl}
 use Rattle.std.specs.Coded.{Coded, code_by, coded×, coded_ℕ, coded_ℤ, coded_bool, coded_list, coded_option}
 use Rattle.std.specs.FinMap as map
 use Rattle.entity_model.specs.contracts.id.EntityId as entity_id
@@ -10,6 +10,7 @@ use Rattle.replay_model.specs.Records.{Records}
 use Rattle.replay_model.specs.Play.{Played}
 use Rattle.replay_model.specs.ReplayState.{ReplayState}
 use Rattle.reorder_buffer.specs.Buffered.{Buffered}
+use Rattle.world.specs.Roomed.{PlayedInRoom, ReplayInRoom}
 use Rattle.entity_model.specs.declared.event.Event.{Event}
 use Rattle.entity_model.specs.contracts.event.Event as event
 
@@ -28,3 +29,10 @@ buffered_code =
 -- the state of a replay
 abbrev pub state_code : Coded ReplayState
 state_code = code_by (Buffered × Played) (coded× buffered_code played_code) (λ s. (s.buffer, s.played)) (λ c. record { buffer = c.0; played = c.1 }) (λ _. refl)
+
+-- with the number of terms that there may be
+abbrev pub played_in_room_code : Coded PlayedInRoom
+played_in_room_code = code_by (Played × ℕ) (coded× played_code coded_ℕ) (λ p. (p.played, p.room)) (λ c. record { played = c.0; room = c.1 }) (λ _. refl)
+
+abbrev pub replay_in_room_code : Coded ReplayInRoom
+replay_in_room_code = code_by (ReplayState × ℕ) (coded× state_code coded_ℕ) (λ w. (w.replay, w.room)) (λ c. record { replay = c.0; room = c.1 }) (λ _. refl)

@@ -1,5 +1,10 @@
 -- What a fetch brings: a document's bytes with the triples that they mean, or why there is no document.
-use Rattle.std.specs.Prelude.{◌≡◌, ℕ, Option, None, Some, Result, Ok, Err, ⊤}
+use Rattle.std.specs.Prelude.{◌≡◌, ℕ, ◌≤◌, Option, None, Some, Result, Ok, Err, ⊤, length}
+use Rattle.std.specs.List.{AllByRecursion}
+use Rattle.rising.specs.Rising.{has}
+use Rattle.rdf_term.specs.declared.triple.Triple.{Triple}
+use Rattle.rdf_term.specs.Fit.{HasFitAndShortTerms}
+use Rattle.rdf_term.specs.Order.{triple_cmp}
 use Rattle.entity_model.specs.declared.id.EntityId.{EntityId}
 use Rattle.side_output.specs.declared.entry.Cause.{Cause}
 use Rattle.side_output.specs.declared.entry.Cause.TheVariants.{Failed}
@@ -20,9 +25,16 @@ abbrev pub reply_or_any : Option (Result Page Cause) → Result Bytes Cause
 reply_or_any None = Err Failed
 reply_or_any (Some reply) = reply_of reply
 
--- the triples are those that the bytes of this revision of x mean
+-- the triples are those that the bytes of this revision of x mean, though one may stand there twice; their terms are fit
+-- and short, and the bytes fit a block of the region
+pub record IsPageOf (x : EntityId) (rev : ℕ) (page : Page) : Type 0 where
+  pub meant : (t : Triple) → has triple_cmp t page.triples ≡ has triple_cmp t (meaning x rev page.bytes)
+  pub fit : AllByRecursion HasFitAndShortTerms page.triples
+  pub short : length page.bytes ≤ 33554432
+
+-- the same of a reply that has a page
 abbrev pub IsMeant : EntityId → ℕ → Result Page Cause → Type 0
-IsMeant x rev (Ok page) = page.triples ≡ meaning x rev page.bytes
+IsMeant x rev (Ok page) = IsPageOf x rev page
 IsMeant x rev (Err cause) = ⊤
 
 -- the same, where a fetch was made

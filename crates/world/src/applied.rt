@@ -34,6 +34,10 @@ pub enum WorldFault {
     /// No event is due.
     #[error("no event is due")]
     Nothing,
+    /// The triples of all that is held and of the page that was fetched have more terms than there is room for; the event
+    /// stays due.
+    #[error("the store is full")]
+    Full,
     /// A request for memory was refused; the event stays due.
     #[error("out of memory")]
     OutOfMemory,

@@ -1,25 +1,30 @@
 // The fetch of a revision, judged as a page of its entity.
 
-ghost use Rattle.std.specs.Prelude.{◌≡◌, ◌≤◌, None, IfErr, IfOk};
+ghost use Rattle.std.specs.Prelude.{◌≡◌, ◌≤◌, None, IfErr, IfOk, length};
+ghost use Rattle.std.specs.List.{AllByRecursion};
+ghost use Rattle.rising.specs.Rising.{sorted};
+ghost use Rattle.rdf_term.specs.Fit.{HasFitAndShortTerms};
+ghost use Rattle.rdf_term.specs.Order.{triple_cmp};
 ghost use Rattle.entity_json.specs.Document.{unfit_of};
 ghost use Rattle.revisions.specs.Revisions.{counted};
 ghost use Rattle.world.specs.Applying.{IsJudged, IsReply, IsShown, outcome_of_reply};
 ghost use Rattle.world.specs.Fetched.{IsMeant, IsWhy, reply_of};
 ghost use Rattle.world.specs.Meaning.{meaning};
 
-use crate::meaning::document_triples;
+use crate::meaning::document_texts;
 use entity_json::{DocumentFault, document};
 use entity_model::EntityId;
-use rdf_term::{List, OutOfMemory, TripleSet};
+use rdf_term::{List, OutOfMemory};
 use revisions::{NoRevision, Revisions};
 use side_output::Cause;
 use std::alloc::Global;
+use triple_texts::TripleTexts;
 
-/// A document as it was fetched: its bytes, and the triples that they mean.
+/// A document as it was fetched: its bytes, and the texts of the triples that they mean.
 #[derive(Drop)]
 pub struct Page {
     pub bytes: List<u8>,
-    pub triples: TripleSet,
+    pub triples: TripleTexts,
 }
 
 /// A document, or why there is none.
@@ -51,12 +56,12 @@ pub fn fetch<R: Revisions>(
     }
 }
 
-// Whether the bytes are a document of `id`, and its triples.
+// Whether the bytes are a document of `id`, and its triples. The document borrows the bytes, so it goes before they are moved.
 fn judge(alloc: Global, id: EntityId, rev: u64, bytes: Vec<u8>) -> Result<Reply, OutOfMemory>
     ensures judged { IfOk result (λ reply. IsJudged id bytes.items (reply_of reply)) }
     ensures meant { IfOk result (IsMeant id rev) }
 {
-    match triples_in(alloc, id, rev, bytes.as_slice()) {
+    match texts_in(alloc, id, rev, bytes.as_slice()) {
         Ok(triples) => Ok(Ok(Page {
             bytes: List::from_vec(bytes),
             triples,
@@ -66,21 +71,22 @@ fn judge(alloc: Global, id: EntityId, rev: u64, bytes: Vec<u8>) -> Result<Reply,
     }
 }
 
-// The triples of the document of `id` that the bytes are, or why they are none. The document borrows the bytes, so it goes before
-// they are moved.
-fn triples_in(
+// The triples of the document of `id` that the bytes are, or why they are none.
+fn texts_in(
     alloc: Global,
     id: EntityId,
     rev: u64,
     bytes: &[u8],
-) -> Result<TripleSet, DocumentFault>
+) -> Result<TripleTexts, DocumentFault>
     ensures document { IfOk result (λ _. unfit_of id bytes.now ≡ None) }
-    ensures meant { IfOk result (λ triples. triples ≡ meaning id rev bytes.now) }
+    ensures meant { IfOk result (λ texts. sorted triple_cmp texts ≡ meaning id rev bytes.now) }
+    ensures fit { IfOk result (AllByRecursion HasFitAndShortTerms) }
+    ensures short { IfOk result (λ _. length bytes.now ≤ 33554432) }
     ensures err { IfErr result (IsWhy id bytes.now) }
 {
     match document(alloc, id, bytes) {
-        Ok(document) => match document_triples(alloc, id, rev, &document) {
-            Ok(triples) => Ok(triples),
+        Ok(document) => match document_texts(alloc, id, rev, &document) {
+            Ok(texts) => Ok(texts),
             Err(OutOfMemory) => Err(DocumentFault::OutOfMemory),
         },
         Err(fault) => Err(fault),

@@ -1,123 +1,226 @@
 // What is kept of the entities, and the side output.
 
-ghost use Rattle.std.specs.Prelude.{◌≡◌, ◌<◌, ◌++◌, ◌∷◌, [], None, Some, IsTrue, IfOk, OnErr, OnOk, is_some};
+ghost use Rattle.std.specs.Prelude.{◌≡◌, ◌<◌, ◌≤◌, [], None, Some, Ok, Err, IsTrue, IfOk, IfSome, IsSome, OnErr, OnOk, MatchOption, is_some};
 ghost use Rattle.std.specs.FinMap as map;
 ghost use Rattle.rdf_term.specs.Order.{triple_cmp};
-ghost use Rattle.entity_state.specs.Table.{has_room};
-ghost use Rattle.replay_model.specs.Records.{record_of};
-ghost use Rattle.entity_state.specs.Record.{wants};
-ghost use Rattle.replay_model.specs.Play.{apply, entries_after, nothing_played, record_after, records_after};
 ghost use Rattle.rdf_term.specs.Pattern.{rows};
+ghost use Rattle.entity_state.specs.Standing.{standing_after, standing_of, standing_wants};
+ghost use Rattle.entity_state.specs.Table.{has_room};
+ghost use Rattle.triple_store.specs.Stored.{beside};
+ghost use Rattle.triple_store.specs.declared.fault.StoreFault.TheVariants.{Full};
+ghost use Rattle.replay_model.specs.Play.{apply, nothing_played};
+ghost use Rattle.replay_model.specs.Records.{record_of};
 ghost use Rattle.replay_model.specs.Union.{owners, union};
 ghost use Rattle.world.specs.Applying.{outcome_after};
 ghost use Rattle.world.specs.Fetched.{AreMeant, reply_or_any};
+ghost use Rattle.world.specs.Keeping.{held_with, kept_of, piece_at};
+ghost use Rattle.world.specs.Laid.{IsLaid};
 ghost use Rattle.world.specs.Meaning.{meaning};
-ghost use Rattle.world.specs.Standing.{unfetched_outcome, unless_deleted};
-ghost use Rattle.entity_state.specs.Standing.{standing_after, standing_of, standing_wants};
+ghost use Rattle.world.specs.Roomed.{Overfills, room_with, triples_of_reply};
 
 use crate::applied::Outcome;
 use crate::fetching::Reply;
-use crate::stocking::restock;
+use crate::holding::{hold, keep, settle_unfetched};
+use crate::kept::Kept;
 use entity_model::{EntityId, Event};
-use entity_state::{Held, Mode, Record, Standing, Table};
+use entity_state::{Record, Standing, Table};
 use rdf_term::{List, OutOfMemory, Pattern, Triple, TripleSet};
 use side_output::{Entry, Side};
 use std::alloc::Global;
+use std::hash::RandomState;
 use std::marker::Model;
-use triple_store::Store;
+use text_region::Region;
+use triple_store::{Store, StoreFault};
 
-/// The records of the entities, each with the bytes that it holds, the side output, and the store of the triples that
-/// these bytes mean. Contracts see the records and the side output, which the store follows.
+/// The records of the entities, the side output, the store of the triples that all held pages mean, and the region with
+/// the texts of these pages and of the store. Contracts see the records, each with the bytes that its entity holds, the
+/// side output, and how many terms there may be.
 #[derive(Drop)]
 pub struct Pages {
-    alloc: Global,
-    pub table: Table<List<u8>>,
+    region: Region,
+    table: Table<Kept>,
     pub side: Side,
     store: Store,
 }
 
 impl Model for Pages {
-    ghost use Rattle.replay_model.specs.Play.{Played};
-    ghost use Rattle.world.specs.Codes.{played_code};
-    ghost use Rattle.world.specs.Counting.{IsCounted};
+    ghost use Rattle.triple_store.specs.Stored.{limit_of};
+    ghost use Rattle.world.specs.Codes.{played_in_room_code};
+    ghost use Rattle.world.specs.InStep.{IsKept};
+    ghost use Rattle.world.specs.Keeping.{seen};
+    ghost use Rattle.world.specs.Roomed.{PlayedInRoom};
 
-    ghost Value = { Played };
+    ghost Value = { PlayedInRoom };
 
-    ghost coded = { played_code };
+    ghost coded = { played_in_room_code };
 
-    ghost view = { λ a. record { records = a.table.records; side = a.side.entries } };
+    ghost view = { λ a. record {
+      played = record { records = seen a.store a.region a.table.records; side = a.side.entries };
+      room = limit_of a.store;
+    } };
 
-    ghost invariant = { λ a. IsCounted a.store a.table.records };
+    ghost invariant = { λ a. IsKept a.store a.region a.table.records };
 }
 
 impl Pages {
-    /// No record and no entry.
-    pub fn new(alloc: Global) -> Result<Pages, OutOfMemory>
-        ensures { IfOk result (λ pages. pages ≡ nothing_played) }
+    /// No record and no entry, and room for so many terms. The store's hashes are keyed by `keys`.
+    pub fn new(alloc: Global, keys: RandomState, room: u32) -> Result<Pages, OutOfMemory>
+        ensures { IfOk result (λ pages. pages ≡ record { played = nothing_played; room = room }) }
     {
+        let region = Region::new(alloc)?;
         let table = Table::new(alloc)?;
         Ok(Pages {
-            alloc,
+            region,
             table,
             side: Side::new(alloc),
-            store: Store::new(alloc),
+            store: Store::new(alloc, keys, room),
         })
+    }
+
+    /// Sets how many terms there may be. There is no record yet.
+    pub fn set_room(&mut self, room: u32)
+        requires { map.len self.old.played.records ≡ 0 }
+        ensures { self.new ≡ record { played = self.old.played; room = room } }
+    {
+        self.store.set_limit(room);
     }
 
     /// What stands of an entity's record.
     pub fn standing(&self, id: EntityId) -> Standing
-        ensures { result ≡ standing_of (record_of self.now.records id) }
+        ensures { result ≡ standing_of (record_of self.now.played.records id) }
     {
         standing_in(&self.table, id)
     }
 
-    /// Applies an event, with the reply to its fetch where it wants one. After `OutOfMemory` nothing has changed.
-    pub fn apply(&mut self, event: Event, reply: Option<Reply>) -> Result<Outcome, OutOfMemory>
-        requires wanted { is_some reply ≡ standing_wants (standing_after (standing_of (record_of self.old.records event.entity)) event) }
-        requires meant { AreMeant event.entity (standing_after (standing_of (record_of self.old.records event.entity)) event).state.rev reply }
-        ensures applied { OnOk result (self.new ≡ apply (λ _ _. reply_or_any reply) self.old event) }
+    /// Applies an event, with the reply to its fetch where it wants one. After a fault nothing has changed.
+    pub fn apply(&mut self, event: Event, reply: Option<Reply>) -> Result<Outcome, StoreFault>
+        requires wanted { is_some reply ≡ standing_wants (standing_after (standing_of (record_of self.old.played.records event.entity)) event) }
+        requires meant { AreMeant event.entity (standing_after (standing_of (record_of self.old.played.records event.entity)) event).state.rev reply }
+        ensures applied { OnOk result (self.new.played ≡ apply (λ _ _. reply_or_any reply) self.old.played event) }
+        ensures room { self.new.room ≡ self.old.room }
         ensures outcome { IfOk result (λ outcome.
-            outcome ≡ outcome_after (record_of self.old.records event.entity) event (reply_or_any reply)) }
+            outcome ≡ outcome_after (record_of self.old.played.records event.entity) event (reply_or_any reply)) }
+        ensures full { result ≡ Err Full → Overfills self.old.played.records self.old.room event.entity
+            (standing_after (standing_of (record_of self.old.played.records event.entity)) event).state.rev (reply_or_any reply) }
+        ensures within { OnOk result (room_with self.old.played.records
+            (triples_of_reply event.entity (standing_after (standing_of (record_of self.old.played.records event.entity)) event).state.rev (reply_or_any reply)) ≤ self.old.room) }
         ensures err { OnErr result (self.new ≡ self.old) }
     {
-        make_room(&mut self.table, &mut self.side, event.entity)?;
-        let after = standing_in(&self.table, event.entity).after(&event);
-        restock(
-            self.alloc,
-            &mut self.store,
-            &self.table,
-            event,
-            after,
-            &reply,
-        )?;
-        Ok(settle(&mut self.table, &mut self.side, event, after, reply))
+        let after = self.standing(event.entity).after(&event);
+        if make_room(&mut self.table, &mut self.side, event.entity).is_err() {
+            return Err(StoreFault::OutOfMemory);
+        }
+        match reply {
+            Some(Ok(page)) => {
+                match hold(
+                    &mut self.store,
+                    &mut self.region,
+                    &mut self.table,
+                    event.entity,
+                    after,
+                    page,
+                ) {
+                    Ok(()) => Ok(Outcome::Stored),
+                    Err(refused) => Err(refused),
+                }
+            }
+            Some(Err(cause)) => {
+                keep(
+                    &self.store,
+                    &self.region,
+                    &mut self.table,
+                    event.entity,
+                    after,
+                );
+                let _ = self
+                    .side
+                    .push(Entry::Revision(event, after.state.rev, cause));
+                Ok(Outcome::Sided(cause))
+            }
+            None => Ok(settle_unfetched(
+                &mut self.store,
+                &mut self.region,
+                &mut self.table,
+                event.entity,
+                after,
+            )),
+        }
+    }
+
+    /// The revision that an entity holds, and its bytes.
+    pub fn held(&self, id: EntityId) -> Option<(u64, &[u8])>
+        ensures { MatchOption result ((record_of self.now.played.records id).held ≡ None)
+            (λ h. (record_of self.now.played.records id).held ≡ Some (record { revision = h.0; content = h.1.now })) }
+    {
+        held_in(&self.store, &self.region, &self.table, id)
+    }
+
+    /// The ids of the entities with a record, in rising order.
+    pub fn entities(&self, alloc: Global) -> Result<List<EntityId>, OutOfMemory>
+        ensures { IfOk result (λ ids. ids ≡ map.keys self.now.played.records) }
+    {
+        self.table.ids(alloc)
     }
 
     /// The triples of all that is held, in memory of their own.
     pub fn triples(&self) -> Result<TripleSet, OutOfMemory>
-        ensures { IfOk result (λ set. set ≡ union triple_cmp meaning self.now.records) }
+        ensures { IfOk result (λ set. set ≡ union triple_cmp meaning self.now.played.records) }
     {
-        self.store.all()
+        self.store.all(&self.region)
     }
 
     /// Those of them that agree with the pattern, in memory of their own.
     pub fn matches(&self, pattern: &Pattern) -> Result<TripleSet, OutOfMemory>
-        ensures { IfOk result (λ set. set ≡ rows (union triple_cmp meaning self.now.records) pattern.now) }
+        ensures { IfOk result (λ set. set ≡ rows (union triple_cmp meaning self.now.played.records) pattern.now) }
     {
-        self.store.matches(pattern)
+        self.store.matches(&self.region, pattern)
     }
 
     /// How many entities hold the triple.
-    pub fn owners(&self, triple: &Triple) -> u64
-        ensures { result ≡ owners triple_cmp meaning self.now.records triple.now }
+    pub fn owners(&self, triple: &Triple) -> Result<u64, OutOfMemory>
+        ensures { IfOk result (λ count. count ≡ owners triple_cmp meaning self.now.played.records triple.now) }
     {
-        self.store.count(triple)
+        self.store.count(&self.region, triple)
+    }
+
+    /// The region, which has the texts of the terms of all that is held, and the held pages, and nothing else.
+    pub fn region(&self) -> &Region
+        ensures { IsLaid result.now self.now.played.records }
+    {
+        &self.region
+    }
+
+    /// How many different terms the triples of all that is held have.
+    pub fn terms(&self) -> u32
+        ensures { result ≡ room_with self.now.played.records [] }
+    {
+        self.store.terms()
+    }
+}
+
+// The revision that an entity holds, and the text of its piece.
+fn held_in<'a>(
+    store: &Store,
+    region: &'a Region,
+    table: &Table<Kept>,
+    id: EntityId,
+) -> Option<(u64, &'a [u8])>
+    requires { IfSome (piece_at table.now.records id) (λ piece. IsSome (beside store.now region.now piece)) }
+    ensures { MatchOption result (held_with (beside store.now region.now) (kept_of table.now.records id).held ≡ None)
+        (λ h. held_with (beside store.now region.now) (kept_of table.now.records id).held ≡ Some (record { revision = h.0; content = h.1.now })) }
+{
+    let Some(record) = table.get(id) else {
+        return None;
+    };
+    match &record.held {
+        Some(held) => Some((held.revision, store.read(region, &held.content.piece))),
+        None => None,
     }
 }
 
 // What stands of an entity's record.
-fn standing_in(table: &Table<List<u8>>, id: EntityId) -> Standing
-    ensures { result ≡ standing_of (record_of table.now.records id) }
+fn standing_in(table: &Table<Kept>, id: EntityId) -> Standing
+    ensures { result ≡ standing_of (kept_of table.now.records id) }
 {
     match table.get(id) {
         Some(record) => Standing {
@@ -126,7 +229,7 @@ fn standing_in(table: &Table<List<u8>>, id: EntityId) -> Standing
             reconciled: record.reconciled,
         },
         None => {
-            let blank: Record<List<u8>> = Record::blank();
+            let blank: Record<Kept> = Record::blank();
             Standing {
                 state: blank.state,
                 held: None,
@@ -137,14 +240,14 @@ fn standing_in(table: &Table<List<u8>>, id: EntityId) -> Standing
 }
 
 // The number of the revision that a record holds.
-fn held_revision(entity: &Record<List<u8>>) -> Option<u64>
+fn held_revision(entity: &Record<Kept>) -> Option<u64>
     ensures { result ≡ (standing_of entity.now).held }
 {
     entity.held.as_ref().map(|held| held.revision)
 }
 
 // Makes room for a record and for an entry.
-fn make_room(table: &mut Table<List<u8>>, side: &mut Side, id: EntityId) -> Result<(), OutOfMemory>
+fn make_room(table: &mut Table<Kept>, side: &mut Side, id: EntityId) -> Result<(), OutOfMemory>
     ensures records { table.new.records ≡ table.old.records }
     ensures entries { side.new.entries ≡ side.old.entries }
     ensures record_room { OnOk result (IsTrue (has_room table.new id)) }
@@ -153,115 +256,4 @@ fn make_room(table: &mut Table<List<u8>>, side: &mut Side, id: EntityId) -> Resu
     table.make_room(id)?;
     side.make_room()?;
     Ok(())
-}
-
-// Sets the record of an event's entity and makes the entry of a fetch in vain.
-fn settle(
-    table: &mut Table<List<u8>>,
-    side: &mut Side,
-    event: Event,
-    after: Standing,
-    reply: Option<Reply>,
-) -> Outcome
-    requires record_room { IsTrue (has_room table.old event.entity) }
-    requires entry_room { 0 < side.old.free }
-    requires after { after ≡ standing_after (standing_of (record_of table.old.records event.entity)) event }
-    requires reply { is_some reply ≡ standing_wants after }
-    ensures records { table.new.records ≡ records_after (λ _ _. reply_or_any reply) table.old.records event }
-    ensures entries { side.new.entries ≡ side.old.entries
-        ++ entries_after (λ _ _. reply_or_any reply) event (record_of table.old.records event.entity) }
-    ensures outcome { result ≡ outcome_after (record_of table.old.records event.entity) event (reply_or_any reply) }
-{
-    match reply {
-        Some(Ok(page)) => {
-            hold(table, event.entity, after, page.bytes);
-            Outcome::Stored
-        }
-        Some(Err(cause)) => {
-            keep(table, event.entity, after);
-            let _ = side.push(Entry::Revision(event, after.state.rev, cause));
-            Outcome::Sided(cause)
-        }
-        None => settle_unfetched(table, event.entity, after),
-    }
-}
-
-// Sets the record where nothing was fetched.
-fn settle_unfetched(table: &mut Table<List<u8>>, id: EntityId, after: Standing) -> Outcome
-    requires { IsTrue (has_room table.old id) }
-    ensures records { table.new.records ≡ map.insert table.old.records id (record {
-      state = after.state;
-      held = unless_deleted after.state.mode (record_of table.old.records id).held;
-      reconciled = after.reconciled;
-    }) }
-    ensures outcome { result ≡ unfetched_outcome after.state.mode }
-{
-    match after.state.mode {
-        Mode::Deleted => {
-            drop_held(table, id, after);
-            Outcome::Dropped
-        }
-        Mode::Unknown | Mode::Kept => {
-            keep(table, id, after);
-            Outcome::Same
-        }
-    }
-}
-
-// Sets the record, with the bytes of its state's revision.
-fn hold(table: &mut Table<List<u8>>, id: EntityId, after: Standing, bytes: List<u8>)
-    requires { IsTrue (has_room table.old id) }
-    ensures { table.new.records ≡ map.insert table.old.records id (record {
-      state = after.state;
-      held = Some (record { revision = after.state.rev; content = bytes });
-      reconciled = after.reconciled;
-    }) }
-{
-    let held = Held {
-        revision: after.state.rev,
-        content: bytes,
-    };
-    let _ = table.put(
-        id,
-        Record {
-            state: after.state,
-            held: Some(held),
-            reconciled: after.reconciled,
-        },
-    );
-}
-
-// Sets the record, which holds nothing from now on.
-fn drop_held(table: &mut Table<List<u8>>, id: EntityId, after: Standing)
-    requires { IsTrue (has_room table.old id) }
-    ensures { table.new.records ≡ map.insert table.old.records id (record {
-      state = after.state;
-      held = None;
-      reconciled = after.reconciled;
-    }) }
-{
-    let _ = table.put(
-        id,
-        Record {
-            state: after.state,
-            held: None,
-            reconciled: after.reconciled,
-        },
-    );
-}
-
-// Sets the record, which holds what it held.
-fn keep(table: &mut Table<List<u8>>, id: EntityId, after: Standing)
-    requires { IsTrue (has_room table.old id) }
-    ensures { table.new.records ≡ map.insert table.old.records id (record {
-      state = after.state;
-      held = (record_of table.old.records id).held;
-      reconciled = after.reconciled;
-    }) }
-{
-    if table.get(id).is_some() {
-        table.set_state(id, after.state, after.reconciled);
-    } else {
-        drop_held(table, id, after);
-    }
 }

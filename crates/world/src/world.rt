@@ -1,6 +1,6 @@
 // The state of a replay.
 
-ghost use Rattle.std.specs.Prelude.{◌≡◌, ◌↔◌, ◌⊎◌, ◌<◌, ◌≤◌, ◌++◌, ℕ, false, None, Some, length, slice_get, is_some, IfSome, MatchOption, if◌then◌else◌, IfOk, IfErr, OnErr, OnOk, IsErrOf};
+ghost use Rattle.std.specs.Prelude.{◌≡◌, ◌≢◌, ◌↔◌, ◌⊎◌, ◌<◌, ◌≤◌, ◌++◌, [], ℕ, false, None, Some, length, slice_get, is_some, IfSome, MatchOption, if◌then◌else◌, IfOk, IfErr, OnErr, OnOk, IsErrOf};
 ghost use Rattle.std.specs.Option.{option_copied};
 ghost use Rattle.std.specs.FinMap as map;
 ghost use Rattle.std.specs.List.{AllByRecursion};
@@ -12,13 +12,16 @@ ghost use Rattle.replay_model.specs.Entries.{HoldsUnlessOpen, is_open_in};
 ghost use Rattle.replay_model.specs.Records.{record_of};
 ghost use Rattle.replay_model.specs.ReplayState.{after_end, after_event, after_mark, nothing_delivered, taken_entries};
 ghost use Rattle.rdf_term.specs.Pattern.{rows};
-ghost use Rattle.replay_model.specs.Union.{owners, union};
+ghost use Rattle.replay_model.specs.Union.{owners, triples_held, union};
 ghost use Rattle.world.specs.Applying.{Applies, IsReply, IsShown, calls_after, outcome_of_reply};
 ghost use Rattle.entity_state.specs.Standing.{standing_after, standing_of, standing_wants};
 ghost use Rattle.entity_state.specs.State.{state_after};
 ghost use Rattle.world.specs.Fetched.{AreMeant, reply_of, reply_or_any};
+ghost use Rattle.world.specs.Laid.{IsLaid};
 ghost use Rattle.world.specs.Meaning.{meaning};
-ghost use Rattle.world.specs.declared.applied.WorldFault.TheVariants.{Nothing as NothingDue, OutOfMemory as Refused};
+ghost use Rattle.world.specs.Roomed.{IsOverfull, room_with};
+ghost use Rattle.world.specs.declared.applied.Outcome.TheVariants.{Stored};
+ghost use Rattle.world.specs.declared.applied.WorldFault.TheVariants.{Full, Nothing as NothingDue};
 
 use crate::applied::{Applied, WorldFault};
 use crate::fetching::{Reply, fetch};
@@ -30,10 +33,17 @@ use reorder_buffer::{Buffer, Taken};
 use revisions::Revisions;
 use side_output::{Entry, Side, is_open};
 use std::alloc::Global;
+use std::hash::RandomState;
 use std::marker::Model;
+use text_region::Region;
+use triple_store::StoreFault;
+
+// For how many terms there is room, unless it is set otherwise.
+const ROOM: u32 = 20_000_000;
 
 /// The events that wait, what is kept of each entity, the side output, and the triples that all held pages mean, each with
-/// the number of its owners. Contracts see the state of a replay, which the triples follow.
+/// the number of its owners. Contracts see the state of a replay, which the triples follow, and for how many terms there is
+/// room.
 #[derive(Drop)]
 pub struct World {
     alloc: Global,
@@ -43,25 +53,25 @@ pub struct World {
 
 impl Model for World {
     ghost use Rattle.replay_model.specs.Entries.{HoldsUnlessOpen};
-    ghost use Rattle.replay_model.specs.ReplayState.{ReplayState};
-    ghost use Rattle.world.specs.Codes.{state_code};
+    ghost use Rattle.world.specs.Codes.{replay_in_room_code};
+    ghost use Rattle.world.specs.Roomed.{ReplayInRoom};
 
-    ghost Value = { ReplayState };
+    ghost Value = { ReplayInRoom };
 
-    ghost coded = { state_code };
+    ghost coded = { replay_in_room_code };
 
-    ghost view = { λ a. record { buffer = a.buffer; played = a.pages } };
+    ghost view = { λ a. record { replay = record { buffer = a.buffer; played = a.pages.played }; room = a.pages.room } };
 
-    ghost invariant = { λ a. HoldsUnlessOpen a.pages };
+    ghost invariant = { λ a. HoldsUnlessOpen a.pages.played };
 }
 
 impl World {
-    /// The world before the first delivery.
-    pub fn new(alloc: Global) -> Result<World, OutOfMemory>
-        ensures { IfOk result (λ world. world ≡ nothing_delivered) }
+    /// The world before the first delivery, with room for 20,000,000 terms. The hashes of its terms are keyed by `keys`.
+    pub fn new(alloc: Global, keys: RandomState) -> Result<World, OutOfMemory>
+        ensures { IfOk result (λ world. world ≡ record { replay = nothing_delivered; room = 20000000 }) }
     {
         let buffer = Buffer::new(alloc)?;
-        let pages = Pages::new(alloc)?;
+        let pages = Pages::new(alloc, keys, ROOM)?;
         Ok(World {
             alloc,
             buffer,
@@ -69,12 +79,21 @@ impl World {
         })
     }
 
+    /// Sets for how many terms there is room. No event was applied yet.
+    pub fn set_room(&mut self, terms: u32)
+        requires { map.len self.old.replay.played.records ≡ 0 }
+        ensures { self.new ≡ record { replay = self.old.replay; room = terms } }
+    {
+        self.pages.set_room(terms);
+    }
+
     /// Takes an event: one that was taken before changes nothing, one whose time the watermark has reached is named in
     /// the side output, and any other waits. After `OutOfMemory` nothing has changed.
     pub fn take(&mut self, event: Event) -> Result<Taken, OutOfMemory>
-        requires { self.old.buffer.closed ≡ false }
-        ensures answer { IfOk result (λ taken. taken ≡ answer_to self.old.buffer event) }
-        ensures ok { OnOk result (self.new ≡ after_event self.old event) }
+        requires { self.old.replay.buffer.closed ≡ false }
+        ensures answer { IfOk result (λ taken. taken ≡ answer_to self.old.replay.buffer event) }
+        ensures ok { OnOk result (self.new.replay ≡ after_event self.old.replay event) }
+        ensures room { self.new.room ≡ self.old.room }
         ensures err { OnErr result (self.new ≡ self.old) }
     {
         take_event(&mut self.buffer, &mut self.pages.side, event)
@@ -82,43 +101,49 @@ impl World {
 
     /// Takes a watermark, in microseconds since 1970-01-01T00:00:00Z: events up to its time are due from now on.
     pub fn raise(&mut self, mark: i64)
-        ensures { self.new ≡ after_mark self.old mark }
+        ensures { self.new ≡ record { replay = after_mark self.old.replay mark; room = self.old.room } }
     {
         self.buffer.raise(mark);
     }
 
     /// Takes the end of the input, which makes every waiting event due.
     pub fn close(&mut self)
-        ensures { self.new ≡ after_end self.old }
+        ensures { self.new ≡ record { replay = after_end self.old.replay; room = self.old.room } }
     {
         self.buffer.close();
     }
 
     /// The number of waiting events.
     pub fn pending(&self) -> usize
-        ensures { result ≡ length self.now.buffer.waiting }
+        ensures { result ≡ length self.now.replay.buffer.waiting }
     {
         self.buffer.pending()
     }
 
     /// Applies the least due event: its entity's state is set, and where the new state is of a page that is there at a
     /// revision that isn't held, this revision is fetched once. After a fault nothing has changed, but that a fetch may
-    /// have been made.
+    /// have been made. `Full` is said exactly where its triples, with those of all that is held, have more terms than there
+    /// is room for.
     pub fn apply_next<R: Revisions>(
         &mut self,
         revisions: &mut R,
         place: &str,
     ) -> Result<Applied, WorldFault>
-        ensures applied { IfOk result (λ applied. Applies (R.contents revisions.old) place.now self.old self.new applied) }
+        ensures applied { IfOk result (λ applied. Applies (R.contents revisions.old) place.now self.old.replay self.new.replay applied) }
+        ensures room { self.new.room ≡ self.old.room }
+        ensures within { IfOk result (λ applied. applied.outcome ≡ Stored → room_with self.old.replay.played.records
+            (triples_held meaning applied.event.entity (record_of self.new.replay.played.records applied.event.entity).held) ≤ self.old.room) }
+        ensures full { IsErrOf result Full → IsOverfull (R.contents revisions.old) place.now self.old }
         ensures err { OnErr result (self.new ≡ self.old) }
-        ensures nothing { IsErrOf result NothingDue ↔ (first_due self.old.buffer ≡ None) }
+        ensures nothing { IsErrOf result NothingDue ↔ (first_due self.old.replay.buffer ≡ None) }
 
         ensures told { R.contents revisions.new ≡ R.contents revisions.old }
         ensures shown { IfOk result (λ applied. IsShown applied.outcome
             (R.misses revisions.old) (R.misses revisions.new) (R.faults revisions.old) (R.faults revisions.new)) }
         ensures calls { IfOk result (λ applied. R.calls revisions.new ≡ calls_after applied.outcome (R.calls revisions.old)) }
         ensures calls_at_fault { IfErr result (λ fault. (R.calls revisions.new ≡ R.calls revisions.old)
-            ⊎ ((fault ≡ Refused) × (R.calls revisions.new ≡ counted (R.calls revisions.old)))) }
+            ⊎ ((fault ≢ NothingDue) × (R.calls revisions.new ≡ counted (R.calls revisions.old)))) }
+        ensures calls_at_full { IsErrOf result Full → R.calls revisions.new ≡ counted (R.calls revisions.old) }
         ensures more_faults { R.faults revisions.old ≤ R.faults revisions.new }
         ensures more_misses { R.misses revisions.old ≤ R.misses revisions.new }
     {
@@ -126,15 +151,20 @@ impl World {
             return Err(WorldFault::Nothing);
         };
         let reply = self.reply(revisions, place, &event)?;
-        let outcome = self.pages.apply(event, reply)?;
-        self.buffer.drop_least();
-        Ok(Applied { event, outcome })
+        match self.pages.apply(event, reply) {
+            Ok(outcome) => {
+                self.buffer.drop_least();
+                Ok(Applied { event, outcome })
+            }
+            Err(StoreFault::Full) => Err(WorldFault::Full),
+            Err(StoreFault::OutOfMemory) => Err(WorldFault::OutOfMemory),
+        }
     }
 
     /// The triples of all that is held. Their terms are fit and short.
     #[tactic(auto, using(crate::proofs::Fit::union_fit))]
     pub fn export(&self) -> Result<TripleSet, OutOfMemory>
-        ensures value { IfOk result (λ set. set ≡ union triple_cmp meaning self.now.played.records) }
+        ensures value { IfOk result (λ set. set ≡ union triple_cmp meaning self.now.replay.played.records) }
         ensures fit { IfOk result (AllByRecursion HasFitAndShortTerms) }
     {
         self.pages.triples()
@@ -142,28 +172,42 @@ impl World {
 
     /// The stored triples that agree with the pattern, in order, in memory of their own.
     pub fn matches(&self, pattern: &Pattern) -> Result<TripleSet, OutOfMemory>
-        ensures { IfOk result (λ set. set ≡ rows (union triple_cmp meaning self.now.played.records) pattern.now) }
+        ensures { IfOk result (λ set. set ≡ rows (union triple_cmp meaning self.now.replay.played.records) pattern.now) }
     {
         self.pages.matches(pattern)
     }
 
     /// How many entities hold the triple.
-    pub fn owners(&self, triple: &Triple) -> u64
-        ensures { result ≡ owners triple_cmp meaning self.now.played.records triple.now }
+    pub fn owners(&self, triple: &Triple) -> Result<u64, OutOfMemory>
+        ensures { IfOk result (λ count. count ≡ owners triple_cmp meaning self.now.replay.played.records triple.now) }
     {
         self.pages.owners(triple)
     }
 
+    /// The region, which has the texts of the terms of all that is held, each once, and the held pages, and nothing else.
+    pub fn region(&self) -> &Region
+        ensures { IsLaid result.now self.now.replay.played.records }
+    {
+        self.pages.region()
+    }
+
+    /// How many different terms the triples of all that is held have.
+    pub fn terms(&self) -> u32
+        ensures { result ≡ room_with self.now.replay.played.records [] }
+    {
+        self.pages.terms()
+    }
+
     /// The ids of the entities with a record, in rising order.
     pub fn entities(&self) -> Result<List<EntityId>, OutOfMemory>
-        ensures { IfOk result (λ ids. ids ≡ map.keys self.now.played.records) }
+        ensures { IfOk result (λ ids. ids ≡ map.keys self.now.replay.played.records) }
     {
-        self.pages.table.ids(self.alloc)
+        self.pages.entities(self.alloc)
     }
 
     /// The state of an entity; Unknown with revision 0 where it has no record.
     pub fn state(&self, id: EntityId) -> State
-        ensures { result ≡ (record_of self.now.played.records id).state }
+        ensures { result ≡ (record_of self.now.replay.played.records id).state }
     {
         self.pages.standing(id).state
     }
@@ -171,32 +215,31 @@ impl World {
     /// The revision that an entity holds, and its bytes. An entity holds what its state wants exactly where no revision entry
     /// of it is open, and nothing of a page that isn't kept.
     pub fn held(&self, id: EntityId) -> Option<(u64, &[u8])>
-        ensures unless_open { HoldsUnlessOpen self.now.played }
-        ensures value { MatchOption result ((record_of self.now.played.records id).held ≡ None)
-            (λ h. (record_of self.now.played.records id).held ≡ Some (record { revision = h.0; content = h.1.now })) }
+        ensures unless_open { HoldsUnlessOpen self.now.replay.played }
+        ensures value { MatchOption result ((record_of self.now.replay.played.records id).held ≡ None)
+            (λ h. (record_of self.now.replay.played.records id).held ≡ Some (record { revision = h.0; content = h.1.now })) }
     {
-        let held = self.pages.table.get(id)?.held.as_ref()?;
-        Some((held.revision, held.content.as_slice()))
+        self.pages.held(id)
     }
 
     /// The number of entries of the side output.
     pub fn side_len(&self) -> usize
-        ensures { result ≡ length self.now.played.side }
+        ensures { result ≡ length self.now.replay.played.side }
     {
         self.pages.side.len()
     }
 
     /// The entry of the side output at a place from 0.
     pub fn side(&self, place: usize) -> Option<&Entry>
-        ensures { option_copied result ≡ slice_get self.now.played.side place }
+        ensures { option_copied result ≡ slice_get self.now.replay.played.side place }
     {
         self.pages.side.get(place)
     }
 
     /// Whether the entry of the side output at a place from 0 is open.
     pub fn side_open(&self, place: usize) -> bool
-        requires { place < length self.now.played.side }
-        ensures { IfSome (slice_get self.now.played.side place) (λ entry. result ≡ is_open_in self.now.played.records entry) }
+        requires { place < length self.now.replay.played.side }
+        ensures { IfSome (slice_get self.now.replay.played.side place) (λ entry. result ≡ is_open_in self.now.replay.played.records entry) }
     {
         match self.side(place) {
             Some(entry) => self.is_open(entry),
@@ -206,7 +249,7 @@ impl World {
 
     // Whether an entry is open, by the record of its entity.
     fn is_open(&self, entry: &Entry) -> bool
-        ensures { result ≡ is_open_in self.now.played.records entry.now }
+        ensures { result ≡ is_open_in self.now.replay.played.records entry.now }
     {
         let standing = self.pages.standing(entry.entity());
         is_open(entry, standing.state, standing.held, standing.reconciled)
@@ -220,11 +263,11 @@ impl World {
         event: &Event,
     ) -> Result<Option<Reply>, OutOfMemory>
         ensures wanted { IfOk result (λ reply. is_some reply
-            ≡ standing_wants (standing_after (standing_of (record_of self.now.played.records event.now.entity)) event.now)) }
+            ≡ standing_wants (standing_after (standing_of (record_of self.now.replay.played.records event.now.entity)) event.now)) }
         ensures reply { IfOk result (λ reply. IsReply (R.contents revisions.old) place.now event.now.entity
-            (state_after (record_of self.now.played.records event.now.entity).state event.now).rev (reply_or_any reply)) }
+            (state_after (record_of self.now.replay.played.records event.now.entity).state event.now).rev (reply_or_any reply)) }
         ensures meant { IfOk result (AreMeant event.now.entity
-            (standing_after (standing_of (record_of self.now.played.records event.now.entity)) event.now).state.rev) }
+            (standing_after (standing_of (record_of self.now.replay.played.records event.now.entity)) event.now).state.rev) }
         ensures told { R.contents revisions.new ≡ R.contents revisions.old }
         ensures shown { IfOk result (λ reply. IfSome reply (λ r. IsShown (outcome_of_reply (reply_of r))
             (R.misses revisions.old) (R.misses revisions.new) (R.faults revisions.old) (R.faults revisions.new))) }

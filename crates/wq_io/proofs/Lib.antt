@@ -5,3 +5,4 @@ pub mod Taken
 pub mod NextLine
 pub mod LineLists
 pub mod Refusals
+pub mod NeededReads

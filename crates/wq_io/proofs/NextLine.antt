@@ -2,14 +2,16 @@
 use Rattle.std.proofs.Common.{refl, sym, ◌∙◌, ap, ◌≡◌, ◌↔◌, ℕ, ◌+◌, ◌<◌, ◌≤◌, Bool, true, false, List, [], ◌∷◌, Option, Some, None, IfSome, IsNone, ◌++◌, length, arith, append_assoc, length-append}
 use Rattle.std.proofs.lemmas.List.{take-append-le, append-nil}
 use Rattle.wq_io.specs.Streams.{before_known, IsAtEnd}
-use Rattle.wq_io.specs.Lines.{Reading, IsSound, IsOneLine, IsLineLong, GivesLine, HasCause, TakesBytes, line_feed, lines, lines_of, before_lines, longest_line, unread, room}
-use Rattle.wq_io.specs.Taking.{IsOverLong, IsRefusedLine}
+use Rattle.wq_io.specs.Lines.{Reading, IsSound, IsOneLine, IsLineLong, GivesLine, HasCause, ReadsAsNeeded, TakesBytes, line_feed, lines, lines_of, before_lines, longest_line, unread, room}
+use Rattle.wq_io.specs.Taking.{HasByte, IsOverLong, IsRefusedLine, ReadsByNeed, Takes}
 use Rattle.wq_io.specs.declared.lines.LineFault.{LineFault}
 use Rattle.wq_io.specs.declared.lines.LineFault.TheVariants.{ReadFault, TooLong, LineLong, OutOfMemory}
+use Rattle.wq_io.proofs.NeededReads.{HasRead, read_more, reads_as_needed, went_by}
 use Rattle.wq_io.proofs.LineLists.{lines-line, lines-last, one_line-append, one_line-take}
 
 -- the line so far was taken from the front of what was unread, and it is one line that isn't too long
-pub record Going (start now : Reading) (left_start left : Option (List ℕ)) (line : List ℕ) (faults_start faults : ℕ) : Type 0 where
+pub record Going (start now : Reading) (left_start left : Option (List ℕ)) (line : List ℕ) (faults_start faults : ℕ)
+    (most_start most : Option ℕ) : Type 0 where
   pub front : unread start left_start ≡ before_known line (unread now left)
   pub in_line : IsOneLine line
   pub short : length line ≤ longest_line
@@ -19,12 +21,14 @@ pub record Going (start now : Reading) (left_start left : Option (List ℕ)) (li
   pub ended : now.ended ≡ true → IsAtEnd left
   pub still : start.ended ≡ true → now.ended ≡ true
   pub later : faults_start ≤ faults
+  pub reads : HasRead start now left_start left line
+  pub told_most : most ≡ most_start
 
 nothing_before : (line : List ℕ) (left : Option (List ℕ)) → before_known line (before_known [] left) ≡ before_known line left
 nothing_before line None = refl
 nothing_before line (Some xs) = refl
 
-not_true : (old new : Bool) → (old ≡ true → new ≡ true) → new ≡ false → old ≡ false
+pub not_true : (old new : Bool) → (old ≡ true → new ≡ true) → new ≡ false → old ≡ false
 not_true true new still is = sym (still refl) ∙ is
 not_true false new still is = refl
 
@@ -115,3 +119,79 @@ cause_of TooLong start now left_start left line before after front in_line short
 cause_of (LineLong number) start now left_start left line before after front in_line short consumed limit given cause =
     (cause.0 ∙ ap (λ n. n + 1) given, over_long (unread start left_start) left line start now front in_line short consumed limit cause.1)
 cause_of OutOfMemory start now left_start left line before after front in_line short consumed limit given cause = tt
+
+-- the reads of a call with one more, which may have been needed
+pub going_reads : (start now next : Reading) (left_start left left_next : Option (List ℕ)) (line : List ℕ) (faults_start faults : ℕ) (most_start most : Option ℕ) →
+    Going start now left_start left line faults_start faults most_start most → ReadsByNeed now next left left_next →
+    HasRead start next left_start left_next line
+going_reads start now next left_start left left_next line faults_start faults most_start most going by_need =
+    let consumed : now.consumed ≡ start.consumed + length line = ap (λ (r : Reading). r.consumed) going.others in
+    let limit : now.max_bytes ≡ start.max_bytes = ap (λ (r : Reading). r.max_bytes) going.others in
+    let within : length line ≤ room start = omega (arith, consumed, limit, going.sound.within) in
+    read_more start now next left_start left left_next line going.reads going.in_line going.short within (not_true start.ended now.ended going.still) by_need
+
+-- the call ends after it
+pub going_stops : (start now next : Reading) (left_start left left_next : Option (List ℕ)) (line : List ℕ) (faults_start faults : ℕ) (most_start most : Option ℕ) →
+    Going start now left_start left line faults_start faults most_start most → ReadsByNeed now next left left_next →
+    next ≡ record now { held = next.held; ended = next.ended } → IsSound next → ReadsAsNeeded start next left_start left_next
+going_stops start now next left_start left left_next line faults_start faults most_start most going by_need others sound =
+    let consumed : next.consumed ≡ start.consumed + length line = ap (λ (r : Reading). r.consumed) others ∙ ap (λ (r : Reading). r.consumed) going.others in
+    let limit : next.max_bytes ≡ start.max_bytes = ap (λ (r : Reading). r.max_bytes) others ∙ ap (λ (r : Reading). r.max_bytes) going.others in
+    reads_as_needed start next left_start left_next line (going_reads start now next left_start left left_next line faults_start faults most_start most going by_need) consumed limit sound
+
+-- the call ends with a line
+pub going_gives : (start now next after : Reading) (left_start left left_next : Option (List ℕ)) (line line_now : List ℕ) (faults_start faults : ℕ) (most_start most : Option ℕ) →
+    Going start now left_start left line faults_start faults most_start most → ReadsByNeed now next left left_next →
+    next ≡ record now { held = next.held; ended = next.ended } → Takes next after line line_now true → ReadsAsNeeded start after left_start left_next
+going_gives start now next after left_start left left_next line line_now faults_start faults most_start most going by_need others takes =
+    let gone : List ℕ = takes.moved ++ line_feed ∷ [] in
+    let read = going_reads start now next left_start left left_next line faults_start faults most_start most going by_need in
+    let held : next.held ≡ gone ++ after.held = takes.held ∙ sym (append_assoc takes.moved (line_feed ∷ []) after.held) in
+    let long : length (line ++ gone) ≡ length line + length gone = length-append line gone in
+    let longer : length gone ≡ length takes.moved + 1 = length-append takes.moved (line_feed ∷ []) in
+    let before : next.consumed ≡ start.consumed + length line = ap (λ (r : Reading). r.consumed) others ∙ ap (λ (r : Reading). r.consumed) going.others in
+    let consumed : after.consumed ≡ start.consumed + length (line ++ gone) = omega (arith, takes.consumed, before, long, longer) in
+    let limit : after.max_bytes ≡ start.max_bytes = ap (λ (r : Reading). r.max_bytes) takes.others ∙ ap (λ (r : Reading). r.max_bytes) others ∙ ap (λ (r : Reading). r.max_bytes) going.others in
+    reads_as_needed start after left_start left_next (line ++ gone) (went_by start next after left_start left_next line gone read held) consumed limit takes.sound
+
+-- a line that is counted takes nothing
+pub line_counted : (start after : Reading) (left_start left : Option (List ℕ)) (number : ℕ) → ReadsAsNeeded start after left_start left →
+    IsSound (record after { given = number }) → ReadsAsNeeded start (record after { given = number }) left_start left
+line_counted start after left_start left number reads sound = record {
+  before = reads.before;
+  last = reads.last;
+  told = reads.told;
+  counted = reads.counted;
+  needed = reads.needed;
+  going = reads.going;
+  piece = reads.piece;
+  limit = reads.limit;
+  sound = sound;
+}
+
+-- the call goes on with more of the line
+pub going_on : (start now next after : Reading) (left_start left left_next : Option (List ℕ)) (line line_now : List ℕ) (faults_start faults faults_next : ℕ)
+    (most_start most most_next : Option ℕ) → Going start now left_start left line faults_start faults most_start most → HasByte now next left left_next →
+    ReadsByNeed now next left left_next → Takes next after line line_now false → faults ≤ faults_next → most_next ≡ most →
+    Going start after left_start left_next line_now faults_start faults_next most_start most_next
+going_on start now next after left_start left left_next line line_now faults_start faults faults_next most_start most most_next going has by_need takes later same =
+    let read = going_reads start now next left_start left left_next line faults_start faults most_start most going by_need in
+    let moved : List ℕ = takes.moved in
+    let ended : after.ended ≡ next.ended = ap (λ (r : Reading). r.ended) takes.others in
+    let before : next.consumed ≡ start.consumed + length line = ap (λ (r : Reading). r.consumed) has.others ∙ ap (λ (r : Reading). r.consumed) going.others in
+    let long : length line_now ≡ length line + length moved = ap length takes.line ∙ length-append line moved in
+    let consumed : after.consumed ≡ start.consumed + length line_now = omega (arith, takes.consumed, before, long) in
+    let front = going.front ∙ ap (λ (u : Option (List ℕ)). before_known line u) (sym has.same) in
+    record {
+      front = rw takes.line (moved_behind (unread start left_start) left_next line moved next.held after.held front takes.held);
+      in_line = rw takes.line (one_line-append line moved going.in_line takes.in_line);
+      short = takes.short;
+      others = cc;
+      sound = takes.sound;
+      counted = going.counted;
+      ended = λ is. has.ended (sym ended ∙ is);
+      still = λ is. ended ∙ has.still (going.still is);
+      later = omega arith;
+      reads = rw takes.line (went_by start next after left_start left_next line moved read takes.held);
+      told_most = same ∙ going.told_most;
+    }

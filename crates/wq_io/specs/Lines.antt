@@ -14,6 +14,10 @@ line_feed = 10
 abbrev pub longest_line : ℕ
 longest_line = 65536
 
+-- the most bytes that one read asks for
+abbrev pub longest_read : ℕ
+longest_read = 4096
+
 -- the bytes have no line feed
 abbrev pub IsOneLine : List ℕ → Type 0
 IsOneLine bytes = list_any (λ b. b == line_feed) bytes ≡ false
@@ -89,6 +93,27 @@ unread r left = before_known r.held left
 abbrev pub input_length : Reading → Option (List ℕ) → Option ℕ
 input_length r left = option_map (λ bytes. r.consumed + length bytes) (unread r left)
 
+-- bytes that decide neither a line nor a fault: they have no line feed, lie within the limit, and are no more than a line may
+-- have
+pub record IsUndecided (room : ℕ) (bytes : List ℕ) : Type 0 where
+  pub in_line : IsOneLine bytes
+  pub within : length bytes ≤ room
+  pub short : length bytes ≤ longest_line
+
+-- what a call took of the source, whatever it answers: the last read gave `last`, and the reads before it gave `before`. The last
+-- read was made while all bytes that were held or read decided nothing, and the end of the source wasn't seen; what was taken is
+-- counted, and is at most one byte past the limit
+pub record ReadsAsNeeded (old new : Reading) (left left_now : Option (List ℕ)) : Type 0 where
+  pub before : List ℕ
+  pub last : List ℕ
+  pub told : left ≡ before_known (before ++ last) left_now
+  pub counted : taken new ≡ taken old + length (before ++ last)
+  pub needed : 0 < length (before ++ last) → IsUndecided (room old) (old.held ++ before)
+  pub going : 0 < length (before ++ last) → old.ended ≡ false
+  pub piece : length last ≤ longest_read
+  pub limit : new.max_bytes ≡ old.max_bytes
+  pub sound : IsSound new
+
 -- the next line was given, or there was none
 abbrev pub GivesLine : Option (List ℕ) → Option (List ℕ) → Option ℕ → List ℕ → Type 0
 GivesLine old new number line =
@@ -123,12 +148,14 @@ HasCause TooLong old left before now = IfSome (unread old left) (IsTooLong (room
 HasCause (LineLong number) old left before now = (number ≡ old.given + 1) × IfSome (unread old left) (IsLineLong (room old))
 HasCause OutOfMemory old left before now = ⊤
 
--- a read failed within a line: what was taken of it has no line feed and lies within the limit, and the rest is left
+-- a read failed within a line: what was taken of it has no line feed, lies within the limit and is no more than a line may have,
+-- and the rest is left
 pub record StopsInLine (old : Reading) (left left_now : Option (List ℕ)) : Type 0 where
   pub part : List ℕ
   pub front : unread old left ≡ before_known part left_now
   pub in_line : IsOneLine part
   pub within : length part ≤ room old
+  pub short : length part ≤ longest_line
   pub going : old.ended ≡ false
 
 -- what a fault leaves of the source: a read that failed stands before the first byte that wasn't taken

@@ -1,5 +1,5 @@
 -- What a read takes and a write puts, where the bytes are told, and what it is that a count rose.
-use Rattle.std.specs.Prelude.{◌≡◌, ℕ, ◌+◌, ◌-◌, ◌^◌, ◌≤◌, List, [], ◌++◌, take, min, Option, Result, IfSome, MatchResult}
+use Rattle.std.specs.Prelude.{◌≡◌, ℕ, ◌+◌, ◌-◌, ◌^◌, ◌≤◌, List, [], ◌++◌, take, max, min, Option, Result, IfSome, MatchResult}
 use Rattle.std.specs.Option.{option_map}
 
 -- the bytes, and then the ones that are told
@@ -23,6 +23,10 @@ ReadTakes old new outcome buffer =
 -- a write that took n bytes put the first n bytes at the end; one that failed put none
 abbrev pub WritePuts : {E : Type 0} → Option (List ℕ) → Option (List ℕ) → Result ℕ E → List ℕ → Type 0
 WritePuts old new outcome bytes = MatchResult outcome (λ n. new ≡ after_known old (take n bytes)) (λ _. new ≡ old)
+
+-- a count in 64 bits after one more: it stays at its last value, and never falls
+abbrev pub counted : ℕ → ℕ
+counted n = max n (min (n + 1) (2 ^ 64 - 1))
 
 -- a count of 64 bits rose: it is greater than before, or stands at its last value
 abbrev pub Rose : ℕ → ℕ → Type 0

@@ -2,8 +2,8 @@
 
 ghost use Rattle.std.specs.Prelude.{◌≡◌, ◌+◌, ◌<◌, ◌≤◌, ◌^◌, ◌↔◌, true, false, [], ◌∷◌, ◌++◌, length, take, drop, IsTrue, IfOk, IfErr, IfSome, OnOk, IsErr, is_err, MatchOption, MatchBool, vec_len, position, ◌==◌, ◌≢◌, IsNone, ◌⊎◌};
 ghost use Rattle.wq_io.specs.Streams.{before_known, IsAtEnd, Rose};
-ghost use Rattle.wq_io.specs.Lines.{fresh, taken, room, unread, input_length, GivesLine, GoesOn, HasCause, IsOneLine, IsSound, Leaves, TakesBytes, line_feed, longest_line};
-ghost use Rattle.wq_io.specs.Taking.{EndsAt, HasByte, IsEnded, IsRefusedLine, IsUnreadable, Takes};
+ghost use Rattle.wq_io.specs.Lines.{fresh, taken, room, unread, input_length, GivesLine, GoesOn, HasCause, IsOneLine, IsSound, Leaves, ReadsAsNeeded, TakesBytes, line_feed, longest_line};
+ghost use Rattle.wq_io.specs.Taking.{EndsAt, HasByte, IsEnded, IsRefusedLine, IsUnreadable, ReadsByNeed, Takes};
 ghost use Rattle.wq_io.specs.declared.lines.LineFault.TheVariants.{ReadFault as NotRead, LineLong as OverLong, OutOfMemory as Refused};
 
 use crate::source::Source;
@@ -115,6 +115,8 @@ impl Lines {
         ensures cause { IfErr result (λ fault.
             HasCause fault self.old (S.left source.old) (S.faults source.old) (S.faults source.new)) }
         ensures leaves { IfErr result (λ fault. Leaves fault self.old (S.left source.old) (S.left source.new)) }
+        ensures reads { ReadsAsNeeded self.old self.new (S.left source.old) (S.left source.new) }
+        ensures most { S.most_faults source.new ≡ S.most_faults source.old }
         ensures refused { IsErr result → self.new.failed ≡ true }
     {
         let outcome = self.next_line(source, line);
@@ -151,6 +153,8 @@ impl Lines {
         ensures cause { IfErr result (λ fault.
             HasCause fault self.old (S.left source.old) (S.faults source.old) (S.faults source.new)) }
         ensures leaves { IfErr result (λ fault. Leaves fault self.old (S.left source.old) (S.left source.new)) }
+        ensures reads { ReadsAsNeeded self.old self.new (S.left source.old) (S.left source.new) }
+        ensures most { S.most_faults source.new ≡ S.most_faults source.old }
     {
         let _ = &self.given;
         line.clear();
@@ -191,6 +195,10 @@ impl Lines {
         ensures later { S.faults source.old ≤ S.faults source.new }
         ensures cause { IfErr result (λ fault. (fault ≡ NotRead) × Rose (S.faults source.old) (S.faults source.new)) }
         ensures leaves { IsErr result → IsUnreadable self.old (S.left source.old) (S.left source.new) }
+        ensures by_need { ReadsByNeed self.old self.new (S.left source.old) (S.left source.new) }
+        ensures others { self.new ≡ record self.old { held = self.new.held; ended = self.new.ended } }
+        ensures sound { IsSound self.new }
+        ensures most { S.most_faults source.new ≡ S.most_faults source.old }
     {
         if self.is_empty() {
             return self.has_more(source);
@@ -208,6 +216,10 @@ impl Lines {
         ensures later { S.faults source.old ≤ S.faults source.new }
         ensures cause { IfErr result (λ fault. (fault ≡ NotRead) × Rose (S.faults source.old) (S.faults source.new)) }
         ensures leaves { IsErr result → IsUnreadable self.old (S.left source.old) (S.left source.new) }
+        ensures by_need { ReadsByNeed self.old self.new (S.left source.old) (S.left source.new) }
+        ensures others { self.new ≡ record self.old { held = self.new.held; ended = self.new.ended } }
+        ensures sound { IsSound self.new }
+        ensures most { S.most_faults source.new ≡ S.most_faults source.old }
     {
         if self.ended {
             return Ok(false);
@@ -225,6 +237,10 @@ impl Lines {
         ensures later { S.faults source.old ≤ S.faults source.new }
         ensures cause { IfErr result (λ fault. (fault ≡ NotRead) × Rose (S.faults source.old) (S.faults source.new)) }
         ensures leaves { IsErr result → IsUnreadable self.old (S.left source.old) (S.left source.new) }
+        ensures by_need { ReadsByNeed self.old self.new (S.left source.old) (S.left source.new) }
+        ensures others { self.new ≡ record self.old { held = self.new.held; ended = self.new.ended } }
+        ensures sound { IsSound self.new }
+        ensures most { S.most_faults source.new ≡ S.most_faults source.old }
     {
         let allowed = self.max_bytes + 1 - self.consumed;
         let count = allowed.min(BUFFER as u64) as usize;
@@ -253,6 +269,7 @@ impl Lines {
         requires short { length line.old.items ≤ longest_line }
         ensures takes { IfOk result (λ ended. Takes self.old self.new line.old.items line.new.items ended) }
         ensures cause { IfErr result (λ fault. IsRefusedLine fault self.old line.old.items) }
+        ensures unchanged { IsErr result → self.new ≡ self.old }
     {
         let number = self.given + 1;
         let usable = self.usable();

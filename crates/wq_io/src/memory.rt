@@ -1,7 +1,9 @@
 // A source and a sink in memory, with calls that are to fail.
 
-ghost use Rattle.std.specs.Prelude.{◌≡◌, ◌≤◌, Some, [], vec_len};
-ghost use Rattle.wq_io.specs.Failing.{failures};
+ghost use Rattle.std.specs.Prelude.{◌≡◌, ◌↔◌, ◌<◌, ◌≤◌, Some, [], length, min, nat_le, vec_len, IfErr, IfOk, IsErr, IsTrue, OnErr, OnOk, Err};
+ghost use Rattle.std.proofs.lemmas.List.Sums.{count_by-le-length};
+ghost use Rattle.wq_io.specs.Failing.{after_call, fails_next, failures};
+ghost use Rattle.wq_io.specs.Streams.{ReadTakes, Rose, WritePuts};
 
 use crate::failing::FailingCalls;
 use crate::sink::{NoWrite, Sink};
@@ -61,7 +63,21 @@ impl Source for MemorySource {
 
     ghost faults = { λ s. failures s.calls };
 
-    fn read(&mut self, buf: &mut [u8]) -> Result<usize, Failed> {
+    ghost most_faults = { λ s. Some (length s.calls.numbers) };
+
+    fn read(&mut self, buf: &mut [u8]) -> Result<usize, Failed>
+        requires { 0 < length buf.old }
+        ensures called { self.new.calls ≡ after_call self.old.calls }
+        ensures fails { IsErr result ↔ IsTrue (fails_next self.old.calls) }
+        ensures count { IfOk result (λ n. n ≡ min (min self.old.piece (length buf.old)) (length self.old.left)) }
+        ensures piece { self.new.piece ≡ self.old.piece }
+        ensures bound { IfOk result (λ n. n ≤ length buf.new) }
+        ensures bytes { ReadTakes (Some self.old.left) (Some self.new.left) result buf.new }
+        ensures later { failures self.old.calls ≤ failures self.new.calls }
+        ensures quiet { OnOk result (failures self.new.calls ≡ failures self.old.calls) }
+        ensures cause { OnErr result (Rose (failures self.old.calls) (failures self.new.calls)) }
+        ensures most { Some (length self.new.calls.numbers) ≡ Some (length self.old.calls.numbers) }
+    {
         if self.failing.next_fails() {
             return Err(Failed);
         }
@@ -71,6 +87,8 @@ impl Source for MemorySource {
         self.at += count;
         Ok(count)
     }
+
+    ghost within_most = { λ s. count_by-le-length (λ k. nat_le k s.calls.calls) s.calls.numbers };
 }
 
 /// A sink that keeps its bytes in memory.
@@ -122,7 +140,22 @@ impl Sink for MemorySink {
 
     ghost faults = { λ s. failures s.calls };
 
-    fn write(&mut self, bytes: &[u8]) -> Result<usize, NoWrite> {
+    ghost most_faults = { λ s. Some (length s.calls.numbers) };
+
+    fn write(&mut self, bytes: &[u8]) -> Result<usize, NoWrite>
+        requires { 0 < length bytes.now }
+        ensures called { self.new.calls ≡ after_call self.old.calls }
+        ensures fails { (result ≡ Err NoWrite.Failed) ↔ IsTrue (fails_next self.old.calls) }
+        ensures count { IfOk result (λ n. n ≡ min self.old.piece (length bytes.now)) }
+        ensures piece { self.new.piece ≡ self.old.piece }
+        ensures bound { IfOk result (λ n. (0 < n) × (n ≤ length bytes.now)) }
+        ensures bytes { WritePuts (Some self.old.held) (Some self.new.held) result bytes.now }
+        ensures later { failures self.old.calls ≤ failures self.new.calls }
+        ensures quiet { OnOk result (failures self.new.calls ≡ failures self.old.calls) }
+        ensures refused { IfErr result (λ e. e ≡ NoWrite.OutOfMemory → failures self.new.calls ≡ failures self.old.calls) }
+        ensures cause { IfErr result (λ e. e ≡ NoWrite.Failed → Rose (failures self.old.calls) (failures self.new.calls)) }
+        ensures most { Some (length self.new.calls.numbers) ≡ Some (length self.old.calls.numbers) }
+    {
         if self.failing.next_fails() {
             return Err(NoWrite::Failed);
         }
@@ -132,4 +165,6 @@ impl Sink for MemorySink {
             Err(_) => Err(NoWrite::OutOfMemory),
         }
     }
+
+    ghost within_most = { λ s. count_by-le-length (λ k. nat_le k s.calls.calls) s.calls.numbers };
 }

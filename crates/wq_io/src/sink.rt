@@ -1,6 +1,6 @@
 // What bytes are written to.
 
-ghost use Rattle.std.specs.Prelude.{◌≡◌, ℕ, ◌<◌, ◌≤◌, List, Option, length, IfOk, IfErr, OnOk};
+ghost use Rattle.std.specs.Prelude.{◌≡◌, ℕ, ◌<◌, ◌≤◌, List, Option, length, IfOk, IfErr, IfSome};
 ghost use Rattle.wq_io.specs.Streams.{WritePuts, Rose};
 ghost use Rattle.wq_io.specs.declared.sink.NoWrite.TheVariants.{Failed as CallFailed, OutOfMemory as Refused};
 
@@ -34,13 +34,17 @@ pub trait Sink {
     // how many calls failed, as far as 64 bits count them
     ghost faults: { Self → ℕ };
 
+    // the most calls that ever fail, where it is told; calls don't change it
+    ghost most_faults: { Self → Option ℕ };
+
     /// Takes bytes from the front of `bytes`, at least one, and answers their number.
     fn write(&mut self, bytes: &[u8]) -> Result<usize, NoWrite>
         requires { 0 < length bytes.now }
         ensures bound { IfOk result (λ n. (0 < n) × (n ≤ length bytes.now)) }
         ensures bytes { WritePuts (held self.old) (held self.new) result bytes.now }
         ensures later { faults self.old ≤ faults self.new }
-        ensures quiet { OnOk result (faults self.new ≡ faults self.old) }
-        ensures refused { IfErr result (λ e. e ≡ Refused → faults self.new ≡ faults self.old) }
-        ensures cause { IfErr result (λ e. e ≡ CallFailed → Rose (faults self.old) (faults self.new)) };
+        ensures cause { IfErr result (λ e. e ≡ CallFailed → Rose (faults self.old) (faults self.new)) }
+        ensures most { most_faults self.new ≡ most_faults self.old };
+
+    ghost within_most: { (s : Self) → IfSome (most_faults s) (λ most. faults s ≤ most) };
 }

@@ -1,6 +1,6 @@
 // What bytes are read from.
 
-ghost use Rattle.std.specs.Prelude.{◌≡◌, ℕ, ◌<◌, ◌≤◌, List, Option, length, IfOk, OnOk, OnErr};
+ghost use Rattle.std.specs.Prelude.{◌≡◌, ℕ, ◌<◌, ◌≤◌, List, Option, length, IfOk, IfSome, OnErr};
 ghost use Rattle.wq_io.specs.Streams.{ReadTakes, Rose};
 
 use thiserror::Error;
@@ -18,12 +18,17 @@ pub trait Source {
     // how many calls failed, as far as 64 bits count them
     ghost faults: { Self → ℕ };
 
+    // the most calls that ever fail, where it is told; calls don't change it
+    ghost most_faults: { Self → Option ℕ };
+
     /// Moves bytes into the front of `buf` and answers their number; 0 is the end.
     fn read(&mut self, buf: &mut [u8]) -> Result<usize, Failed>
         requires { 0 < length buf.old }
         ensures bound { IfOk result (λ n. n ≤ length buf.new) }
         ensures bytes { ReadTakes (left self.old) (left self.new) result buf.new }
         ensures later { faults self.old ≤ faults self.new }
-        ensures quiet { OnOk result (faults self.new ≡ faults self.old) }
-        ensures cause { OnErr result (Rose (faults self.old) (faults self.new)) };
+        ensures cause { OnErr result (Rose (faults self.old) (faults self.new)) }
+        ensures most { most_faults self.new ≡ most_faults self.old };
+
+    ghost within_most: { (s : Self) → IfSome (most_faults s) (λ most. faults s ≤ most) };
 }

@@ -1,6 +1,7 @@
 // The streams of std as a source and a sink. They tell nothing of their bytes.
 
-ghost use Rattle.std.specs.Prelude.{◌≡◌, ◌+◌, ◌-◌, ◌^◌, ◌≤◌, None, min};
+ghost use Rattle.std.specs.Prelude.{◌≡◌, ◌<◌, ◌≤◌, None, length, IfOk, OnOk, OnErr, IfErr, IsErr};
+ghost use Rattle.wq_io.specs.Streams.{counted};
 
 use crate::sink::{NoWrite, Sink};
 use crate::source::{Failed, Source};
@@ -27,7 +28,14 @@ impl<R: Read> Source for StdSource<R> {
 
     ghost faults = { λ s. s.faults };
 
-    fn read(&mut self, buf: &mut [u8]) -> Result<usize, Failed> {
+    ghost most_faults = { λ _. None };
+
+    fn read(&mut self, buf: &mut [u8]) -> Result<usize, Failed>
+        requires { 0 < length buf.old }
+        ensures bound { IfOk result (λ n. n ≤ length buf.new) }
+        ensures quiet { OnOk result (self.new.faults ≡ self.old.faults) }
+        ensures failed { OnErr result (self.new.faults ≡ counted self.old.faults) }
+    {
         match self.reader.read(buf) {
             Ok(count) => Ok(count),
             Err(_) => {
@@ -36,6 +44,8 @@ impl<R: Read> Source for StdSource<R> {
             }
         }
     }
+
+    ghost within_most = { λ _. tt };
 }
 
 /// A sink over any writer, as standard output. It flushes after each write.
@@ -56,8 +66,7 @@ impl<W: Write> StdSink<W> {
     // A failure is counted.
     fn fail(&mut self) -> NoWrite
         ensures failed { result ≡ NoWrite.Failed }
-        ensures later { self.old.faults ≤ self.new.faults }
-        ensures counted { self.new.faults ≡ min (self.old.faults + 1) (2 ^ 64 - 1) }
+        ensures counted { self.new.faults ≡ counted self.old.faults }
     {
         self.faults = self.faults.saturating_add(1);
         NoWrite::Failed
@@ -69,7 +78,14 @@ impl<W: Write> Sink for StdSink<W> {
 
     ghost faults = { λ s. s.faults };
 
-    fn write(&mut self, bytes: &[u8]) -> Result<usize, NoWrite> {
+    ghost most_faults = { λ _. None };
+
+    fn write(&mut self, bytes: &[u8]) -> Result<usize, NoWrite>
+        requires { 0 < length bytes.now }
+        ensures bound { IfOk result (λ n. (0 < n) × (n ≤ length bytes.now)) }
+        ensures quiet { OnOk result (self.new.faults ≡ self.old.faults) }
+        ensures failed { IfErr result (λ e. (e ≡ NoWrite.Failed) × (self.new.faults ≡ counted self.old.faults)) }
+    {
         match self.writer.write(bytes) {
             Ok(count) if count > 0 => match self.writer.flush() {
                 Ok(()) => Ok(count),
@@ -78,4 +94,6 @@ impl<W: Write> Sink for StdSink<W> {
             _ => Err(self.fail()),
         }
     }
+
+    ghost within_most = { λ _. tt };
 }

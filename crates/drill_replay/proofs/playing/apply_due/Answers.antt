@@ -1,5 +1,6 @@
 -- Each reply is what is there, so the due events are applied as a replay over the pages of the drill applies them.
 use Rattle.std.proofs.Common.{◌∙◌, ap, refl, Err, Some}
+use Rattle.world.specs.Roomed.{ReplayInRoom}
 use Rattle.drill.specs.Drill.{contents_of}
 use Rattle.drill.specs.Source.{Source}
 use Rattle.drill_replay.proofs.Applying.{applies-fewer, goes-end, goes-next}
@@ -17,10 +18,13 @@ loop-smaller c = applies-fewer _ _ _ _ _ c.in-Ok.ensures.applied
 pub returns-in-Err-Nothing-clause-ok : goal.returns-in-Err-Nothing-clause-ok
 returns-in-Err-Nothing-clause-ok c =
     let call = c.in-Err-Nothing.ensures in
-    goes-end _ _ _ _ _ c.loop.invariant call.err (call.nothing.0 (ap Err c.in-Err-Nothing.field-0-is))
+    goes-end _ _ _ _ _ c.loop.invariant (ap (λ (w : ReplayInRoom). w.replay) call.err) (call.nothing.0 (ap Err c.in-Err-Nothing.field-0-is))
 
 pub returns-in-Err-OutOfMemory-clause-steps : goal.returns-in-Err-OutOfMemory-clause-steps
-returns-in-Err-OutOfMemory-clause-steps c = (c.loop.invariant.steps, c.in-Err-OutOfMemory.ensures.err ∙ c.loop.invariant.is)
+returns-in-Err-OutOfMemory-clause-steps c = (c.loop.invariant.steps, ap (λ (w : ReplayInRoom). w.replay) c.in-Err-OutOfMemory.ensures.err ∙ c.loop.invariant.is)
+
+pub returns-in-Err-Full-clause-steps : goal.returns-in-Err-Full-clause-steps
+returns-in-Err-Full-clause-steps c = (c.loop.invariant.steps, ap (λ (w : ReplayInRoom). w.replay) c.in-Err-Full.ensures.err ∙ c.loop.invariant.is)
 
 pub returns-in-Err-Nothing-clause-steps : goal.returns-in-Err-Nothing-clause-steps
-returns-in-Err-Nothing-clause-steps c = (c.loop.invariant.steps, c.in-Err-Nothing.ensures.err ∙ c.loop.invariant.is)
+returns-in-Err-Nothing-clause-steps c = (c.loop.invariant.steps, ap (λ (w : ReplayInRoom). w.replay) c.in-Err-Nothing.ensures.err ∙ c.loop.invariant.is)

@@ -5,7 +5,7 @@ use Rattle.drill_replay.proofs.Applying.{Goes}
 use Rattle.drill_replay.proofs.playing.apply_due.Given as goal
 
 abbrev pub invariant-loop : goal.invariant-loop
-invariant-loop l = Goes l.size (Some (λ place. contents_of l.pages.size)) l.fn.world l.world
+invariant-loop l = Goes l.size (Some (λ place. contents_of l.pages.size)) l.fn.world.replay l.world.replay
 
 abbrev pub decreases-loop : goal.decreases-loop
-decreases-loop l = length l.world.buffer.waiting
+decreases-loop l = length l.world.replay.buffer.waiting

@@ -6,7 +6,7 @@ use Rattle.drill_replay.proofs.playing.play.Given as goal
 
 abbrev pub invariant-loop-done : goal.invariant-loop-done
 invariant-loop-done l = record {
-  after : IsAfter l.size (drill l.done) l.world;
+  after : IsAfter l.size (drill l.done) l.world.replay;
   counted : Counted (drill l.done) l.counts;
   few : HasFew l.counts (6 * l.done);
 }

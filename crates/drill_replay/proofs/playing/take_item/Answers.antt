@@ -9,22 +9,22 @@ use Rattle.drill_replay.proofs.Taking.{anyway, counted, few_more, none_taken, ta
 use Rattle.drill_replay.proofs.playing.take_item.Goals as goal
 
 pub returns-in_err-list-clause-err : goal.returns-in_err-list-clause-err
-returns-in_err-list-clause-err c = anyway c.from_residual.result _ (none_taken c.args.size c.args.done c.args.world.now c.requires.after)
+returns-in_err-list-clause-err c = anyway c.from_residual.result _ (none_taken c.args.size c.args.done c.args.world.now.replay c.requires.after)
 
 pub returns-in_err-answer-clause-err : goal.returns-in_err-answer-clause-err
 returns-in_err-answer-clause-err c =
     let are : c.as_slice-delivery-items.result.now ≡ deliveries_of (c.args.done + 1) = c.as_slice-delivery-items.ensures ∙ c.in_ok-list.ensures in
     anyway c.from_residual-in_err-answer.result _
-    (taken_in_part c.args.done c.as_slice-delivery-items.result.now c.loop-delivery.delivery-index c.args.size c.delivery-item.result c.loop-delivery.world c.take.new.world are c.loop-delivery-test.true c.delivery-item.is
+    (taken_in_part c.args.done c.as_slice-delivery-items.result.now c.loop-delivery.delivery-index c.args.size c.delivery-item.result c.loop-delivery.world.replay c.take.new.world.replay are c.loop-delivery-test.true c.delivery-item.is
     c.loop-delivery.invariant.after (c.in_err-answer.ensures.err (drill c.args.done ++ take c.loop-delivery.delivery-index c.as_slice-delivery-items.result.now) c.loop-delivery.invariant.after))
 
 pub loop-delivery-preserved : goal.loop-delivery-preserved
 loop-delivery-preserved c =
     let before = c.loop-delivery.invariant in
     record {
-      after = taken c.args.done c.as_slice-delivery-items.result.now c.loop-delivery.delivery-index c.args.size c.delivery-item.result c.take.new.world c.loop-delivery-test.true c.delivery-item.is
+      after = taken c.args.done c.as_slice-delivery-items.result.now c.loop-delivery.delivery-index c.args.size c.delivery-item.result c.take.new.world.replay c.loop-delivery-test.true c.delivery-item.is
           (c.in_ok-answer.ensures.ok (drill c.args.done ++ take c.loop-delivery.delivery-index c.as_slice-delivery-items.result.now) before.after);
-      counted = counted c.args.done c.as_slice-delivery-items.result.now c.loop-delivery.delivery-index c.args.size c.delivery-item.result c.loop-delivery.world c.in_ok-answer.answer c.loop-delivery.counts c.add.new.self
+      counted = counted c.args.done c.as_slice-delivery-items.result.now c.loop-delivery.delivery-index c.args.size c.delivery-item.result c.loop-delivery.world.replay c.in_ok-answer.answer c.loop-delivery.counts c.add.new.self
           c.loop-delivery-test.true c.delivery-item.is before.after c.in_ok-answer.ensures.answer c.add.ensures before.counted;
       few = few_more c.in_ok-answer.answer c.loop-delivery.counts c.add.new.self (6 * c.args.done + c.loop-delivery.delivery-index) (6 * c.args.done + (c.loop-delivery.delivery-index + 1)) c.add.ensures (omega arith) before.few;
     }

@@ -1,18 +1,20 @@
 -- One event more, and fewer wait.
-use Rattle.std.proofs.Common.{refl, ap, arith, Err, ⊎_elim}
-use Rattle.session.proofs.Due.{applies-fewer, applies-leads, goes-further, goes-nowhere, gone-on, none_due, starved}
+use Rattle.std.proofs.Common.{refl, ap, ◌∙◌, arith, Err, ⊎_elim}
+use Rattle.world.specs.Roomed.{ReplayInRoom}
+use Rattle.session.proofs.Due.{applies-fewer, applies-leads, goes-further, goes-nowhere, gone-on, is_full, none_due, starved}
 use Rattle.session.proofs.delivering.apply_due.Goals as goal
 
 pub loop-init : goal.loop-init
-loop-init g c = (goes-nowhere _ _ c.args.world.now, record { known = refl; faults = omega arith; misses = omega arith })
+loop-init g c = (goes-nowhere _ _ c.args.world.now.replay, record { known = refl; faults = omega arith; misses = omega arith }, refl)
 
 pub loop-preserved : goal.loop-preserved
 loop-preserved g c =
     let before = c.loop.invariant in
     let call = c.in-Ok.ensures in
     let applied = rw before.1.known at call.applied in (
-      goes-further _ _ _ _ _ _ _ before.0 (applies-leads _ _ _ _ _ _ _ applied (record { shown = call.shown; calls = call.calls; more_faults = call.more_faults; more_misses = call.more_misses })),
+      goes-further _ _ _ _ _ _ _ before.0 (applies-leads _ _ _ _ _ _ _ _ applied (record { shown = call.shown; calls = call.calls; more_faults = call.more_faults; more_misses = call.more_misses })),
       gone-on g.R.Revisions _ _ _ before.1 (record { known = call.told; faults = call.more_faults; misses = call.more_misses }),
+      call.room ∙ before.2,
     )
 
 pub loop-smaller : goal.loop-smaller
@@ -21,7 +23,7 @@ loop-smaller g c = applies-fewer _ _ _ _ _ c.in-Ok.ensures.applied
 pub returns-in-Err-Nothing-clause-ok : goal.returns-in-Err-Nothing-clause-ok
 returns-in-Err-Nothing-clause-ok g c =
     let call = c.in-Err-Nothing.ensures in
-    none_due _ _ _ _ _ _ _ c.loop.invariant.0 (⊎_elim (λ same. same) (λ refused. cc) call.calls_at_fault) call.more_faults call.more_misses call.err (call.nothing.0 (ap Err c.in-Err-Nothing.field-0-is))
+    none_due _ _ _ _ _ _ _ c.loop.invariant.0 (⊎_elim (λ same. same) (λ refused. absurd (refused.0 c.in-Err-Nothing.field-0-is)) call.calls_at_fault) call.more_faults call.more_misses (ap (λ (w : ReplayInRoom). w.replay) call.err) (call.nothing.0 (ap Err c.in-Err-Nothing.field-0-is))
 
 pub returns-in-Err-Nothing-clause-source : goal.returns-in-Err-Nothing-clause-source
 returns-in-Err-Nothing-clause-source g c =
@@ -29,9 +31,23 @@ returns-in-Err-Nothing-clause-source g c =
     gone-on g.R.Revisions _ _ _ c.loop.invariant.1 (record { known = call.told; faults = call.more_faults; misses = call.more_misses })
 
 pub returns-in-Err-OutOfMemory-clause-err : goal.returns-in-Err-OutOfMemory-clause-err
-returns-in-Err-OutOfMemory-clause-err g c = starved _ _ _ _ _ _ _ c.loop.invariant.0 c.in-Err-OutOfMemory.ensures.err
+returns-in-Err-OutOfMemory-clause-err g c = starved _ _ _ _ _ _ _ c.loop.invariant.0 (ap (λ (w : ReplayInRoom). w.replay) c.in-Err-OutOfMemory.ensures.err)
 
 pub returns-in-Err-OutOfMemory-clause-source : goal.returns-in-Err-OutOfMemory-clause-source
 returns-in-Err-OutOfMemory-clause-source g c =
     let call = c.in-Err-OutOfMemory.ensures in
+    gone-on g.R.Revisions _ _ _ c.loop.invariant.1 (record { known = call.told; faults = call.more_faults; misses = call.more_misses })
+
+pub returns-in-Err-Full-clause-err : goal.returns-in-Err-Full-clause-err
+returns-in-Err-Full-clause-err g c = starved _ _ _ _ _ _ _ c.loop.invariant.0 (ap (λ (w : ReplayInRoom). w.replay) c.in-Err-Full.ensures.err)
+
+pub returns-in-Err-Full-clause-held_up : goal.returns-in-Err-Full-clause-held_up
+returns-in-Err-Full-clause-held_up g c =
+    let call = c.in-Err-Full.ensures in
+    let over = rw c.loop.invariant.1.known at (call.full (ap Err c.in-Err-Full.field-0-is)) in
+    is_full _ _ _ _ _ c.loop.invariant.2 call.err over
+
+pub returns-in-Err-Full-clause-source : goal.returns-in-Err-Full-clause-source
+returns-in-Err-Full-clause-source g c =
+    let call = c.in-Err-Full.ensures in
     gone-on g.R.Revisions _ _ _ c.loop.invariant.1 (record { known = call.told; faults = call.more_faults; misses = call.more_misses })

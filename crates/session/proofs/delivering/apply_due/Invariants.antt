@@ -1,5 +1,5 @@
 -- The world leads where it led, and fewer events wait each time.
-use Rattle.std.proofs.Common.{length}
+use Rattle.std.proofs.Common.{◌≡◌, length}
 use Rattle.session.specs.Counts.{HasGoneOn, counts}
 use Rattle.session.specs.Moment.{setting}
 use Rattle.session.proofs.Due.{Goes}
@@ -7,8 +7,9 @@ use Rattle.session.proofs.delivering.apply_due.Given as goal
 
 abbrev pub invariant-loop : goal.invariant-loop
 invariant-loop g l =
-    Goes (setting (g.R.Revisions.contents l.fn.revisions) l.directory) (counts g.R.Revisions l.fn.revisions) (counts g.R.Revisions l.revisions) l.fn.world l.world
+    Goes (setting (g.R.Revisions.contents l.fn.revisions) l.directory l.fn.world.room) (counts g.R.Revisions l.fn.revisions) (counts g.R.Revisions l.revisions) l.fn.world.replay l.world.replay
     × HasGoneOn g.R.Revisions l.fn.revisions l.revisions
+    × (l.world.room ≡ l.fn.world.room)
 
 abbrev pub decreases-loop : goal.decreases-loop
-decreases-loop g l = length l.world.buffer.waiting
+decreases-loop g l = length l.world.replay.buffer.waiting

@@ -6,3 +6,6 @@ returns-clause-ok g c = rw c.close.ensures at c.apply_due.ensures.ok
 
 pub returns-clause-err : goal.returns-clause-err
 returns-clause-err g c = rw c.close.ensures at c.apply_due.ensures.err
+
+pub returns-clause-held_up : goal.returns-clause-held_up
+returns-clause-held_up g c = rw c.close.ensures at c.apply_due.ensures.held_up

@@ -1,5 +1,6 @@
 -- Want of memory before the drill, in it and after it; and the summary, printed or not wholly.
 use Rattle.std.proofs.Common.{◌≡◌, ◌∙◌, ap, map, string_bytes}
+use Rattle.std.specs.FinMap.{len-empty}
 use Rattle.std.proofs.lemmas.Result.{err_from_is_err_and}
 use Rattle.drill_replay.specs.Summary.{drilled, lines_of, summary_of}
 use Rattle.drill_replay.proofs.Drills.{nothing_taken}
@@ -25,12 +26,15 @@ pub returns-clause-ok : goal.returns-clause-ok
 returns-clause-ok g c =
     let are : map string_bytes c.as_slice.result.now ≡ lines_of (summary_of c.args.size) =
     ap (map string_bytes) c.as_slice.ensures.value ∙ c.in_ok-lines.ensures ∙ ap lines_of (c.in_ok-summary.ensures.summary ∙ ap summary_of c.in_ok-size.ensures) in
-    let is : c.run_drill.new.world ≡ drilled c.args.size = c.in_ok-summary.ensures.ok ∙ ap drilled c.in_ok-size.ensures in
+    let is : c.run_drill.new.world.replay ≡ drilled c.args.size = c.in_ok-summary.ensures.ok ∙ ap drilled c.in_ok-size.ensures in
     all_printed string_bytes c.as_slice.result.now c.args.size _ _ _ are is c.print_lines.result c.print_lines.ensures
 
 pub returns-clause-err : goal.returns-clause-err
 returns-clause-err g c =
     let are : map string_bytes c.as_slice.result.now ≡ lines_of (summary_of c.args.size) =
     ap (map string_bytes) c.as_slice.ensures.value ∙ c.in_ok-lines.ensures ∙ ap lines_of (c.in_ok-summary.ensures.summary ∙ ap summary_of c.in_ok-size.ensures) in
-    let is : c.run_drill.new.world ≡ drilled c.args.size = c.in_ok-summary.ensures.ok ∙ ap drilled c.in_ok-size.ensures in
+    let is : c.run_drill.new.world.replay ≡ drilled c.args.size = c.in_ok-summary.ensures.ok ∙ ap drilled c.in_ok-size.ensures in
     printed_in_part string_bytes c.as_slice.result.now c.args.size _ _ _ are is c.print_lines.result (rw c.in_ok-size.ensures at c.run_drill.ensures.begun) c.print_lines.ensures
+
+pub set_room-requires : goal.set_room-requires
+set_room-requires g c = rw c.requires.world (len-empty _ _)

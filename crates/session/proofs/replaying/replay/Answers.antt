@@ -1,5 +1,6 @@
 -- Values that are not taken, a stop of the taking, a fault of the sink, and the end.
 use Rattle.std.proofs.Common.{inl}
+use Rattle.std.specs.FinMap.{len-empty}
 use Rattle.std.proofs.lemmas.Result.{err_from_is_err_and}
 use Rattle.session.specs.Moment.{Moment, Run, moment, run_of}
 use Rattle.session.proofs.Ends.{broken_off, ending, prints_asked}
@@ -15,19 +16,22 @@ returns-in_err-arguments-clause-err g c =
 pub returns-in_err-take_all-clause-err : goal.returns-in_err-take_all-clause-err
 returns-in_err-take_all-clause-err g c =
     let p = err_from_is_err_and c.from_residual-in_err-take_all.result c.from_residual-in_err-take_all.ensures.1 in
-    rw (p.1, p.2) (rw c.in_ok-arguments.ensures at c.in_err-take_all.ensures.err)
+    rw (p.1, p.2) (rw (c.in_ok-arguments.ensures, c.set_room.ensures) at c.in_err-take_all.ensures.err)
 
 pub returns-clause-ok : goal.returns-clause-ok
 returns-clause-ok g c =
     let run : Run = run_of (g.R.Revisions.contents c.args.revisions.now) c.args.options.now in
-    let before : Moment = moment g.S.Source g.R.Revisions g.K.Sink c.args.events.now c.args.revisions.now c.args.out.now c.args.world.now in
-    let between : Moment = moment g.S.Source g.R.Revisions g.K.Sink c.take_all.new.events c.take_all.new.revisions c.take_all.new.out c.take_all.new.world in
-    ending run before between _ (rw c.in_ok-arguments.ensures at c.in_ok-take_all.ensures.ok) (prints_asked _ _ _ _ _ _ (rw c.in_ok-arguments.ensures at c.sections.ensures) c.in_ok-print_closing.ensures)
+    let before : Moment = moment g.S.Source g.R.Revisions g.K.Sink c.args.events.now c.args.revisions.now c.args.out.now c.args.world.now.replay in
+    let between : Moment = moment g.S.Source g.R.Revisions g.K.Sink c.take_all.new.events c.take_all.new.revisions c.take_all.new.out c.take_all.new.world.replay in
+    ending run before between _ (rw (c.in_ok-arguments.ensures, c.set_room.ensures) at c.in_ok-take_all.ensures.ok) (prints_asked _ _ _ _ _ _ (rw c.in_ok-arguments.ensures at c.sections.ensures) c.in_ok-print_closing.ensures)
 
 pub returns-in_err-print_closing-clause-err : goal.returns-in_err-print_closing-clause-err
 returns-in_err-print_closing-clause-err g c =
     let run : Run = run_of (g.R.Revisions.contents c.args.revisions.now) c.args.options.now in
-    let before : Moment = moment g.S.Source g.R.Revisions g.K.Sink c.args.events.now c.args.revisions.now c.args.out.now c.args.world.now in
-    let between : Moment = moment g.S.Source g.R.Revisions g.K.Sink c.take_all.new.events c.take_all.new.revisions c.take_all.new.out c.take_all.new.world in
+    let before : Moment = moment g.S.Source g.R.Revisions g.K.Sink c.args.events.now c.args.revisions.now c.args.out.now c.args.world.now.replay in
+    let between : Moment = moment g.S.Source g.R.Revisions g.K.Sink c.take_all.new.events c.take_all.new.revisions c.take_all.new.out c.take_all.new.world.replay in
     let p = err_from_is_err_and c.from_residual-in_err-print_closing.result c.from_residual-in_err-print_closing.ensures.1 in
-    rw (p.1, p.2) (broken_off _ run before between _ (rw c.in_ok-arguments.ensures at c.in_ok-take_all.ensures.ok) c.in_ok-take_all.ensures.later (prints_asked _ _ _ _ _ _ (rw c.in_ok-arguments.ensures at c.sections.ensures) c.in_err-print_closing.ensures))
+    rw (p.1, p.2) (broken_off _ run before between _ (rw (c.in_ok-arguments.ensures, c.set_room.ensures) at c.in_ok-take_all.ensures.ok) c.in_ok-take_all.ensures.later (prints_asked _ _ _ _ _ _ (rw c.in_ok-arguments.ensures at c.sections.ensures) c.in_err-print_closing.ensures))
+
+pub set_room-requires : goal.set_room-requires
+set_room-requires g c = rw c.requires (len-empty _ _)

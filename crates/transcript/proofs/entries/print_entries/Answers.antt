@@ -7,13 +7,13 @@ use Rattle.transcript.proofs.entries.print_entries.Goals as goal
 
 pub loop-index-preserved : goal.loop-index-preserved
 loop-index-preserved g c =
-    let within : c.loop-index.index < length c.args.world.now.played.side = omega arith in
-    text_printed (entry_text c.args.world.now.played.records) c.args.world.now.played.side c.loop-index.index _ _ _ _
-    (text_more_at (entry_text c.args.world.now.played.records) c.args.world.now.played.side c.loop-index.index within) c.loop-index.invariant c.in_ok-print_entry.ensures
+    let within : c.loop-index.index < length c.args.world.now.replay.played.side = omega arith in
+    text_printed (entry_text c.args.world.now.replay.played.records) c.args.world.now.replay.played.side c.loop-index.index _ _ _ _
+    (text_more_at (entry_text c.args.world.now.replay.played.records) c.args.world.now.replay.played.side c.loop-index.index within) c.loop-index.invariant c.in_ok-print_entry.ensures
 
 pub returns-in_err-print_entry : goal.returns-in_err-print_entry
 returns-in_err-print_entry g c =
-    let within : c.loop-index.index < length c.args.world.now.played.side = omega arith in
+    let within : c.loop-index.index < length c.args.world.now.replay.played.side = omega arith in
     let p = err_from_is_err_and c.from_residual.result c.from_residual.ensures.1 in
-    rw (p.1, p.2) (text_cut_short (entry_text c.args.world.now.played.records) c.args.world.now.played.side c.loop-index.index _ _ _ _ _
-    (text_more_at (entry_text c.args.world.now.played.records) c.args.world.now.played.side c.loop-index.index within) c.loop-index.invariant c.in_err-print_entry.ensures)
+    rw (p.1, p.2) (text_cut_short (entry_text c.args.world.now.replay.played.records) c.args.world.now.replay.played.side c.loop-index.index _ _ _ _ _
+    (text_more_at (entry_text c.args.world.now.replay.played.records) c.args.world.now.replay.played.side c.loop-index.index within) c.loop-index.invariant c.in_err-print_entry.ensures)

@@ -7,4 +7,4 @@ use Rattle.transcript.proofs.entries.print_entries.Given as goal
 
 abbrev pub invariant-loop-index : goal.invariant-loop-index
 invariant-loop-index g l =
-    Prints (flat_map (entry_text l.world.played.records) (take l.index l.world.played.side)) (output g.K.Sink l.fn.out) (output g.K.Sink l.out) (Ok tt)
+    Prints (flat_map (entry_text l.world.replay.played.records) (take l.index l.world.replay.played.side)) (output g.K.Sink l.fn.out) (output g.K.Sink l.out) (Ok tt)

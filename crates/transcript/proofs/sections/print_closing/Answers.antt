@@ -10,7 +10,7 @@ use Rattle.transcript.proofs.sections.print_closing.Goals as goal
 
 pub returns-in_err-print_export : goal.returns-in_err-print_export
 returns-in_err-print_export g c =
-    let world = c.args.world.now.played in
+    let world = c.args.world.now.replay.played in
     let exported : List ℕ = cond c.args.sections.export (export_section (union triple_cmp meaning world.records)) [] in
     let stated : List ℕ = cond c.args.sections.state (state_section world.records) [] in
     let named : List ℕ = cond c.args.sections.side (side_section world.records world.side) [] in
@@ -19,7 +19,7 @@ returns-in_err-print_export g c =
 
 pub returns-in_err-print_state : goal.returns-in_err-print_state
 returns-in_err-print_state g c =
-    let world = c.args.world.now.played in
+    let world = c.args.world.now.replay.played in
     let exported : List ℕ = cond c.args.sections.export (export_section (union triple_cmp meaning world.records)) [] in
     let stated : List ℕ = cond c.args.sections.state (state_section world.records) [] in
     let named : List ℕ = cond c.args.sections.side (side_section world.records world.side) [] in
@@ -28,7 +28,7 @@ returns-in_err-print_state g c =
 
 pub returns : goal.returns
 returns g c =
-    let world = c.args.world.now.played in
+    let world = c.args.world.now.replay.played in
     let exported : List ℕ = cond c.args.sections.export (export_section (union triple_cmp meaning world.records)) [] in
     let stated : List ℕ = cond c.args.sections.state (state_section world.records) [] in
     let named : List ℕ = cond c.args.sections.side (side_section world.records world.side) [] in

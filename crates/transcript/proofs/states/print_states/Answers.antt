@@ -8,6 +8,6 @@ use Rattle.transcript.proofs.states.print_states.Goals as goal
 
 pub returns : goal.returns
 returns g c =
-    let records : Records = c.args.world.now.played.records in
+    let records : Records = c.args.world.now.replay.played.records in
     let all : List EntityId → List ℕ = flat_map (λ x. state_line x (record_of records x).state) in
     rw (ap all (c.as_slice.ensures ∙ c.in_ok-ids.ensures) ∙ states_over_ids records) at c.print_states_of.ensures

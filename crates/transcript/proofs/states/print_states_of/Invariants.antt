@@ -8,4 +8,4 @@ use Rattle.transcript.proofs.states.print_states_of.Given as goal
 
 abbrev pub invariant-loop-id : goal.invariant-loop-id
 invariant-loop-id g l =
-    Prints (flat_map (λ x. state_line x (record_of l.world.played.records x).state) (take l.id-index l.ids)) (output g.K.Sink l.fn.out) (output g.K.Sink l.out) (Ok tt)
+    Prints (flat_map (λ x. state_line x (record_of l.world.replay.played.records x).state) (take l.id-index l.ids)) (output g.K.Sink l.fn.out) (output g.K.Sink l.out) (Ok tt)

@@ -1,5 +1,5 @@
 -- A new triple has its first owner in the indexes, and further ones in the counts.
-use Rattle.std.proofs.Common.{◌≡◌, ◌+◌, ◌*◌, ◌^◌, ◌<◌, ◌≤◌, true, false, length, ◌∙◌, sym, ap, subst, arith}
+use Rattle.std.proofs.Common.{◌≡◌, ◌==◌, eq-eqb, ne_eqb, ◌+◌, ◌*◌, ◌^◌, ◌<◌, ◌≤◌, true, false, length, ◌∙◌, sym, ap, subst, arith}
 use Rattle.std.specs.FinMap as map
 use Rattle.std.specs.Bool.{OnFalse}
 use Rattle.std.proofs.lemmas.Bool.{not-true, not-false}
@@ -7,7 +7,7 @@ use Rattle.rising.specs.Rising.{has}
 use Rattle.slot_index.specs.Keys.{key_cmp}
 use Rattle.slot_index.specs.Counts.{count_of, counts_of, raised}
 use Rattle.slot_index.specs.Counted.{IsCounted, with_more}
-use Rattle.slot_index.proofs.More.{IsCounted-put, IsCounted-more, counted_there, len-with_more, one_more, put_in}
+use Rattle.slot_index.proofs.More.{IsCounted-put, IsCounted-more, counted_absent, counted_there, len-with_more, one_more, put_in}
 use Rattle.slot_index.proofs.counted.SlotIndex.raise.Goals as goal
 
 pub returns-in_err-insert-clause-cost : goal.returns-in_err-insert-clause-cost
@@ -59,3 +59,13 @@ pub returns-clause-cost : goal.returns-clause-cost
 returns-clause-cost g c d below =
     let n = sym (len-with_more c.self.inside.orders (counts_of c.self.inside.more.entries) c.insert.ensures.rising) ∙ ap map.len c.self.view_is in
     c.insert.ensures.cost d (omega arith)
+
+pub returns-then-branch-clause-answer : goal.returns-then-branch-clause-answer
+returns-then-branch-clause-answer g c =
+    let absent = counted_absent c.self.inside.orders (counts_of c.self.inside.more.entries) c.args.key (not-true (has key_cmp c.args.key c.self.inside.orders) (sym c.in_ok-insert.ensures.answer ∙ c.if-branch.true)) in
+    sym (eq-eqb (count_of c.args.self.now c.args.key) 0 (sym (ap (λ m. count_of m c.args.key) c.self.view_is) ∙ absent))
+
+pub returns-clause-answer : goal.returns-clause-answer
+returns-clause-answer g c =
+    let there = counted_there c.self.inside.orders (counts_of c.self.inside.more.entries) c.args.key (not-false (has key_cmp c.args.key c.self.inside.orders) (sym c.in_ok-insert.ensures.answer ∙ c.if-branch.false)) in
+    sym (ne_eqb (count_of c.args.self.now c.args.key) 0 (λ e. let same = ap (λ m. count_of m c.args.key) c.self.view_is in omega arith))

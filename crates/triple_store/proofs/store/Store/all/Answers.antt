@@ -3,5 +3,5 @@ use Rattle.std.proofs.Common.{◌≡◌, IfOk, subst, refl}
 use Rattle.rising.proofs.Filtering.{filter_all}
 use Rattle.triple_store.proofs.store.Store.all.Goals as goal
 
-pub returns-clause-rows : goal.returns-clause-rows
-returns-clause-rows c = subst (λ rows. IfOk c.matches.result (λ set. set ≡ rows)) (filter_all _ _ (λ _. refl)) c.matches.ensures.rows
+pub returns : goal.returns
+returns c = record { rows = subst (λ rows. IfOk c.matches.result (λ set. set ≡ rows)) (filter_all _ _ (λ _. refl)) c.matches.ensures.rows }

@@ -1,17 +1,26 @@
-use Rattle.std.proofs.Common.{filter, ◌∙◌, sym, ap, subst}
-use Rattle.rising.specs.Rising.{IsRising}
-use Rattle.rising.proofs.Filtering.{IsRising-filter}
-use Rattle.rising.proofs.Sorting.{IsRising-from_sorted}
-use Rattle.rdf_term.specs.Order.{triple_cmp, triple_cmp-total}
-use Rattle.rdf_term.proofs.Texts.{triple_cmp-IsAntisymmetric}
-use Rattle.rdf_term.specs.Pattern.{agrees}
-use Rattle.triple_store.proofs.Mapped.{keys_ordered}
+-- The triples of the range of slots are those that agree.
+use Rattle.std.proofs.Common.{ap, ◌∙◌, count_by}
+use Rattle.rising.specs.Rising.{sorted}
+use Rattle.rdf_term.specs.Order.{triple_cmp}
+use Rattle.triple_store.specs.Matching.{key_agrees}
+use Rattle.triple_store.proofs.Matched.{found_stored, matched, none_matched}
 use Rattle.triple_store.proofs.store.Store.matches.Goals as goal
 
-pub from_rising-requires : goal.from_rising-requires
-from_rising-requires c = subst (IsRising triple_cmp) (sym c.in_ok-rows.ensures.copies) (IsRising-filter triple_cmp _ _ (IsRising-from_sorted triple_cmp _ c.in_ok-rows.ensures.ordered))
+pub returns-in_default : goal.returns-in_default
+returns-in_default c = record {
+  rows =
+      c.from_rising.ensures ∙ c.new.ensures
+      ∙ none_matched c.args.self.now.pool c.args.region.now c.args.self.now.index c.args.pattern.now (λ k there. c.in_ok-wanted.ensures k there ∙ ap (λ w. key_agrees w k) c.in_default.is);
+}
 
-pub returns-clause-rows : goal.returns-clause-rows
-returns-clause-rows c =
-    let keys = keys_ordered triple_cmp-total triple_cmp-IsAntisymmetric c.self.inside.counts.entries c.in_ok-rows.ensures.ordered in
-    rw (← c.self.view_is) (c.from_rising.ensures ∙ c.in_ok-rows.ensures.copies ∙ ap (filter (agrees c.args.pattern.now)) (sym keys))
+pub triples_of-requires-clause-there : goal.triples_of-requires-clause-there
+triples_of-requires-clause-there c = found_stored c.args.self.now.index c.in-Some.wanted c.as_slice.result.now (λ f. ap (λ ks. count_by f ks) c.as_slice.ensures ∙ c.in_ok-keys.ensures f)
+
+pub returns : goal.returns
+returns c = record {
+  rows =
+      c.in_ok-set.ensures ∙ ap (sorted triple_cmp) c.in_ok-found.ensures
+      ∙ matched c.args.self.now.pool c.args.region.now c.args.self.now.index c.args.pattern.now c.in-Some.wanted c.as_slice.result.now
+      (λ k there. c.in_ok-wanted.ensures k there ∙ ap (λ w. key_agrees w k) c.in-Some.is)
+      (λ f. ap (λ ks. count_by f ks) c.as_slice.ensures ∙ c.in_ok-keys.ensures f);
+}

@@ -1,0 +1,174 @@
+-- What counts say after the triples of some keys came or went, by the triples.
+use Rattle.std.proofs.Common.{◌≡◌, ℕ, ◌+◌, ◌<◌, Bool, true, false, not, ◌&&◌, List, [], ◌∷◌, refl, sym, ◌∙◌, ap, subst, arith, true≢false}
+use Rattle.std.specs.Prelude.{map as mapped}
+use Rattle.rising.specs.Rising.{has, difference, sorted}
+use Rattle.rising.proofs.Bools.{and_left, and_right, clash, or_true}
+use Rattle.rising.proofs.Filtering.{filter_all, has-difference}
+use Rattle.rising.proofs.Rising.{IsRising-sorted, has-sorted, has_itself}
+use Rattle.rdf_term.specs.declared.triple.Triple.{Triple}
+use Rattle.rdf_term.specs.Order.{triple_cmp}
+use Rattle.text_region.specs.Region.{Texts}
+use Rattle.term_pool.specs.Pool.{one_if}
+use Rattle.slot_index.specs.declared.key.Key.{Key}
+use Rattle.slot_index.specs.Keys.{key_cmp, key_cmp-total}
+use Rattle.triple_store.specs.declared.store.Store.{Store}
+use Rattle.triple_store.specs.Counts.{Exchanges, count_of}
+use Rattle.triple_store.specs.Slots.{triple_at}
+use Rattle.triple_store.specs.Stored.{AreKeysOf, HasKey, IsStored, KeepsKeys, counts_in, is_key}
+use Rattle.triple_store.specs.Moves.{Removes, Takes, meant}
+use Rattle.triple_store.proofs.Owners.{same_counts}
+use Rattle.triple_store.proofs.Removing.{apart}
+use Rattle.triple_store.proofs.Live.{tells}
+use Rattle.triple_store.proofs.Standing.{counted_key, has-meant, meant-has, owned}
+use Rattle.triple_store.proofs.Taking.{had_key, never}
+
+-- tests that imply each other
+pub same_test : (a b : Bool) → (a ≡ true → b ≡ true) → (b ≡ true → a ≡ true) → a ≡ b
+same_test true b f g = sym (f refl)
+same_test false true f g = g refl
+same_test false false f g = refl
+
+not_so : (b : Bool) → not b ≡ true → b ≡ false
+not_so true e = sym e
+not_so false e = refl
+
+both_pass : (a b : Bool) → a ≡ true → b ≡ true → (a && b) ≡ true
+both_pass true b e f = f
+both_pass false b e f = absurd (true≢false (sym e))
+
+module _ (st : Store) (r : Texts) where
+  -- the triples of which keys are those are the triples that they stand for
+  pub same_gone : (old : List Key) (gone : List Triple) → AreKeysOf st r old gone → (t : Triple) → has triple_cmp t gone ≡ has triple_cmp t (meant st r old)
+  same_gone old gone h t =
+      let m = triple_at st.pool r in
+      same_test (has triple_cmp t gone) (has triple_cmp t (meant st r old))
+      (λ there.
+      let one : (key : Key) × HasKey st r key t × (has key_cmp key old ≡ true) = h.all t there in
+      subst (λ (u : Triple). has triple_cmp u (meant st r old) ≡ true) (tells st.pool r one.0 t one.1.has) (has-meant m old one.0 one.2))
+      (λ there.
+      let one : (key : Key) × (has key_cmp key old ≡ true) × (m key ≡ t) = meant-has m old t there in
+      let its : (u : Triple) × HasKey st r one.0 u × (has triple_cmp u gone ≡ true) = h.each one.0 one.1 in
+      subst (λ (u : Triple). has triple_cmp u gone ≡ true) (sym (tells st.pool r one.0 its.0 its.1.has) ∙ one.2) its.2)
+
+  all_gone : (old : List Key) → difference key_cmp old [] ≡ old
+  all_gone old = filter_all (λ x. not (has key_cmp x [])) old (λ x. refl)
+
+  -- where all keys of an owner went
+  pub released : (new : Store) (u : Texts) (old : List Key) → Removes st r new u (difference key_cmp old []) → (gone : List Triple) → AreKeysOf st r old gone → Exchanges (counts_in st r) (counts_in new u) gone []
+  released new u old h gone keys = record {
+    counts = λ t. omega (arith, h.counts t, ap one_if (same_gone old gone keys t ∙ ap (λ ks. has triple_cmp t (meant st r ks)) (sym (all_gone old))));
+  }
+
+-- which triples keys stand for, of which those of others are left out
+module _ (st : Store) (r : Texts) (stored : IsStored st r) where
+  pub meant-difference : (xs ys : List Key) → ((k : Key) → has key_cmp k xs ≡ true → is_key st k ≡ true) → ((k : Key) → has key_cmp k ys ≡ true → is_key st k ≡ true) → (t : Triple) → has triple_cmp t (meant st r (difference key_cmp xs ys)) ≡ (not (has triple_cmp t (meant st r ys)) && has triple_cmp t (meant st r xs))
+  meant-difference xs ys there others t =
+      let m = triple_at st.pool r in
+      same_test (has triple_cmp t (meant st r (difference key_cmp xs ys))) (not (has triple_cmp t (meant st r ys)) && has triple_cmp t (meant st r xs))
+      (λ h.
+      let one : (key : Key) × (has key_cmp key (difference key_cmp xs ys) ≡ true) × (m key ≡ t) = meant-has m (difference key_cmp xs ys) t h in
+      let both : (not (has key_cmp one.0 ys) && has key_cmp one.0 xs) ≡ true = sym (has-difference key_cmp-total one.0 xs ys) ∙ one.1 in
+      let of_xs : has key_cmp one.0 xs ≡ true = and_right (not (has key_cmp one.0 ys)) (has key_cmp one.0 xs) both in
+      let out : has key_cmp one.0 ys ≡ false = not_so (has key_cmp one.0 ys) (and_left (not (has key_cmp one.0 ys)) (has key_cmp one.0 xs) both) in
+      subst (λ (u : Triple). (not (has triple_cmp u (meant st r ys)) && has triple_cmp u (meant st r xs)) ≡ true) one.2
+      (both_pass _ _ (ap not (apart st r stored ys one.0 (there one.0 of_xs) others out)) (has-meant m xs one.0 of_xs)))
+      (λ h.
+      let of_xs : has triple_cmp t (meant st r xs) ≡ true = and_right (not (has triple_cmp t (meant st r ys))) (has triple_cmp t (meant st r xs)) h in
+      let out : has triple_cmp t (meant st r ys) ≡ false = not_so (has triple_cmp t (meant st r ys)) (and_left (not (has triple_cmp t (meant st r ys))) (has triple_cmp t (meant st r xs)) h) in
+      let one : (key : Key) × (has key_cmp key xs ≡ true) × (m key ≡ t) = meant-has m xs t of_xs in
+      let apart_ : has key_cmp one.0 ys ≡ false = never (has key_cmp one.0 ys) (λ e. clash (subst (λ (u : Triple). has triple_cmp u (meant st r ys) ≡ true) one.2 (has-meant m ys one.0 e)) out) in
+      subst (λ (u : Triple). has triple_cmp u (meant st r (difference key_cmp xs ys)) ≡ true) one.2
+      (has-meant m (difference key_cmp xs ys) one.0 (has-difference key_cmp-total one.0 xs ys ∙ both_pass _ _ (ap not apart_) one.1)))
+
+mapped_alike : (f g : Key → Triple) (keys : List Key) → ((k : Key) → has key_cmp k keys ≡ true → f k ≡ g k) → mapped f keys ≡ mapped g keys
+mapped_alike f g [] h = refl
+mapped_alike f g (k ∷ keys) h = ap (λ t. t ∷ mapped f keys) (h k (has_itself key_cmp-total k keys)) ∙ ap (λ ts. g k ∷ ts) (mapped_alike f g keys (λ x there. h x (or_true _ _ there)))
+
+-- one owner less of what is gone alone, after one more of what came alone
+balanced : (old now new : ℕ) (came gone out : Bool) → out ≡ (not came && gone) → now ≡ old + one_if (came && not gone) → new + one_if out ≡ now → new + one_if gone ≡ old + one_if came
+balanced old now new true true out is e f = omega (arith, e, f, ap one_if is)
+balanced old now new true false out is e f = omega (arith, e, f, ap one_if is)
+balanced old now new false true out is e f = omega (arith, e, f, ap one_if is)
+balanced old now new false false out is e f = omega (arith, e, f, ap one_if is)
+
+undone : (old now new : ℕ) (came gone out : Bool) → out ≡ (not gone && came) → now ≡ old + one_if (came && not gone) → new + one_if out ≡ now → new ≡ old
+undone old now new true true out is e f = omega (arith, e, f, ap one_if is)
+undone old now new true false out is e f = omega (arith, e, f, ap one_if is)
+undone old now new false true out is e f = omega (arith, e, f, ap one_if is)
+undone old now new false false out is e f = omega (arith, e, f, ap one_if is)
+
+lost_none : (now new : ℕ) (came gone out : Bool) → out ≡ (not came && gone) → came ≡ true → new + one_if out ≡ now → 0 < now → 0 < new
+lost_none now new true gone out is e f some = omega (arith, f, ap one_if is, some)
+lost_none now new false gone out is e f some = absurd (true≢false (sym e))
+
+-- after triples came, and before others go
+module _ (st : Store) (r : Texts) (now : Store) (s : Texts) (had keys : List Key) (done : List Triple) (stored : IsStored st r) (all : (key : Key) → has key_cmp key had ≡ true → is_key st key ≡ true) (h : Takes st r now s had keys done) where
+  abbrev pub in_order : List Key
+  in_order = sorted key_cmp keys
+
+  of_keys : (key : Key) → has key_cmp key in_order ≡ true → has key_cmp key keys ≡ true
+  of_keys key there = sym (has-sorted key_cmp-total key keys) ∙ there
+
+  pub had_there : (key : Key) → has key_cmp key had ≡ true → is_key now key ≡ true
+  had_there key there = (had_key st r now s had keys done stored all h key there).stored
+
+  pub keys_there : (key : Key) → has key_cmp key in_order ≡ true → is_key now key ≡ true
+  keys_there key there = let one : (t : Triple) × HasKey now s key t × (has triple_cmp t done ≡ true) = h.each key (of_keys key there) in one.1.stored
+
+  -- the owner's keys stand for what they stood for
+  had_meant : meant now s had ≡ meant st r had
+  had_meant = mapped_alike (triple_at now.pool s) (triple_at st.pool r) had (λ k there. tells now.pool s k (triple_at st.pool r k) (had_key st r now s had keys done stored all h k there).has)
+
+  -- and those that came for the triples that are done
+  keys_meant : (t : Triple) → has triple_cmp t (meant now s in_order) ≡ has triple_cmp t done
+  keys_meant t =
+      let m = triple_at now.pool s in
+      same_test (has triple_cmp t (meant now s in_order)) (has triple_cmp t done)
+      (λ there.
+      let one : (key : Key) × (has key_cmp key in_order ≡ true) × (m key ≡ t) = meant-has m in_order t there in
+      let its : (u : Triple) × HasKey now s one.0 u × (has triple_cmp u done ≡ true) = h.each one.0 (of_keys one.0 one.1) in
+      subst (λ (u : Triple). has triple_cmp u done ≡ true) (sym (tells now.pool s one.0 its.0 its.1.has) ∙ one.2) its.2)
+      (λ there.
+      let one : (key : Key) × HasKey now s key t × (has key_cmp key keys ≡ true) = h.all t there in
+      subst (λ (u : Triple). has triple_cmp u (meant now s in_order) ≡ true) (tells now.pool s one.0 t one.1.has) (has-meant m in_order one.0 (has-sorted key_cmp-total one.0 keys ∙ one.2)))
+
+  module _ (new : Store) (u : Texts) where
+    -- what keeps its owners keeps its key
+    pub keeps : (gone : List Key) → Removes now s new u gone → KeepsKeys st r new u
+    keeps gone less = record { kept = λ key t was some. less.keeps.kept key t (h.kept key t was) some }
+
+    -- the old ones that didn't come again are gone
+    module _ (less : Removes now s new u (difference key_cmp had in_order)) where
+      gone_then : (t : Triple) → has triple_cmp t (meant now s (difference key_cmp had in_order)) ≡ (not (has triple_cmp t done) && has triple_cmp t (meant st r had))
+      gone_then t =
+          meant-difference now s h.stored had in_order had_there keys_there t
+          ∙ ap (λ b. not b && has triple_cmp t (meant now s had)) (keys_meant t)
+          ∙ ap (λ ts. not (has triple_cmp t done) && has triple_cmp t ts) had_meant
+
+      pub exchanged : (gone : List Triple) → AreKeysOf st r had gone → Exchanges (counts_in st r) (counts_in new u) gone done
+      exchanged gone its = record {
+        counts = λ t. ap (λ b. count_of (counts_in new u) t + one_if b) (same_gone st r had gone its t)
+            ∙ balanced (count_of (counts_in st r) t) (count_of (counts_in now s) t) (count_of (counts_in new u) t) (has triple_cmp t done) (has triple_cmp t (meant st r had)) (has triple_cmp t (meant now s (difference key_cmp had in_order))) (gone_then t) (h.counts t) (less.counts t);
+      }
+
+      stands : (key : Key) (t : Triple) → HasKey now s key t → has triple_cmp t done ≡ true → HasKey new u key t
+      stands key t is there = less.keeps.kept key t is (lost_none (count_of (counts_in now s) t) (count_of (counts_in new u) t) (has triple_cmp t done) (has triple_cmp t (meant st r had)) (has triple_cmp t (meant now s (difference key_cmp had in_order))) (gone_then t) there (less.counts t) (counted_key now s h.stored key t is))
+
+      pub are_keys : AreKeysOf new u in_order done
+      are_keys = record {
+        rising = IsRising-sorted key_cmp-total keys;
+        each = λ key there.
+            let one : (t : Triple) × HasKey now s key t × (has triple_cmp t done ≡ true) = h.each key (of_keys key there) in
+            (one.0, stands key one.0 one.1 one.2, one.2);
+        all = λ t there.
+            let one : (key : Key) × HasKey now s key t × (has key_cmp key keys ≡ true) = h.all t there in
+            (one.0, stands one.0 t one.1 there, has-sorted key_cmp-total one.0 keys ∙ one.2);
+      }
+
+    -- those that were added are gone again
+    module _ (less : Removes now s new u (difference key_cmp in_order had)) where
+      pub undone_counts : counts_in new u ≡ counts_in st r
+      undone_counts = same_counts (counts_in new u) (counts_in st r) (owned new u less.stored) (owned st r stored) (λ t.
+          undone (count_of (counts_in st r) t) (count_of (counts_in now s) t) (count_of (counts_in new u) t) (has triple_cmp t done) (has triple_cmp t (meant st r had)) (has triple_cmp t (meant now s (difference key_cmp in_order had)))
+          (meant-difference now s h.stored in_order had keys_there had_there t ∙ ap (λ b. not (has triple_cmp t (meant now s had)) && b) (keys_meant t) ∙ ap (λ ts. not (has triple_cmp t ts) && has triple_cmp t done) had_meant)
+          (h.counts t) (less.counts t))

@@ -1,0 +1,69 @@
+-- The terms that a store needs room for.
+use Rattle.std.proofs.Common.{◌≡◌, ℕ, ◌+◌, ◌<◌, Bool, true, false, not, ◌&&◌, ◌⊎◌, ⊎_elim, List, [], ◌∷◌, ◌++◌, take, Err, Result, refl, sym, ◌∙◌, ap, subst, arith, true≢false}
+use Rattle.std.specs.List.{flat_map}
+use Rattle.std.specs.FinMap as map
+use Rattle.rising.specs.Rising.{has}
+use Rattle.rising.proofs.Bools.{equal, or_true}
+use Rattle.rising.proofs.Rising.{has-append}
+use Rattle.rdf_term.specs.declared.triple.Triple.{Triple}
+use Rattle.rdf_term.specs.declared.term.Term.{Term}
+use Rattle.rdf_term.specs.Order.{term_cmp, triple_cmp, triple_cmp-total}
+use Rattle.rdf_term.proofs.Texts.{triple_cmp-IsAntisymmetric}
+use Rattle.text_region.specs.Region.{Texts}
+use Rattle.term_pool.specs.Pool.{one_if}
+use Rattle.slot_index.specs.declared.key.Key.{Key}
+use Rattle.triple_store.specs.declared.store.Store.{Store}
+use Rattle.triple_store.specs.declared.fault.StoreFault.{StoreFault}
+use Rattle.triple_store.specs.declared.fault.StoreFault.TheVariants.{Full}
+use Rattle.triple_store.specs.Counts.{count_of}
+use Rattle.triple_store.specs.Room.{distinct, room_for, terms_of}
+use Rattle.triple_store.specs.Slots.{HasTermsIn, IsAllOf}
+use Rattle.triple_store.specs.Stored.{counts_in, limit_of}
+use Rattle.triple_store.specs.Moves.{Takes, meant}
+use Rattle.triple_store.proofs.Owners.{same_triple}
+use Rattle.triple_store.proofs.Removing.{in_take}
+use Rattle.triple_store.proofs.Standing.{owned, stored_if}
+use Rattle.triple_store.proofs.Taking.{one_of, or_left}
+
+-- the terms of a triple of a list are among those of the list
+pub terms_among : (ts : List Triple) (t : Triple) → has triple_cmp t ts ≡ true → IsAllOf (terms_of t) (flat_map terms_of ts)
+terms_among [] t h = absurd (true≢false (sym h))
+terms_among (u ∷ ts) t h =
+    ⊎_elim
+    (λ same. record { each = λ x in_t. has-append term_cmp x (terms_of u) (flat_map terms_of ts) ∙ or_left _ _ (subst (λ (v : Triple). has term_cmp x (terms_of v) ≡ true) (triple_cmp-IsAntisymmetric t u (equal _ same)) in_t) })
+    (λ rest. record { each = λ x in_t. has-append term_cmp x (terms_of u) (flat_map terms_of ts) ∙ or_true (has term_cmp x (terms_of u)) _ ((terms_among ts t rest).each x in_t) })
+    (one_of (same_triple t u) (has triple_cmp t ts) h)
+
+-- a sum above 0 has a part above 0
+pub positive_sum : (a b : ℕ) → 0 < a + b → (0 < a) ⊎ (0 < b)
+positive_sum a b h = grind arith
+
+is_one : (a b : Bool) → 0 < one_if (a && b) → a ≡ true
+is_one true b h = refl
+is_one false b h = absurd (omega (arith, h))
+
+-- what is stored while triples come was stored, or is one of those
+pub stored_then : (st : Store) (r : Texts) (now : Store) (s : Texts) (had keys : List Key) (done : List Triple) → Takes st r now s had keys done → (t : Triple) → map.contains_key (counts_in now s) t ≡ true → has triple_cmp t (map.keys (counts_in st r) ++ done) ≡ true
+stored_then st r now s had keys done h t there =
+    let some = owned now s h.stored t there in
+    let all = map.keys (counts_in st r) in
+    ⊎_elim
+    (λ was. has-append triple_cmp t all done ∙ or_left _ _ (sym (map.contains_key-keys (counts_in st r) t) ∙ stored_if (counts_in st r) t was))
+    (λ came. has-append triple_cmp t all done ∙ or_true (has triple_cmp t all) _ (is_one (has triple_cmp t done) (not (has triple_cmp t (meant st r had))) came))
+    (positive_sum (count_of (counts_in st r) t) (one_if (has triple_cmp t done && not (has triple_cmp t (meant st r had)))) (omega (arith, some, h.counts t)))
+
+-- where one triple of them found no room there is none for all
+pub no_room : (st : Store) (r : Texts) (now : Store) (s : Texts) (had keys : List Key) (new : List Triple) (i : ℕ) (t : Triple) → Takes st r now s had keys (take i new) → has triple_cmp t new ≡ true → ((terms : List Term) → HasTermsIn (counts_in now s) terms → IsAllOf (terms_of t) terms → limit_of now < distinct terms) → limit_of st < room_for (counts_in st r) new
+no_room st r now s had keys new i t h among full =
+    let all = map.keys (counts_in st r) ++ new in
+    let within : (u : Triple) → has triple_cmp u (map.keys (counts_in st r) ++ take i new) ≡ true → has triple_cmp u all ≡ true = λ u e.
+    has-append triple_cmp u (map.keys (counts_in st r)) new ∙ ⊎_elim (λ a. or_left _ _ a) (λ b. or_true _ _ (in_take triple_cmp-total u i new b)) (one_of (has triple_cmp u (map.keys (counts_in st r))) (has triple_cmp u (take i new)) (sym (has-append triple_cmp u (map.keys (counts_in st r)) (take i new)) ∙ e)) in
+    let f = full (flat_map terms_of all) (record { each = λ u there. terms_among all u (within u (stored_then st r now s had keys (take i new) h u there)) }) (terms_among all t (has-append triple_cmp t (map.keys (counts_in st r)) new ∙ or_true _ _ among)) in
+    subst (λ n. n < room_for (counts_in st r) new) h.limit f
+
+-- a fault is the same in another result
+abbrev failed : (A : Type 0) → StoreFault → Result A StoreFault
+failed A fault = Err fault
+
+pub same_fault : {A B : Type 0} (fault : StoreFault) → failed A fault ≡ failed A Full → failed B fault ≡ failed B Full
+same_fault {A} {B} fault e = let is : fault ≡ Full = cc in ap (failed B) is

@@ -1,0 +1,8 @@
+use Rattle.std.proofs.Common.{take}
+use Rattle.rising.specs.Rising.{difference}
+use Rattle.slot_index.specs.Keys.{key_cmp}
+use Rattle.triple_store.specs.Moves.{Removes}
+use Rattle.triple_store.proofs.store.Store.remove_beside.Given as goal
+
+abbrev pub invariant-loop-key : goal.invariant-loop-key
+invariant-loop-key l = Removes l.initial.self l.initial.region l.self l.region (difference key_cmp (take l.key-index l.keys) l.others)

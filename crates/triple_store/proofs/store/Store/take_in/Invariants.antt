@@ -1,0 +1,15 @@
+use Rattle.std.proofs.Common.{◌≡◌, ◌≤◌, length, take, ◌++◌, vec_len}
+use Rattle.std.specs.Prelude.{vec_capacity}
+use Rattle.rising.specs.Rising.{has}
+use Rattle.slot_index.specs.declared.key.Key.{Key}
+use Rattle.slot_index.specs.Keys.{key_cmp}
+use Rattle.triple_store.specs.Moves.{Takes}
+use Rattle.triple_store.proofs.store.Store.take_in.Given as goal
+
+abbrev pub invariant-loop-index : goal.invariant-loop-index
+invariant-loop-index l = record {
+  takes : Takes l.initial.self l.initial.region l.self l.region l.old l.keys.items (take l.index l.new);
+  done : vec_len l.keys ≡ l.index;
+  room : length l.new ≤ vec_capacity l.keys;
+  held : (key : Key) → has key_cmp key (l.old ++ l.added.keys) ≡ has key_cmp key (l.old ++ l.keys.items);
+}

@@ -1,0 +1,114 @@
+// One owner of a triple more or less.
+
+ghost use Rattle.std.specs.Prelude.{◌≡◌, ◌<◌, true, Err, IfNone, IfOk, IfSome, List, OnErr, OnOk, Some};
+ghost use Rattle.rdf_term.specs.declared.term.Term.{Term};
+ghost use Rattle.rdf_term.specs.declared.triple.Triple.{Triple};
+ghost use Rattle.text_region.specs.declared.piece.Piece.{Piece as ThePiece};
+ghost use Rattle.term_pool.specs.Pool.{IsNowhere, LiesIn, text_at};
+ghost use Rattle.slot_index.specs.declared.key.Key.{Key as TheKey};
+ghost use Rattle.triple_store.specs.Counts.{count_of, lowered, raised};
+ghost use Rattle.triple_store.specs.Room.{distinct, terms_of};
+ghost use Rattle.triple_store.specs.Slots.{HasCanonicalTexts, HasTermsIn, HasTexts, IsAllOf, triple_at, triple_of};
+ghost use Rattle.triple_store.specs.Stored.{HasKey, IsStored, KeepsKeys, beside, counts_in, is_key, limit_of};
+
+use crate::fault::StoreFault;
+use crate::holding::{hold, let_go};
+use crate::store::Store;
+use crate::uncounted::{lower, raise};
+use slot_index::Key;
+use term_pool::{Pool, PoolFault};
+use text_region::Region;
+use triple_texts::TripleText;
+
+impl Store {
+    // The triple of slots with these texts, where each of them is there; the triple need not be stored. The subject is
+    // tried first in the slot that it has in a triple near by, since triples that follow each other share it. Takes no
+    // memory.
+    pub(crate) fn find_key(
+        &self,
+        region: &Region,
+        texts: &TripleText<'_>,
+        near: Option<Key>,
+    ) -> Option<Key>
+        requires { IsStored self.now region.now }
+        ensures found { IfSome result (λ key. HasTexts self.now.pool region.now key texts.now) }
+        ensures nowhere { IfNone result ((key : TheKey) → HasTexts self.now.pool region.now key texts.now → ⊥) }
+    {
+        let subject = find_near(&self.pool, region, texts.subject, near)?;
+        let predicate = self.pool.find_text(region, texts.predicate)?;
+        let object = self.pool.find_text(region, texts.object)?;
+        Some(Key {
+            first: subject,
+            second: predicate.number,
+            third: object.number,
+        })
+    }
+
+    // Counts one owner more of the triple with these texts, which is taken in where it isn't stored. After a fault every
+    // triple has the count that it had.
+    pub(crate) fn add(
+        &mut self,
+        region: &mut Region,
+        texts: &TripleText<'_>,
+    ) -> Result<Key, StoreFault>
+        requires stored { IsStored self.old region.old }
+        requires canonical { HasCanonicalTexts texts.now }
+        requires countable { count_of (counts_in self.old region.old) (triple_of texts.now) < 18446744073709551615 }
+        ensures stored { IsStored self.new region.new }
+        ensures ok { OnOk result (counts_in self.new region.new ≡ raised (counts_in self.old region.old) (triple_of texts.now)) }
+        ensures key { IfOk result (λ key. HasKey self.new region.new key (triple_of texts.now)) }
+        ensures err { OnErr result (counts_in self.new region.new ≡ counts_in self.old region.old) }
+        ensures full { result ≡ Err StoreFault.Full → (terms : List Term) → HasTermsIn (counts_in self.old region.old) terms → IsAllOf (terms_of (triple_of texts.now)) terms → limit_of self.old < distinct terms }
+        ensures kept { (key : TheKey) (triple : Triple) → HasKey self.old region.old key triple → HasKey self.new region.new key triple }
+        ensures beside { (piece : ThePiece) → beside self.new region.new piece ≡ beside self.old region.old piece }
+        ensures limit { limit_of self.new ≡ limit_of self.old }
+    {
+        let _stored = self.index.len();
+        let key = match hold(&mut self.pool, region, texts) {
+            Ok(key) => key,
+            Err(PoolFault::Full) => return Err(StoreFault::Full),
+            Err(PoolFault::OutOfMemory) => return Err(StoreFault::OutOfMemory),
+        };
+        match raise(&mut self.index, key) {
+            Ok(true) => Ok(key),
+            Ok(false) => {
+                let_go(&mut self.pool, region, key);
+                Ok(key)
+            }
+            Err(_) => {
+                let_go(&mut self.pool, region, key);
+                Err(StoreFault::OutOfMemory)
+            }
+        }
+    }
+
+    // Counts one owner less of a stored triple, which goes with its last owner. Takes no memory.
+    pub(crate) fn remove(&mut self, region: &mut Region, key: Key)
+        requires stored { IsStored self.old region.old }
+        requires there { is_key self.old key ≡ true }
+        ensures stored { IsStored self.new region.new }
+        ensures lowered { counts_in self.new region.new ≡ lowered (counts_in self.old region.old) (triple_at self.old.pool region.old key) }
+        ensures keeps { KeepsKeys self.old region.old self.new region.new }
+        ensures beside { (piece : ThePiece) → beside self.new region.new piece ≡ beside self.old region.old piece }
+        ensures limit { limit_of self.new ≡ limit_of self.old }
+    {
+        if lower(&mut self.index, key) {
+            let_go(&mut self.pool, region, key);
+        }
+    }
+}
+
+// The slot with this text, which is tried first as the subject of a triple near by.
+fn find_near(pool: &Pool, region: &Region, text: &[u8], near: Option<Key>) -> Option<u32>
+    requires { LiesIn pool.now region.now }
+    ensures found { IfSome result (λ slot. text_at pool.now region.now slot ≡ Some text.now) }
+    ensures nowhere { IfNone result (IsNowhere pool.now region.now text.now) }
+{
+    if let Some(key) = near {
+        if pool.has_text(region, key.first, text) {
+            return Some(key.first);
+        }
+    }
+    let slot = pool.find_text(region, text)?;
+    Some(slot.number)
+}

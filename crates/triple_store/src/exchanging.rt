@@ -1,0 +1,142 @@
+// Triples of one owner in the place of others.
+
+ghost use Rattle.std.specs.Prelude.{◌≡◌, ◌<◌, ◌≤◌, ◌++◌, true, false, List, [], length, take, vec_len, vec_capacity, Err, IfSome, IfNone, IfOk, IsOk, OnOk, OnErr};
+ghost use Rattle.std.specs.List.{AllByRecursion};
+ghost use Rattle.rising.specs.Rising.{IsRising, has, sorted};
+ghost use Rattle.rdf_term.specs.declared.triple.Triple.{Triple};
+ghost use Rattle.rdf_term.specs.Fit.{HasFitAndShortTerms};
+ghost use Rattle.rdf_term.specs.Order.{triple_cmp};
+ghost use Rattle.text_region.specs.declared.piece.Piece.{Piece as ThePiece};
+ghost use Rattle.slot_index.specs.declared.key.Key.{Key as TheKey};
+ghost use Rattle.slot_index.specs.Keys.{key_cmp};
+ghost use Rattle.triple_store.specs.Counts.{Exchanges, count_of};
+ghost use Rattle.triple_store.specs.Moves.{Takes};
+ghost use Rattle.triple_store.specs.Room.{room_for};
+ghost use Rattle.triple_store.specs.Slots.{HasTexts};
+ghost use Rattle.triple_store.specs.Stored.{AreKeysOf, IsStored, KeepsKeys, beside, counts_in, is_key, limit_of};
+
+use crate::fault::StoreFault;
+use crate::store::Store;
+use slot_index::Key;
+use std::collections::BTreeSet;
+use text_region::Region;
+use triple_texts::{TripleText, TripleTexts};
+
+impl Store {
+    /// Puts the triples of one owner in the place of those that it had, which its keys tell. What is in both costs its
+    /// look-ups alone. After a fault every triple has the count that it had. Without new triples it always succeeds.
+    pub fn exchange(
+        &mut self,
+        region: &mut Region,
+        old: &[Key],
+        new: &TripleTexts,
+    ) -> Result<Vec<Key>, StoreFault>
+        requires stored { IsStored self.old region.old }
+        requires fit { AllByRecursion HasFitAndShortTerms new.now }
+        requires rising { IsRising key_cmp old.now }
+        requires there { (key : TheKey) → has key_cmp key old.now ≡ true → is_key self.old key ≡ true }
+        requires countable { (triple : Triple) → has triple_cmp triple new.now ≡ true → count_of (counts_in self.old region.old) triple < 18446744073709551615 }
+        ensures stored { IsStored self.new region.new }
+        ensures ok { OnOk result ((gone : List Triple) → AreKeysOf self.old region.old old.now gone → Exchanges (counts_in self.old region.old) (counts_in self.new region.new) gone new.now) }
+        ensures err { OnErr result (counts_in self.new region.new ≡ counts_in self.old region.old) }
+        ensures keys { IfOk result (λ keys. AreKeysOf self.new region.new keys.items new.now) }
+        ensures full { result ≡ Err StoreFault.Full → limit_of self.old < room_for (counts_in self.old region.old) new.now }
+        ensures within { OnOk result (room_for (counts_in self.old region.old) new.now ≤ limit_of self.old) }
+        ensures free { new.now ≡ [] → IsOk result }
+        ensures keeps { KeepsKeys self.old region.old self.new region.new }
+        ensures beside { (piece : ThePiece) → beside self.new region.new piece ≡ beside self.old region.old piece }
+        ensures limit { limit_of self.new ≡ limit_of self.old }
+    {
+        let Ok(mut keys) = Vec::with_capacity(self.alloc, new.len()) else {
+            return Err(StoreFault::OutOfMemory);
+        };
+        let taken = self.take_in(region, old, new, &mut keys);
+        sort_keys(&mut keys);
+        match taken {
+            Ok(()) => {
+                self.remove_beside(region, old, &keys);
+                Ok(keys)
+            }
+            Err(fault) => {
+                self.remove_beside(region, &keys, old);
+                Err(fault)
+            }
+        }
+    }
+
+    // Puts the keys of the triples at the end of a list that has room. Each triple is counted once more, but for those of
+    // the keys that the owner had. After a fault the keys tell how far it came.
+    fn take_in(
+        &mut self,
+        region: &mut Region,
+        old: &[Key],
+        new: &TripleTexts,
+        keys: &mut Vec<Key>,
+    ) -> Result<(), StoreFault>
+        requires stored { IsStored self.old region.old }
+        requires fit { AllByRecursion HasFitAndShortTerms new.now }
+        requires rising { IsRising key_cmp old.now }
+        requires there { (key : TheKey) → has key_cmp key old.now ≡ true → is_key self.old key ≡ true }
+        requires countable { (triple : Triple) → has triple_cmp triple new.now ≡ true → count_of (counts_in self.old region.old) triple < 18446744073709551615 }
+        requires none { keys.old.items ≡ [] }
+        requires room { length new.now ≤ vec_capacity keys.old }
+        ensures takes { Takes self.old region.old self.new region.new old.now keys.new.items (take (vec_len keys.new) new.now) }
+        ensures whole { OnOk result (vec_len keys.new ≡ length new.now) }
+        ensures full { result ≡ Err StoreFault.Full → limit_of self.old < room_for (counts_in self.old region.old) new.now }
+        ensures free { new.now ≡ [] → IsOk result }
+    {
+        let mut added = BTreeSet::new(self.alloc);
+        for index in 0..new.len() {
+            let texts = new.get(index);
+            let near = keys.last().copied();
+            if let Some(key) = self.find_held(region, &texts, near, old, &added) {
+                keys.push_reserved(key);
+                continue;
+            }
+            let key = match self.add(region, &texts) {
+                Ok(key) => key,
+                Err(fault) => return Err(fault),
+            };
+            keys.push_reserved(key);
+            if added.insert(key).is_err() {
+                return Err(StoreFault::OutOfMemory);
+            }
+        }
+        Ok(())
+    }
+
+    // The key of the triple with these texts, where it is among the old ones or those that were added. A triple near by is tried
+    // first for the subject.
+    fn find_held(
+        &self,
+        region: &Region,
+        texts: &TripleText<'_>,
+        near: Option<Key>,
+        old: &[Key],
+        added: &BTreeSet<Key>,
+    ) -> Option<Key>
+        requires stored { IsStored self.now region.now }
+        requires rising { IsRising key_cmp old.now }
+        ensures texts { IfSome result (λ key. HasTexts self.now.pool region.now key texts.now) }
+        ensures held { IfSome result (λ key. has key_cmp key (old.now ++ added.now.keys) ≡ true) }
+        ensures none { IfNone result ((key : TheKey) → HasTexts self.now.pool region.now key texts.now → has key_cmp key (old.now ++ added.now.keys) ≡ false) }
+    {
+        let key = self.find_key(region, texts, near)?;
+        if old.binary_search(&key).is_ok() {
+            return Some(key);
+        }
+        if added.contains(&key) {
+            Some(key)
+        } else {
+            None
+        }
+    }
+}
+
+// Puts keys in order, each once. It takes no memory.
+fn sort_keys(keys: &mut Vec<Key>)
+    ensures { keys.new.items ≡ sorted key_cmp keys.old.items }
+{
+    keys.sort_unstable();
+    keys.dedup();
+}

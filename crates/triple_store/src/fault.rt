@@ -1,0 +1,14 @@
+// Why a store takes no triples.
+
+use thiserror::Error;
+
+/// Why triples aren't taken.
+#[derive(Clone, Copy, Debug, PartialEq, Eq, Error)]
+pub enum StoreFault {
+    /// There are more terms than the limit says.
+    #[error("the store is full")]
+    Full,
+    /// A request for memory was refused.
+    #[error("out of memory")]
+    OutOfMemory,
+}

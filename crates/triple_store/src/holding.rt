@@ -1,0 +1,71 @@
+// The terms of a triple, used once more and once less.
+
+ghost use Rattle.std.specs.Prelude.{◌≡◌, ℕ, ◌<◌, ◌≤◌, ◌^◌, List, Err, IfOk, OnErr};
+ghost use Rattle.rdf_term.specs.declared.term.Term.{Term};
+ghost use Rattle.text_region.specs.Region.{Texts};
+ghost use Rattle.term_pool.specs.Pool.{LiesIn, KeepsForeign, SameSlots, count_at};
+ghost use Rattle.triple_store.specs.Holding.{HasTermsOf, Held, LetGo};
+ghost use Rattle.triple_store.specs.Room.{distinct, terms_of};
+ghost use Rattle.triple_store.specs.Slots.{HasCanonicalTexts, IsAllOf, triple_of, uses};
+
+use slot_index::Key;
+use term_pool::{Pool, PoolFault, Slot};
+use text_region::Region;
+use triple_texts::TripleText;
+
+// Uses each term of the triple with these texts once more, and takes in those that aren't there. After a fault each slot
+// has what it had.
+pub(crate) fn hold(
+    pool: &mut Pool,
+    region: &mut Region,
+    texts: &TripleText<'_>,
+) -> Result<Key, PoolFault>
+    requires lies { LiesIn pool.old region.old }
+    requires canonical { HasCanonicalTexts texts.now }
+    requires countable { (slot : ℕ) → count_at pool.old slot < 2 ^ 99 }
+    ensures lies { LiesIn pool.new region.new }
+    ensures ok { IfOk result (λ key. Held pool.old region.old pool.new region.new key texts.now) }
+    ensures err { OnErr result (SameSlots pool.old region.old pool.new region.new) }
+    ensures full { result ≡ Err PoolFault.Full → (terms : List Term) → HasTermsOf pool.old region.old terms → IsAllOf (terms_of (triple_of texts.now)) terms → pool.old.limit < distinct terms }
+    ensures foreign { KeepsForeign pool.old region.old pool.new region.new }
+    ensures limit { pool.new.limit ≡ pool.old.limit }
+{
+    let subject = match pool.intern_text(region, texts.subject) {
+        Ok(slot) => slot,
+        Err(refused) => return Err(refused),
+    };
+    let predicate = match pool.intern_text(region, texts.predicate) {
+        Ok(slot) => slot,
+        Err(refused) => {
+            pool.release(region, subject);
+            return Err(refused);
+        }
+    };
+    let object = match pool.intern_text(region, texts.object) {
+        Ok(slot) => slot,
+        Err(refused) => {
+            pool.release(region, predicate);
+            pool.release(region, subject);
+            return Err(refused);
+        }
+    };
+    Ok(Key {
+        first: subject.number,
+        second: predicate.number,
+        third: object.number,
+    })
+}
+
+// Uses each term of a triple of slots once less.
+pub(crate) fn let_go(pool: &mut Pool, region: &mut Region, key: Key)
+    requires lies { LiesIn pool.old region.old }
+    requires used { (slot : ℕ) → uses slot key ≤ count_at pool.old slot }
+    ensures lies { LiesIn pool.new region.new }
+    ensures gone { LetGo pool.old region.old pool.new region.new key }
+    ensures foreign { KeepsForeign pool.old region.old pool.new region.new }
+    ensures limit { pool.new.limit ≡ pool.old.limit }
+{
+    pool.release(region, Slot { number: key.third });
+    pool.release(region, Slot { number: key.second });
+    pool.release(region, Slot { number: key.first });
+}

@@ -1,0 +1,46 @@
+// Triples of one owner that go.
+
+ghost use Rattle.std.specs.Prelude.{◌≡◌, true, List, []};
+ghost use Rattle.rising.specs.Rising.{IsRising, difference, has};
+ghost use Rattle.rdf_term.specs.declared.triple.Triple.{Triple};
+ghost use Rattle.text_region.specs.declared.piece.Piece.{Piece as ThePiece};
+ghost use Rattle.slot_index.specs.declared.key.Key.{Key as TheKey};
+ghost use Rattle.slot_index.specs.Keys.{key_cmp};
+ghost use Rattle.triple_store.specs.Counts.{Exchanges};
+ghost use Rattle.triple_store.specs.Moves.{Removes};
+ghost use Rattle.triple_store.specs.Stored.{AreKeysOf, IsStored, KeepsKeys, beside, counts_in, is_key, limit_of};
+
+use crate::store::Store;
+use slot_index::Key;
+use text_region::Region;
+
+impl Store {
+    /// Takes one owner away from the triples of these keys. It takes no memory.
+    pub fn release(&mut self, region: &mut Region, old: &[Key])
+        requires stored { IsStored self.old region.old }
+        requires rising { IsRising key_cmp old.now }
+        requires there { (key : TheKey) → has key_cmp key old.now ≡ true → is_key self.old key ≡ true }
+        ensures stored { IsStored self.new region.new }
+        ensures released { (gone : List Triple) → AreKeysOf self.old region.old old.now gone → Exchanges (counts_in self.old region.old) (counts_in self.new region.new) gone [] }
+        ensures keeps { KeepsKeys self.old region.old self.new region.new }
+        ensures beside { (piece : ThePiece) → beside self.new region.new piece ≡ beside self.old region.old piece }
+        ensures limit { limit_of self.new ≡ limit_of self.old }
+    {
+        self.remove_beside(region, old, &[]);
+    }
+
+    // Takes one owner away from the triples of these keys, but for the keys that are among others. It takes no memory.
+    pub(crate) fn remove_beside(&mut self, region: &mut Region, keys: &[Key], others: &[Key])
+        requires stored { IsStored self.old region.old }
+        requires rising { IsRising key_cmp keys.now }
+        requires others { IsRising key_cmp others.now }
+        requires there { (key : TheKey) → has key_cmp key keys.now ≡ true → is_key self.old key ≡ true }
+        ensures { Removes self.old region.old self.new region.new (difference key_cmp keys.now others.now) }
+    {
+        for key in keys {
+            if others.binary_search(key).is_err() {
+                self.remove(region, *key);
+            }
+        }
+    }
+}

@@ -1,0 +1,17 @@
+// How many terms there are.
+
+ghost use Rattle.std.specs.Prelude.{◌≡◌, []};
+ghost use Rattle.text_region.specs.Region.{Texts};
+ghost use Rattle.triple_store.specs.Room.{room_for};
+ghost use Rattle.triple_store.specs.Stored.{IsStored, counts_in};
+
+use crate::store::Store;
+
+impl Store {
+    /// The number of different terms of the stored triples.
+    pub fn terms(&self) -> u32
+        ensures { (region : Texts) → IsStored self.now region → result ≡ room_for (counts_in self.now region) [] }
+    {
+        self.pool.len()
+    }
+}

@@ -1,0 +1,93 @@
+// Calls of the index whose steps nobody counts.
+
+ghost use Rattle.std.specs.Prelude.{◌≡◌, ◌<◌, ◌==◌, ◌&&◌, Bool, count_by, IfOk, OnOk, OnErr};
+ghost use Rattle.std.specs.FinMap as map;
+ghost use Rattle.slot_index.specs.declared.key.Key.{Key as TheKey};
+ghost use Rattle.slot_index.specs.Counts.{count_of, lowered, raised};
+ghost use Rattle.slot_index.specs.Patterns.{agrees};
+
+use block_index::Steps;
+use rdf_term::{List, OutOfMemory};
+use slot_index::{Key, SlotIndex, SlotPattern};
+use std::marker::Brand;
+use std::sync::ledger::{Blank, Ledger};
+
+// Raises the count of a triple by one, and says whether it wasn't stored.
+pub(crate) fn raise(index: &mut SlotIndex, key: Key) -> Result<bool, OutOfMemory>
+    requires { count_of index.old key < 18446744073709551615 }
+    ensures ok { OnOk result (index.new ≡ raised index.old key) }
+    ensures answer { IfOk result (λ new. new ≡ (count_of index.old key == 0)) }
+    ensures err { OnErr result (index.new ≡ index.old) }
+{
+    raise_by::<Brand>(index, key, Blank::new(1))
+}
+
+fn raise_by<L: Ledger>(index: &mut SlotIndex, key: Key, blank: Blank) -> Result<bool, OutOfMemory>
+    requires few { count_of index.old key < 18446744073709551615 }
+    requires name { blank.name ≡ L.name }
+    requires parts { blank.parts ≡ L.parts }
+    requires some { 0 < blank.parts }
+    ensures ok { OnOk result (index.new ≡ raised index.old key) }
+    ensures answer { IfOk result (λ new. new ≡ (count_of index.old key == 0)) }
+    ensures err { OnErr result (index.new ≡ index.old) }
+{
+    let mut steps = Steps::<L>::new(blank);
+    index.raise(key, &mut steps)
+}
+
+// Lowers the count of a triple by one, and says whether it is gone.
+pub(crate) fn lower(index: &mut SlotIndex, key: Key) -> bool
+    ensures lowered { index.new ≡ lowered index.old key }
+    ensures answer { result ≡ (count_of index.old key == 1) }
+{
+    lower_by::<Brand>(index, key, Blank::new(1))
+}
+
+fn lower_by<L: Ledger>(index: &mut SlotIndex, key: Key, blank: Blank) -> bool
+    requires name { blank.name ≡ L.name }
+    requires parts { blank.parts ≡ L.parts }
+    requires some { 0 < blank.parts }
+    ensures lowered { index.new ≡ lowered index.old key }
+    ensures answer { result ≡ (count_of index.old key == 1) }
+{
+    let mut steps = Steps::<L>::new(blank);
+    index.lower(key, &mut steps)
+}
+
+// How many owners a triple has.
+pub(crate) fn count(index: &SlotIndex, key: Key) -> u64
+    ensures { result ≡ count_of index.now key }
+{
+    count_in::<Brand>(index, key, Blank::new(1))
+}
+
+fn count_in<L: Ledger>(index: &SlotIndex, key: Key, blank: Blank) -> u64
+    requires name { blank.name ≡ L.name }
+    requires parts { blank.parts ≡ L.parts }
+    requires some { 0 < blank.parts }
+    ensures { result ≡ count_of index.now key }
+{
+    let mut steps = Steps::<L>::new(blank);
+    index.count(key, &mut steps)
+}
+
+// The stored triples that agree with a pattern.
+pub(crate) fn range(index: &SlotIndex, pattern: SlotPattern) -> Result<List<Key>, OutOfMemory>
+    ensures { IfOk result (λ found. (p : TheKey → Bool) → count_by p found ≡ count_by (λ key. agrees pattern key && p key) (map.keys index.now)) }
+{
+    range_by::<Brand>(index, pattern, Blank::new(1))
+}
+
+fn range_by<L: Ledger>(
+    index: &SlotIndex,
+    pattern: SlotPattern,
+    blank: Blank,
+) -> Result<List<Key>, OutOfMemory>
+    requires name { blank.name ≡ L.name }
+    requires parts { blank.parts ≡ L.parts }
+    requires some { 0 < blank.parts }
+    ensures { IfOk result (λ found. (p : TheKey → Bool) → count_by p found ≡ count_by (λ key. agrees pattern key && p key) (map.keys index.now)) }
+{
+    let mut steps = Steps::<L>::new(blank);
+    index.range(pattern, &mut steps)
+}

@@ -1,0 +1,190 @@
+-- What is kept stays in step with store and region where the record of an entity is put in.
+use Rattle.std.proofs.Common.{◌≡◌, ◌≢◌, ℕ, ◌+◌, ◌<◌, true, cond, List, [], Option, Some, None, unwrap_or, refl, sym, ◌∙◌, ap, subst, ⊎_elim, arith}
+use Rattle.std.specs.FinMap as map
+use Rattle.std.specs.Ordering.{eq_by_cmp}
+use Rattle.std.specs.Cmp.{eq_by_cmp_equiv}
+use Rattle.rising.specs.Rising.{has}
+use Rattle.rdf_term.specs.declared.triple.Triple.{Triple}
+use Rattle.rdf_term.specs.Order.{triple_cmp}
+use Rattle.entity_model.specs.declared.id.EntityId.{EntityId}
+use Rattle.entity_model.specs.EntityId.{entity_cmp, entity_cmp_total, entity_cmp_same}
+use Rattle.entity_state.specs.declared.record.Held.{Held}
+use Rattle.entity_state.specs.declared.record.Record.{Record}
+use Rattle.entity_state.specs.Record.{blank, held_revision}
+use Rattle.entity_state.specs.declared.standing.Standing.{Standing}
+use Rattle.entity_state.specs.Standing.{standing_of}
+use Rattle.text_region.specs.declared.piece.Piece.{Piece}
+use Rattle.text_region.specs.Region.{Texts}
+use Rattle.slot_index.specs.declared.key.Key.{Key}
+use Rattle.slot_index.specs.Keys.{key_cmp}
+use Rattle.term_pool.specs.Pool.{one_if}
+use Rattle.triple_store.specs.declared.store.Store.{Store}
+use Rattle.triple_store.specs.Counts.{Counts, Exchanges, count_of}
+use Rattle.triple_store.specs.Stored.{AreKeysOf, HasKey, IsStored, KeepsKeys, beside, counts_in}
+use Rattle.replay_model.specs.Records.{Bytes, Records, record_of}
+use Rattle.replay_model.specs.Union.{owners, triples_held}
+use Rattle.world.specs.declared.kept.Kept.{Kept}
+use Rattle.world.specs.InStep.{IsCounted, IsHeld, IsKept, triples_kept}
+use Rattle.world.specs.Keeping.{KeptRecords, PieceTexts, held_with, kept_of, keys_held, piece_at, piece_held, record_with, records_with, seen}
+use Rattle.world.specs.Meaning.{meaning}
+use Rattle.world.proofs.Owning.{counted_moved, has_owner}
+use Rattle.world.proofs.Pieced.{id_tells}
+use Rattle.world.proofs.Values.{changed, get-values, values-insert}
+
+-- the record of an entity among the records that are seen
+pub seen_of : (f : PieceTexts) (kept : KeptRecords) (x : EntityId) → record_of (records_with f kept) x ≡ record_with f (kept_of kept x)
+seen_of f kept x = ap (λ o. unwrap_or o blank) (get-values (record_with f) kept x) ∙ by (map.get kept x)
+  where
+    by : (found : Option (Record Kept)) → unwrap_or (changed (record_with f) found) blank ≡ record_with f (unwrap_or found blank)
+    by None = refl
+    by (Some r) = refl
+
+revision_same : (f : PieceTexts) (h : Option (Held Kept)) → held_revision (held_with f h) ≡ held_revision h
+revision_same f None = refl
+revision_same f (Some h) = refl
+
+-- what stands of a record doesn't need the texts
+pub standing_is : (st : Store) (r : Texts) (kept : KeptRecords) (x : EntityId) → standing_of (record_of (seen st r kept) x) ≡ standing_of (kept_of kept x)
+standing_is st r kept x =
+    ap (λ (was : Record Bytes). standing_of was) (seen_of (beside st r) kept x)
+    ∙ ap standing (revision_same (beside st r) (kept_of kept x).held)
+  where
+    standing : Option ℕ → Standing
+    standing held = record { state = (kept_of kept x).state; held = held; reconciled = (kept_of kept x).reconciled }
+
+pub held_is : (st : Store) (r : Texts) (kept : KeptRecords) (x : EntityId) → (record_of (seen st r kept) x).held ≡ held_with (beside st r) (kept_of kept x).held
+held_is st r kept x = ap (λ (was : Record Bytes). was.held) (seen_of (beside st r) kept x)
+
+-- the record of the entity after a record is put in
+pub kept_here : (kept : KeptRecords) (x : EntityId) (n : Record Kept) → kept_of (map.insert kept x n) x ≡ n
+kept_here kept x n =
+    ap (λ o. unwrap_or o blank) (map.get-insert entity_cmp_total kept x n x)
+    ∙ ap (λ b. unwrap_or (cond b (Some n) (map.get kept x)) blank) ((eq_by_cmp_equiv entity_cmp_total).refl x)
+
+-- and of another
+pub kept_other : (kept : KeptRecords) (x : EntityId) (n : Record Kept) (y : EntityId) → y ≢ x → kept_of (map.insert kept x n) y ≡ kept_of kept y
+kept_other kept x n y other = ⊎_elim
+    (λ own. absurd (other own.1))
+    (λ apart.
+    ap (λ o. unwrap_or o blank) (map.get-insert entity_cmp_total kept x n y)
+    ∙ ap (λ b. unwrap_or (cond b (Some n) (map.get kept y)) blank) apart.0)
+    (id_tells y x)
+
+module _ (f k : PieceTexts) where
+  pub held_same : (h : Option (Held Kept)) → ((p : Piece) → piece_held h ≡ Some p → k p ≡ f p) → held_with k h ≡ held_with f h
+  held_same None texts = refl
+  held_same (Some h) texts = ap (λ (o : Option Bytes). Some (record { revision = h.revision; content = unwrap_or o [] })) (texts h.content.piece refl)
+
+  record_same : (r : Record Kept) → ((p : Piece) → piece_held r.held ≡ Some p → k p ≡ f p) → record_with k r ≡ record_with f r
+  record_same r texts = ap (λ (h : Option (Held Bytes)). record { state = r.state; held = h; reconciled = r.reconciled }) (held_same r.held texts)
+
+  changed_same : (found : Option (Record Kept)) → ((p : Piece) → piece_held (unwrap_or found blank).held ≡ Some p → k p ≡ f p) → changed (record_with k) found ≡ changed (record_with f) found
+  changed_same None texts = refl
+  changed_same (Some r) texts = ap (λ z. Some z) (record_same r texts)
+
+  -- where what the others hold has its bytes, the others' records are seen as they were
+  pub seen_moved : (kept : KeptRecords) (x : EntityId) (n : Record Kept) → ((y : EntityId) (p : Piece) → y ≢ x → piece_at kept y ≡ Some p → k p ≡ f p)
+      → records_with k (map.insert kept x n) ≡ map.insert (records_with f kept) x (record_with k n)
+  seen_moved kept x n texts =
+      values-insert (record_with k) kept x n
+      ∙ map.same_map entity_cmp_total entity_cmp_same _ _ (λ y.
+      map.get-insert entity_cmp_total (records_with k kept) x (record_with k n) y
+      ∙ ⊎_elim
+      (λ own. ap (λ b. cond b (Some (record_with k n)) (map.get (records_with k kept) y)) own.0 ∙ ap (λ b. cond b (Some (record_with k n)) (map.get (records_with f kept) y)) (sym own.0))
+      (λ other. ap (cond (eq_by_cmp entity_cmp y x) (Some (record_with k n)))
+      (get-values (record_with k) kept y ∙ changed_same (map.get kept y) (λ p. texts y p other.1) ∙ sym (get-values (record_with f) kept y)))
+      (id_tells y x)
+      ∙ sym (map.get-insert entity_cmp_total (records_with f kept) x (record_with k n) y))
+
+  -- where all pieces have their bytes
+  pub seen_again : (kept : KeptRecords) → ((p : Piece) → k p ≡ f p) → records_with k kept ≡ records_with f kept
+  seen_again kept texts = map.same_map entity_cmp_total entity_cmp_same _ _ (λ y.
+      get-values (record_with k) kept y ∙ changed_same (map.get kept y) (λ p _. texts p) ∙ sym (get-values (record_with f) kept y))
+
+-- keys go on being those of their triples where these go on being stored
+pub keys_stay : (st : Store) (r : Texts) (st2 : Store) (r2 : Texts) (keys : List Key) (ts : List Triple)
+    → AreKeysOf st r keys ts → KeepsKeys st r st2 r2 → ((t : Triple) → has triple_cmp t ts ≡ true → 0 < count_of (counts_in st2 r2) t) → AreKeysOf st2 r2 keys ts
+keys_stay st r st2 r2 keys ts h keeps owned = record {
+  rising = h.rising;
+  each = λ key there.
+      let is : (t : Triple) × HasKey st r key t × (has triple_cmp t ts ≡ true) = h.each key there in
+      (is.0, keeps.kept key is.0 is.1 (owned is.0 is.2), is.2);
+  all = λ t there.
+      let is : (key : Key) × HasKey st r key t × (has key_cmp key keys ≡ true) = h.all t there in
+      (is.0, keeps.kept is.0 t is.1 (owned t there), is.2);
+}
+
+-- keys are those of the same triples in another order
+pub keys_same : (st : Store) (r : Texts) (keys : List Key) (ts us : List Triple) → ((t : Triple) → has triple_cmp t ts ≡ has triple_cmp t us) → AreKeysOf st r keys ts → AreKeysOf st r keys us
+keys_same st r keys ts us same h = record {
+  rising = h.rising;
+  each = λ key there.
+      let is : (t : Triple) × HasKey st r key t × (has triple_cmp t ts ≡ true) = h.each key there in
+      (is.0, is.1, sym (same is.0) ∙ is.2);
+  all = λ t there. h.all t (same t ∙ there);
+}
+
+-- keys of the same triples in another region
+pub keys_moved : (st : Store) (r : Texts) (st2 : Store) (r2 : Texts) (keys : List Key) (ts : List Triple)
+    → ((key : Key) (t : Triple) → HasKey st r key t → HasKey st2 r2 key t) → AreKeysOf st r keys ts → AreKeysOf st2 r2 keys ts
+keys_moved st r st2 r2 keys ts moves h = record {
+  rising = h.rising;
+  each = λ key there.
+      let is : (t : Triple) × HasKey st r key t × (has triple_cmp t ts ≡ true) = h.each key there in
+      (is.0, moves key is.0 is.1, is.2);
+  all = λ t there.
+      let is : (key : Key) × HasKey st r key t × (has key_cmp key keys ≡ true) = h.all t there in
+      (is.0, moves is.0 t is.1, is.2);
+}
+
+pub exchanged_same : (c d : Counts) (gone came other : List Triple) → ((t : Triple) → has triple_cmp t came ≡ has triple_cmp t other) → Exchanges c d gone came → Exchanges c d gone other
+exchanged_same c d gone came other same h = record {
+  counts = λ t. h.counts t ∙ ap (λ b. count_of c t + one_if b) (same t);
+}
+
+module _ (st : Store) (r : Texts) (st2 : Store) (r2 : Texts) (kept : KeptRecords) (x : EntityId) (n : Record Kept) (h : IsKept st r kept)
+    (texts : (y : EntityId) (p : Piece) → y ≢ x → piece_at kept y ≡ Some p → beside st2 r2 p ≡ beside st r p) where
+  -- what is seen after the record is put in
+  pub seen_put : seen st2 r2 (map.insert kept x n) ≡ map.insert (seen st r kept) x (record_with (beside st2 r2) n)
+  seen_put = seen_moved (beside st r) (beside st2 r2) kept x n texts
+
+  put_counted : Exchanges (counts_in st r) (counts_in st2 r2) (triples_kept (beside st r) kept x) (triples_held meaning x (held_with (beside st2 r2) n.held))
+      → IsCounted (counts_in st2 r2) (seen st2 r2 (map.insert kept x n))
+  put_counted moves =
+      subst (λ (records : Records). IsCounted (counts_in st2 r2) records) (sym seen_put)
+      (counted_moved (counts_in st r) (counts_in st2 r2) (seen st r kept) x (record_with (beside st2 r2) n) h.counted
+      (subst (λ (was : Record Bytes). Exchanges (counts_in st r) (counts_in st2 r2) (triples_held meaning x was.held) (triples_held meaning x (held_with (beside st2 r2) n.held)))
+      (sym (seen_of (beside st r) kept x)) moves))
+
+  others_keyed : IsCounted (counts_in st2 r2) (seen st2 r2 (map.insert kept x n)) → KeepsKeys st r st2 r2 → (y : EntityId) → y ≢ x
+      → AreKeysOf st2 r2 (keys_held (kept_of (map.insert kept x n) y).held) (triples_kept (beside st2 r2) (map.insert kept x n) y)
+  others_keyed counted keeps y other =
+      let same : triples_kept (beside st2 r2) (map.insert kept x n) y ≡ triples_kept (beside st r) kept y =
+      ap (λ (was : Record Kept). triples_held meaning y (held_with (beside st2 r2) was.held)) (kept_other kept x n y other)
+      ∙ ap (triples_held meaning y) (held_same (beside st r) (beside st2 r2) (kept_of kept y).held (λ p. texts y p other)) in
+      let owned : (t : Triple) → has triple_cmp t (triples_kept (beside st r) kept y) ≡ true → 0 < count_of (counts_in st2 r2) t = λ t there.
+      let held : triples_held meaning y (record_of (seen st2 r2 (map.insert kept x n)) y).held ≡ triples_kept (beside st r) kept y =
+      ap (λ (was : Record Bytes). triples_held meaning y was.held) (seen_of (beside st2 r2) (map.insert kept x n) y) ∙ same in
+      let some : 0 < owners triple_cmp meaning (seen st2 r2 (map.insert kept x n)) t = has_owner meaning (seen st2 r2 (map.insert kept x n)) y t (ap (has triple_cmp t) held ∙ there) in
+      let count : count_of (counts_in st2 r2) t ≡ owners triple_cmp meaning (seen st2 r2 (map.insert kept x n)) t = counted.owned t in
+      omega arith in
+      subst (λ (ts : List Triple). AreKeysOf st2 r2 (keys_held (kept_of (map.insert kept x n) y).held) ts) (sym same)
+      (subst (λ (was : Record Kept). AreKeysOf st2 r2 (keys_held was.held) (triples_kept (beside st r) kept y)) (sym (kept_other kept x n y other))
+      (keys_stay st r st2 r2 (keys_held (kept_of kept y).held) (triples_kept (beside st r) kept y) (h.keyed y) keeps owned))
+
+  -- a record is put in: what it holds is stored, and what was held there before is not
+  pub kept_put : IsStored st2 r2 → IsHeld (beside st2 r2) (piece_at (map.insert kept x n))
+      → Exchanges (counts_in st r) (counts_in st2 r2) (triples_kept (beside st r) kept x) (triples_held meaning x (held_with (beside st2 r2) n.held))
+      → KeepsKeys st r st2 r2
+      → AreKeysOf st2 r2 (keys_held n.held) (triples_held meaning x (held_with (beside st2 r2) n.held))
+      → IsKept st2 r2 (map.insert kept x n)
+  kept_put stored held moves keeps keyed = record {
+    stored = stored;
+    counted = put_counted moves;
+    held = held;
+    keyed = λ y. ⊎_elim
+        (λ own. subst (λ (z : EntityId). AreKeysOf st2 r2 (keys_held (kept_of (map.insert kept x n) z).held) (triples_kept (beside st2 r2) (map.insert kept x n) z)) (sym own.1)
+        (subst (λ (was : Record Kept). AreKeysOf st2 r2 (keys_held was.held) (triples_held meaning x (held_with (beside st2 r2) was.held))) (sym (kept_here kept x n)) keyed))
+        (λ other. others_keyed (put_counted moves) keeps y other.1)
+        (id_tells y x);
+  }

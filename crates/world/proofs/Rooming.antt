@@ -1,0 +1,131 @@
+-- The store has room for the terms of the triples that the records mean.
+use Rattle.std.proofs.Common.{◌≡◌, ℕ, ◌<◌, ◌≤◌, Bool, true, false, cond, ◌||◌, Result, Ok, Err, List, [], ◌∷◌, ◌++◌, Option, Some, None, is_some, unwrap_or, nat_lt, lt-ltb, length, refl, sym, ◌∙◌, ap, arith}
+use Rattle.std.specs.List.{flat_map, list_any}
+use Rattle.std.specs.FinMap as map
+use Rattle.std.proofs.lemmas.List.{length-map}
+use Rattle.rising.specs.Rising.{has, sorted}
+use Rattle.rising.proofs.Finding.{list_any-sorted}
+use Rattle.rising.proofs.Rising.{has-append, same_rising, sorted_same}
+use Rattle.rdf_term.specs.declared.term.Term.{Term}
+use Rattle.rdf_term.specs.declared.triple.Triple.{Triple}
+use Rattle.rdf_term.specs.Order.{term_cmp, term_cmp-total, triple_cmp, triple_cmp-total}
+use Rattle.rdf_term.proofs.Texts.{term_cmp-IsAntisymmetric, triple_cmp-IsAntisymmetric}
+use Rattle.text_region.specs.Region.{Texts}
+use Rattle.term_pool.specs.Pool.{terms}
+use Rattle.triple_store.specs.declared.store.Store.{Store}
+use Rattle.triple_store.specs.Counts.{Counts, HaveOwners, count_of}
+use Rattle.triple_store.specs.Room.{distinct, room_for, terms_of}
+use Rattle.triple_store.specs.Stored.{beside, counts_in, limit_of}
+use Rattle.std.specs.Cmp.{eq_by_cmp_equiv}
+use Rattle.entity_model.specs.declared.event.Event.{Event}
+use Rattle.entity_model.specs.EntityId.{entity_cmp_total}
+use Rattle.entity_state.specs.declared.record.Record.{Record}
+use Rattle.entity_state.specs.Record.{blank, held_revision, wants}
+use Rattle.entity_state.specs.State.{is_deleted, state_after}
+use Rattle.side_output.specs.declared.entry.Cause.{Cause}
+use Rattle.triple_store.proofs.Standing.{owned}
+use Rattle.triple_store.proofs.Stocked.{terms_counted}
+use Rattle.triple_store.proofs.Unchanged.{len_image}
+use Rattle.replay_model.specs.Records.{Bytes, Records, record_of}
+use Rattle.replay_model.specs.Play.{held_after_fetch, record_after, records_after}
+use Rattle.world.specs.declared.applied.Outcome.{Outcome}
+use Rattle.world.specs.declared.applied.Outcome.TheVariants.{Dropped, Same, Stored}
+use Rattle.world.specs.Applying.{outcome_after, outcome_of_reply}
+use Rattle.replay_model.specs.Union.{triples_at, triples_held, union}
+use Rattle.replay_model.proofs.Owners.{has-union, union-rises}
+use Rattle.world.specs.InStep.{IsCounted, IsKept}
+use Rattle.world.specs.Keeping.{KeptRecords, record_with, seen}
+use Rattle.world.specs.Meaning.{meaning}
+use Rattle.world.specs.Roomed.{room_with, triples_of_reply}
+use Rattle.world.proofs.Owning.{countable}
+use Rattle.world.proofs.Values.{rising_keys, values_len}
+
+-- a triple is stored where it has an owner
+stored : (counts : Counts) (t : Triple) → HaveOwners counts → map.contains_key counts t ≡ nat_lt 0 (count_of counts t)
+stored counts t h = by (map.get counts t) (h t)
+  where
+    by : (v : Option ℕ) → (is_some v ≡ true → 0 < unwrap_or v 0) → is_some v ≡ nat_lt 0 (unwrap_or v 0)
+    by None some = refl
+    by (Some n) some = sym (lt-ltb 0 n (some refl))
+
+-- the stored triples are the union
+counted_union : (counts : Counts) (records : Records) → HaveOwners counts → IsCounted counts records → map.keys counts ≡ union triple_cmp meaning records
+counted_union counts records owned h =
+    same_rising triple_cmp-total triple_cmp-IsAntisymmetric (map.keys counts) (union triple_cmp meaning records)
+    (rising_keys triple_cmp (map.entries counts) (map.entries_sorted counts))
+    (union-rises triple_cmp-total meaning records)
+    (λ t. sym (map.contains_key-keys counts t) ∙ stored counts t owned ∙ ap (nat_lt 0) (h.owned t) ∙ sym (has-union triple_cmp-total meaning records t))
+
+pub stored_union : (st : Store) (r : Texts) (kept : KeptRecords) → IsKept st r kept → map.keys (counts_in st r) ≡ union triple_cmp meaning (seen st r kept)
+stored_union st r kept h = counted_union (counts_in st r) (seen st r kept) (owned st r h.stored) h.counted
+
+pub has_term : (q : Term) (ts : List Triple) → has term_cmp q (flat_map terms_of ts) ≡ list_any (λ t. has term_cmp q (terms_of t)) ts
+has_term q [] = refl
+has_term q (t ∷ ts) = has-append term_cmp q (terms_of t) (flat_map terms_of ts) ∙ ap (λ b. has term_cmp q (terms_of t) || b) (has_term q ts)
+
+-- triples of one set have the same terms
+distinct_same : (ts us : List Triple) → ((t : Triple) → has triple_cmp t ts ≡ has triple_cmp t us) → distinct (flat_map terms_of ts) ≡ distinct (flat_map terms_of us)
+distinct_same ts us same =
+    let set : sorted triple_cmp ts ≡ sorted triple_cmp us = sorted_same triple_cmp-total triple_cmp-IsAntisymmetric ts us same in
+    ap length (sorted_same term_cmp-total term_cmp-IsAntisymmetric (flat_map terms_of ts) (flat_map terms_of us) (λ q.
+    has_term q ts
+    ∙ sym (list_any-sorted triple_cmp triple_cmp-IsAntisymmetric (λ t. has term_cmp q (terms_of t)) ts)
+    ∙ ap (list_any (λ t. has term_cmp q (terms_of t))) set
+    ∙ list_any-sorted triple_cmp triple_cmp-IsAntisymmetric (λ t. has term_cmp q (terms_of t)) us
+    ∙ sym (has_term q us)))
+
+-- the room that triples need beside the stored ones
+pub room_is : (st : Store) (r : Texts) (kept : KeptRecords) → IsKept st r kept → (c : Counts) → c ≡ counts_in st r → (ts us : List Triple)
+    → ((t : Triple) → has triple_cmp t ts ≡ has triple_cmp t us) → room_for c ts ≡ room_with (seen st r kept) us
+room_is st r kept h c is ts us same =
+    ap (λ (xs : List Triple). distinct (flat_map terms_of (xs ++ ts))) (ap (λ (m : Counts). map.keys m) is ∙ stored_union st r kept h)
+    ∙ distinct_same (union triple_cmp meaning (seen st r kept) ++ ts) (union triple_cmp meaning (seen st r kept) ++ us)
+    (λ t. has-append triple_cmp t (union triple_cmp meaning (seen st r kept)) ts
+    ∙ ap (λ b. has triple_cmp t (union triple_cmp meaning (seen st r kept)) || b) (same t)
+    ∙ sym (has-append triple_cmp t (union triple_cmp meaning (seen st r kept)) us))
+
+-- what is held has room
+pub room_held : (st : Store) (r : Texts) (kept : KeptRecords) → IsKept st r kept → room_with (seen st r kept) [] ≤ limit_of st
+room_held st r kept h =
+    let few : terms st.pool ≤ st.pool.limit = h.stored.lies.few in
+    let many : terms st.pool ≡ room_for (counts_in st r) [] = terms_counted st r h.stored in
+    let room : room_for (counts_in st r) [] ≡ room_with (seen st r kept) [] = room_is st r kept h (counts_in st r) refl [] [] (λ _. refl) in
+    omega arith
+
+-- no count is at its last value
+pub countable_kept : (st : Store) (r : Texts) (kept : KeptRecords) → IsKept st r kept → (c : Counts) → c ≡ counts_in st r → (n : ℕ) → map.len kept < n → (t : Triple) → count_of c t < n
+countable_kept st r kept h c is n few t =
+    let records : map.len (seen st r kept) ≡ map.len kept = values_len (record_with (beside st r)) kept in
+    let same : count_of c t ≡ count_of (counts_in st r) t = ap (λ (m : Counts). count_of m t) is in
+    let fewer : map.len (seen st r kept) < n = omega arith in
+    let counts : count_of (counts_in st r) t < n = countable (counts_in st r) (seen st r kept) n h.counted fewer t in
+    omega arith
+
+no_entries : {A : Type 0} (es : List A) → length es ≡ 0 → es ≡ []
+no_entries [] e = refl
+no_entries (x ∷ es) e = absurd (omega arith)
+
+-- without records nothing is stored
+pub no_keys : (st : Store) (r : Texts) (kept : KeptRecords) → IsKept st r kept → map.len (seen st r kept) ≡ 0 → map.len st.index ≡ 0
+no_keys st r kept h none =
+    let entries : map.entries (seen st r kept) ≡ [] = no_entries (map.entries (seen st r kept)) (sym (map.len-entries (seen st r kept)) ∙ none) in
+    let keys : map.keys (counts_in st r) ≡ [] = stored_union st r kept h ∙ ap (λ es. sorted triple_cmp (flat_map (triples_at meaning) es)) entries in
+    sym (len_image st r h.stored) ∙ map.len-entries (counts_in st r) ∙ sym (length-map (map.entries (counts_in st r)) (λ e. e.0)) ∙ ap length keys
+
+-- what an application stores is the page that came
+pub stored_page : (records : Records) (e : Event) (reply : Result Bytes Cause) (outcome : Outcome) → outcome ≡ outcome_after (record_of records e.entity) e reply → outcome ≡ Stored
+    → triples_held meaning e.entity (record_of (records_after (λ _ _. reply) records e) e.entity).held
+    ≡ triples_of_reply e.entity (state_after (record_of records e.entity).state e).rev reply
+stored_page records e reply outcome is stored =
+    ap (λ (o : Option (Record Bytes)). triples_held meaning e.entity (unwrap_or o blank).held)
+    (map.get-insert entity_cmp_total records e.entity (record_after (λ _ _. reply) e (record_of records e.entity)) e.entity
+    ∙ ap (λ b. cond b (Some (record_after (λ _ _. reply) e (record_of records e.entity))) (map.get records e.entity)) ((eq_by_cmp_equiv entity_cmp_total).refl e.entity))
+    ∙ by (wants (state_after (record_of records e.entity).state e) (held_revision (record_of records e.entity).held)) (is_deleted (state_after (record_of records e.entity).state e).mode) reply (sym is ∙ stored)
+  where
+    by : (b d : Bool) (reply : Result Bytes Cause) → cond b (outcome_of_reply reply) (cond d Dropped Same) ≡ Stored
+        → triples_held meaning e.entity (cond b (held_after_fetch (state_after (record_of records e.entity).state e).rev reply (record_of records e.entity).held) (cond d None (record_of records e.entity).held))
+        ≡ triples_of_reply e.entity (state_after (record_of records e.entity).state e).rev reply
+    by true d (Ok bytes) h = refl
+    by true d (Err cause) h = cc
+    by false true reply h = cc
+    by false false reply h = cc

@@ -1,0 +1,13 @@
+-- Without records nothing is stored, and another limit changes nothing else.
+use Rattle.world.proofs.Replacing.{kept_refused}
+use Rattle.world.proofs.Rooming.{no_keys}
+use Rattle.world.proofs.pages.Pages.set_room.Goals as goal
+
+pub set_limit-requires : goal.set_limit-requires
+set_limit-requires c = no_keys c.self.inside.store c.self.inside.region c.self.inside.table.records c.self.invariant (rw (← c.self.view_is) at c.requires)
+
+pub invariant_of-self : goal.invariant_of-self
+invariant_of-self c =
+    kept_refused c.self.inside.store c.self.inside.region c.set_limit.new.self c.self.inside.region c.self.inside.table.records c.self.invariant
+    (c.set_limit.ensures.stored c.self.inside.region c.self.invariant.stored) (c.set_limit.ensures.counts c.self.inside.region)
+    (record { kept = λ key t is _. c.set_limit.ensures.kept c.self.inside.region key t is }) (c.set_limit.ensures.beside c.self.inside.region)

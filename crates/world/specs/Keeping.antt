@@ -1,0 +1,66 @@
+-- What is kept of each entity, and the records that this is with the texts of the region.
+use Rattle.std.specs.Prelude.{◌≡◌, List, [], Option, None, Some, unwrap_or}
+use Rattle.std.specs.Prelude.{map as mapped}
+use Rattle.std.specs.FinMap as map
+use Rattle.entity_model.specs.declared.id.EntityId.{EntityId}
+use Rattle.entity_model.specs.EntityId.{entity_cmp}
+use Rattle.entity_state.specs.declared.record.Held.{Held}
+use Rattle.entity_state.specs.declared.record.Record.{Record}
+use Rattle.entity_state.specs.Record.{blank}
+use Rattle.text_region.specs.declared.piece.Piece.{Piece}
+use Rattle.text_region.specs.Region.{Texts}
+use Rattle.slot_index.specs.declared.key.Key.{Key}
+use Rattle.triple_store.specs.declared.store.Store.{Store}
+use Rattle.triple_store.specs.Stored.{Changes, beside}
+use Rattle.replay_model.specs.Records.{Bytes, Records}
+use Rattle.world.specs.declared.kept.Kept.{Kept}
+
+-- the records of the entities, each with what is kept of the page that its entity holds
+abbrev pub KeptRecords : Type 0
+KeptRecords = map.FinMap entity_cmp (Record Kept)
+
+-- the record of an entity, blank where there is none
+abbrev pub kept_of : KeptRecords → EntityId → Record Kept
+kept_of kept x = unwrap_or (map.get kept x) blank
+
+-- the text of each piece, none where it isn't live
+abbrev pub PieceTexts : Type 0
+PieceTexts = Piece → Option Bytes
+
+-- what is held, with the text of its piece
+abbrev pub held_with : PieceTexts → Option (Held Kept) → Option (Held Bytes)
+held_with text None = None
+held_with text (Some h) = Some (record { revision = h.revision; content = unwrap_or (text h.content.piece) [] })
+
+abbrev pub record_with : PieceTexts → Record Kept → Record Bytes
+record_with text r = record { state = r.state; held = held_with text r.held; reconciled = r.reconciled }
+
+-- the map with another value at each of its keys
+unfoldable pub with_values : {X Y : Type 0} → (X → Y) → map.FinMap entity_cmp X → map.FinMap entity_cmp Y
+with_values change m = map.from_entries (mapped (λ e. (e.0, change e.1)) (map.entries m))
+
+abbrev pub records_with : PieceTexts → KeptRecords → Records
+records_with text kept = with_values (record_with text) kept
+
+-- the records, each with the bytes that its entity holds
+abbrev pub seen : Store → Texts → KeptRecords → Records
+seen store region kept = records_with (beside store region) kept
+
+-- the piece of what is held
+abbrev pub piece_held : Option (Held Kept) → Option Piece
+piece_held None = None
+piece_held (Some h) = Some h.content.piece
+
+-- the keys of the triples of what is held
+abbrev pub keys_held : Option (Held Kept) → List Key
+keys_held None = []
+keys_held (Some h) = h.content.keys.items
+
+-- the piece of what an entity holds
+abbrev pub piece_at : KeptRecords → EntityId → Option Piece
+piece_at kept x = piece_held (kept_of kept x).held
+
+-- the piece, if there is one, has no text any more, and every other has what it had
+abbrev pub Frees : Option Piece → PieceTexts → PieceTexts → Type 0
+Frees None old new = (piece : Piece) → new piece ≡ old piece
+Frees (Some gone) old new = Changes old new gone (old gone) None
