@@ -17,6 +17,3 @@ mod taking;
 pub use index::BlockIndex;
 pub use ranked::Ranked;
 pub use steps::Steps;
-
-#[cfg(test)]
-mod tests;

@@ -8,6 +8,3 @@ mod playing;
 mod summary;
 
 pub use summary::{Summary, run_drill, summary_lines};
-
-#[cfg(test)]
-mod tests;

@@ -26,8 +26,3 @@ pub use fault::DocumentFault;
 pub use laws::{
     a_tree_has_one_page, documents_are_pages, documents_are_small, unfit_pages_have_causes,
 };
-
-#[cfg(test)]
-mod content_tests;
-#[cfg(test)]
-mod tests;

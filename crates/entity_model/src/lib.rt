@@ -22,6 +22,3 @@ pub use snak::{Content, Snak};
 pub use statement::{Rank, Reference, Statement};
 pub use unfit::Unfit;
 pub use value::{GlobeParts, QuantityParts, Tagged, TimeParts, Value};
-
-#[cfg(test)]
-mod tests;

@@ -12,6 +12,3 @@ pub use record::{Held, Record};
 pub use standing::Standing;
 pub use state::{Mode, State, step};
 pub use table::Table;
-
-#[cfg(test)]
-mod tests;

@@ -22,6 +22,3 @@ pub use laws::{
     has_one_tree, members_weigh_no_more_than_value, text_is_utf8, weighs_no_more_than_text,
 };
 pub use reader::read;
-
-#[cfg(test)]
-mod tests;

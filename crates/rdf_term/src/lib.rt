@@ -20,8 +20,6 @@ mod piece;
 mod read;
 mod tag;
 mod term;
-#[cfg(test)]
-mod tests;
 mod text;
 mod triple;
 mod triple_set;

@@ -8,6 +8,3 @@ mod watermarks;
 
 pub use buffer::Buffer;
 pub use taken::Taken;
-
-#[cfg(test)]
-mod tests;

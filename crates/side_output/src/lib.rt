@@ -7,6 +7,3 @@ mod side;
 
 pub use entry::{Cause, Entry, is_open};
 pub use side::Side;
-
-#[cfg(test)]
-mod tests;

@@ -16,6 +16,3 @@ mod pattern;
 pub use counted::SlotIndex;
 pub use key::Key;
 pub use pattern::SlotPattern;
-
-#[cfg(test)]
-mod tests;

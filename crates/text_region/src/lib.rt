@@ -10,8 +10,6 @@ mod laws;
 mod piece;
 mod region;
 mod shelf;
-#[cfg(test)]
-mod tests;
 
 pub use class::class_of;
 pub use laws::made_is_the_peak;

@@ -8,8 +8,6 @@
 mod setting;
 mod sink;
 mod term_ref;
-#[cfg(test)]
-mod tests;
 
 pub use setting::{MappingVersion, Setting};
 pub use sink::{TripleSink, emit_all};

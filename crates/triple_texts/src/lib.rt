@@ -5,8 +5,6 @@
 #![tactic(auto)]
 
 mod place;
-#[cfg(test)]
-mod tests;
 mod triple_text;
 mod triple_texts;
 

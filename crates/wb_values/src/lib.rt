@@ -14,8 +14,6 @@ mod gregorian_day;
 mod laws;
 mod literal;
 mod point;
-#[cfg(test)]
-mod tests;
 mod written;
 
 pub use decimal::is_decimal;

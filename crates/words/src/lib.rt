@@ -14,6 +14,3 @@ mod plan;
 pub use arguments::{Arguments, take_arguments, take_size};
 pub use options::ReplayOptions;
 pub use plan::{Plan, read_plan};
-
-#[cfg(test)]
-mod tests;
