@@ -19,6 +19,7 @@ fn is_stop(byte: u8) -> bool
 }
 
 // The lanes at which a run stops, each as a bit.
+#[inline(always)]
 fn stops(lanes: u8x16) -> u64
     ensures { result ≡ mask_l (map is_stop lanes) }
 {
@@ -28,6 +29,7 @@ fn stops(lanes: u8x16) -> u64
 }
 
 // How many of the first sixteen bytes come before a stop.
+#[inline(always)]
 fn plain_lanes(bytes: &[u8]) -> usize
     requires { 16 ≤ length bytes.now }
     ensures { result ≡ prefix_len is_plain (take 16 bytes.now) }
@@ -41,6 +43,7 @@ fn plain_lanes(bytes: &[u8]) -> usize
 }
 
 // The same as below, a byte at a time.
+#[inline(never)]
 fn skip_plain_slowly(bytes: &[u8]) -> &[u8]
     ensures rest { result.now ≡ skip is_plain bytes.now }
     ensures no_longer { length result.now ≤ length bytes.now }
@@ -56,6 +59,7 @@ fn skip_plain_slowly(bytes: &[u8]) -> &[u8]
 }
 
 // What follows the bytes of a string that are ASCII and stand for themselves.
+#[inline(always)]
 pub(crate) fn skip_plain(bytes: &[u8]) -> &[u8]
     ensures rest { result.now ≡ skip is_plain bytes.now }
     ensures no_longer { length result.now ≤ length bytes.now }

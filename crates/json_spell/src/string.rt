@@ -137,6 +137,7 @@ fn read_content(alloc: Global, bytes: &[u8]) -> Result<(Text, &[u8]), JsonFault>
 
 // The content of a string after its opening quotation mark, where it is ASCII and has no escape, and what follows the
 // closing one.
+#[inline(always)]
 fn read_plain<'a>(bytes: &'a [u8]) -> Option<(&'a str, &'a [u8])>
     ensures read { IfSome result (λ p. content_at bytes.now ≡ Some (p.0.now, p.1.now)) }
     ensures no_longer { IfSome result (λ p. length p.1.now ≤ length bytes.now) }
@@ -146,18 +147,13 @@ fn read_plain<'a>(bytes: &'a [u8]) -> Option<(&'a str, &'a [u8])>
     Some((text_of(before(bytes, end)), rest))
 }
 
-// The content of a string after its opening quotation mark, and what follows the closing one. It is copied only where
+// The content of any string after its opening quotation mark, and what follows the closing one. It is copied only where
 // the string has an escape.
-pub(crate) fn read_string<'a>(
-    alloc: Global,
-    bytes: &'a [u8],
-) -> Result<(Piece<'a>, &'a [u8]), JsonFault>
+#[inline(never)]
+fn read_any_string<'a>(alloc: Global, bytes: &'a [u8]) -> Result<(Piece<'a>, &'a [u8]), JsonFault>
     ensures read { Gives (λ p. (p.0, p.1.now)) result (content_at bytes.now) }
     ensures no_longer { IfOk result (λ p. length p.1.now ≤ length bytes.now) }
 {
-    if let Some((content, rest)) = read_plain(bytes) {
-        return Ok((Piece::borrowed(content), rest));
-    }
     let end = skip_unescaped(bytes);
     if let Some(rest) = after_byte(end, b'"') {
         let Some(run) = utf8(before(bytes, end)) else {
@@ -167,4 +163,20 @@ pub(crate) fn read_string<'a>(
     }
     let (content, rest) = read_content(alloc, bytes)?;
     Ok((Piece::owned(content), rest))
+}
+
+// The content of a string after its opening quotation mark, and what follows the closing one. Most strings are ASCII
+// without an escape, so these are tried first.
+#[inline(always)]
+pub(crate) fn read_string<'a>(
+    alloc: Global,
+    bytes: &'a [u8],
+) -> Result<(Piece<'a>, &'a [u8]), JsonFault>
+    ensures read { Gives (λ p. (p.0, p.1.now)) result (content_at bytes.now) }
+    ensures no_longer { IfOk result (λ p. length p.1.now ≤ length bytes.now) }
+{
+    match read_plain(bytes) {
+        Some((content, rest)) => Ok((Piece::borrowed(content), rest)),
+        None => read_any_string(alloc, bytes),
+    }
 }
