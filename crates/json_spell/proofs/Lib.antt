@@ -20,3 +20,5 @@ pub mod Scans
 pub mod Shallow
 pub mod Levels
 pub mod Nested
+pub mod Lanes
+pub mod PlainRuns

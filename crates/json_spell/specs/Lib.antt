@@ -11,3 +11,4 @@ pub mod Reading
 pub mod Weight
 pub mod Gives
 pub mod Scan
+pub mod Runs

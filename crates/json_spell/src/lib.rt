@@ -13,6 +13,7 @@ mod json;
 mod laws;
 mod number;
 mod reader;
+mod runs;
 mod string;
 mod value;
 

@@ -1,13 +1,14 @@
 // Reads a string: RFC 8259, section 7.
 
-ghost use Rattle.std.specs.Prelude.{◌≡◌, ◌≤◌, ◌<◌, ◌^◌, IsTrue, length, option_map, IfSome, IfOk, ◌++◌, string_bytes};
+ghost use Rattle.std.specs.Prelude.{◌≡◌, ◌≤◌, ◌<◌, ◌^◌, IsTrue, length, option_map, IfSome, IfOk, Some, ◌++◌, string_bytes};
 ghost use Rattle.std.specs.Char.{digit_value};
 ghost use Rattle.json_spell.specs.Text.{short_escape, code_unit, is_high_surrogate, is_low_surrogate};
 ghost use Rattle.json_spell.specs.Reading.{before, run_at, low_half, unicode_at, escape_at, content_at};
 ghost use Rattle.json_spell.specs.Gives.{Gives};
 
-use crate::bytes::{after_byte, before, next, skip_unescaped, utf8};
+use crate::bytes::{after_byte, before, next, skip_unescaped, text_of, utf8};
 use crate::fault::JsonFault;
+use crate::runs::skip_plain;
 use rdf_term::{Piece, Text};
 use std::alloc::Global;
 
@@ -134,12 +135,22 @@ fn read_content(alloc: Global, bytes: &[u8]) -> Result<(Text, &[u8]), JsonFault>
     }
 }
 
-// The content of a string after its opening quotation mark, and what follows the closing one. It is copied only where
+// The content of a string after its opening quotation mark, where it is ASCII and has no escape, and what follows the
+// closing one.
+#[inline(always)]
+fn read_plain<'a>(bytes: &'a [u8]) -> Option<(&'a str, &'a [u8])>
+    ensures read { IfSome result (λ p. content_at bytes.now ≡ Some (p.0.now, p.1.now)) }
+    ensures no_longer { IfSome result (λ p. length p.1.now ≤ length bytes.now) }
+{
+    let end = skip_plain(bytes);
+    let rest = after_byte(end, b'"')?;
+    Some((text_of(before(bytes, end)), rest))
+}
+
+// The content of any string after its opening quotation mark, and what follows the closing one. It is copied only where
 // the string has an escape.
-pub(crate) fn read_string<'a>(
-    alloc: Global,
-    bytes: &'a [u8],
-) -> Result<(Piece<'a>, &'a [u8]), JsonFault>
+#[inline(never)]
+fn read_any_string<'a>(alloc: Global, bytes: &'a [u8]) -> Result<(Piece<'a>, &'a [u8]), JsonFault>
     ensures read { Gives (λ p. (p.0, p.1.now)) result (content_at bytes.now) }
     ensures no_longer { IfOk result (λ p. length p.1.now ≤ length bytes.now) }
 {
@@ -152,4 +163,20 @@ pub(crate) fn read_string<'a>(
     }
     let (content, rest) = read_content(alloc, bytes)?;
     Ok((Piece::owned(content), rest))
+}
+
+// The content of a string after its opening quotation mark, and what follows the closing one. Most strings are ASCII
+// without an escape, so these are tried first.
+#[inline(always)]
+pub(crate) fn read_string<'a>(
+    alloc: Global,
+    bytes: &'a [u8],
+) -> Result<(Piece<'a>, &'a [u8]), JsonFault>
+    ensures read { Gives (λ p. (p.0, p.1.now)) result (content_at bytes.now) }
+    ensures no_longer { IfOk result (λ p. length p.1.now ≤ length bytes.now) }
+{
+    match read_plain(bytes) {
+        Some((content, rest)) => Ok((Piece::borrowed(content), rest)),
+        None => read_any_string(alloc, bytes),
+    }
 }

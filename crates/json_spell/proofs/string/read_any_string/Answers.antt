@@ -5,7 +5,7 @@ use Rattle.json_spell.specs.Text.{is_unescaped}
 use Rattle.json_spell.specs.Reading.{skip, before, run_at}
 use Rattle.json_spell.proofs.Lists.{after_byte-sound}
 use Rattle.json_spell.proofs.ContentSteps.{content_at-no_run, content_at-closed}
-use Rattle.json_spell.proofs.string.read_string.Goals as goal
+use Rattle.json_spell.proofs.string.read_any_string.Goals as goal
 
 run_at-some : (s : List ℕ) → is_utf8 (before (skip is_unescaped s) s) ≡ true → run_at s ≡ Some (skip is_unescaped s)
 run_at-some s e = rw e refl
