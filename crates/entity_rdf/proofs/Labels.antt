@@ -40,8 +40,8 @@ use Rattle.wb_values.specs.declared.literal.TimeText.{TimeText}
 use Rattle.wb_values.specs.declared.literal.TimeText.TheVariants.{DateTime, Plain as PlainTime}
 use Rattle.wb_values.specs.Decimal.{is_decimal}
 use Rattle.wb_values.specs.Literal.{time_literal}
-use Rattle.value_nodes.specs.Name.{node_name}
-use Rattle.value_nodes.specs.Nodes.{about, bound_triples, named_triples, node_triples, number_one, one, part_triples, precision_triples, unit_term}
+use Rattle.value_nodes.specs.Name.{node_name, number_one, one}
+use Rattle.value_nodes.specs.Nodes.{about, bound_triples, named_triples, node_triples, part_triples, precision_triples, unit_term}
 use Rattle.value_nodes.specs.Said.{object_triples, triple}
 use Rattle.value_nodes.specs.Terms.{amount_term, commons_media, julian_calendar, simple_term, text_term, time_term, time_text_term, url}
 use Rattle.sitelinks.specs.declared.sites.Site.{Site}

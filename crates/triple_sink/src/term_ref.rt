@@ -1,7 +1,8 @@
 // Terms that borrow their texts.
 
-ghost use Rattle.std.specs.Prelude.{◌≡◌, [], ◌∷◌, ◌++◌, IfOk, OnOk};
+ghost use Rattle.std.specs.Prelude.{◌≡◌, [], ◌∷◌, ◌++◌, length, take, IfOk, OnOk, OnErr};
 ghost use Rattle.std.specs.Str.{IsUtf8};
+ghost use Rattle.rdf_term.specs.Append.{Appends};
 ghost use Rattle.rdf_term.specs.Grammar.{tagged_of};
 ghost use Rattle.rdf_term.specs.Text.{in_brackets, quoted, term_text};
 ghost use Rattle.entity_model.specs.EntityId.{id_text};
@@ -82,9 +83,10 @@ impl<'a> TermRef<'a> {
     }
 
     /// Appends the canonical text of the term, as N-Triples writes it. After `OutOfMemory` a part of it may
-    /// stand there.
+    /// stand behind what was there.
     pub fn write(&self, out: &mut Vec<u8>) -> Result<(), OutOfMemory>
         ensures text { OnOk result (out.new.items ≡ out.old.items ++ term_text (meant self.now)) }
+        ensures err { OnErr result (take (length out.old.items) out.new.items ≡ out.old.items) }
         ensures utf8 { IsUtf8 (term_text (meant self.now)) }
     {
         match self {
@@ -109,7 +111,7 @@ fn id_term(alloc: Global, prefix: Prefix, id: EntityId) -> Result<Term, OutOfMem
 
 // Appends the IRI of an entity's id in a namespace.
 fn write_id(prefix: Prefix, id: EntityId, out: &mut Vec<u8>) -> Result<(), OutOfMemory>
-    ensures text { OnOk result (out.new.items ≡ out.old.items ++ term_text (prefixed prefix (id_text id))) }
+    ensures text { Appends out.old.items out.new.items (term_text (prefixed prefix (id_text id))) result }
     ensures utf8 { IsUtf8 (term_text (prefixed prefix (id_text id))) }
 {
     let mut buffer = Buffer::new();
@@ -132,33 +134,31 @@ fn letter(kind: IdKind) -> &'static str
 }
 
 // Appends an IRI in its brackets, by its parts.
-#[tactic(auto, using(crate::proofs::Written::iri_utf8))]
+#[tactic(auto, using(crate::proofs::Written::iri_utf8, rdf_term::proofs::Appending::still_front, std::proofs::lemmas::List::append_assoc))]
 fn write_iri(front: &str, name: &str, end: &str, out: &mut Vec<u8>) -> Result<(), OutOfMemory>
-    ensures text { OnOk result (out.new.items ≡ out.old.items ++ in_brackets (front.now ++ name.now ++ end.now)) }
+    ensures text { Appends out.old.items out.new.items (in_brackets (front.now ++ name.now ++ end.now)) result }
     ensures utf8 { IsUtf8 (in_brackets (front.now ++ name.now ++ end.now)) }
 {
-    out.extend_from_slice(b"<")?;
-    out.extend_from_slice(front.as_bytes())?;
-    out.extend_from_slice(name.as_bytes())?;
-    out.extend_from_slice(end.as_bytes())?;
-    out.extend_from_slice(b">")?;
-    Ok(())
+    append(b"<", out)?;
+    append(front.as_bytes(), out)?;
+    append(name.as_bytes(), out)?;
+    append(end.as_bytes(), out)?;
+    append(b">", out)
 }
 
 // Appends a blank node by its label.
 #[tactic(auto, using(rdf_term::proofs::Utf8Texts::blank_utf8))]
 fn write_blank(label: &str, out: &mut Vec<u8>) -> Result<(), OutOfMemory>
-    ensures text { OnOk result (out.new.items ≡ out.old.items ++ 95 ∷ 58 ∷ label.now) }
+    ensures text { Appends out.old.items out.new.items (95 ∷ 58 ∷ label.now) result }
     ensures utf8 { IsUtf8 (95 ∷ 58 ∷ label.now) }
 {
-    out.extend_from_slice(b"_:")?;
-    out.extend_from_slice(label.as_bytes())?;
-    Ok(())
+    append(b"_:", out)?;
+    append(label.as_bytes(), out)
 }
 
 // Appends a plain literal.
 fn write_plain(text: &str, out: &mut Vec<u8>) -> Result<(), OutOfMemory>
-    ensures text { OnOk result (out.new.items ≡ out.old.items ++ quoted text.now []) }
+    ensures text { Appends out.old.items out.new.items (quoted text.now []) result }
     ensures utf8 { IsUtf8 (quoted text.now []) }
 {
     write_quoted(text, out)
@@ -167,22 +167,30 @@ fn write_plain(text: &str, out: &mut Vec<u8>) -> Result<(), OutOfMemory>
 // Appends a literal with a language.
 #[tactic(auto, using(rdf_term::proofs::Utf8Texts::lang_utf8))]
 fn write_lang(text: &str, tag: &str, out: &mut Vec<u8>) -> Result<(), OutOfMemory>
-    ensures text { OnOk result (out.new.items ≡ out.old.items ++ quoted text.now (64 ∷ tag.now)) }
+    ensures text { Appends out.old.items out.new.items (quoted text.now (64 ∷ tag.now)) result }
     ensures utf8 { IsUtf8 (quoted text.now (64 ∷ tag.now)) }
 {
     write_quoted(text, out)?;
-    out.extend_from_slice(b"@")?;
-    out.extend_from_slice(tag.as_bytes())?;
-    Ok(())
+    append(b"@", out)?;
+    append(tag.as_bytes(), out)
 }
 
 // Appends a literal of another datatype than that of plain ones.
-#[tactic(auto, using(rdf_term::proofs::Utf8Texts::typed_utf8))]
+#[tactic(auto, using(rdf_term::proofs::Utf8Texts::typed_utf8, rdf_term::proofs::Appending::still_front, std::proofs::lemmas::List::append_assoc))]
 fn write_typed(text: &str, datatype: &str, out: &mut Vec<u8>) -> Result<(), OutOfMemory>
-    ensures text { OnOk result (out.new.items ≡ out.old.items ++ quoted text.now (94 ∷ 94 ∷ in_brackets datatype.now)) }
+    ensures text { Appends out.old.items out.new.items (quoted text.now (94 ∷ 94 ∷ in_brackets datatype.now)) result }
     ensures utf8 { IsUtf8 (quoted text.now (94 ∷ 94 ∷ in_brackets datatype.now)) }
 {
     write_quoted(text, out)?;
-    out.extend_from_slice(b"^^")?;
-    write_iri(datatype, "", "", out)
+    append(b"^^<", out)?;
+    append(datatype.as_bytes(), out)?;
+    append(b">", out)
+}
+
+// Appends the bytes.
+fn append(bytes: &[u8], out: &mut Vec<u8>) -> Result<(), OutOfMemory>
+    ensures { Appends out.old.items out.new.items bytes.now result }
+{
+    out.extend_from_slice(bytes)?;
+    Ok(())
 }

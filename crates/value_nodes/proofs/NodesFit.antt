@@ -1,5 +1,5 @@
 -- The triples of a small value's node have fit and short terms.
-use Rattle.std.proofs.Common.{ℕ, ◌≤◌, Bool, true, false, cond, List, [], ◌∷◌, ◌++◌, length, Option, Some, None, refl, arith}
+use Rattle.std.proofs.Common.{ℕ, ◌≤◌, Bool, true, false, cond, List, [], ◌∷◌, ◌++◌, length, Option, Some, None, option_map, refl, arith}
 use Rattle.std.specs.List.{AllByRecursion}
 use Rattle.std.specs.Str.{bytes_eq}
 use Rattle.rdf_term.specs.declared.term.Term.{Term}
@@ -22,8 +22,8 @@ use Rattle.triple_sink.specs.declared.setting.MappingVersion.{MappingVersion}
 use Rattle.value_nodes.specs.Terms.{amount_term}
 use Rattle.rdf_vocabulary.proofs.Fit.{predicate_fit, resource_fit, prefixed_fit}
 use Rattle.rdf_vocabulary.proofs.NamesFit.{hashed_name_iri, length-hashed_name}
-use Rattle.value_nodes.specs.Name.{time_fields, quantity_fields, globe_fields}
-use Rattle.value_nodes.specs.Nodes.{about, one, number_one, unit_term, bound_triples, precision_triples, part_triples, node_triples}
+use Rattle.value_nodes.specs.Name.{one, number_one, name_fields}
+use Rattle.value_nodes.specs.Nodes.{about, unit_term, bound_triples, precision_triples, part_triples, named_triples, node_triples}
 use Rattle.value_nodes.proofs.Fit.{iri_fit, literal_fit, amount_term_fit, time_term_fit}
 
 about_fit : (node : Term) (predicate : Predicate) (object : Term) → IsFitAndShort node → IsFitAndShort object → HasFitAndShortTerms (about node predicate object)
@@ -100,12 +100,10 @@ node_fit : (fields : List ℕ) → IsFitAndShort (prefixed Wdv (hashed_name fiel
 node_fit fields =
     prefixed_fit Wdv (hashed_name fields) (hashed_name_iri fields) (omega (arith, length-hashed_name fields))
 
+named_fit : (value : Value) (fields : Option (List ℕ)) → IsSmallValue value → AllByRecursion HasFitAndShortTerms (named_triples value (option_map hashed_name fields))
+named_fit value None s = tt
+named_fit value (Some fields) s = parts_fit _ value (node_fit fields) s
+
 -- the triples of a small value's node have fit and short terms
 pub node_triples_fit : (version : MappingVersion) (value : Value) → IsSmallValue value → AllByRecursion HasFitAndShortTerms (node_triples version value)
-node_triples_fit version (Time time) s = parts_fit _ (Time time) (node_fit (time_fields time)) s
-node_triples_fit version (Quantity quantity) s = parts_fit _ (Quantity quantity) (node_fit (quantity_fields quantity)) s
-node_triples_fit version (Globe globe) s = parts_fit _ (Globe globe) (node_fit (globe_fields globe)) s
-node_triples_fit version (Entity id) s = tt
-node_triples_fit version (Str text) s = tt
-node_triples_fit version (Mono tagged) s = tt
-node_triples_fit version Other s = tt
+node_triples_fit version value s = named_fit value (name_fields version value) s

@@ -1,5 +1,5 @@
 -- The triples of the nodes of data values.
-use Rattle.std.specs.Prelude.{ℕ, if◌then◌else◌, List, [], ◌∷◌, ◌++◌, codes, Option, Some, None}
+use Rattle.std.specs.Prelude.{ℕ, if◌then◌else◌, List, [], ◌∷◌, ◌++◌, Option, Some, None}
 use Rattle.std.specs.Str.{bytes_eq}
 use Rattle.rdf_term.specs.declared.term.Term.{Term}
 use Rattle.rdf_term.specs.declared.triple.Triple.{Triple}
@@ -20,7 +20,7 @@ use Rattle.rdf_vocabulary.specs.Predicate.{predicate_term}
 use Rattle.rdf_vocabulary.specs.Prefix.{prefixed}
 use Rattle.rdf_vocabulary.specs.Resource.{resource_term}
 use Rattle.triple_sink.specs.declared.setting.MappingVersion.{MappingVersion}
-use Rattle.value_nodes.specs.Name.{node_name}
+use Rattle.value_nodes.specs.Name.{one, number_one, node_name}
 use Rattle.value_nodes.specs.Terms.{amount_term, time_term}
 
 -- a triple that says something of a node
@@ -31,13 +31,7 @@ about node predicate object = record { subject = node; predicate = predicate_ter
 abbrev pub type_triple : Term → Resource → Triple
 type_triple node class = about node P.RdfType (resource_term class)
 
--- the unit of an amount, where `1` is the number one, Q199
-unfoldable pub one : List ℕ
-one = codes "1"
-
-unfoldable pub number_one : List ℕ
-number_one = codes "Q199"
-
+-- the unit of an amount, where `1` is the number one
 abbrev pub unit_term : List ℕ → Term
 unit_term unit = if bytes_eq unit one then prefixed Wd number_one else iri_of unit
 

@@ -1,11 +1,15 @@
 // What holds of the definitions themselves. Each law is the contract of a function that does nothing.
 
-ghost use Rattle.std.specs.Prelude.{ℕ, List, IfSome};
+ghost use Rattle.std.specs.Prelude.{◌≡◌, ℕ, List, IfSome};
 ghost use Rattle.std.specs.List.{AllByRecursion};
 ghost use Rattle.rdf_term.specs.Fit.{HasFitAndShortTerms, IsFitAndShort};
+ghost use Rattle.entity_model.specs.declared.value.QuantityParts.{QuantityParts};
 ghost use Rattle.entity_model.specs.declared.value.Value.{Value};
+ghost use Rattle.entity_model.specs.declared.value.Value.TheVariants.{Quantity};
 ghost use Rattle.entity_model.specs.Value.{IsSmallValue};
 ghost use Rattle.triple_sink.specs.declared.setting.MappingVersion.{MappingVersion};
+ghost use Rattle.triple_sink.specs.declared.setting.MappingVersion.TheVariants.{Two};
+ghost use Rattle.value_nodes.specs.Name.{node_name, number_one_iri, one, with_unit};
 ghost use Rattle.value_nodes.specs.Nodes.{node_triples};
 ghost use Rattle.value_nodes.specs.Terms.{simple_term};
 
@@ -19,4 +23,11 @@ pub fn simple_terms_are_fit()
 #[tactic(auto, using(crate::proofs::NodesFit::node_triples_fit))]
 pub fn node_terms_are_fit()
     ensures { (version : MappingVersion) (value : Value) → IsSmallValue value → AllByRecursion HasFitAndShortTerms (node_triples version value) }
+{}
+
+/// In the second version of the mapping an amount of the unit `1` has the node of the same amount of the number
+/// one, Q199.
+#[tactic(auto, unfolding(crate::specs::Name::one, crate::specs::Name::number_one, rdf_vocabulary::specs::Prefix::prefix_text))]
+pub fn unit_one_is_named_as_the_number_one()
+    ensures { (quantity : QuantityParts) → node_name Two (Quantity (with_unit quantity one)) ≡ node_name Two (Quantity (with_unit quantity number_one_iri)) }
 {}

@@ -101,7 +101,7 @@ fn emit_bound<S: TripleSink>(
 }
 
 // Hands on the unit, where `1` is the number one.
-#[tactic(auto, unfolding(crate::specs::Nodes::one, crate::specs::Nodes::number_one))]
+#[tactic(auto, unfolding(crate::specs::Name::one, crate::specs::Name::number_one))]
 fn emit_unit<S: TripleSink>(
     alloc: Global,
     node: &TermRef<'_>,
