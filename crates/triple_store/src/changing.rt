@@ -1,6 +1,6 @@
 // One owner of a triple more or less.
 
-ghost use Rattle.std.specs.Prelude.{◌≡◌, ◌<◌, true, Err, IfNone, IfOk, IfSome, List, OnErr, OnOk, Some};
+ghost use Rattle.std.specs.Prelude.{◌≡◌, ◌<◌, true, Err, IfNone, IfOk, IfSome, IsTrue, List, OnErr, OnOk, Some};
 ghost use Rattle.rdf_term.specs.declared.term.Term.{Term};
 ghost use Rattle.rdf_term.specs.declared.triple.Triple.{Triple};
 ghost use Rattle.text_region.specs.declared.piece.Piece.{Piece as ThePiece};
@@ -21,9 +21,9 @@ use text_region::Region;
 use triple_texts::TripleText;
 
 impl Store {
-    // The triple of slots with these texts, where each of them is there; the triple need not be stored. The subject is
-    // tried first in the slot that it has in a triple near by, since triples that follow each other share it. Takes no
-    // memory.
+    // The triple of slots with these texts, where each of them is there; the triple need not be stored. Subject and
+    // predicate are tried first in the slots that they have in a triple near by, since triples that follow each other mostly
+    // share one of them. Takes no memory.
     pub(crate) fn find_key(
         &self,
         region: &Region,
@@ -34,14 +34,29 @@ impl Store {
         ensures found { IfSome result (λ key. HasTexts self.now.pool region.now key texts.now) }
         ensures nowhere { IfNone result ((key : TheKey) → HasTexts self.now.pool region.now key texts.now → ⊥) }
     {
-        let subject = find_near(&self.pool, region, texts.subject, near)?;
-        let predicate = self.pool.find_text(region, texts.predicate)?;
+        let subject = find_near(&self.pool, region, texts.subject, near.map(|key| key.first))?;
+        let predicate = find_near(
+            &self.pool,
+            region,
+            texts.predicate,
+            near.map(|key| key.second),
+        )?;
         let object = self.pool.find_text(region, texts.object)?;
         Some(Key {
             first: subject,
-            second: predicate.number,
+            second: predicate,
             third: object.number,
         })
+    }
+
+    // Whether the three slots have these texts, which costs no look-up.
+    pub(crate) fn has_texts(&self, region: &Region, key: Key, texts: &TripleText<'_>) -> bool
+        requires { IsStored self.now region.now }
+        ensures { IsTrue result → HasTexts self.now.pool region.now key texts.now }
+    {
+        self.pool.has_text(region, key.first, texts.subject)
+            && self.pool.has_text(region, key.second, texts.predicate)
+            && self.pool.has_text(region, key.third, texts.object)
     }
 
     // Counts one owner more of the triple with these texts, which is taken in where it isn't stored. After a fault every
@@ -98,15 +113,15 @@ impl Store {
     }
 }
 
-// The slot with this text, which is tried first as the subject of a triple near by.
-fn find_near(pool: &Pool, region: &Region, text: &[u8], near: Option<Key>) -> Option<u32>
+// The slot with this text; one is tried first.
+fn find_near(pool: &Pool, region: &Region, text: &[u8], near: Option<u32>) -> Option<u32>
     requires { LiesIn pool.now region.now }
     ensures found { IfSome result (λ slot. text_at pool.now region.now slot ≡ Some text.now) }
     ensures nowhere { IfNone result (IsNowhere pool.now region.now text.now) }
 {
-    if let Some(key) = near {
-        if pool.has_text(region, key.first, text) {
-            return Some(key.first);
+    if let Some(number) = near {
+        if pool.has_text(region, number, text) {
+            return Some(number);
         }
     }
     let slot = pool.find_text(region, text)?;

@@ -22,6 +22,20 @@ use std::collections::BTreeSet;
 use text_region::Region;
 use triple_texts::{TripleText, TripleTexts};
 
+// Where a triple is looked for first: in the slots of the key before it, and at a place of the old keys.
+#[derive(Clone, Copy)]
+struct Near {
+    last: Option<Key>,
+    next: usize,
+}
+
+// A key that is at hand, and the place of the old keys where the next one may be.
+#[derive(Clone, Copy)]
+struct Found {
+    key: Key,
+    next: usize,
+}
+
 impl Store {
     /// Puts the triples of one owner in the place of those that it had, which its keys tell. What is in both costs its
     /// look-ups alone. After a fault every triple has the count that it had. Without new triples it always succeeds.
@@ -86,11 +100,16 @@ impl Store {
         ensures free { new.now ≡ [] → IsOk result }
     {
         let mut added = BTreeSet::new(self.alloc);
+        let mut next = 0;
         for index in 0..new.len() {
             let texts = new.get(index);
-            let near = keys.last().copied();
-            if let Some(key) = self.find_held(region, &texts, near, old, &added) {
-                keys.push_reserved(key);
+            let near = Near {
+                last: keys.last().copied(),
+                next,
+            };
+            if let Some(found) = self.find_held(region, &texts, near, old, &added) {
+                keys.push_reserved(found.key);
+                next = found.next;
                 continue;
             }
             let key = match self.add(region, &texts) {
@@ -105,28 +124,38 @@ impl Store {
         Ok(())
     }
 
-    // The key of the triple with these texts, where it is among the old ones or those that were added. A triple near by is tried
-    // first for the subject.
+    // The key of the triple with these texts, where it is among the old ones or those that were added. What stays mostly
+    // stands in the order of the old keys, so the next of them is tried first, which costs no look-up.
     fn find_held(
         &self,
         region: &Region,
         texts: &TripleText<'_>,
-        near: Option<Key>,
+        near: Near,
         old: &[Key],
         added: &BTreeSet<Key>,
-    ) -> Option<Key>
+    ) -> Option<Found>
         requires stored { IsStored self.now region.now }
         requires rising { IsRising key_cmp old.now }
-        ensures texts { IfSome result (λ key. HasTexts self.now.pool region.now key texts.now) }
-        ensures held { IfSome result (λ key. has key_cmp key (old.now ++ added.now.keys) ≡ true) }
+        ensures texts { IfSome result (λ found. HasTexts self.now.pool region.now found.key texts.now) }
+        ensures held { IfSome result (λ found. has key_cmp found.key (old.now ++ added.now.keys) ≡ true) }
         ensures none { IfNone result ((key : TheKey) → HasTexts self.now.pool region.now key texts.now → has key_cmp key (old.now ++ added.now.keys) ≡ false) }
     {
-        let key = self.find_key(region, texts, near)?;
-        if old.binary_search(&key).is_ok() {
-            return Some(key);
+        let next = near.next;
+        if next < old.len() && self.has_texts(region, old[next], texts) {
+            return Some(Found {
+                key: old[next],
+                next: next + 1,
+            });
+        }
+        let key = self.find_key(region, texts, near.last)?;
+        if let Ok(place) = old.binary_search(&key) {
+            return Some(Found {
+                key,
+                next: place + 1,
+            });
         }
         if added.contains(&key) {
-            Some(key)
+            Some(Found { key, next })
         } else {
             None
         }

@@ -1,6 +1,7 @@
 // Triples of one owner that go.
 
-ghost use Rattle.std.specs.Prelude.{◌≡◌, true, List, []};
+ghost use Rattle.std.specs.Prelude.{◌≡◌, true, List, [], length, is_ok};
+ghost use Rattle.std.specs.List.Sorted.{IsSearchInRange};
 ghost use Rattle.rising.specs.Rising.{IsRising, difference, has};
 ghost use Rattle.rdf_term.specs.declared.triple.Triple.{Triple};
 ghost use Rattle.text_region.specs.declared.piece.Piece.{Piece as ThePiece};
@@ -37,10 +38,28 @@ impl Store {
         requires there { (key : TheKey) → has key_cmp key keys.now ≡ true → is_key self.old key ≡ true }
         ensures { Removes self.old region.old self.new region.new (difference key_cmp keys.now others.now) }
     {
+        let mut next = 0;
         for key in keys {
-            if others.binary_search(key).is_err() {
-                self.remove(region, *key);
+            match find_from(others, *key, next) {
+                Ok(place) => next = place + 1,
+                Err(place) => {
+                    self.remove(region, *key);
+                    next = place;
+                }
             }
         }
     }
+}
+
+// Where a key stands in a rising list, or would stand. A place is tried first, so that to look for the keys of a list that
+// has nearly the same ones costs no search.
+fn find_from(keys: &[Key], key: Key, next: usize) -> Result<usize, usize>
+    requires { IsRising key_cmp keys.now }
+    ensures bound { IsSearchInRange result (length keys.now) }
+    ensures there { is_ok result ≡ has key_cmp key keys.now }
+{
+    if next < keys.len() && keys[next] == key {
+        return Ok(next);
+    }
+    keys.binary_search(&key)
 }

@@ -9,7 +9,7 @@ use Rattle.rdf_term.specs.Text.{term_text}
 use Rattle.rdf_term.specs.Undo.{undo}
 use Rattle.rdf_term.proofs.Texts.{undo-term_text}
 use Rattle.triple_texts.specs.declared.place.Place.{Place}
-use Rattle.triple_texts.specs.Places.{LiesIn, text_in, subject_in, predicate_in, object_in, triple_in}
+use Rattle.triple_texts.specs.Places.{IsPlaced, LiesIn, text_in, texts_of, subject_in, predicate_in, object_in, triple_in}
 
 module _ (bytes more : List ℕ) where
   -- a text that lies in the buffer is there when more is appended
@@ -64,17 +64,6 @@ there whole front text rest start len w s l =
 -- the text of a term is canonical
 canonical : (text : List ℕ) (term : Term) → text ≡ term_text term → term_text (undo text) ≡ text
 canonical text term e = ap (λ t. term_text (undo t)) e ∙ ap term_text (undo-term_text term) ∙ sym e
-
--- the place of a triple whose texts are appended
-pub record IsPlaced (bytes : List ℕ) (triple : Triple) (place : Place) : Type 0 where
-  pub start : place.start ≡ length bytes
-  pub subject : place.subject ≡ length (term_text triple.subject)
-  pub predicate : place.predicate ≡ length (term_text triple.predicate)
-  pub object : place.object ≡ length (term_text triple.object)
-
--- the three texts of a triple
-abbrev pub texts_of : Triple → List ℕ
-texts_of triple = term_text triple.subject ++ term_text triple.predicate ++ term_text triple.object
 
 module _ (bytes : List ℕ) (triple : Triple) (place : Place) (placed : IsPlaced bytes triple place) where
   abbrev pub after : List ℕ

@@ -1,5 +1,5 @@
 -- The triples whose texts lie in a buffer.
-use Rattle.std.specs.Prelude.{◌≡◌, ℕ, ◌+◌, ◌≤◌, List, length, take, drop}
+use Rattle.std.specs.Prelude.{◌≡◌, ℕ, ◌+◌, ◌≤◌, ◌++◌, List, length, take, drop}
 use Rattle.rdf_term.specs.declared.triple.Triple.{Triple}
 use Rattle.rdf_term.specs.Text.{term_text}
 use Rattle.rdf_term.specs.Undo.{undo}
@@ -33,3 +33,14 @@ pub record LiesIn (bytes : List ℕ) (place : Place) : Type 0 where
   pub subject : term_text (undo (subject_in bytes place)) ≡ subject_in bytes place
   pub predicate : term_text (undo (predicate_in bytes place)) ≡ predicate_in bytes place
   pub object : term_text (undo (object_in bytes place)) ≡ object_in bytes place
+
+-- the three texts of a triple
+abbrev pub texts_of : Triple → List ℕ
+texts_of triple = term_text triple.subject ++ term_text triple.predicate ++ term_text triple.object
+
+-- the place of a triple whose texts are appended to a buffer
+pub record IsPlaced (bytes : List ℕ) (triple : Triple) (place : Place) : Type 0 where
+  pub start : place.start ≡ length bytes
+  pub subject : place.subject ≡ length (term_text triple.subject)
+  pub predicate : place.predicate ≡ length (term_text triple.predicate)
+  pub object : place.object ≡ length (term_text triple.object)

@@ -2,7 +2,8 @@
 
 ghost use Rattle.std.specs.Prelude.{◌≡◌, ◌<◌, ◌++◌, [], length, slice_get, IfSome, IfOk, OnOk};
 ghost use Rattle.rdf_term.specs.Text.{term_text};
-ghost use Rattle.triple_sink.specs.TermRef.{meant};
+ghost use Rattle.triple_sink.specs.TermRef.{meant, meant_triple};
+ghost use Rattle.triple_texts.specs.Places.{IsPlaced, texts_of};
 ghost use Rattle.triple_texts.specs.Texts.{IsTextOf};
 
 use crate::place::Place;
@@ -17,9 +18,6 @@ use triple_sink::{TermRef, TripleSink};
 pub struct TripleTexts {
     bytes: Vec<u8>,
     places: Vec<Place>,
-
-    // The texts of the triple under way, so that a refusal leaves the others as they are.
-    line: Vec<u8>,
 }
 
 impl Model for TripleTexts {
@@ -43,7 +41,6 @@ impl TripleTexts {
         TripleTexts {
             bytes: Vec::new(alloc),
             places: Vec::new(alloc),
-            line: Vec::new(alloc),
         }
     }
 
@@ -63,7 +60,7 @@ impl TripleTexts {
     }
 }
 
-// Each triple is kept, at the end.
+// Each triple is kept, at the end. After `OutOfMemory` none is.
 impl TripleSink for TripleTexts {
     ghost use Rattle.std.specs.Prelude.{[], ◌∷◌};
 
@@ -80,29 +77,49 @@ impl TripleSink for TripleTexts {
         predicate: &TermRef<'_>,
         object: &TermRef<'_>,
     ) -> Result<(), OutOfMemory> {
-        self.line.clear();
-        let subject = append(subject, &mut self.line)?;
-        let predicate = append(predicate, &mut self.line)?;
-        let object = append(object, &mut self.line)?;
         self.places.reserve(1)?;
-        let start = self.bytes.len();
-        self.bytes.extend_from_slice(&self.line)?;
-        self.places.push_reserved(Place {
-            start,
-            subject,
-            predicate,
-            object,
-        });
-        Ok(())
+        match append_triple(subject, predicate, object, &mut self.bytes) {
+            Ok(place) => {
+                self.places.push_reserved(place);
+                Ok(())
+            }
+            Err(OutOfMemory) => {
+                // The buffer isn't what it was.
+                self.places.clear();
+                Err(OutOfMemory)
+            }
+        }
     }
 }
 
+// Appends the texts of a triple and gives their place.
+fn append_triple(
+    subject: &TermRef<'_>,
+    predicate: &TermRef<'_>,
+    object: &TermRef<'_>,
+    bytes: &mut Vec<u8>,
+) -> Result<Place, OutOfMemory>
+    ensures texts { OnOk result (bytes.new.items ≡ bytes.old.items ++ texts_of (meant_triple subject.now predicate.now object.now)) }
+    ensures place { IfOk result (IsPlaced bytes.old.items (meant_triple subject.now predicate.now object.now)) }
+{
+    let start = bytes.len();
+    let subject = append(subject, bytes)?;
+    let predicate = append(predicate, bytes)?;
+    let object = append(object, bytes)?;
+    Ok(Place {
+        start,
+        subject,
+        predicate,
+        object,
+    })
+}
+
 // Appends a term's text and gives its length.
-fn append(term: &TermRef<'_>, line: &mut Vec<u8>) -> Result<u32, OutOfMemory>
-    ensures text { OnOk result (line.new.items ≡ line.old.items ++ term_text (meant term.now)) }
+fn append(term: &TermRef<'_>, bytes: &mut Vec<u8>) -> Result<u32, OutOfMemory>
+    ensures text { OnOk result (bytes.new.items ≡ bytes.old.items ++ term_text (meant term.now)) }
     ensures length { IfOk result (λ len. len ≡ length (term_text (meant term.now))) }
 {
-    let start = line.len();
-    term.write(line)?;
-    u32::try_from(line.len() - start).map_err(|_| OutOfMemory)
+    let start = bytes.len();
+    term.write(bytes)?;
+    u32::try_from(bytes.len() - start).map_err(|_| OutOfMemory)
 }

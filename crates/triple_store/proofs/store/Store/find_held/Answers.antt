@@ -1,4 +1,4 @@
-use Rattle.std.proofs.Common.{◌≡◌, false, ◌++◌, subst, sym, ◌∙◌}
+use Rattle.std.proofs.Common.{◌≡◌, false, is_ok, ◌++◌, ap, subst, sym, ◌∙◌}
 use Rattle.rising.specs.Rising.{has}
 use Rattle.slot_index.specs.declared.key.Key.{Key}
 use Rattle.slot_index.specs.Keys.{key_cmp}
@@ -6,11 +6,11 @@ use Rattle.triple_store.proofs.AtHand.{held_old, not_held}
 use Rattle.triple_store.proofs.Standing.{one_of_texts}
 use Rattle.triple_store.proofs.store.Store.find_held.Goals as goal
 
-pub returns-then-is_ok-clause-held : goal.returns-then-is_ok-clause-held
-returns-then-is_ok-clause-held c = held_old c.args.old.now c.args.added.now.keys c.in_ok-key.key c.binary_search.result c.requires.rising c.binary_search.ensures.bound c.binary_search.ensures.position (sym c.is_ok.ensures.value ∙ c.if-is_ok.true)
+pub returns-in-Ok-clause-held : goal.returns-in-Ok-clause-held
+returns-in-Ok-clause-held c = held_old c.args.old.now c.args.added.now.keys c.in_ok-key.key c.binary_search.result c.requires.rising c.binary_search.ensures.bound c.binary_search.ensures.position (ap is_ok c.in-Ok.is)
 
 pub returns-else-contains-clause-none : goal.returns-else-contains-clause-none
 returns-else-contains-clause-none c key texts =
     subst (λ (k : Key). has key_cmp k (c.args.old.now ++ c.args.added.now.keys) ≡ false)
     (one_of_texts _ _ c.requires.stored.lies _ _ _ c.in_ok-key.ensures.found texts)
-    (not_held c.args.old.now c.args.added.now.keys c.in_ok-key.key c.binary_search.result c.requires.rising c.binary_search.ensures.bound c.binary_search.ensures.position (sym c.is_ok.ensures.value ∙ c.if-is_ok.false) (sym c.contains.ensures ∙ c.if-contains.false))
+    (not_held c.args.old.now c.args.added.now.keys c.in_ok-key.key c.binary_search.result c.requires.rising c.binary_search.ensures.bound c.binary_search.ensures.position (ap is_ok c.in_default.is) (sym c.contains.ensures ∙ c.if-contains.false))

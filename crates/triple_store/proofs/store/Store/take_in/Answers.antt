@@ -9,10 +9,10 @@ pub loop-index-preserved-in-Some : goal.loop-index-preserved-in-Some
 loop-index-preserved-in-Some c =
     let low : c.loop-index.index < length c.args.new.now = omega arith in
     record {
-      takes = rw c.push_reserved.ensures.items (next_held _ _ _ _ c.args.old.now c.loop-index.keys.items c.loop-index.added.keys c.args.new.now c.loop-index.index c.get-texts.result low c.get-texts.ensures c.requires.stored c.requires.there c.loop-index.invariant.takes c.loop-index.invariant.held c.in-Some.key c.in-Some.ensures.texts c.in-Some.ensures.held);
+      takes = rw c.push_reserved.ensures.items (next_held _ _ _ _ c.args.old.now c.loop-index.keys.items c.loop-index.added.keys c.args.new.now c.loop-index.index c.get-texts.result low c.get-texts.ensures c.requires.stored c.requires.there c.loop-index.invariant.takes c.loop-index.invariant.held c.in-Some.found.key c.in-Some.ensures.texts c.in-Some.ensures.held);
       done = omega (arith, c.push_reserved.ensures.len, c.loop-index.invariant.done);
       room = omega (arith, c.push_reserved.ensures.capacity, c.loop-index.invariant.room);
-      held = rw c.push_reserved.ensures.items (held_again c.args.old.now c.loop-index.added.keys c.loop-index.keys.items c.loop-index.invariant.held c.in-Some.key c.in-Some.ensures.held);
+      held = rw c.push_reserved.ensures.items (held_again c.args.old.now c.loop-index.added.keys c.loop-index.keys.items c.loop-index.invariant.held c.in-Some.found.key c.in-Some.ensures.held);
     }
 
 pub add-requires-clause-canonical : goal.add-requires-clause-canonical
