@@ -1,11 +1,7 @@
 -- The replay of a list of deliveries, where each fetch gives what a function of the applied event and the revision says.
-use Rattle.std.specs.Prelude.{ℕ, Bool, false, true, not, ◌&&◌, cond, List, [], ◌∷◌, ◌++◌, Option, None, Some, Result, Ok, Err, fold, filter, flat_map, min, ◌+◌, ◌-◌, ◌^◌}
+use Rattle.std.specs.Prelude.{ℕ, Bool, false, true, not, cond, List, [], ◌∷◌, ◌++◌, Option, None, Some, Result, Ok, Err, fold, filter, flat_map, min, ◌+◌, ◌-◌, ◌^◌}
 use Rattle.std.specs.FinMap as map
-use Rattle.std.specs.Ordering.{is_lt}
 use Rattle.entity_model.specs.declared.event.Event.{Event}
-use Rattle.entity_model.specs.declared.event.Kind.{Kind}
-use Rattle.entity_model.specs.declared.event.Kind.TheVariants.{Edit, Delete, Undelete, ReconcileDeleted, ReconcileKept}
-use Rattle.entity_model.specs.Event.{event_cmp}
 use Rattle.entity_state.specs.declared.state.State.{State}
 use Rattle.entity_state.specs.declared.record.Held.{Held}
 use Rattle.entity_state.specs.declared.record.Record.{Record}

@@ -203,7 +203,7 @@ none_due setting before now last old world new goes calls faults misses same non
 pub within : (setting : Setting) (course : Course) (begun : Replies → ReplayState) (start now : Stage) (counts : Counts) → IsUnderWay setting course begun start now → IsWithin setting course.bytes begun (onward now counts now.world)
 within setting course begun start now counts under_way =
     let honest : (contents : ℕ → Option Bytes) → setting.known ≡ Some contents → AgreeOnApplied now.world under_way.leads.explained.replies (replies_there contents now.world) =
-    λ contents is q r h. sym (under_way.leads.explained.honest contents is q r h) in
+    λ contents is q r h. sym (under_way.leads.explained.honest contents is q r) in
     record {
       steps = under_way.steps;
       replies = under_way.leads.explained.replies;
