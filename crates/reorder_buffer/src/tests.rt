@@ -75,3 +75,22 @@ fn remembers_what_it_gave_back(rt: HostRuntime) -> Result<(), Fail> {
     assert_eq!(rt; buffer.pending(), 0);
     Ok(())
 }
+
+#[test]
+fn forgets_what_is_below_the_floor(rt: HostRuntime) -> Result<(), Fail> {
+    let mut buffer = Buffer::new(rt.alloc())?;
+    buffer.set_horizon(0);
+    take(&rt, &mut buffer, edit(1, 1), Taken::New)?;
+    take(&rt, &mut buffer, edit(2, 2), Taken::New)?;
+    assert_eq!(rt; buffer.remembered(), 2);
+
+    buffer.raise(2);
+    assert_eq!(rt; buffer.remembered(), 1);
+    drop_due(&rt, &mut buffer, edit(1, 1));
+    drop_due(&rt, &mut buffer, edit(2, 2));
+    take(&rt, &mut buffer, edit(1, 1), Taken::Late)?;
+    take(&rt, &mut buffer, edit(1, 1), Taken::Late)?;
+    take(&rt, &mut buffer, edit(2, 2), Taken::Repeat)?;
+    assert_eq!(rt; buffer.remembered(), 1);
+    Ok(())
+}
