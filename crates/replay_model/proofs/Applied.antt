@@ -1,5 +1,5 @@
 -- Which events have settled replies, and what each step adds to them.
-use Rattle.std.proofs.Common.{◌≡◌, ℤ, Bool, true, false, not, ◌&&◌, ◌||◌, cond, List, [], ◌∷◌, Option, None, Some, find, filter, unwrap_or, refl, sym, ◌∙◌, ap, true≢false}
+use Rattle.std.proofs.Common.{◌≡◌, ℤ, Bool, true, false, not, ◌&&◌, ◌||◌, cond, List, [], ◌∷◌, Option, None, Some, find, filter, unwrap_or, refl, sym, ◌∙◌, ap, true≢false, ℕ}
 use Rattle.std.specs.Set.{remove_key}
 use Rattle.std.specs.Ordering.{eq_by_cmp}
 use Rattle.entity_model.specs.declared.event.Event.{Event}
@@ -20,18 +20,18 @@ use Rattle.replay_model.proofs.Following.{after_answered, waits}
 use Rattle.replay_model.proofs.Times.{due-greater}
 
 -- after a list of deliveries, the waiting events are in order
-pub following_rises : (replies : Replies) (ds : List Delivery) → IsRising event_cmp (following replies ds).buffer.waiting
-following_rises replies ds = IsRising-sorted event_cmp_total (filter (waits (mark ds)) (accepted ds))
+pub following_rises : (hz : Option ℕ) (replies : Replies) (ds : List Delivery) → IsRising event_cmp (following hz replies ds).buffer.waiting
+following_rises hz replies ds = IsRising-sorted event_cmp_total (filter (waits (mark ds)) (accepted hz ds))
 
 -- ---- taking an event settles none
 
 -- an event that isn't due may wait
-may_wait : (due tie waiting : Bool) → (tie ≡ true → due ≡ false) → (due && not (tie || waiting)) ≡ (due && not waiting)
-may_wait due true waiting h = ap (λ b. b && false) (h refl) ∙ sym (ap (λ b. b && not waiting) (h refl))
-may_wait due false waiting h = refl
+may_wait : (d tie waiting : Bool) → (tie ≡ true → d ≡ false) → (d && not (tie || waiting)) ≡ (d && not waiting)
+may_wait d true waiting h = ap (λ b. b && false) (h refl) ∙ sym (ap (λ b. b && not waiting) (h refl))
+may_wait d false waiting h = refl
 
 pub applied-event : (w : ReplayState) (e q : Event) → w.buffer.closed ≡ false → is_applied (after_event w e) q ≡ is_applied w q
-applied-event w e q not_closed = by (has event_cmp e w.buffer.taken) (reached w.buffer.mark e.time) refl
+applied-event w e q not_closed = by (has event_cmp e w.buffer.kept) (reached w.buffer.mark e.time) refl
   where
     by : (repeat reach : Bool) → reached w.buffer.mark e.time ≡ reach → is_applied (after_answered (cond repeat Repeat (cond reach Late New)) w e) q ≡ is_applied w q
     by true reach is = refl

@@ -18,7 +18,7 @@ use Rattle.rising.proofs.FirstPassing.{has-found, IsRising-remove_key}
 use Rattle.replay_model.specs.Records.{Bytes}
 use Rattle.replay_model.specs.Play.{Replies, Fetch, fetches, fetches_to_end}
 use Rattle.replay_model.specs.Replies.{Judgement, reply_there, source_replies, failed_events}
-use Rattle.replay_model.specs.ReplayState.{ReplayState, nothing_delivered, after_event, after_mark, after_end, after_applying, after_due, after_next, following, fetches_for, fetches_due}
+use Rattle.replay_model.specs.ReplayState.{ReplayState, nothing_delivered_within, after_event, after_mark, after_end, after_applying, after_due, after_next, following, fetches_for, fetches_due}
 use Rattle.replay_model.specs.Explained.{is_applied, AgreeOnApplied, revision_wanted, is_fetching, IsHonest, Explained, ExplainedAfter, ExplainedToEnd}
 use Rattle.replay_model.proofs.Applied.{applied-end, applied-event, applied-mark, applied-next, following_rises, waiting_not_applied}
 use Rattle.replay_model.proofs.FetchCounts.{fetches_due-none, fetches_due-some, fetches-delivered, fetches-end}
@@ -35,8 +35,8 @@ start_replies unfit (Some contents) e r = source_replies unfit contents [] e r
 
 module _ (unfit : Judgement) (told : Option (ℕ → Option Bytes)) where
   -- before the first delivery
-  pub Explained-start : ExplainedAfter unfit told [] 0 nothing_delivered
-  Explained-start = record {
+  pub Explained-start : (hz : Option ℕ) → ExplainedAfter hz unfit told [] 0 (nothing_delivered_within hz)
+  Explained-start hz = record {
     replies = start_replies unfit told;
     rises = tt;
     leads = λ others agree. refl;
@@ -69,31 +69,31 @@ module _ (unfit : Judgement) (told : Option (ℕ → Option Bytes)) where
     pub Explained-source_fetches : (contents : ℕ → Option Bytes) → told ≡ Some contents → made ≡ length (fetches_of (source_replies unfit contents (failed_events w.played.side)))
     Explained-source_fetches contents is = Explained-made (source_replies unfit contents (failed_events w.played.side)) (λ q r h. sym (x.honest contents is q r))
 
-  module _ (ds : List Delivery) (made : ℕ) (w : ReplayState) (x : ExplainedAfter unfit told ds made w) (none : first_due w.buffer ≡ None) where
-    following_others : (others : Replies) → AgreeOnApplied w x.replies others → w ≡ following others ds
-    following_others = Explained-rests (λ replies. following replies ds) (λ replies. fetches replies ds) made w x none
+  module _ (hz : Option ℕ) (ds : List Delivery) (made : ℕ) (w : ReplayState) (x : ExplainedAfter hz unfit told ds made w) (none : first_due w.buffer ≡ None) where
+    following_others : (others : Replies) → AgreeOnApplied w x.replies others → w ≡ following hz others ds
+    following_others = Explained-rests (λ replies. following hz replies ds) (λ replies. fetches hz replies ds) made w x none
 
-    made_before : (others : Replies) → AgreeOnApplied w x.replies others → made ≡ length (fetches others ds)
-    made_before = Explained-made (λ replies. following replies ds) (λ replies. fetches replies ds) made w x none
+    made_before : (others : Replies) → AgreeOnApplied w x.replies others → made ≡ length (fetches hz others ds)
+    made_before = Explained-made (λ replies. following hz replies ds) (λ replies. fetches hz replies ds) made w x none
 
-    following_itself : w ≡ following x.replies ds
+    following_itself : w ≡ following hz x.replies ds
     following_itself = following_others x.replies (λ q r h. refl)
 
     -- an event is taken
-    pub Explained-event : (e : Event) → ExplainedAfter unfit told (ds ++ Told e ∷ []) made (after_event w e)
+    pub Explained-event : (e : Event) → ExplainedAfter hz unfit told (ds ++ Told e ∷ []) made (after_event w e)
     Explained-event e =
-        let is : after_event w e ≡ following x.replies (ds ++ Told e ∷ []) = ap (λ v. after_event v e) following_itself ∙ sym (following-delivered x.replies ds (Told e)) in
+        let is : after_event w e ≡ following hz x.replies (ds ++ Told e ∷ []) = ap (λ v. after_event v e) following_itself ∙ sym (following-delivered hz x.replies ds (Told e)) in
         let not_closed : w.buffer.closed ≡ false = ap (λ (v : ReplayState). v.buffer.closed) following_itself in
         let failed = failed-taken w.played.side (answer_to w.buffer e) e in
         let before : (others : Replies) → AgreeOnApplied (after_event w e) x.replies others → AgreeOnApplied w x.replies others = λ others agree q r h. agree q r (applied-event w e q not_closed ∙ h) in
-        let same : (others : Replies) → AgreeOnApplied (after_event w e) x.replies others → after_event w e ≡ following others (ds ++ Told e ∷ []) = λ others agree. ap (λ v. after_event v e) (following_others others (before others agree)) ∙ sym (following-delivered others ds (Told e)) in
+        let same : (others : Replies) → AgreeOnApplied (after_event w e) x.replies others → after_event w e ≡ following hz others (ds ++ Told e ∷ []) = λ others agree. ap (λ v. after_event v e) (following_others others (before others agree)) ∙ sym (following-delivered hz others ds (Told e)) in
         record {
           replies = x.replies;
-          rises = subst (λ (v : ReplayState). IsRising event_cmp v.buffer.waiting) (sym is) (following_rises x.replies (ds ++ Told e ∷ []));
-          leads = λ others agree. ap (after_due others) (same others agree) ∙ after_due-none others (following others (ds ++ Told e ∷ [])) (following-rests others (ds ++ Told e ∷ []));
+          rises = subst (λ (v : ReplayState). IsRising event_cmp v.buffer.waiting) (sym is) (following_rises hz x.replies (ds ++ Told e ∷ []));
+          leads = λ others agree. ap (after_due others) (same others agree) ∙ after_due-none others (following hz others (ds ++ Told e ∷ [])) (following-rests hz others (ds ++ Told e ∷ []));
           counts = λ others agree.
-              let left : length (fetches_due others (after_event w e)) ≡ 0 = ap (λ v. length (fetches_due others v)) (same others agree) ∙ ap length (fetches_due-none others (following others (ds ++ Told e ∷ [])) (following-rests others (ds ++ Told e ∷ []))) in
-              let all : length (fetches others (ds ++ Told e ∷ [])) ≡ length (fetches others ds) = ap length (fetches-delivered others ds (Told e) ∙ append-nil (fetches others ds)) in
+              let left : length (fetches_due others (after_event w e)) ≡ 0 = ap (λ v. length (fetches_due others v)) (same others agree) ∙ ap length (fetches_due-none others (following hz others (ds ++ Told e ∷ [])) (following-rests hz others (ds ++ Told e ∷ []))) in
+              let all : length (fetches hz others (ds ++ Told e ∷ [])) ≡ length (fetches hz others ds) = ap length (fetches-delivered hz others ds (Told e) ∙ append-nil (fetches hz others ds)) in
               omega (arith, made_before others (before others agree));
           honest = λ contents known q r. x.honest contents known q r ∙ ap (λ fs. source_replies unfit contents fs q r) (sym failed);
           failed_applied = λ q h. applied-event w e q not_closed ∙ x.failed_applied q (ap (has event_cmp q) (sym failed) ∙ h);
@@ -107,20 +107,20 @@ module _ (unfit : Judgement) (told : Option (ℕ → Option Bytes)) where
     -- and no event is due after it
     pub Explained-event_rests : (e : Event) → first_due (after_event w e).buffer ≡ None
     Explained-event_rests e =
-        ap (λ (v : ReplayState). first_due v.buffer) (ap (λ v. after_event v e) following_itself ∙ sym (following-delivered x.replies ds (Told e)))
-        ∙ following-rests x.replies (ds ++ Told e ∷ [])
+        ap (λ (v : ReplayState). first_due v.buffer) (ap (λ v. after_event v e) following_itself ∙ sym (following-delivered hz x.replies ds (Told e)))
+        ∙ following-rests hz x.replies (ds ++ Told e ∷ [])
 
     -- a watermark is taken
-    pub Explained-mark : (m : ℤ) → ExplainedAfter unfit told (ds ++ Watermark m ∷ []) made (after_mark w m)
+    pub Explained-mark : (m : ℤ) → ExplainedAfter hz unfit told (ds ++ Watermark m ∷ []) made (after_mark w m)
     Explained-mark m =
         let before : (others : Replies) → AgreeOnApplied (after_mark w m) x.replies others → AgreeOnApplied w x.replies others = λ others agree q r h. agree q r (applied-mark w m q h) in
         record {
           replies = x.replies;
           rises = x.rises;
-          leads = λ others agree. ap (λ v. after_due others (after_mark v m)) (following_others others (before others agree)) ∙ sym (following-delivered others ds (Watermark m));
+          leads = λ others agree. ap (λ v. after_due others (after_mark v m)) (following_others others (before others agree)) ∙ sym (following-delivered hz others ds (Watermark m));
           counts = λ others agree.
-              let now : length (fetches_due others (after_mark w m)) ≡ length (fetches_due others (after_mark (following others ds) m)) = ap (λ v. length (fetches_due others (after_mark v m))) (following_others others (before others agree)) in
-              let all : length (fetches others (ds ++ Watermark m ∷ [])) ≡ length (fetches others ds) + length (fetches_due others (after_mark (following others ds) m)) = ap length (fetches-delivered others ds (Watermark m)) ∙ length-append (fetches others ds) (fetches_due others (after_mark (following others ds) m)) in
+              let now : length (fetches_due others (after_mark w m)) ≡ length (fetches_due others (after_mark (following hz others ds) m)) = ap (λ v. length (fetches_due others (after_mark v m))) (following_others others (before others agree)) in
+              let all : length (fetches hz others (ds ++ Watermark m ∷ [])) ≡ length (fetches hz others ds) + length (fetches_due others (after_mark (following hz others ds) m)) = ap length (fetches-delivered hz others ds (Watermark m)) ∙ length-append (fetches hz others ds) (fetches_due others (after_mark (following hz others ds) m)) in
               omega (arith, made_before others (before others agree));
           honest = x.honest;
           failed_applied = λ q h. applied-mark w m q (x.failed_applied q h);
@@ -132,13 +132,13 @@ module _ (unfit : Judgement) (told : Option (ℕ → Option Bytes)) where
     mark_replies m = refl
 
     -- a question is asked, which changes nothing
-    pub Explained-ask : (q : Pattern) → ExplainedAfter unfit told (ds ++ Ask q ∷ []) made w
+    pub Explained-ask : (q : Pattern) → ExplainedAfter hz unfit told (ds ++ Ask q ∷ []) made w
     Explained-ask q = record {
       replies = x.replies;
       rises = x.rises;
-      leads = λ others agree. x.leads others agree ∙ sym (following-delivered others ds (Ask q));
+      leads = λ others agree. x.leads others agree ∙ sym (following-delivered hz others ds (Ask q));
       counts = λ others agree.
-          let all : length (fetches others (ds ++ Ask q ∷ [])) ≡ length (fetches others ds) = ap length (fetches-delivered others ds (Ask q) ∙ append-nil (fetches others ds)) in
+          let all : length (fetches hz others (ds ++ Ask q ∷ [])) ≡ length (fetches hz others ds) = ap length (fetches-delivered hz others ds (Ask q) ∙ append-nil (fetches hz others ds)) in
           omega (arith, x.counts others agree);
       honest = x.honest;
       failed_applied = x.failed_applied;
@@ -150,16 +150,16 @@ module _ (unfit : Judgement) (told : Option (ℕ → Option Bytes)) where
     ask_replies q = refl
 
     -- the end is taken
-    pub Explained-end : ExplainedToEnd unfit told ds made (after_end w)
+    pub Explained-end : ExplainedToEnd hz unfit told ds made (after_end w)
     Explained-end =
         let before : (others : Replies) → AgreeOnApplied (after_end w) x.replies others → AgreeOnApplied w x.replies others = λ others agree q r h. agree q r (applied-end w q h) in
         record {
           replies = x.replies;
           rises = x.rises;
-          leads = λ others agree. ap (λ v. after_due others (after_end v)) (following_others others (before others agree)) ∙ sym (following-end others ds);
+          leads = λ others agree. ap (λ v. after_due others (after_end v)) (following_others others (before others agree)) ∙ sym (following-end hz others ds);
           counts = λ others agree.
-              let now : length (fetches_due others (after_end w)) ≡ length (fetches_due others (after_end (following others ds))) = ap (λ v. length (fetches_due others (after_end v))) (following_others others (before others agree)) in
-              let all : length (fetches_to_end others ds) ≡ length (fetches others ds) + length (fetches_due others (after_end (following others ds))) = ap length (fetches-end others ds) ∙ length-append (fetches others ds) (fetches_due others (after_end (following others ds))) in
+              let now : length (fetches_due others (after_end w)) ≡ length (fetches_due others (after_end (following hz others ds))) = ap (λ v. length (fetches_due others (after_end v))) (following_others others (before others agree)) in
+              let all : length (fetches_to_end hz others ds) ≡ length (fetches hz others ds) + length (fetches_due others (after_end (following hz others ds))) = ap length (fetches-end hz others ds) ∙ length-append (fetches hz others ds) (fetches_due others (after_end (following hz others ds))) in
               omega (arith, made_before others (before others agree));
           honest = x.honest;
           failed_applied = λ q h. applied-end w q (x.failed_applied q h);

@@ -19,3 +19,5 @@ pub mod RecordOf
 pub mod Settled
 pub mod Times
 pub mod ToldContents
+mod Floors
+mod Horizons

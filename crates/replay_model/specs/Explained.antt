@@ -48,10 +48,10 @@ pub record Explained (unfit : Judgement) (told : Option (ℕ → Option Bytes)) 
   -- fetches failed for such events alone
   pub failed_applied : (e : Event) → has event_cmp e (failed_events w.played.side) ≡ true → is_applied w e ≡ true
 
--- explained by the play of a list of deliveries
-abbrev pub ExplainedAfter : Judgement → Option (ℕ → Option Bytes) → List Delivery → ℕ → ReplayState → Type 0
-ExplainedAfter unfit told ds made w = Explained unfit told (λ replies. following replies ds) (λ replies. fetches replies ds) made w
+-- explained by the play of a list of deliveries with this horizon
+abbrev pub ExplainedAfter : Option ℕ → Judgement → Option (ℕ → Option Bytes) → List Delivery → ℕ → ReplayState → Type 0
+ExplainedAfter h unfit told ds made w = Explained unfit told (λ replies. following h replies ds) (λ replies. fetches h replies ds) made w
 
 -- explained by the play of a list of deliveries and the end of the input
-abbrev pub ExplainedToEnd : Judgement → Option (ℕ → Option Bytes) → List Delivery → ℕ → ReplayState → Type 0
-ExplainedToEnd unfit told ds made w = Explained unfit told (λ replies. following_to_end replies ds) (λ replies. fetches_to_end replies ds) made w
+abbrev pub ExplainedToEnd : Option ℕ → Judgement → Option (ℕ → Option Bytes) → List Delivery → ℕ → ReplayState → Type 0
+ExplainedToEnd h unfit told ds made w = Explained unfit told (λ replies. following_to_end h replies ds) (λ replies. fetches_to_end h replies ds) made w
