@@ -1,5 +1,5 @@
 -- What a delivery, and the end of the input, make of a world at rest.
-use Rattle.std.proofs.Common.{refl, inl, inr, sym, subst, ap, ◌∙◌, ◌≡◌, ℕ, ◌+◌, ℤ, false, List, [], ◌∷◌, ◌++◌, length, length-append, append-nil, Option, Ok, Err, arith}
+use Rattle.std.proofs.Common.{refl, inl, inr, sym, subst, ap, ◌∙◌, ◌≡◌, ℕ, ◌+◌, ℤ, false, List, [], ◌∷◌, ◌++◌, length, length-append, append-nil, Option, None, Some, Ok, Err, arith}
 use Rattle.std.specs.List.{filter_map}
 use Rattle.std.proofs.lemmas.List.Elements.{filter_map-append}
 use Rattle.rdf_term.specs.declared.pattern.Pattern.{Pattern}
@@ -31,8 +31,8 @@ use Rattle.session.specs.declared.stop.Unapplied.{Unapplied}
 use Rattle.session.specs.declared.stop.Unapplied.TheVariants.{OutOfMemory as Starved}
 use Rattle.session.specs.Moment.{Setting, Stage, onward, with_output}
 use Rattle.session.specs.Stop.{stop_of_unapplied, stop_of_unwritten}
-use Rattle.session.specs.Taking.{AppliesDue, AtEnd, AtRest, Course, CutsOff, IsHeldUp, IsWithin, Leads, StaysWithin, course_after, course_to_end, judgement, said_behind, turn}
-use Rattle.session.proofs.Due.{within}
+use Rattle.session.specs.Taking.{AppliesDue, AtEnd, AtRest, Course, CutsOff, IsHeldUp, IsWithin, Leads, StaysWithin, course_after, course_begun, course_to_end, judgement, said_behind, turn}
+use Rattle.session.proofs.Due.{no_call, within}
 
 -- one delivery more: how many questions were asked
 pub asks-push : (ds : List Delivery) (d : Delivery) → asks (ds ++ d ∷ []) ≡ asks ds + asks (d ∷ [])
@@ -83,7 +83,7 @@ module _ (setting : Setting) (ds : List Delivery) (start : Stage) where
 
   -- the play with a watermark, which says what was said before
   abbrev course_of_mark : ℤ → Course
-  course_of_mark m = record (course_after (ds ++ Watermark m ∷ []) start) { bytes = said_behind ds start }
+  course_of_mark m = course_begun ds (Some (Watermark m)) start
 
   -- a watermark is taken: the world leads to the play with it
   abbrev mark_leads : (now : Stage) (m : ℤ) → AtRest setting ds start now → Leads setting (course_of_mark m) start (onward now now.counts (after_mark now.world m))
@@ -132,13 +132,15 @@ module _ (setting : Setting) (ds : List Delivery) (start : Stage) where
     later = at_rest.later;
   }
 
-  -- a world at rest is where its play is, whatever the counts are
-  pub rest_within : (now : Stage) (counts : Counts) → AtRest setting ds start now → IsWithin setting (said_behind ds start) (λ replies. following replies ds) (onward now counts now.world)
-  rest_within now counts at_rest = within setting (course_after ds start) (λ replies. following replies ds) start now counts (record { leads = at_rest.leads; steps = 0; is = rest_is now at_rest })
+  -- a world at rest is where its play is
+  pub rest_within : (now : Stage) → AtRest setting ds start now → IsWithin setting (course_begun ds None start) (λ replies. following replies ds) start now
+  rest_within now at_rest =
+      let There : List Delivery → Type 0 = λ l. IsWithin setting (record (course_after l start) { bytes = said_behind ds start }) (λ replies. following replies ds) start now in
+      subst There (sym (append-nil ds)) (within setting (course_after ds start) (λ replies. following replies ds) start now now.counts (no_call now.counts) (record { leads = at_rest.leads; steps = 0; is = rest_is now at_rest }))
 
   -- a watermark is taken, and some of what is due is applied
   pub mark_begun : (now : Stage) (counts : Counts) (new : ReplayState) (m : ℤ) → StaysWithin setting now.counts counts (after_mark now.world m) new → AtRest setting ds start now →
-      IsWithin setting (said_behind ds start) (λ replies. entered (following replies ds) (Watermark m)) (onward now counts new)
+      IsWithin setting (course_of_mark m) (λ replies. entered (following replies ds) (Watermark m)) start (onward now counts new)
   mark_begun now counts new m stays at_rest =
       stays (course_of_mark m) (λ replies. entered (following replies ds) (Watermark m)) start now (record {
         leads = mark_leads now m at_rest;
@@ -149,7 +151,7 @@ module _ (setting : Setting) (ds : List Delivery) (start : Stage) where
 
   -- the end is taken, and some of what waits is applied
   pub end_begun : (now : Stage) (counts : Counts) (new : ReplayState) → StaysWithin setting now.counts counts (after_end now.world) new → AtRest setting ds start now →
-      IsWithin setting (said_behind ds start) (λ replies. after_end (following replies ds)) (onward now counts new)
+      IsWithin setting (course_to_end ds start) (λ replies. after_end (following replies ds)) start (onward now counts new)
   end_begun now counts new stays at_rest =
       stays (course_to_end ds start) (λ replies. after_end (following replies ds)) start now (record {
         leads = end_leads now at_rest;
@@ -190,7 +192,7 @@ module _ (setting : Setting) (ds : List Delivery) (start : Stage) where
 
 -- an event wasn't taken
 pub event_cut_off : (setting : Setting) (e : Event) (asked : ℕ) (now : Stage) (new : ReplayState) → new ≡ now.world → CutsOff OutOfMemory setting (turn asked (Told e)) now (onward now now.counts new)
-event_cut_off setting e asked now new same = inr (Starved, refl, record { held_up = tt; output = refl; world = λ ds start at_rest. inl same })
+event_cut_off setting e asked now new same = inr (Starved, refl, record { held_up = tt; output = refl; world = λ ds start at_rest. inl (same, refl) })
 
 -- a watermark was taken, and some of what is due was applied
 pub mark_cut_off : (why : Unapplied) (setting : Setting) (m : ℤ) (asked : ℕ) (now : Stage) (counts : Counts) (new : ReplayState) → IsHeldUp why setting new →

@@ -1,5 +1,5 @@
 -- One due event is applied: the world still leads to its play, the counts rise with its fetch, and fewer events wait.
-use Rattle.std.proofs.Common.{refl, sym, subst, ◌∙◌, ap, inl, inr, ◌≡◌, ◌⊎◌, ℕ, suc, ◌+◌, ◌-◌, ◌^◌, ◌<◌, ◌≤◌, Bool, true, false, cond, List, [], ◌∷◌, length, length-append, Option, None, Some, Result, Ok, Err, arith}
+use Rattle.std.proofs.Common.{refl, sym, subst, ◌∙◌, ap, inl, inr, ⊎_elim, ◌≡◌, ◌⊎◌, ℕ, suc, ◌+◌, ◌-◌, ◌^◌, ◌<◌, ◌≤◌, Bool, true, false, cond, max, min, List, [], ◌∷◌, length, length-append, Option, None, Some, Result, Ok, Err, arith}
 use Rattle.std.specs.List.{find}
 use Rattle.std.specs.Set.{remove_key}
 use Rattle.entity_model.specs.declared.id.EntityId.{EntityId}
@@ -7,6 +7,7 @@ use Rattle.entity_model.specs.declared.unfit.Unfit.{Unfit}
 use Rattle.entity_model.specs.declared.event.Event.{Event}
 use Rattle.entity_state.specs.State.{state_after, is_deleted}
 use Rattle.side_output.specs.declared.entry.Cause.{Cause}
+use Rattle.side_output.specs.declared.entry.Entry.{Entry}
 use Rattle.side_output.specs.declared.entry.Cause.TheVariants.{Missing, Failed, Unfit as NoDocument}
 use Rattle.revisions.specs.Revisions.{Contents, counted}
 use Rattle.reorder_buffer.specs.Buffered.{first_due}
@@ -17,7 +18,6 @@ use Rattle.replay_model.specs.ReplayState.{ReplayState, after_next}
 use Rattle.replay_model.specs.Explained.{AgreeOnApplied, is_fetching, revision_wanted}
 use Rattle.replay_model.proofs.Documents.{documents-apply}
 use Rattle.replay_model.proofs.Explaining.{Explained-next, Next, next_by}
-use Rattle.replay_model.proofs.FetchCounts.{risen_by-more}
 use Rattle.replay_model.proofs.Fetching.{failed-applying, failed_by, missing-applying, missing_of}
 use Rattle.world.specs.Applying.{Applies, IsReply, IsShown, calls_after, outcome_of_reply}
 use Rattle.world.specs.Meaning.{meaning}
@@ -25,7 +25,7 @@ use Rattle.world.specs.Roomed.{IsOverfull, ReplayInRoom, room_with}
 use Rattle.world.specs.declared.applied.Applied.{Applied}
 use Rattle.world.specs.declared.applied.Outcome.{Outcome}
 use Rattle.world.specs.declared.applied.Outcome.TheVariants.{Same, Dropped}
-use Rattle.session.specs.Counts.{Counts, HasCounted, HasGoneOn, RoseBy}
+use Rattle.session.specs.Counts.{Counts, HasCounted, HasCountedWithin, HasGoneOn, RoseBy, risen_by}
 use Rattle.revisions.specs.declared.revisions.Revisions.{Ghosts as RevisionsOf}
 use Rattle.session.specs.Moment.{Setting, Stage, onward, setting}
 use Rattle.session.specs.Taking.{AppliesDue, Course, IsFull, IsUnderWay, IsWithin, Leads, StaysWithin, judgement, replies_there}
@@ -91,6 +91,14 @@ missing_shown true deleting (Err (NoDocument why)) e misses misses_now faults fa
 missing_shown false true reply e misses misses_now faults faults_now shown more = λ below. omega arith
 missing_shown false false reply e misses misses_now faults faults_now shown more = λ below. omega arith
 
+-- a count that rises not at all, and one that rises once more or not
+pub risen_by-none : (count : ℕ) → risen_by 0 count ≡ count
+risen_by-none count = omega arith
+
+risen_by-more : (made count : ℕ) (fetching : Bool) → cond fetching (counted (risen_by made count)) (risen_by made count) ≡ risen_by (made + cond fetching 1 0) count
+risen_by-more made count true = omega arith
+risen_by-more made count false = ap (λ n. max count (min n (2 ^ 64 - 1))) (omega arith)
+
 -- a count that rose twice
 pub rose_twice : (m n first before now : ℕ) → RoseBy m first before → RoseBy n before now → before ≤ now → RoseBy (m + n) first now
 rose_twice m n first before now rose then_rose more = λ below.
@@ -112,9 +120,9 @@ counted_applying contents directory start before now made old new applied a rise
     let Failed_by : ℕ → Type 0 = λ n. RoseBy n start.faults now.faults in
     let Missing_by : ℕ → Type 0 = λ n. RoseBy n start.misses now.misses in
     record {
-      calls = λ fits.
+      calls =
           rises.calls ∙ ap (λ outcome. calls_after outcome before.calls) a.outcome ∙ calls_by fetching deleting a.reply before.calls
-          ∙ ap (λ n. cond fetching (counted n) n) (so_far.calls fits) ∙ sym (risen_by-more made start.calls fetching);
+          ∙ ap (λ n. cond fetching (counted n) n) so_far.calls ∙ risen_by-more made start.calls fetching;
       failed = subst Failed_by (sym failed_now) (rose_twice _ _ start.faults before.faults now.faults so_far.failed (failed_shown fetching deleting a.reply e _ _ _ _ shown rises.more_faults) rises.more_faults);
       missing = subst Missing_by (sym missing_now) (rose_twice _ _ start.misses before.misses now.misses so_far.missing (missing_shown fetching deleting a.reply e _ _ _ _ shown rises.more_misses) rises.more_misses);
     }
@@ -179,6 +187,30 @@ goes-further setting before between now old middle new first second = record {
 pub gone-on : {R : Type 0} (members : RevisionsOf R) (old between new : R) → HasGoneOn members old between → HasGoneOn members between new → HasGoneOn members old new
 gone-on members old between new x y = record { known = y.known ∙ x.known; faults = omega (arith, x.faults, y.faults); misses = omega (arith, x.misses, y.misses) }
 
+-- the counts of a source rise, and its calls by so many fetches
+counted_on : (start now last : Counts) (made more : ℕ) (side : List Entry) → last.calls ≡ risen_by more start.calls → now.faults ≤ last.faults → now.misses ≤ last.misses → HasCounted start now made side → HasCounted start last more side
+counted_on start now last made more side calls faults misses so_far = record {
+  calls = calls;
+  failed = λ below. let earlier : now.faults < 2 ^ 64 - 1 = omega arith in omega (arith, so_far.failed earlier);
+  missing = λ below. let earlier : now.misses < 2 ^ 64 - 1 = omega arith in omega (arith, so_far.missing earlier);
+}
+
+-- the counts after a call that applied nothing: at most one fetch was made
+pub record Lasts (before now : Counts) : Type 0 where
+  pub calls : (now.calls ≡ before.calls) ⊎ (now.calls ≡ counted before.calls)
+  pub faults : before.faults ≤ now.faults
+  pub misses : before.misses ≤ now.misses
+
+counted_last : (start before now : Counts) (made : ℕ) (side : List Entry) → Lasts before now → HasCounted start before made side → HasCountedWithin start now made side
+counted_last start before now made side last so_far = ⊎_elim
+    (λ same. inl (counted_on start before now made made side (same ∙ so_far.calls) last.faults last.misses so_far))
+    (λ one. inr (counted_on start before now made (made + 1) side (one ∙ ap counted so_far.calls ∙ risen_by-more made start.calls true) last.faults last.misses so_far))
+    last.calls
+
+-- no call was made
+pub no_call : (counts : Counts) → Lasts counts counts
+no_call counts = record { calls = inl refl; faults = omega arith; misses = omega arith }
+
 -- no event is left: the last call has made no fetch
 pub none_due : (setting : Setting) (before now last : Counts) (old world new : ReplayState) → Goes setting before now old world → last.calls ≡ now.calls → now.faults ≤ last.faults → now.misses ≤ last.misses →
     new ≡ world → first_due world.buffer ≡ None → AppliesDue setting before last old new
@@ -188,20 +220,17 @@ none_due setting before now last old world new goes calls faults misses same non
       record {
         made = there.made;
         explained = there.explained;
-        counted = record {
-          calls = λ fits. calls ∙ there.counted.calls fits;
-          failed = λ below. let earlier : now.faults < 2 ^ 64 - 1 = omega arith in omega (arith, there.counted.failed earlier);
-          missing = λ below. let earlier : now.misses < 2 ^ 64 - 1 = omega arith in omega (arith, there.counted.missing earlier);
-        };
+        counted = counted_on start.counts now last _ _ _ (calls ∙ there.counted.calls) faults misses there.counted;
         documents = there.documents;
         says = there.says;
       };
   rests = none;
 })
 
--- a world that is under way in a play is where some of its due events were applied, whatever the counts are
-pub within : (setting : Setting) (course : Course) (begun : Replies → ReplayState) (start now : Stage) (counts : Counts) → IsUnderWay setting course begun start now → IsWithin setting course.bytes begun (onward now counts now.world)
-within setting course begun start now counts under_way =
+-- a world that is under way in a play is where some of its due events were applied, after a call that applied nothing too
+pub within : (setting : Setting) (course : Course) (begun : Replies → ReplayState) (start now : Stage) (counts : Counts) → Lasts now.counts counts → IsUnderWay setting course begun start now →
+    IsWithin setting course begun start (onward now counts now.world)
+within setting course begun start now counts last under_way =
     let honest : (contents : ℕ → Option Bytes) → setting.known ≡ Some contents → AgreeOnApplied now.world under_way.leads.explained.replies (replies_there contents now.world) =
     λ contents is q r h. sym (under_way.leads.explained.honest contents is q r) in
     record {
@@ -212,11 +241,15 @@ within setting course begun start now counts under_way =
       source = λ contents is. under_way.is (replies_there contents now.world) (honest contents is);
       source_says = λ contents is. under_way.leads.says (replies_there contents now.world) (honest contents is);
       documents = under_way.leads.documents;
+      made = under_way.leads.made;
+      fetched = under_way.leads.explained.counts under_way.leads.explained.replies (λ q r h. refl);
+      source_fetched = λ contents is. under_way.leads.explained.counts (replies_there contents now.world) (honest contents is);
+      counted = counted_last start.counts now.counts counts under_way.leads.made now.world.played.side last under_way.leads.counted;
     }
 
 -- an event isn't applied: the world is that before
-pub starved : (setting : Setting) (before now last : Counts) (old world new : ReplayState) → Goes setting before now old world → new ≡ world → StaysWithin setting before last old new
-starved setting before now last old world new goes same = rw same (λ course begun start s under_way. within setting course begun start (onward s now world) last (goes.leads course begun start s under_way))
+pub starved : (setting : Setting) (before now last : Counts) (old world new : ReplayState) → Goes setting before now old world → Lasts now last → new ≡ world → StaysWithin setting before last old new
+starved setting before now last old world new goes lasts same = rw same (λ course begun start s under_way. within setting course begun start (onward s now world) last lasts (goes.leads course begun start s under_way))
 
 -- where the world says that there is no room, the store is full
 full_there : (contents : Option Contents) (directory : List ℕ) (room : ℕ) (x : EntityId) (r : ℕ) (bytes : Bytes) → IsReply contents directory x r (Ok bytes) → (there : ℕ → Option Bytes) →

@@ -1,7 +1,7 @@
 -- What a world at rest and at the end shows.
 use Rattle.std.proofs.Common.{refl, sym, subst, ◌∙◌, ap, inl, inr, ◌≡◌, ℕ, ◌-◌, ◌^◌, ◌<◌, ◌≤◌, length, arith, true, false, not, List, [], ◌∷◌, ◌++◌, Option, None, Some, IfSome, Result, Ok, Err}
 use Rattle.rising.specs.Rising.{Each}
-use Rattle.wq_io.specs.Streams.{Rose, after_known}
+use Rattle.wq_io.specs.Streams.{IsAtEnd, Rose, after_known}
 use Rattle.entity_model.specs.declared.event.Event.{Event}
 use Rattle.entity_state.specs.State.{is_kept}
 use Rattle.entity_model.specs.declared.delivery.Delivery.{Delivery}
@@ -95,11 +95,11 @@ is_replayed setting ds start now at_end =
     }
 
 -- the same, of an input that was read
-pub replayed : (run : Run) (before now : Moment) (ds : List Delivery) → IfSome before.input.left (λ bytes. AreDeliveries (limit_of run.choices) bytes ds) → AtEnd run.setting ds before.stage now.stage → HasReplayed run before now
-replayed run before now ds are at_end = record { deliveries = ds; are = are; replay = is_replayed run.setting ds before.stage now.stage at_end }
+pub replayed : (run : Run) (before now : Moment) (ds : List Delivery) → IsAtEnd now.input.left → IfSome before.input.left (λ bytes. AreDeliveries (limit_of run.choices) bytes ds) → AtEnd run.setting ds before.stage now.stage → HasReplayed run before now
+replayed run before now ds read are at_end = record { deliveries = ds; read = read; are = are; replay = is_replayed run.setting ds before.stage now.stage at_end }
 
 -- no fetch failed where the count of faults stands still below its last value
-none_failed : (failed : List Event) (before now : ℕ) → RoseBy (length failed) before now → now ≡ before → now < 2 ^ 64 - 1 → failed ≡ []
+pub none_failed : (failed : List Event) (before now : ℕ) → RoseBy (length failed) before now → now ≡ before → now < 2 ^ 64 - 1 → failed ≡ []
 none_failed [] before now rose same below = refl
 none_failed (e ∷ es) before now rose same below = absurd (omega (arith, rose below))
 
@@ -153,7 +153,7 @@ pub ending : (run : Run) (before now : Moment) (out : Output) → HasReplayed ru
 ending run before now out replayed prints =
     let sections : Sections = sections_of run.choices in
     record {
-      replayed = record { deliveries = replayed.deliveries; are = replayed.are; replay = all_printed run.setting sections replayed.deliveries before.stage now.stage out replayed.replay prints };
+      replayed = record { deliveries = replayed.deliveries; read = replayed.read; are = replayed.are; replay = all_printed run.setting sections replayed.deliveries before.stage now.stage out replayed.replay prints };
       function = is_function run.setting sections replayed.deliveries before.stage now.stage out replayed.replay prints;
     }
 

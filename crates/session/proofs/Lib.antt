@@ -1,6 +1,9 @@
+mod Complete
 mod Deliveries
 mod Drills
 mod Due
 mod Ends
+mod Finding
+mod Opening
 mod Progress
 mod Reading

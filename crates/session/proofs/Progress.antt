@@ -1,7 +1,8 @@
 -- How far the taking of lines has come, and what follows where it goes on, stops or ends.
-use Rattle.std.proofs.Common.{refl, sym, subst, ◌∙◌, ap, inl, ⊎_elim, ◌≡◌, ◌⊎◌, ℕ, ◌+◌, ◌≤◌, true, false, List, [], ◌∷◌, ◌++◌, None, Some, IfSome, Ok, Err, arith, append-nil}
+use Rattle.std.proofs.Common.{refl, sym, subst, ◌∙◌, ap, inl, ⊎_elim, ◌≡◌, ◌⊎◌, ℕ, ◌+◌, ◌≤◌, true, false, List, [], ◌∷◌, ◌++◌, length, Option, None, Some, IfSome, Ok, Err, arith, append-nil}
 use Rattle.wq_io.specs.Streams.{IsAtEnd}
-use Rattle.wq_io.specs.Lines.{HasCause, IsSound, Leaves, Reading, fresh, unread}
+use Rattle.wq_io.specs.Streams.{before_known}
+use Rattle.wq_io.specs.Lines.{HasCause, IsSound, Leaves, ReadsAsNeeded, Reading, fresh, unread}
 use Rattle.wq_io.specs.declared.lines.LineFault.{LineFault}
 use Rattle.wq_io.specs.declared.lines.LineFault.TheVariants.{ReadFault as NotRead, TooLong as PastLimit, LineLong as OverLong, OutOfMemory as NoMemory}
 use Rattle.rdf_term.specs.Order.{triple_cmp}
@@ -18,7 +19,6 @@ use Rattle.replay_model.specs.Union.{union}
 use Rattle.rdf_term.specs.Pattern.{rows}
 use Rattle.world.specs.Meaning.{meaning}
 use Rattle.replay_model.proofs.Explaining.{Explained-start}
-use Rattle.replay_model.proofs.FetchCounts.{risen_by-none}
 use Rattle.replay_model.proofs.RecordOf.{record_of-empty}
 use Rattle.transcript.specs.declared.write.Unwritten.{Unwritten}
 use Rattle.transcript.specs.Printing.{IsCutShort, Output}
@@ -29,19 +29,21 @@ use Rattle.session.specs.declared.stop.Unapplied.{Unapplied}
 use Rattle.session.specs.Counts.{Counts}
 use Rattle.session.specs.Headline.{IsPlayedAfter, StandsAtQuestion, Stopped}
 use Rattle.session.specs.Moment.{Input, Moment, Run, Setting, Stage, onward, with_output}
-use Rattle.session.specs.Reading.{AreFirst, HasRead}
+use Rattle.session.specs.Reading.{AreFirst, HasRead, TakesByNeed}
 use Rattle.session.specs.Stop.{stop_of_fault}
 use Rattle.session.specs.Stops.{HasTaken, StopsWithin}
 use Rattle.session.specs.Taking.{AnswersInPart, AtRest, CutsOff, TakesDelivery, TakesInPart, course_after, judgement, turn}
 use Rattle.words.specs.Options.{limit_of}
 use Rattle.session.proofs.Deliveries.{asks-push, rest_within}
+use Rattle.session.proofs.Due.{risen_by-none}
 use Rattle.session.proofs.Ends.{halted, interrupted, is_played, rose_since}
-use Rattle.session.proofs.Reading.{IsNextLine, all_read, bad_line, first_lines, first_with, nothing_read, over_long, past_limit, read_more, whole_read}
+use Rattle.session.proofs.Reading.{IsNextLine, all_read, as_many, bad_line, first_lines, first_with, nothing_read, nothing_taken_of, over_long, past_limit, read_more, takes_on, whole_read}
 
 -- the lines so far were read, the world has taken them, and so many of them asked
 pub record Progress (run : Run) (before now : Moment) (reader : Reading) (asked : ℕ) : Type 0 where
   pub deliveries : List Delivery
   pub read : HasRead before.input.left reader now.input.left deliveries
+  pub taken : IfSome before.input.left (λ bytes. TakesByNeed (limit_of run.choices) bytes now.input.left)
   pub at_rest : AtRest run.setting deliveries before.stage now.stage
   pub earlier : before.input.faults ≤ now.input.faults
   pub asked_is : asked ≡ asks deliveries
@@ -57,7 +59,7 @@ nothing_taken setting output counts = record {
   leads = record {
     made = 0;
     explained = Explained-start judgement setting.known;
-    counted = record { calls = λ fits. sym (risen_by-none counts.calls fits); failed = λ below. omega arith; missing = λ below. omega arith };
+    counted = record { calls = sym (risen_by-none counts.calls); failed = λ below. omega arith; missing = λ below. omega arith };
     documents = λ x. subst (λ (r : Record Bytes). HoldsDocument judgement x r.held) (sym (record_of-empty x)) tt;
     says = λ others agree. sym (after_nothing output.bytes);
   };
@@ -74,6 +76,7 @@ pub nothing_begun : (run : Run) (input : Input) (output : Output) (counts : Coun
 nothing_begun run input output counts = record {
   deliveries = [];
   read = nothing_read (limit_of run.choices) input.left;
+  taken = nothing_taken_of (limit_of run.choices) input.left;
   at_rest = nothing_taken run.setting output counts;
   earlier = omega arith;
   asked_is = refl;
@@ -88,32 +91,43 @@ module _ (run : Run) (before now : Moment) (reader : Reading) (asked : ℕ) (so_
   played : IsPlayedAfter run.setting so_far.deliveries before.stage now.stage
   played = is_played run.setting (course_after so_far.deliveries before.stage) before.stage now.stage so_far.at_rest.leads so_far.at_rest.rests
 
-  -- memory was refused: the world is as it was after the lines so far, whatever the counts are
-  pub stands : (input : Input) (counts : Counts) → StopsWithin run before (record { input = input; stage = onward now.stage counts now.stage.world })
-  stands input counts = record {
+  -- what was taken, after a call of the reader, whatever it answered
+  pub taken_on : (next : Reading) (left_next : Option (List ℕ)) → ReadsAsNeeded reader next now.input.left left_next → IfSome before.input.left (λ bytes. TakesByNeed (limit_of run.choices) bytes left_next)
+  taken_on next left_next reads =
+      takes_on (limit_of run.choices) reader now.input.left so_far.deliveries so_far.max so_far.sound before.input.left next left_next so_far.read reads so_far.taken
+
+  -- memory was refused: the world is as it was after the lines so far
+  pub stands : (input : Input) (moved : List ℕ) → now.input.left ≡ before_known moved input.left → StopsWithin run before (record now { input = input })
+  stands input moved told = record {
     deliveries = so_far.deliveries;
     last = None;
-    within = rest_within run.setting so_far.deliveries before.stage now.stage counts so_far.at_rest;
-    first = rw (append-nil so_far.deliveries) (first_lines (limit_of run.choices) reader now.input.left so_far.deliveries so_far.max so_far.sound before.input.left so_far.read);
+    within = rest_within run.setting so_far.deliveries before.stage now.stage so_far.at_rest;
+    first = rw (append-nil so_far.deliveries)
+        (first_lines (limit_of run.choices) reader now.input.left so_far.deliveries so_far.max so_far.sound before.input.left input.left moved told so_far.read);
   }
 
+  -- the number of the next line
+  numbered : (number : ℕ) → number ≡ reader.given + 1 → number ≡ length so_far.deliveries + 1
+  numbered number next = next ∙ ap (λ n. n + 1) (so_far.read.counted ∙ sym (as_many so_far.read.done so_far.deliveries so_far.read.delivered))
+
   -- a fault of the reader stops the taking
-  pub fault_stops : (fault : LineFault) (input : Input) → HasCause fault reader now.input.left now.input.faults input.faults → Leaves fault reader now.input.left input.left →
-      Stopped (stop_of_fault fault) run before (record now { input = input })
-  fault_stops NotRead input cause leaves = (
+  pub fault_stops : (fault : LineFault) (next : Reading) (input : Input) → HasCause fault reader now.input.left now.input.faults input.faults → Leaves fault reader now.input.left input.left →
+      ReadsAsNeeded reader next now.input.left input.left → Stopped (stop_of_fault fault) run before (record now { input = input })
+  fault_stops NotRead next input cause leaves reads = (
     rose_since before.input.faults now.input.faults input.faults so_far.earlier cause,
     record { deliveries = so_far.deliveries; played = played; whole = whole_read (limit_of run.choices) reader now.input.left so_far.deliveries so_far.max so_far.sound before.input.left input.left so_far.read leaves },
   )
-  fault_stops PastLimit input cause leaves =
+  fault_stops PastLimit next input cause leaves reads =
       record { deliveries = so_far.deliveries; played = played; past = past_limit (limit_of run.choices) reader now.input.left so_far.deliveries so_far.max so_far.sound before.input.left so_far.read cause }
-  fault_stops (OverLong number) input cause leaves =
-      record { deliveries = so_far.deliveries; played = played; bad = over_long (limit_of run.choices) reader now.input.left so_far.deliveries so_far.max so_far.sound before.input.left number so_far.read cause.0 cause.1 }
-  fault_stops NoMemory input cause leaves = inl (inl (stands input now.stage.counts))
+  fault_stops (OverLong number) next input cause leaves reads =
+      record { deliveries = so_far.deliveries; played = played; counted = numbered number cause.0; bad = over_long (limit_of run.choices) reader now.input.left so_far.deliveries so_far.max so_far.sound before.input.left number so_far.read cause.0 cause.1 }
+  fault_stops NoMemory next input cause leaves reads = inl (inl (stands input (reads.before ++ reads.last) reads.told))
 
   -- at the end of the input all lines were taken
-  pub end_reached : (input : Input) → IsAtEnd (unread reader now.input.left) → HasTaken run before (record now { input = input })
-  end_reached input at_end = record {
+  pub end_reached : (input : Input) → IsAtEnd input.left → IsAtEnd (unread reader now.input.left) → HasTaken run before (record now { input = input })
+  end_reached input read at_end = record {
     deliveries = so_far.deliveries;
+    read = read;
     are = all_read (limit_of run.choices) reader now.input.left so_far.deliveries so_far.max so_far.sound before.input.left so_far.read at_end;
     at_rest = so_far.at_rest;
   }
@@ -126,16 +140,17 @@ module _ (run : Run) (before now : Moment) (reader : Reading) (asked : ℕ) (so_
         (λ bad. subst (λ s. Stopped s run before (record now { input = input })) (sym bad.1) (record {
           deliveries = so_far.deliveries;
           played = played;
+          counted = numbered number counted;
           bad = bad_line (limit_of run.choices) reader now.input.left so_far.deliveries so_far.max so_far.sound line next input.left is before.input.left number bad.0 so_far.read counted bad.2;
         }))
-        (λ refused. subst (λ s. Stopped s run before (record now { input = input })) (sym refused) (inl (inl (stands input now.stage.counts))))
+        (λ refused. subst (λ s. Stopped s run before (record now { input = input })) (sym refused) (inl (inl (stands input (is.reads.before ++ is.reads.last) is.reads.told))))
         why
 
     module _ (after : Moment) (d : Delivery) (asked_now : ℕ) (is : IsNextLine line reader next now.input.left after.input.left) (delivers : delivery_of line ≡ Ok d) (more : asked_now ≡ asked + asks (d ∷ [])) where
       asked_is : asked_now ≡ asks (so_far.deliveries ++ d ∷ [])
       asked_is = more ∙ ap (λ n. n + asks (d ∷ [])) so_far.asked_is ∙ sym (asks-push so_far.deliveries d)
 
-      first : IfSome before.input.left (λ bytes. AreFirst (limit_of run.choices) bytes (so_far.deliveries ++ d ∷ []))
+      first : AreFirst (limit_of run.choices) before.input.left after.input.left (so_far.deliveries ++ d ∷ [])
       first = first_with (limit_of run.choices) reader now.input.left so_far.deliveries so_far.max so_far.sound line next after.input.left is before.input.left d so_far.read delivers
 
       -- a question that isn't answered wholly stops the taking
@@ -149,14 +164,16 @@ module _ (run : Run) (before now : Moment) (reader : Reading) (asked : ℕ) (so_
         cut_short = subst (λ (w : ReplayState). IsCutShort why (ask_section (asks so_far.deliveries + 1) (rows (union triple_cmp meaning w.played.records) in_part.pattern)) now.stage.output after.stage.output) (sym in_part.world)
             (subst (λ n. IsCutShort why (ask_section n (rows (union triple_cmp meaning now.stage.world.played.records) in_part.pattern)) now.stage.output after.stage.output)
             (asked_is ∙ ap (λ q. asks (so_far.deliveries ++ q ∷ [])) in_part.is ∙ asks-push so_far.deliveries (Ask in_part.pattern)) in_part.cut_short);
-        first = subst (λ q. IfSome before.input.left (λ bytes. AreFirst (limit_of run.choices) bytes (so_far.deliveries ++ q ∷ []))) in_part.is first;
+        first = subst (λ q. AreFirst (limit_of run.choices) before.input.left after.input.left (so_far.deliveries ++ q ∷ [])) in_part.is first;
       }
 
       -- a delivery wasn't taken wholly, and nothing was printed
       starves : (why : Unapplied) → TakesInPart why run.setting d now.stage after.stage → StopsWithin run before after
       starves why in_part = ⊎_elim
           (λ same. subst (λ o. StopsWithin run before (record after { stage = with_output after.stage o })) (sym in_part.output)
-          (subst (λ w. StopsWithin run before (record { input = after.input; stage = onward now.stage after.stage.counts w })) (sym same) (stands after.input after.stage.counts)))
+          (subst (λ w. StopsWithin run before (record { input = after.input; stage = onward now.stage after.stage.counts w })) (sym same.0)
+          (subst (λ c. StopsWithin run before (record { input = after.input; stage = onward now.stage c now.stage.world })) (sym same.1)
+          (stands after.input (is.reads.before ++ is.reads.last) is.reads.told))))
           (λ begun. record { deliveries = so_far.deliveries; last = Some d; within = begun; first = first })
           (in_part.world so_far.deliveries before.stage so_far.at_rest)
 
@@ -173,6 +190,7 @@ module _ (run : Run) (before now : Moment) (reader : Reading) (asked : ℕ) (so_
           TakesDelivery run.setting (turn asked_now d) now.stage after.stage → Progress run before after next asked_now
       line_taken later given ended one takes = record {
         deliveries = so_far.deliveries ++ d ∷ [];
+        taken = taken_on next after.input.left is.reads;
         read = read_more (limit_of run.choices) reader now.input.left so_far.deliveries so_far.max so_far.sound line next after.input.left is before.input.left d so_far.read given delivers;
         at_rest = takes so_far.deliveries before.stage asked_is so_far.at_rest;
         earlier = omega (arith, so_far.earlier, later);

@@ -1,17 +1,19 @@
 -- How far the reading of lines has come, and what that says of the input.
-use Rattle.std.proofs.Common.{refl, sym, subst, ◌∙◌, ap, inl, inr, ◌≡◌, ℕ, ◌+◌, ◌-◌, ◌<◌, ◌≤◌, Bool, true, false, cond, List, [], ◌∷◌, ◌++◌, length, Option, None, Some, IfSome, Result, Ok, Err, arith, append_assoc, append-nil, length-append}
+use Rattle.std.proofs.Common.{refl, sym, subst, ◌∙◌, ap, inl, inr, ◌≡◌, ℕ, ◌+◌, ◌-◌, ◌<◌, ◌≤◌, Bool, true, false, cond, List, [], ◌∷◌, ◌++◌, length, drop, Option, None, Some, IfSome, Result, Ok, Err, arith, append_assoc, append-nil, length-append}
 use Rattle.std.proofs.lemmas.Bool.{le-leb}
 use Rattle.std.proofs.lemmas.Grind.{flat_map-append}
+use Rattle.std.proofs.Math.Seq.{drop-append_seam}
 use Rattle.std.specs.Option.{option_map}
+use Rattle.rising.specs.Rising.{Each}
 use Rattle.wq_io.specs.Streams.{IsAtEnd, before_known}
-use Rattle.wq_io.specs.Lines.{GoesOn, IsLineLong, IsOneLine, IsSound, IsTooLong, Reading, StopsInLine, TakesBytes, before_lines, ended_lines, fresh, input_length, line_feed, lines, lines_of, longest_line, room, unread, whole_lines}
+use Rattle.wq_io.specs.Lines.{GoesOn, IsLineLong, IsOneLine, IsSound, IsTooLong, IsUndecided, ReadsAsNeeded, Reading, StopsInLine, TakesBytes, before_lines, ended_lines, fresh, input_length, line_feed, lines, lines_of, longest_line, room, unread, whole_lines}
 use Rattle.wq_io.proofs.LineLists.{whole_lines-ended}
 use Rattle.entity_model.specs.declared.delivery.Delivery.{Delivery}
 use Rattle.event_line.specs.declared.faults.LineCause.{LineCause}
 use Rattle.event_line.specs.declared.faults.LineCause.TheVariants.{LineLong}
 use Rattle.event_line.specs.Line.{delivery_of}
 use Rattle.replay_model.proofs.ToldContents.{Each-append}
-use Rattle.session.specs.Reading.{AreDeliveries, AreFirst, AreWhole, HasRead, IsPastLimit, IsRefusedLine, deliveries_of, line_delivers, onto_deliveries}
+use Rattle.session.specs.Reading.{AreDeliveries, AreFirst, AreWhole, HasRead, IsPastLimit, IsRefusedLine, TakesByNeed, deliveries_of, last_part, line_delivers, onto_deliveries}
 
 -- one line more is one delivery more
 pub onto-push : (r : Result Delivery LineCause) (o more : Option (List Delivery)) (ds : List Delivery) (d : Delivery) →
@@ -33,6 +35,23 @@ deliveries-push [] line ds d done_is line_is =
     rw (line_is, ← none) refl
 deliveries-push (l ∷ ls) line ds d done_is line_is =
     onto-push (line_delivers l) (deliveries_of ls) (deliveries_of (ls ++ line ∷ [])) ds d (λ others is. deliveries-push ls line others d is line_is) done_is
+
+-- there are as many deliveries as lines
+onto-length : (r : Result Delivery LineCause) (o : Option (List Delivery)) (n : ℕ) (ds : List Delivery) → ((others : List Delivery) → o ≡ Some others → length others ≡ n) → onto_deliveries r o ≡ Some ds → length ds ≡ n + 1
+onto-length (Ok first) (Some others) n ds as_many is =
+    let whole : first ∷ others ≡ ds = cc in
+    let same : length (first ∷ others) ≡ length ds = ap length whole in
+    omega (arith, as_many others refl, same)
+onto-length (Ok first) None n ds as_many is = cc
+onto-length (Err cause) o n ds as_many is = cc
+
+pub as_many : (done : List (List ℕ)) (ds : List Delivery) → deliveries_of done ≡ Some ds → length ds ≡ length done
+as_many [] ds is =
+    let none : [] ≡ ds = cc in
+    ap length (sym none)
+as_many (l ∷ ls) ds is =
+    let more : length ds ≡ length ls + 1 = onto-length (line_delivers l) (deliveries_of ls) (length ls) ds (as_many ls) is in
+    omega arith
 
 same_lines : (limit : ℕ) (left : Option (List ℕ)) → lines_of left ≡ option_map (λ (ls : List (List ℕ)). [] ++ ls) (lines_of (unread (fresh limit) left))
 same_lines limit None = refl
@@ -58,6 +77,26 @@ nothing_read limit left = record {
   bytes = same_bytes limit left;
   whole = λ _. refl;
   are_lines = tt;
+}
+
+-- nothing was taken
+pub still : (left : Option (List ℕ)) → left ≡ before_known [] left
+still None = refl
+still (Some bytes) = refl
+
+pub nothing_taken_of : (limit : ℕ) (left : Option (List ℕ)) → IfSome left (λ bytes. TakesByNeed limit bytes left)
+nothing_taken_of limit None = tt
+nothing_taken_of limit (Some bytes) = record {
+  done = [];
+  part = [];
+  last = [];
+  is = refl;
+  are_lines = tt;
+  ds = [];
+  delivered = refl;
+  undecided = record { in_line = refl; within = omega arith; short = omega arith };
+  piece = omega arith;
+  bounded = omega arith;
 }
 
 -- bytes behind others
@@ -88,7 +127,7 @@ known_parts bytes done read consumed (Some u) are total all =
     let whole : bytes ≡ read ++ u = cc in
     record { u = u; is = refl; are_lines = cc; total = sum; all = whole; read_is = read_length bytes read u consumed whole sum }
 
-at_known : (known : Option (List ℕ)) (u : List ℕ) (P : List ℕ → Type 0) → known ≡ Some u → IfSome known P → P u
+pub at_known : (known : Option (List ℕ)) (u : List ℕ) (P : List ℕ → Type 0) → known ≡ Some u → IfSome known P → P u
 at_known None u P is holds = cc
 at_known (Some x) u P is holds = let same : x ≡ u = cc in subst P same holds
 
@@ -104,6 +143,11 @@ lines_grow : (start known next : Option (List (List ℕ))) (done : List (List �
 lines_grow start known None done line are first = rw (are, first) refl
 lines_grow start known (Some ls) done line are first = rw (are, first) (ap Some (sym (append_assoc done (line ∷ []) ls)))
 
+-- the bytes behind the last line feed are the part behind the lines
+last_part-ended : (done : List (List ℕ)) (part : List ℕ) → Each IsOneLine done → IsOneLine part → last_part (ended_lines done ++ part) ≡ part
+last_part-ended done part are is =
+    ap (λ ls. drop (length (ended_lines ls)) (ended_lines done ++ part)) (whole_lines-ended done part are is) ∙ drop-append_seam (ended_lines done) part
+
 whole_grows : (done : List (List ℕ)) (line read moved : List ℕ) → read ≡ ended_lines done → moved ≡ line ++ line_feed ∷ [] → read ++ moved ≡ ended_lines (done ++ line ∷ [])
 whole_grows done line read moved is ends =
     rw (is, ends) (sym (flat_map-append (λ l. l ++ line_feed ∷ []) done (line ∷ []) ∙ ap (λ xs. ended_lines done ++ xs) (append-nil (line ++ line_feed ∷ []))))
@@ -118,25 +162,79 @@ pub record IsNextLine (line : List ℕ) (reader next : Reading) (left left_next 
   pub total : input_length next left_next ≡ input_length reader left
   pub takes : TakesBytes next.ended (unread reader left) (unread next left_next) line
   pub goes : GoesOn reader next line
+  pub reads : ReadsAsNeeded reader next left left_next
 
 module _ (limit : ℕ) (reader : Reading) (left : Option (List ℕ)) (ds : List Delivery) (max : reader.max_bytes ≡ limit) (sound : IsSound reader) where
   known_now : (bytes : List ℕ) (read : HasRead (Some bytes) reader left ds) → Known bytes read.done read.read reader.consumed (unread reader left)
   known_now bytes read = known_parts bytes read.done read.read reader.consumed (unread reader left) read.are read.total read.bytes
 
-  -- the lines so far are the first ones
-  pub first_lines : (start : Option (List ℕ)) → HasRead start reader left ds → IfSome start (λ bytes. AreFirst limit bytes ds)
-  first_lines None read = tt
-  first_lines (Some bytes) read =
+  -- the bytes that went into lines are within the limit
+  lines_within : (start : Option (List ℕ)) (read : HasRead start reader left ds) → IfSome start (λ _. length read.read ≤ limit)
+  lines_within None read = tt
+  lines_within (Some bytes) read =
       let parts = known_now bytes read in
+      omega (arith, max, sound.within, parts.read_is)
+
+  -- the lines so far are the first ones, whatever was taken behind them
+  pub first_lines : (start left_now : Option (List ℕ)) (moved : List ℕ) → left ≡ before_known moved left_now → HasRead start reader left ds → AreFirst limit start left_now ds
+  first_lines start left_now moved told read =
+      let behind : unread reader left ≡ before_known (reader.held ++ moved) left_now =
+      ap (λ (o : Option (List ℕ)). before_known reader.held o) told ∙ before_both reader.held moved left_now in
       record {
         before = read.done;
-        read_bytes = read.read;
-        unread_bytes = parts.u;
-        all = parts.all;
-        are_lines = parts.are_lines;
-        within = omega (arith, max, sound.within, parts.read_is);
+        read = read.read;
+        held = reader.held ++ moved;
+        all = read.bytes ∙ ap (λ (o : Option (List ℕ)). before_known read.read o) behind;
+        are_lines = read.are ∙ ap (λ (o : Option (List ℕ)). option_map (λ (ls : List (List ℕ)). read.done ++ ls) (lines_of o)) behind;
+        within = lines_within start read;
         delivered = read.delivered;
       }
+
+  -- a call of the reader took what it needed
+  needed : (bytes : List ℕ) (next : Reading) (left_next : Option (List ℕ)) → HasRead (Some bytes) reader left ds → (reads : ReadsAsNeeded reader next left left_next) → 0 < length (reads.before ++ reads.last) → TakesByNeed limit bytes left_next
+  needed bytes next left_next read reads some =
+      let parts = known_now bytes read in
+      let ends : read.read ≡ ended_lines read.done = read.whole (reads.going some) in
+      let undecided : IsUndecided (room reader) (reader.held ++ reads.before) = reads.needed some in
+      let size : length (read.read ++ (reader.held ++ reads.before) ++ reads.last) ≡ length read.read + (length reader.held + length (reads.before ++ reads.last)) =
+      omega (
+        arith,
+        length-append (read.read ++ (reader.held ++ reads.before)) reads.last,
+        length-append read.read (reader.held ++ reads.before),
+        length-append reader.held reads.before,
+        length-append reads.before reads.last,
+      ) in
+      let at : left ≡ before_known reads.before (before_known reads.last left_next) = reads.told ∙ sym (before_both reads.before reads.last left_next) in
+      let Fits : List ℕ → Type 0 = λ xs. length (xs ++ (reader.held ++ reads.before) ++ reads.last) ≤ limit + 1 in
+      let fits : length (read.read ++ (reader.held ++ reads.before) ++ reads.last) ≤ limit + 1 = omega (arith, size, parts.read_is, reads.counted, reads.sound.bounded, reads.limit, max) in
+      record {
+        done = read.done;
+        part = reader.held ++ reads.before;
+        last = reads.last;
+        is = read.bytes ∙ ap (λ (o : Option (List ℕ)). before_known read.read (before_known reader.held o)) at
+            ∙ ap (λ (o : Option (List ℕ)). before_known read.read o) (before_both reader.held reads.before (before_known reads.last left_next))
+            ∙ before_both read.read (reader.held ++ reads.before) (before_known reads.last left_next)
+            ∙ before_both (read.read ++ (reader.held ++ reads.before)) reads.last left_next
+            ∙ ap (λ xs. before_known (xs ++ (reader.held ++ reads.before) ++ reads.last) left_next) ends;
+        are_lines = read.are_lines;
+        ds = ds;
+        delivered = read.delivered;
+        undecided = subst (λ n. IsUndecided n (reader.held ++ reads.before)) (same_room limit reader read.read max parts.read_is ∙ ap (λ xs. limit - length xs) ends) undecided;
+        piece = reads.piece;
+        bounded = subst Fits ends fits;
+      }
+
+  -- what was taken, after a call of the reader, whatever it answered
+  pub takes_on : (start : Option (List ℕ)) (next : Reading) (left_next : Option (List ℕ)) → HasRead start reader left ds → ReadsAsNeeded reader next left left_next → IfSome start (λ bytes. TakesByNeed limit bytes left) →
+      IfSome start (λ bytes. TakesByNeed limit bytes left_next)
+  takes_on None next left_next read reads so_far = tt
+  takes_on (Some bytes) next left_next read reads so_far = by (reads.before ++ reads.last) refl
+    where
+      by : (moved : List ℕ) → reads.before ++ reads.last ≡ moved → TakesByNeed limit bytes left_next
+      by [] none = subst (λ o. TakesByNeed limit bytes o) (reads.told ∙ ap (λ xs. before_known xs left_next) none ∙ sym (still left_next)) so_far
+      by (b ∷ bs) some =
+          let size : length (reads.before ++ reads.last) ≡ length (b ∷ bs) = ap length some in
+          needed bytes next left_next read reads (omega (arith, size))
 
   -- what was read and a part of a line within the limit are within it
   part_within : (start : Option (List ℕ)) (read : HasRead start reader left ds) (part : List ℕ) → length part ≤ room reader → IfSome start (λ bytes. length (read.read ++ part) ≤ limit)
@@ -154,6 +252,8 @@ module _ (limit : ℕ) (reader : Reading) (left : Option (List ℕ)) (ds : List 
     delivered =
         ap (λ xs. deliveries_of (whole_lines (xs ++ stops.part))) (read.whole stops.going)
         ∙ ap deliveries_of (whole_lines-ended read.done stops.part read.are_lines stops.in_line) ∙ read.delivered;
+    short = subst (λ (xs : List ℕ). length xs ≤ longest_line)
+        (sym (ap (λ xs. last_part (xs ++ stops.part)) (read.whole stops.going) ∙ last_part-ended read.done stops.part read.are_lines stops.in_line)) stops.short;
   }
 
   -- the input goes past the limit
@@ -215,20 +315,24 @@ module _ (limit : ℕ) (reader : Reading) (left : Option (List ℕ)) (ds : List 
         known_parts bytes (read.done ++ line ∷ []) (read.read ++ is.takes.moved) next.consumed (unread next left_next)
         (lines_grow (Some (lines bytes)) (lines_of (unread reader left)) (lines_of (unread next left_next)) read.done line read.are is.first) (is.total ∙ read.total) (bytes_grow (Some bytes) read)
 
-    -- the lines so far and this one are the first ones
-    pub first_with : (start : Option (List ℕ)) (d : Delivery) → HasRead start reader left ds → delivery_of line ≡ Ok d → IfSome start (λ bytes. AreFirst limit bytes (ds ++ d ∷ []))
-    first_with None d read delivers = tt
-    first_with (Some bytes) d read delivers =
+    -- the bytes that went into the lines so far and this one are within the limit
+    line_within : (start : Option (List ℕ)) (read : HasRead start reader left ds) → IfSome start (λ _. length (read.read ++ is.takes.moved) ≤ limit)
+    line_within None read = tt
+    line_within (Some bytes) read =
         let parts = known_next bytes read in
-        record {
-          before = read.done ++ line ∷ [];
-          read_bytes = read.read ++ is.takes.moved;
-          unread_bytes = parts.u;
-          all = parts.all;
-          are_lines = parts.are_lines;
-          within = omega (arith, parts.read_is, is.goes.sound.within, is.goes.limit, max);
-          delivered = deliveries-push read.done line ds d read.delivered (short_delivers line d is.goes.short delivers);
-        }
+        omega (arith, parts.read_is, is.goes.sound.within, is.goes.limit, max)
+
+    -- the lines so far and this one are the first ones
+    pub first_with : (start : Option (List ℕ)) (d : Delivery) → HasRead start reader left ds → delivery_of line ≡ Ok d → AreFirst limit start left_next (ds ++ d ∷ [])
+    first_with start d read delivers = record {
+      before = read.done ++ line ∷ [];
+      read = read.read ++ is.takes.moved;
+      held = next.held;
+      all = bytes_grow start read;
+      are_lines = lines_grow (lines_of start) (lines_of (unread reader left)) (lines_of (unread next left_next)) read.done line read.are is.first;
+      within = line_within start read;
+      delivered = deliveries-push read.done line ds d read.delivered (short_delivers line d is.goes.short delivers);
+    }
 
     -- this line is refused
     pub bad_line : (start : Option (List ℕ)) (number : ℕ) (cause : LineCause) → HasRead start reader left ds → number ≡ reader.given + 1 → delivery_of line ≡ Err cause →

@@ -1,8 +1,7 @@
 -- The counts of a source of revisions, and how they rise with a replay.
-use Rattle.std.specs.Prelude.{◌≡◌, ℕ, ◌+◌, ◌-◌, ◌^◌, ◌<◌, ◌≤◌, List, length}
+use Rattle.std.specs.Prelude.{◌≡◌, ◌⊎◌, ℕ, ◌+◌, ◌-◌, ◌^◌, ◌<◌, ◌≤◌, max, min, List, length}
 use Rattle.revisions.specs.declared.revisions.Revisions.{Ghosts as RevisionsOf}
 use Rattle.side_output.specs.declared.entry.Entry.{Entry}
-use Rattle.replay_model.specs.Play.{risen_by}
 use Rattle.replay_model.specs.Replies.{failed_events, missing_events}
 
 -- how many calls a source of revisions had, how many of them found nothing, and how many failed
@@ -15,6 +14,10 @@ pub record Counts : Type 0 where
 abbrev pub counts : {R : Type 0} → RevisionsOf R → R → Counts
 counts members revisions = record { calls = members.calls revisions; misses = members.misses revisions; faults = members.faults revisions }
 
+-- a count of 64 bits that rose n times: it stays at its last value, and it never falls
+abbrev pub risen_by : ℕ → ℕ → ℕ
+risen_by n count = max count (min (count + n) (2 ^ 64 - 1))
+
 -- a count of 64 bits rose by at least n; at its last value it says nothing
 abbrev pub RoseBy : ℕ → ℕ → ℕ → Type 0
 RoseBy n before now = now < 2 ^ 64 - 1 → before + n ≤ now
@@ -22,9 +25,13 @@ RoseBy n before now = now < 2 ^ 64 - 1 → before + n ≤ now
 -- the calls rose by the fetches that were made, as far as 64 bits count them; the faults rose at least by the failed
 -- fetches that the side output names, and the misses by the missing revisions
 pub record HasCounted (start now : Counts) (made : ℕ) (side : List Entry) : Type 0 where
-  pub calls : start.calls < 2 ^ 64 → now.calls ≡ risen_by made start.calls
+  pub calls : now.calls ≡ risen_by made start.calls
   pub failed : RoseBy (length (failed_events side)) start.faults now.faults
   pub missing : RoseBy (length (missing_events side)) start.misses now.misses
+
+-- the same, and perhaps one fetch more was made, for an event that wasn't applied
+abbrev pub HasCountedWithin : Counts → Counts → ℕ → List Entry → Type 0
+HasCountedWithin start now made side = HasCounted start now made side ⊎ HasCounted start now (made + 1) side
 
 -- a source was asked further: its contents are the same, and no count of what went wrong fell
 pub record HasGoneOn {R : Type 0} (members : RevisionsOf R) (old new : R) : Type 0 where

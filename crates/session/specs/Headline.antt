@@ -2,7 +2,7 @@
 use Rattle.std.specs.Prelude.{◌≡◌, ◌⊎◌, ℕ, ◌-◌, ◌^◌, ◌+◌, ◌<◌, true, false, not, List, [], ◌∷◌, ◌++◌, Option, None, Some, IfSome, length}
 use Rattle.std.specs.List.{list_any}
 use Rattle.rising.specs.Rising.{Each}
-use Rattle.wq_io.specs.Streams.{Rose, after_known}
+use Rattle.wq_io.specs.Streams.{IsAtEnd, Rose, after_known}
 use Rattle.rdf_term.specs.declared.pattern.Pattern.{Pattern}
 use Rattle.rdf_term.specs.Order.{triple_cmp}
 use Rattle.entity_model.specs.declared.id.EntityId.{EntityId}
@@ -89,6 +89,7 @@ pub record IsFunction (setting : Setting) (sections : Sections) (ds : List Deliv
 -- the whole input was read, its lines are deliveries, and they were replayed; the output has what this play of them says
 pub record Replayed (run : Run) (course : List Delivery → Stage → Course) (before now : Moment) : Type 0 where
   pub deliveries : List Delivery
+  pub read : IsAtEnd now.input.left
   pub are : IfSome before.input.left (λ bytes. AreDeliveries (limit_of run.choices) bytes deliveries)
   pub replay : IsReplayed run.setting (course deliveries before.stage) deliveries before.stage now.stage
 
@@ -120,10 +121,11 @@ pub record StandsAtLimit (run : Run) (before now : Moment) : Type 0 where
   pub played : IsPlayedAfter run.setting deliveries before.stage now.stage
   pub past : IfSome before.input.left (λ bytes. IsPastLimit (limit_of run.choices) bytes deliveries)
 
--- the world has taken the deliveries before the line with this number, which is refused
+-- the world has taken the deliveries before the line with this number, which is refused: each line before it was one
 pub record StandsBeforeLine (number : ℕ) (cause : LineCause) (run : Run) (before now : Moment) : Type 0 where
   pub deliveries : List Delivery
   pub played : IsPlayedAfter run.setting deliveries before.stage now.stage
+  pub counted : number ≡ length deliveries + 1
   pub bad : IfSome before.input.left (λ bytes. IsRefusedLine (limit_of run.choices) bytes deliveries number cause)
 
 -- the world has taken the deliveries before a question; the answers before it were printed and then a prefix of its own, and
@@ -134,7 +136,7 @@ pub record StandsAtQuestion (why : Unwritten) (run : Run) (before now : Moment) 
   pub between : Output
   pub played : IsPlayedAfter run.setting deliveries before.stage (with_output now.stage between)
   pub cut_short : IsCutShort why (ask_section (asks deliveries + 1) (rows (union triple_cmp meaning now.stage.world.played.records) pattern)) between now.stage.output
-  pub first : IfSome before.input.left (λ bytes. AreFirst (limit_of run.choices) bytes (deliveries ++ Ask pattern ∷ []))
+  pub first : AreFirst (limit_of run.choices) before.input.left now.input.left (deliveries ++ Ask pattern ∷ [])
 
 -- what a run leaves that stopped while it printed: in the answer to a question, or in the sections
 abbrev pub IsInterrupted : Unwritten → Run → Moment → Moment → Type 0

@@ -1,9 +1,9 @@
 -- The lines of an input as deliveries.
-use Rattle.std.specs.Prelude.{◌≡◌, ◌⊎◌, ℕ, ◌+◌, ◌-◌, ◌<◌, ◌≤◌, false, List, [], ◌∷◌, ◌++◌, length, nat_le, if◌then◌else◌, Option, None, Some, IfSome, Result, Ok, Err}
+use Rattle.std.specs.Prelude.{◌≡◌, ◌⊎◌, ℕ, ◌+◌, ◌-◌, ◌<◌, ◌≤◌, false, List, [], ◌∷◌, ◌++◌, length, drop, nat_le, if◌then◌else◌, Option, None, Some, IfSome, Result, Ok, Err}
 use Rattle.std.specs.Option.{option_map}
 use Rattle.rising.specs.Rising.{Each}
 use Rattle.wq_io.specs.Streams.{before_known}
-use Rattle.wq_io.specs.Lines.{Reading, IsLineLong, IsOneLine, IsTooLong, ended_lines, input_length, lines, lines_of, longest_line, unread, whole_lines}
+use Rattle.wq_io.specs.Lines.{Reading, IsLineLong, IsOneLine, IsTooLong, IsUndecided, ended_lines, input_length, lines, lines_of, longest_line, longest_read, unread, whole_lines}
 use Rattle.entity_model.specs.declared.delivery.Delivery.{Delivery}
 use Rattle.event_line.specs.declared.faults.LineCause.{LineCause}
 use Rattle.event_line.specs.declared.faults.LineCause.TheVariants.{LineLong}
@@ -41,23 +41,43 @@ pub record AreDeliveries (limit : ℕ) (bytes : List ℕ) (ds : List Delivery) :
   pub within : length bytes ≤ limit
   pub delivered : deliveries_of (lines bytes) ≡ Some ds
 
--- the first lines of the input are these deliveries, and end within the limit
-pub record AreFirst (limit : ℕ) (bytes : List ℕ) (ds : List Delivery) : Type 0 where
+-- the first lines of the bytes that were taken are these deliveries, and end within the limit; the bytes that were taken behind
+-- them are held, and those behind these are left
+pub record AreFirst (limit : ℕ) (left left_now : Option (List ℕ)) (ds : List Delivery) : Type 0 where
   pub before : List (List ℕ)
-  pub read_bytes : List ℕ
-  pub unread_bytes : List ℕ
-  pub all : bytes ≡ read_bytes ++ unread_bytes
-  pub are_lines : lines bytes ≡ before ++ lines unread_bytes
-  pub within : length read_bytes ≤ limit
+  pub read : List ℕ
+  pub held : List ℕ
+  pub all : left ≡ before_known read (before_known held left_now)
+  pub are_lines : lines_of left ≡ option_map (λ (ls : List (List ℕ)). before ++ ls) (lines_of (before_known held left_now))
+  pub within : IfSome left (λ _. length read ≤ limit)
   pub delivered : deliveries_of before ≡ Some ds
 
--- all whole lines of the bytes that were read are these deliveries; these bytes are within the limit, and those behind them
--- are left
+-- the bytes behind the last line feed
+abbrev pub last_part : List ℕ → List ℕ
+last_part bytes = drop (length (ended_lines (whole_lines bytes))) bytes
+
+-- all whole lines of the bytes that were read are these deliveries, and what was read behind them is no more than a line may
+-- have; these bytes are within the limit, and those behind them are left
 pub record AreWhole (limit : ℕ) (left left_now : Option (List ℕ)) (ds : List Delivery) : Type 0 where
   pub read : List ℕ
   pub is : left ≡ before_known read left_now
   pub within : IfSome left (λ _. length read ≤ limit)
   pub delivered : deliveries_of (whole_lines read) ≡ Some ds
+  pub short : length (last_part read) ≤ longest_line
+
+-- what was taken of an input with these bytes: the last read gave `last`, and the reads before it whole lines, each of them a
+-- delivery, and a part of a line that decided nothing; all of it is at most one byte past the limit
+pub record TakesByNeed (limit : ℕ) (bytes : List ℕ) (left : Option (List ℕ)) : Type 0 where
+  pub done : List (List ℕ)
+  pub part : List ℕ
+  pub last : List ℕ
+  pub is : Some bytes ≡ before_known (ended_lines done ++ part ++ last) left
+  pub are_lines : Each IsOneLine done
+  pub ds : List Delivery
+  pub delivered : deliveries_of done ≡ Some ds
+  pub undecided : IsUndecided (limit - length (ended_lines done)) part
+  pub piece : length last ≤ longest_read
+  pub bounded : length (ended_lines done ++ part ++ last) ≤ limit + 1
 
 -- the line with this number is no delivery, for this reason, and those before it are these deliveries; it ends within
 -- the limit

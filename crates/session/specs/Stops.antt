@@ -1,30 +1,34 @@
 -- What stands where memory was refused, or the store was full, while nothing was printed, and where all lines were taken.
 use Rattle.std.specs.Prelude.{◌⊎◌, List, ◌++◌, Option, IfSome}
 use Rattle.std.specs.Option.{option_to_list}
+use Rattle.wq_io.specs.Streams.{IsAtEnd}
 use Rattle.entity_model.specs.declared.delivery.Delivery.{Delivery}
 use Rattle.replay_model.specs.ReplayState.{after_end, following}
 use Rattle.session.specs.Moment.{Moment, Run}
 use Rattle.session.specs.Reading.{AreDeliveries, AreFirst}
-use Rattle.session.specs.Taking.{AtRest, IsWithin, entered_perhaps, said_behind}
+use Rattle.session.specs.Taking.{AtRest, IsWithin, course_begun, course_to_end, entered_perhaps}
 use Rattle.words.specs.Options.{limit_of}
 
--- all lines were taken
+-- the whole input was read, and all lines were taken
 pub record HasTaken (run : Run) (before now : Moment) : Type 0 where
   pub deliveries : List Delivery
+  pub read : IsAtEnd now.input.left
   pub are : IfSome before.input.left (λ bytes. AreDeliveries (limit_of run.choices) bytes deliveries)
   pub at_rest : AtRest run.setting deliveries before.stage now.stage
 
--- at a line: the world of the first lines, of which the last is perhaps a watermark with some of the events that it makes due
+-- at a line: the world of the first lines of what was taken, of which the last is perhaps a watermark with some of the events that
+-- it makes due
 pub record StopsWithin (run : Run) (before now : Moment) : Type 0 where
   pub deliveries : List Delivery
   pub last : Option Delivery
-  pub within : IsWithin run.setting (said_behind deliveries before.stage) (λ replies. entered_perhaps (following replies deliveries) last) now.stage
-  pub first : IfSome before.input.left (λ bytes. AreFirst (limit_of run.choices) bytes (deliveries ++ option_to_list last))
+  pub within : IsWithin run.setting (course_begun deliveries last before.stage) (λ replies. entered_perhaps (following replies deliveries) last) before.stage now.stage
+  pub first : AreFirst (limit_of run.choices) before.input.left now.input.left (deliveries ++ option_to_list last)
 
--- after the last line: the world of all lines and the end, with some of the events that the end makes due
+-- after the last line, the input being read to its end: the world of all lines and the end, with some of the events that the end makes due
 pub record StopsAtEnd (run : Run) (before now : Moment) : Type 0 where
   pub deliveries : List Delivery
-  pub within : IsWithin run.setting (said_behind deliveries before.stage) (λ replies. after_end (following replies deliveries)) now.stage
+  pub read : IsAtEnd now.input.left
+  pub within : IsWithin run.setting (course_to_end deliveries before.stage) (λ replies. after_end (following replies deliveries)) before.stage now.stage
   pub are : IfSome before.input.left (λ bytes. AreDeliveries (limit_of run.choices) bytes deliveries)
 
 -- what stands where memory was refused, or the store was full, while nothing was printed

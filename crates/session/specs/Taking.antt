@@ -1,5 +1,6 @@
 -- How far a world has come in a play while deliveries are taken, and what the taking of one delivery leaves.
-use Rattle.std.specs.Prelude.{◌≡◌, ◌⊎◌, ⊤, ℕ, ◌<◌, ◌≤◌, List, [], ◌∷◌, ◌++◌, Option, None, Some}
+use Rattle.std.specs.Prelude.{◌≡◌, ◌⊎◌, ⊤, ℕ, ◌<◌, ◌≤◌, ◌+◌, List, [], ◌∷◌, ◌++◌, length, Option, None, Some}
+use Rattle.std.specs.Option.{option_to_list}
 use Rattle.wq_io.specs.Streams.{after_known}
 use Rattle.rdf_term.specs.declared.pattern.Pattern.{Pattern}
 use Rattle.rdf_term.specs.Order.{triple_cmp}
@@ -12,7 +13,7 @@ use Rattle.reorder_buffer.specs.Buffered.{first_due}
 use Rattle.replay_model.specs.Records.{Bytes, record_of}
 use Rattle.replay_model.specs.Play.{Fetch, Replies, fetches, fetches_to_end}
 use Rattle.replay_model.specs.Replies.{HoldsDocument, Judgement, failed_events, source_replies}
-use Rattle.replay_model.specs.ReplayState.{ReplayState, after_some, entered, following, following_to_end}
+use Rattle.replay_model.specs.ReplayState.{ReplayState, after_some, entered, fetches_due, following, following_to_end}
 use Rattle.replay_model.specs.Explained.{AgreeOnApplied, Explained, revision_wanted}
 use Rattle.replay_model.specs.Transcript.{Sections, ask_section, asks, said as answers_said, transcript}
 use Rattle.replay_model.specs.Union.{union}
@@ -24,7 +25,7 @@ use Rattle.transcript.specs.Printing.{IsCutShort}
 use Rattle.session.specs.declared.stop.Stop.{Stop}
 use Rattle.session.specs.declared.stop.Unapplied.{Unapplied}
 use Rattle.session.specs.declared.stop.Unapplied.TheVariants.{StoreFull, OutOfMemory}
-use Rattle.session.specs.Counts.{Counts, HasCounted}
+use Rattle.session.specs.Counts.{Counts, HasCounted, HasCountedWithin}
 use Rattle.session.specs.Moment.{Setting, Stage, onward}
 use Rattle.session.specs.Stop.{stop_of_unapplied, stop_of_unwritten}
 
@@ -54,6 +55,10 @@ said_behind ds start replies = after_known start.output.bytes (answers_said mean
 abbrev pub course_after : List Delivery → Stage → Course
 course_after ds start = record { state = λ replies. following replies ds; fetched = λ replies. fetches replies ds; bytes = said_behind ds start }
 
+-- the play of these deliveries and perhaps one more, which says nothing yet
+abbrev pub course_begun : List Delivery → Option Delivery → Stage → Course
+course_begun ds last start = record (course_after (ds ++ option_to_list last) start) { bytes = said_behind ds start }
+
 -- the play of these deliveries and the end of the input
 abbrev pub course_to_end : List Delivery → Stage → Course
 course_to_end ds start = record { state = λ replies. following_to_end replies ds; fetched = λ replies. fetches_to_end replies ds; bytes = said_behind ds start }
@@ -80,15 +85,21 @@ pub record IsUnderWay (setting : Setting) (course : Course) (begun : Replies →
 
 -- the world is so many applications of due events after where a play begins them, the least first, with some replies, and
 -- the output has what that play says; where it is known what the source has, with the replies of what is there and of the
--- events whose fetches failed
-pub record IsWithin (setting : Setting) (bytes : Replies → Option (List ℕ)) (begun : Replies → ReplayState) (now : Stage) : Type 0 where
+-- events whose fetches failed. The counts rose by the play's fetches without those that due events have still to make, and perhaps by
+-- the first of these
+pub record IsWithin (setting : Setting) (course : Course) (begun : Replies → ReplayState) (start now : Stage) : Type 0 where
   pub steps : ℕ
   pub replies : Replies
   pub is : now.world ≡ after_some replies steps (begun replies)
-  pub says : now.output.bytes ≡ bytes replies
+  pub says : now.output.bytes ≡ course.bytes replies
   pub source : (contents : ℕ → Option Bytes) → setting.known ≡ Some contents → now.world ≡ after_some (replies_there contents now.world) steps (begun (replies_there contents now.world))
-  pub source_says : (contents : ℕ → Option Bytes) → setting.known ≡ Some contents → now.output.bytes ≡ bytes (replies_there contents now.world)
+  pub source_says : (contents : ℕ → Option Bytes) → setting.known ≡ Some contents → now.output.bytes ≡ course.bytes (replies_there contents now.world)
   pub documents : HoldsDocuments now.world
+  pub made : ℕ
+  pub fetched : made + length (fetches_due replies now.world) ≡ length (course.fetched replies)
+  pub source_fetched : (contents : ℕ → Option Bytes) → setting.known ≡ Some contents →
+      made + length (fetches_due (replies_there contents now.world) now.world) ≡ length (course.fetched (replies_there contents now.world))
+  pub counted : HasCountedWithin start.counts now.counts made now.world.played.side
 
 -- right after a delivery, if there is one, is taken, before what it makes due is applied
 abbrev pub entered_perhaps : ReplayState → Option Delivery → ReplayState
@@ -131,7 +142,7 @@ IsHeldUp OutOfMemory setting world = ⊤
 -- a due event wasn't applied: where the world was under way in a play, it is so still
 abbrev pub StaysWithin : Setting → Counts → Counts → ReplayState → ReplayState → Type 0
 StaysWithin setting before now old new =
-    (course : Course) (begun : Replies → ReplayState) (start s : Stage) → IsUnderWay setting course begun start (onward s before old) → IsWithin setting course.bytes begun (onward s now new)
+    (course : Course) (begun : Replies → ReplayState) (start s : Stage) → IsUnderWay setting course begun start (onward s before old) → IsWithin setting course begun start (onward s now new)
 
 -- a delivery, and how many questions were asked up to it
 pub record Turn : Type 0 where
@@ -155,13 +166,14 @@ pub record AnswersInPart (why : Unwritten) (t : Turn) (before now : Stage) : Typ
   pub counts : now.counts ≡ before.counts
   pub cut_short : IsCutShort why (ask_section t.asked (rows (union triple_cmp meaning before.world.played.records) pattern)) before.output now.output
 
--- an event or a watermark wasn't taken wholly: nothing was printed, and a world that was at rest is as it was, or has taken it,
--- with some of what it makes due
+-- an event or a watermark wasn't taken wholly: nothing was printed, and a world that was at rest is as it was, with the counts, or
+-- has taken it, with some of what it makes due
 pub record TakesInPart (why : Unapplied) (setting : Setting) (d : Delivery) (before now : Stage) : Type 0 where
   pub held_up : IsHeldUp why setting now.world
   pub output : now.output ≡ before.output
   pub world : (ds : List Delivery) (start : Stage) → AtRest setting ds start before →
-      (now.world ≡ before.world) ⊎ IsWithin setting (said_behind ds start) (λ replies. entered (following replies ds) d) now
+      ((now.world ≡ before.world) × (now.counts ≡ before.counts))
+      ⊎ IsWithin setting (course_begun ds (Some d) start) (λ replies. entered (following replies ds) d) start now
 
 -- a delivery wasn't taken, or not wholly: its answer wasn't written, or it or what it makes due wasn't applied
 abbrev pub CutsOff : Stop → Setting → Turn → Stage → Stage → Type 0

@@ -3,16 +3,21 @@
 //! `run` is the whole program but for the process around it; `running` has it. `replaying` is a replay and `drilling` a drill.
 //! `delivering` takes one delivery, wherever it comes from, and `taking` those of the lines. `stop` is why a run stopped, and
 //! `status` how it ended. The words stand in the crate `words`, what is printed in `transcript`, and the replay of a drill in
-//! `drill_replay`.
+//! `drill_replay`. `laws` says what follows from the contract of `run` where nothing goes wrong.
 #![tactic(auto)]
 
 mod delivering;
 mod drilling;
+mod laws;
 mod replaying;
 mod running;
 mod status;
 mod stop;
 mod taking;
 
+pub use laws::{
+    found_pages_leave_no_entries, good_input_is_replayed, settled_pages_are_the_union,
+    unsettled_pages_have_no_document,
+};
 pub use running::run;
 pub use status::{Status, status_number, status_text};

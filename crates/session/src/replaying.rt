@@ -1,14 +1,14 @@
 // A replay: the lines of the input, the end, and the sections that are asked for.
 
-ghost use Rattle.std.specs.Prelude.{◌≡◌, ◌≤◌, IfErr, OnOk};
-ghost use Rattle.wq_io.specs.Streams.{IsAtEnd};
+ghost use Rattle.std.specs.Prelude.{◌≡◌, ◌≤◌, IfErr, IfSome, OnOk};
 ghost use Rattle.replay_model.specs.ReplayState.{nothing_delivered};
 ghost use Rattle.transcript.specs.Sections.{chosen};
 ghost use Rattle.session.specs.Counts.{HasGoneOn};
 ghost use Rattle.session.specs.Headline.{Ending, HasReplayed, Stopped};
 ghost use Rattle.session.specs.Moment.{moment, run_of};
+ghost use Rattle.session.specs.Reading.{TakesByNeed};
 ghost use Rattle.session.specs.Sections.{sections_of};
-ghost use Rattle.words.specs.Options.{terms_of};
+ghost use Rattle.words.specs.Options.{limit_of, terms_of};
 
 use crate::delivering::take_end;
 use crate::stop::Stop;
@@ -33,7 +33,8 @@ pub fn replay<S: Source, R: Revisions, K: Sink>(
     ensures ok { OnOk result (Ending (run_of (R.contents revisions.old) options.now)
         (moment S.Source R.Revisions K.Sink events.old revisions.old out.old world.old.replay)
         (moment S.Source R.Revisions K.Sink events.new revisions.new out.new world.new.replay)) }
-    ensures read { OnOk result (IsAtEnd (S.left events.new)) }
+    ensures taken { IfSome (S.left events.old) (λ bytes. TakesByNeed (limit_of options.now) bytes (S.left events.new)) }
+    ensures most { S.most_faults events.new ≡ S.most_faults events.old }
     ensures err { IfErr result (λ stop. Stopped stop (run_of (R.contents revisions.old) options.now)
         (moment S.Source R.Revisions K.Sink events.old revisions.old out.old world.old.replay)
         (moment S.Source R.Revisions K.Sink events.new revisions.new out.new world.new.replay)) }
@@ -70,7 +71,8 @@ fn take_all<S: Source, R: Revisions, K: Sink>(
     ensures ok { OnOk result (HasReplayed (run_of (R.contents revisions.old) plan.now)
         (moment S.Source R.Revisions K.Sink events.old revisions.old out.old world.old.replay)
         (moment S.Source R.Revisions K.Sink events.new revisions.new out.new world.new.replay)) }
-    ensures read { OnOk result (IsAtEnd (S.left events.new)) }
+    ensures taken { IfSome (S.left events.old) (λ bytes. TakesByNeed (limit_of plan.now) bytes (S.left events.new)) }
+    ensures most { S.most_faults events.new ≡ S.most_faults events.old }
     ensures err { IfErr result (λ stop. Stopped stop (run_of (R.contents revisions.old) plan.now)
         (moment S.Source R.Revisions K.Sink events.old revisions.old out.old world.old.replay)
         (moment S.Source R.Revisions K.Sink events.new revisions.new out.new world.new.replay)) }

@@ -1,13 +1,14 @@
 // The top call.
 
 ghost use Rattle.std.specs.Prelude.{◌≡◌, ◌⊎◌, ◌↔◌, ℕ, ◌≤◌, None, Some, map, string_bytes, IfSome};
-ghost use Rattle.wq_io.specs.Streams.{IsAtEnd, Rose};
+ghost use Rattle.wq_io.specs.Streams.{Rose};
 ghost use Rattle.replay_model.specs.ReplayState.{nothing_delivered};
 ghost use Rattle.session.specs.Drilling.{DrillEnding};
 ghost use Rattle.session.specs.Headline.{Ending, Stopped};
 ghost use Rattle.session.specs.Moment.{moment, run_of, stage};
+ghost use Rattle.session.specs.Reading.{TakesByNeed};
 ghost use Rattle.session.specs.Stop.{stop_of};
-ghost use Rattle.words.specs.Options.{Choices};
+ghost use Rattle.words.specs.Options.{Choices, limit_of};
 ghost use Rattle.words.specs.Plan.{plan_of};
 ghost use Rattle.words.specs.declared.plan.Plan.TheVariants.{Replay, Drill};
 
@@ -44,14 +45,15 @@ pub fn run<S: Source, R: Revisions, K: Sink>(
         (moment S.Source R.Revisions K.Sink events.old revisions.old out.old world.old.replay)
         (moment S.Source R.Revisions K.Sink events.new revisions.new out.new world.new.replay) }
 
-    ensures read { result ≡ Status.Ok → (choices : Choices) → plan_of (map (λ w. string_bytes w) words.now) ≡ Some (Replay choices) →
-        IsAtEnd (S.left events.new) }
-
     // Each other ending has its cause, and leaves the world of the lines before, with the answers to their questions.
     ensures stopped { IfSome (stop_of result) (λ stop. (choices : Choices) → plan_of (map (λ w. string_bytes w) words.now) ≡ Some (Replay choices) →
         Stopped stop (run_of (R.contents revisions.old) choices)
         (moment S.Source R.Revisions K.Sink events.old revisions.old out.old world.old.replay)
         (moment S.Source R.Revisions K.Sink events.new revisions.new out.new world.new.replay)) }
+
+    // However a replay ends, the input was read no further than it had to be.
+    ensures taken { (choices : Choices) → plan_of (map (λ w. string_bytes w) words.now) ≡ Some (Replay choices) →
+        IfSome (S.left events.old) (λ bytes. TakesByNeed (limit_of choices) bytes (S.left events.new)) }
 
     // A drill ends well, or while it printed, or for want of memory.
     ensures drilled { (size : ℕ) → plan_of (map (λ w. string_bytes w) words.now) ≡ Some (Drill size) →
@@ -68,6 +70,7 @@ pub fn run<S: Source, R: Revisions, K: Sink>(
     ensures told { R.contents revisions.new ≡ R.contents revisions.old }
     ensures more_faults { R.faults revisions.old ≤ R.faults revisions.new }
     ensures more_misses { R.misses revisions.old ≤ R.misses revisions.new }
+    ensures most { S.most_faults events.new ≡ S.most_faults events.old }
 {
     match read_plan(words) {
         None => Status::BadWords,

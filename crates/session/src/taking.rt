@@ -1,7 +1,6 @@
 // The lines of the input are taken one by one.
 
-ghost use Rattle.std.specs.Prelude.{◌≡◌, ◌⊎◌, Ok, Err, IfErr, IfOk, OnOk};
-ghost use Rattle.wq_io.specs.Streams.{IsAtEnd};
+ghost use Rattle.std.specs.Prelude.{◌≡◌, ◌⊎◌, Ok, Err, IfErr, IfOk, IfSome, OnOk};
 ghost use Rattle.replay_model.specs.ReplayState.{nothing_delivered};
 ghost use Rattle.event_line.specs.declared.faults.LineCause.{LineCause};
 ghost use Rattle.event_line.specs.Line.{delivery_of};
@@ -9,8 +8,9 @@ ghost use Rattle.session.specs.declared.stop.Stop.TheVariants.{BadLine, OutOfMem
 ghost use Rattle.session.specs.Counts.{HasGoneOn};
 ghost use Rattle.session.specs.Headline.{Stopped};
 ghost use Rattle.session.specs.Moment.{moment, run_of};
+ghost use Rattle.session.specs.Reading.{TakesByNeed};
 ghost use Rattle.session.specs.Stops.{HasTaken};
-ghost use Rattle.words.specs.Options.{terms_of};
+ghost use Rattle.words.specs.Options.{limit_of, terms_of};
 
 use crate::delivering::{asks, deliver};
 use crate::stop::Stop;
@@ -37,7 +37,8 @@ pub fn take_lines<S: Source, R: Revisions, K: Sink>(
     ensures ok { OnOk result (HasTaken (run_of (R.contents revisions.old) plan.now)
         (moment S.Source R.Revisions K.Sink events.old revisions.old out.old world.old.replay)
         (moment S.Source R.Revisions K.Sink events.new revisions.new out.new world.new.replay)) }
-    ensures read { OnOk result (IsAtEnd (S.left events.new)) }
+    ensures taken { IfSome (S.left events.old) (λ bytes. TakesByNeed (limit_of plan.now) bytes (S.left events.new)) }
+    ensures most { S.most_faults events.new ≡ S.most_faults events.old }
     ensures room { OnOk result (world.new.room ≡ world.old.room) }
     ensures err { IfErr result (λ stop. Stopped stop (run_of (R.contents revisions.old) plan.now)
         (moment S.Source R.Revisions K.Sink events.old revisions.old out.old world.old.replay)

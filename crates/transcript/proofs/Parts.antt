@@ -23,12 +23,13 @@ after_nothing (Some bytes) = ap Some (append-nil bytes)
 
 -- nothing is printed
 pub prints_nothing : (old : Output) → Prints [] old old (Ok tt)
-prints_nothing old = record { later = omega arith; outcome = sym (after_nothing old.bytes) }
+prints_nothing old = record { later = omega arith; most = refl; outcome = sym (after_nothing old.bytes) }
 
 -- want of memory before the first byte
 pub cut_short_at_once : (whole : List ℕ) (old : Output) → Prints whole old old (Err OutOfMemory)
 cut_short_at_once whole old = record {
   later = omega arith;
+  most = refl;
   outcome = record { written = []; unwritten = whole; is = refl; bytes = sym (after_nothing old.bytes); failed = λ never. cc };
 }
 
@@ -38,6 +39,7 @@ prints_first why first second old new x =
     let cut = x.outcome in
     record {
       later = x.later;
+      most = x.most;
       outcome = record {
         written = cut.written;
         unwritten = cut.unwritten ++ second;
@@ -51,12 +53,14 @@ prints_first why first second old new x =
 pub prints_both : (result : Result (Unit {0}) Unwritten) (first second : List ℕ) (old between new : Output) → Prints first old between (Ok tt) → Prints second between new result → Prints (first ++ second) old new result
 prints_both (Ok done) first second old between new x y = record {
   later = omega (arith, x.later, y.later);
+  most = y.most ∙ x.most;
   outcome = y.outcome ∙ ap (λ b. after_known b second) x.outcome ∙ after_twice old.bytes first second;
 }
 prints_both (Err why) first second old between new x y =
     let cut = y.outcome in
     record {
       later = omega (arith, x.later, y.later);
+      most = y.most ∙ x.most;
       outcome = record {
         written = first ++ cut.written;
         unwritten = cut.unwritten;
@@ -80,13 +84,13 @@ whole_rest : (n : ℕ) (xs : List ℕ) → take (length xs - n) (drop n xs) ≡ 
 whole_rest n xs = ap (λ m. take m (drop n xs)) (sym (length-drop n xs)) ∙ take-length (drop n xs)
 
 -- one write more of the rest
-pub writing_more : (whole rest : List ℕ) (n : ℕ) (old between new : Output) → IsWriting whole rest old between → new.bytes ≡ after_known between.bytes (take n rest) → between.faults ≤ new.faults →
+pub writing_more : (whole rest : List ℕ) (n : ℕ) (old between new : Output) → IsWriting whole rest old between → new.bytes ≡ after_known between.bytes (take n rest) → between.faults ≤ new.faults → new.most_faults ≡ between.most_faults →
     IsWriting whole (take (length rest - n) (drop n rest)) old new
-writing_more whole rest n old between new x more later = record {
+writing_more whole rest n old between new x more later most = record {
   written = x.written ++ take n rest;
   is = x.is ∙ ap (λ l. x.written ++ l) (sym (take-append-drop n rest)) ∙ sym (append_assoc x.written (take n rest) (drop n rest))
       ∙ ap (λ l. (x.written ++ take n rest) ++ l) (sym (whole_rest n rest));
-  prints = prints_both (Ok tt) x.written (take n rest) old between new x.prints (record { later = later; outcome = more });
+  prints = prints_both (Ok tt) x.written (take n rest) old between new x.prints (record { later = later; most = most; outcome = more });
 }
 
 -- nothing is left to write
@@ -97,10 +101,11 @@ writing_done whole [] old new x none =
 writing_done whole (b ∷ bs) old new x none = cc
 
 -- a write that failed
-pub writing_failed : (why : Unwritten) (whole rest : List ℕ) (old between new : Output) → IsWriting whole rest old between → 0 < length rest → new.bytes ≡ between.bytes → between.faults ≤ new.faults →
+pub writing_failed : (why : Unwritten) (whole rest : List ℕ) (old between new : Output) → IsWriting whole rest old between → 0 < length rest → new.bytes ≡ between.bytes → between.faults ≤ new.faults → new.most_faults ≡ between.most_faults →
     (why ≡ WriteFault → Rose between.faults new.faults) → Prints whole old new (Err why)
-writing_failed why whole rest old between new x more same later cause = record {
+writing_failed why whole rest old between new x more same later most cause = record {
   later = omega (arith, x.prints.later, later);
+  most = most ∙ x.prints.most;
   outcome = record { written = x.written; unwritten = rest; is = x.is; bytes = same ∙ x.prints.outcome; failed = λ fault. (more, omega (arith, x.prints.later, cause fault)) };
 }
 

@@ -5,14 +5,16 @@ use Rattle.wq_io.specs.declared.sink.Sink.{Ghosts as SinkOf}
 use Rattle.transcript.specs.declared.write.Unwritten.{Unwritten}
 use Rattle.transcript.specs.declared.write.Unwritten.TheVariants.{WriteFault}
 
--- an output at a moment: the bytes that it has, where they are known, and how many writes failed, as far as 64 bits count them
+-- an output at a moment: the bytes that it has, where they are known; how many writes failed, as far as 64 bits count them; and the
+-- most that ever fail, where it is told
 pub record Output : Type 0 where
   pub bytes : Option (List ℕ)
   pub faults : ℕ
+  pub most_faults : Option ℕ
 
 -- the output that a sink is
 abbrev pub output : {K : Type 0} → SinkOf K → K → Output
-output members sink = record { bytes = members.held sink; faults = members.faults sink }
+output members sink = record { bytes = members.held sink; faults = members.faults sink; most_faults = members.most_faults sink }
 
 -- a prefix of these bytes was written, and nothing else; where a write failed, not all of them
 pub record IsCutShort (why : Unwritten) (whole : List ℕ) (old new : Output) : Type 0 where
@@ -25,4 +27,5 @@ pub record IsCutShort (why : Unwritten) (whole : List ℕ) (old new : Output) : 
 -- these bytes were written, or a prefix of them
 pub record Prints (whole : List ℕ) (old new : Output) (result : Result (Unit {0}) Unwritten) : Type 0 where
   pub later : old.faults ≤ new.faults
+  pub most : new.most_faults ≡ old.most_faults
   pub outcome : MatchResult result (λ _. new.bytes ≡ after_known old.bytes whole) (λ why. IsCutShort why whole old new)

@@ -1,5 +1,5 @@
 -- One event more, and fewer wait.
-use Rattle.std.proofs.Common.{refl, ap, ◌∙◌, arith, Err, ⊎_elim}
+use Rattle.std.proofs.Common.{refl, ap, ◌∙◌, arith, Err, inl, inr, ⊎_elim}
 use Rattle.world.specs.Roomed.{ReplayInRoom}
 use Rattle.session.proofs.Due.{applies-fewer, applies-leads, goes-further, goes-nowhere, gone-on, is_full, none_due, starved}
 use Rattle.session.proofs.delivering.apply_due.Goals as goal
@@ -31,7 +31,9 @@ returns-in-Err-Nothing-clause-source g c =
     gone-on g.R.Revisions _ _ _ c.loop.invariant.1 (record { known = call.told; faults = call.more_faults; misses = call.more_misses })
 
 pub returns-in-Err-OutOfMemory-clause-err : goal.returns-in-Err-OutOfMemory-clause-err
-returns-in-Err-OutOfMemory-clause-err g c = starved _ _ _ _ _ _ _ c.loop.invariant.0 (ap (λ (w : ReplayInRoom). w.replay) c.in-Err-OutOfMemory.ensures.err)
+returns-in-Err-OutOfMemory-clause-err g c =
+    let call = c.in-Err-OutOfMemory.ensures in
+    starved _ _ _ _ _ _ _ c.loop.invariant.0 (record { calls = ⊎_elim (λ same. inl same) (λ one. inr one.1) call.calls_at_fault; faults = call.more_faults; misses = call.more_misses }) (ap (λ (w : ReplayInRoom). w.replay) call.err)
 
 pub returns-in-Err-OutOfMemory-clause-source : goal.returns-in-Err-OutOfMemory-clause-source
 returns-in-Err-OutOfMemory-clause-source g c =
@@ -39,7 +41,9 @@ returns-in-Err-OutOfMemory-clause-source g c =
     gone-on g.R.Revisions _ _ _ c.loop.invariant.1 (record { known = call.told; faults = call.more_faults; misses = call.more_misses })
 
 pub returns-in-Err-Full-clause-err : goal.returns-in-Err-Full-clause-err
-returns-in-Err-Full-clause-err g c = starved _ _ _ _ _ _ _ c.loop.invariant.0 (ap (λ (w : ReplayInRoom). w.replay) c.in-Err-Full.ensures.err)
+returns-in-Err-Full-clause-err g c =
+    let call = c.in-Err-Full.ensures in
+    starved _ _ _ _ _ _ _ c.loop.invariant.0 (record { calls = ⊎_elim (λ same. inl same) (λ one. inr one.1) call.calls_at_fault; faults = call.more_faults; misses = call.more_misses }) (ap (λ (w : ReplayInRoom). w.replay) call.err)
 
 pub returns-in-Err-Full-clause-held_up : goal.returns-in-Err-Full-clause-held_up
 returns-in-Err-Full-clause-held_up g c =

@@ -1,17 +1,18 @@
 -- Values that are not taken, a stop of the taking, a fault of the sink, and the end.
-use Rattle.std.proofs.Common.{inl}
+use Rattle.std.proofs.Common.{inl, []}
 use Rattle.std.specs.FinMap.{len-empty}
 use Rattle.std.proofs.lemmas.Result.{err_from_is_err_and}
 use Rattle.session.specs.Moment.{Moment, Run, moment, run_of}
 use Rattle.session.proofs.Ends.{broken_off, ending, prints_asked}
 use Rattle.session.proofs.Progress.{nothing_begun, stands}
+use Rattle.session.proofs.Reading.{nothing_taken_of, still}
 use Rattle.session.proofs.replaying.replay.Goals as goal
 
 pub returns-in_err-arguments-clause-err : goal.returns-in_err-arguments-clause-err
 returns-in_err-arguments-clause-err g c =
     let p = err_from_is_err_and c.from_residual.result c.from_residual.ensures.1 in
     let run : Run = run_of (g.R.Revisions.contents c.args.revisions.now) c.args.options.now in
-    rw (p.1, p.2, c.requires) (inl (inl (stands run _ _ _ _ (nothing_begun run _ _ _) _ _)))
+    rw (p.1, p.2, c.requires) (inl (inl (stands run _ _ _ _ (nothing_begun run _ _ _) _ [] (still _))))
 
 pub returns-in_err-take_all-clause-err : goal.returns-in_err-take_all-clause-err
 returns-in_err-take_all-clause-err g c =
@@ -35,3 +36,15 @@ returns-in_err-print_closing-clause-err g c =
 
 pub set_room-requires : goal.set_room-requires
 set_room-requires g c = rw c.requires (len-empty _ _)
+
+pub returns-in_err-arguments-clause-taken : goal.returns-in_err-arguments-clause-taken
+returns-in_err-arguments-clause-taken g c = nothing_taken_of _ _
+
+pub returns-in_err-take_all-clause-taken : goal.returns-in_err-take_all-clause-taken
+returns-in_err-take_all-clause-taken g c = rw c.in_ok-arguments.ensures at c.take_all.ensures.taken
+
+pub returns-in_err-print_closing-clause-taken : goal.returns-in_err-print_closing-clause-taken
+returns-in_err-print_closing-clause-taken g c = rw c.in_ok-arguments.ensures at c.take_all.ensures.taken
+
+pub returns-clause-taken : goal.returns-clause-taken
+returns-clause-taken g c = rw c.in_ok-arguments.ensures at c.take_all.ensures.taken

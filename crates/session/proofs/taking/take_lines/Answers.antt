@@ -4,7 +4,7 @@ use Rattle.std.proofs.lemmas.Result.{err_from_is_err_and}
 use Rattle.session.specs.Moment.{Run, moment, run_of}
 use Rattle.session.proofs.Deliveries.{rest_open}
 use Rattle.session.proofs.Due.{gone-on}
-use Rattle.session.proofs.Progress.{delivery_stops, end_reached, fault_stops, line_stops, line_taken, nothing_begun}
+use Rattle.session.proofs.Progress.{delivery_stops, end_reached, fault_stops, line_stops, line_taken, nothing_begun, taken_on}
 use Rattle.session.proofs.Reading.{nothing_left}
 use Rattle.session.proofs.taking.take_lines.Goals as goal
 
@@ -14,12 +14,13 @@ loop-line-init g c =
       rw (c.new-lines.ensures, c.limit.ensures.value, c.requires.world) (nothing_begun run _ _ _),
       record { known = refl; faults = omega arith; misses = omega arith },
       refl,
+      refl,
     )
 
 pub returns-in_err-number-clause-err : goal.returns-in_err-number-clause-err
 returns-in_err-number-clause-err g c =
     let p = err_from_is_err_and c.from_residual.result c.from_residual.ensures.1 in
-    rw (p.1, p.2) (fault_stops _ _ _ _ _ c.loop-line.invariant.0 _ _ c.in_err-number.ensures.cause c.in_err-number.ensures.leaves)
+    rw (p.1, p.2) (fault_stops _ _ _ _ _ c.loop-line.invariant.0 _ c.next.new.self _ c.in_err-number.ensures.cause c.in_err-number.ensures.leaves c.next.ensures.reads)
 
 pub returns-in_err-delivery-clause-err : goal.returns-in_err-delivery-clause-err
 returns-in_err-delivery-clause-err g c =
@@ -29,7 +30,7 @@ returns-in_err-delivery-clause-err g c =
     let bytes = rw c.in-Some.is at c.in_ok-number.ensures.bytes in
     let refused = rw c.as_slice.ensures.value at c.in_err-delivery.ensures.err in
     rw (p.1, p.2) (line_stops _ _ _ _ _ c.loop-line.invariant.0 c.next.new.line.items c.next.new.self _ _ c.in-Some.number
-    (record { first = line; total = c.in_ok-number.ensures.length; takes = bytes; goes = c.in_ok-number.ensures.goes_on }) number.0 refused)
+    (record { first = line; total = c.in_ok-number.ensures.length; takes = bytes; goes = c.in_ok-number.ensures.goes_on; reads = c.next.ensures.reads }) number.0 refused)
 
 pub deliver-requires : goal.deliver-requires
 deliver-requires g c = rest_open _ _ _ _ c.loop-line.invariant.0.at_rest
@@ -43,7 +44,7 @@ returns-in_err-deliver-clause-err g c =
     let cuts = rw (c.loop-line.invariant.1.known, c.place-directory.ensures, c.loop-line.invariant.2 ∙ c.requires.room) at c.in_err-deliver.ensures.err in
     rw (p.1, p.2) (delivery_stops _ _ _ _ _ c.loop-line.invariant.0 c.next.new.line.items c.next.new.self
     (moment g.S.Source g.R.Revisions g.K.Sink c.next.new.source c.deliver.new.revisions c.deliver.new.out c.deliver.new.world.replay) c.in_ok-delivery.delivery _
-    (record { first = line; total = c.in_ok-number.ensures.length; takes = bytes; goes = c.in_ok-number.ensures.goes_on }) delivered (omega (arith, c.asks-asked.ensures.number)) _ cuts)
+    (record { first = line; total = c.in_ok-number.ensures.length; takes = bytes; goes = c.in_ok-number.ensures.goes_on; reads = c.next.ensures.reads }) delivered (omega (arith, c.asks-asked.ensures.number)) _ cuts)
 
 pub returns-in_err-deliver-clause-source : goal.returns-in_err-deliver-clause-source
 returns-in_err-deliver-clause-source g c = gone-on g.R.Revisions _ _ _ c.loop-line.invariant.1 c.in_err-deliver.ensures.source
@@ -59,18 +60,38 @@ loop-line-preserved g c =
     let asked = c.asks-asked.ensures.number in (
       line_taken _ _ _ _ _ c.loop-line.invariant.0 c.next.new.line.items c.next.new.self
           (moment g.S.Source g.R.Revisions g.K.Sink c.next.new.source c.deliver.new.revisions c.deliver.new.out c.deliver.new.world.replay) c.in_ok-delivery.delivery _
-          (record { first = line; total = c.in_ok-number.ensures.length; takes = bytes; goes = c.in_ok-number.ensures.goes_on }) delivered (omega (arith, asked))
+          (record { first = line; total = c.in_ok-number.ensures.length; takes = bytes; goes = c.in_ok-number.ensures.goes_on; reads = c.next.ensures.reads }) delivered (omega (arith, asked))
           c.in_ok-number.ensures.later (sym number.1 ∙ number.0) c.in_ok-number.ensures.ended (omega (arith, asked, one)) takes,
       gone-on g.R.Revisions _ _ _ c.loop-line.invariant.1 c.in_ok-deliver.ensures.source,
       c.deliver.ensures.room ∙ c.loop-line.invariant.2,
+      c.next.ensures.most ∙ c.loop-line.invariant.3,
     )
 
 pub returns-clause-ok : goal.returns-clause-ok
 returns-clause-ok g c =
     let line = rw c.in_default.is at c.in_ok-number.ensures.line in
-    end_reached _ _ _ _ _ c.loop-line.invariant.0 _ line.0
+    end_reached _ _ _ _ _ c.loop-line.invariant.0 _ (nothing_left c.next.new.self.held _ (rw line.1 line.0)) line.0
 
-pub returns-clause-read : goal.returns-clause-read
-returns-clause-read g c =
-    let line = rw c.in_default.is at c.in_ok-number.ensures.line in
-    nothing_left c.next.new.self.held _ (rw line.1 line.0)
+pub returns-clause-taken : goal.returns-clause-taken
+returns-clause-taken g c = taken_on _ _ _ _ _ c.loop-line.invariant.0 c.next.new.self _ c.next.ensures.reads
+
+pub returns-in_err-number-clause-taken : goal.returns-in_err-number-clause-taken
+returns-in_err-number-clause-taken g c = taken_on _ _ _ _ _ c.loop-line.invariant.0 c.next.new.self _ c.next.ensures.reads
+
+pub returns-in_err-delivery-clause-taken : goal.returns-in_err-delivery-clause-taken
+returns-in_err-delivery-clause-taken g c = taken_on _ _ _ _ _ c.loop-line.invariant.0 c.next.new.self _ c.next.ensures.reads
+
+pub returns-in_err-deliver-clause-taken : goal.returns-in_err-deliver-clause-taken
+returns-in_err-deliver-clause-taken g c = taken_on _ _ _ _ _ c.loop-line.invariant.0 c.next.new.self _ c.next.ensures.reads
+
+pub returns-clause-most : goal.returns-clause-most
+returns-clause-most g c = c.next.ensures.most ∙ c.loop-line.invariant.3
+
+pub returns-in_err-number-clause-most : goal.returns-in_err-number-clause-most
+returns-in_err-number-clause-most g c = c.next.ensures.most ∙ c.loop-line.invariant.3
+
+pub returns-in_err-delivery-clause-most : goal.returns-in_err-delivery-clause-most
+returns-in_err-delivery-clause-most g c = c.next.ensures.most ∙ c.loop-line.invariant.3
+
+pub returns-in_err-deliver-clause-most : goal.returns-in_err-deliver-clause-most
+returns-in_err-deliver-clause-most g c = c.next.ensures.most ∙ c.loop-line.invariant.3

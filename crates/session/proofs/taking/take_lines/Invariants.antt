@@ -12,6 +12,7 @@ invariant-loop-line g l =
     (moment g.S.Source g.R.Revisions g.K.Sink l.events l.revisions l.out l.world.replay) l.lines l.asked
     × HasGoneOn g.R.Revisions l.fn.revisions l.revisions
     × (l.world.room ≡ l.fn.world.room)
+    × (g.S.Source.most_faults l.events ≡ g.S.Source.most_faults l.fn.events)
 
 abbrev pub decreases-loop-line : goal.decreases-loop-line
 decreases-loop-line g l = l.lines.max_bytes - l.lines.given

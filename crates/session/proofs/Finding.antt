@@ -1,0 +1,133 @@
+-- Where no event is late and each page is found, nothing is named in the side output.
+use Rattle.std.proofs.Common.{◌≡◌, ℕ, Bool, true, false, cond, not, filter, ◌&&◌, ◌||◌, ◌==◌, nat_lt, nat_le, is_ok, List, [], ◌∷◌, ◌++◌, Option, None, Some, Result, Ok, Err, refl, sym, ◌∙◌, ap, subst, true≢false}
+use Rattle.std.specs.List.{cons_option}
+use Rattle.entity_model.specs.declared.id.EntityId.{EntityId}
+use Rattle.entity_model.specs.declared.event.Event.{Event}
+use Rattle.entity_model.specs.declared.event.Kind.{Kind}
+use Rattle.entity_model.specs.declared.event.Kind.TheVariants.{Edit, Delete, Undelete, ReconcileDeleted, ReconcileKept}
+use Rattle.entity_model.specs.Event.{event_cmp, event_cmp_total, event_cmp_same}
+use Rattle.entity_model.specs.declared.delivery.Delivery.{Delivery}
+use Rattle.entity_model.specs.declared.delivery.Delivery.TheVariants.{Event as Told, Watermark, Ask}
+use Rattle.entity_state.specs.declared.state.State.{State}
+use Rattle.entity_state.specs.State.{after_kind, deleted, is_deleted, is_kept, kept, state_after}
+use Rattle.entity_state.specs.Record.{held_revision, wants}
+use Rattle.entity_state.specs.declared.record.Record.{Record}
+use Rattle.side_output.specs.declared.entry.Cause.{Cause}
+use Rattle.side_output.specs.declared.entry.Entry.TheVariants.{Late}
+use Rattle.rising.specs.Rising.{has}
+use Rattle.rising.proofs.Bools.{and_left, and_right, or_true}
+use Rattle.rising.proofs.Filtering.{has-filter}
+use Rattle.rising.proofs.Rising.{has-append, has-sorted, has_itself}
+use Rattle.rising.proofs.Pushes.{by_pushes}
+use Rattle.reorder_buffer.specs.Watermarks.{is_due}
+use Rattle.replay_model.specs.Acceptance.{accepted, due, is_accepted, is_late, late, mark}
+use Rattle.replay_model.specs.Fate.{is_of}
+use Rattle.replay_model.specs.Play.{Played, apply, apply_all, entries_after, entry_of, happens, newly_due, nothing_played, play, play_to_end, record_after}
+use Rattle.replay_model.specs.Records.{Bytes, record_of}
+use Rattle.replay_model.specs.Replies.{Judgement, reply_there, source_replies}
+use Rattle.replay_model.proofs.Arrivals.{events_passing-push, play-push}
+use Rattle.replay_model.proofs.RecordOf.{entity_of, record-after, record_of-empty}
+use Rattle.session.specs.Complete.{FindsDocument, has_document, keeps_page}
+
+-- the state after an event is kept at a revision of which P holds, where P holds of the revision before and of the event's
+kept_after : (P : ℕ → Type 0) (k : Kind) (s : State) (r : ℕ) → (is_kept s.mode ≡ true → P s.rev) → (keeps_page k ≡ true → P r) → is_kept (after_kind k s r).mode ≡ true → P (after_kind k s r).rev
+kept_after P Edit s r before now = elim (nat_lt s.rev r) as (λ b. is_kept (cond b (kept r) s).mode ≡ true → P (cond b (kept r) s).rev) [ true ↦ λ _. now refl | false ↦ before ]
+kept_after P Delete s r before now = elim (nat_le s.rev r) as (λ b. is_kept (cond b (deleted r) s).mode ≡ true → P (cond b (deleted r) s).rev) [ true ↦ λ no. absurd (true≢false (sym no)) | false ↦ before ]
+kept_after P Undelete s r before now =
+    elim (nat_lt s.rev r || (s.rev == r && is_deleted s.mode)) as (λ b. is_kept (cond b (kept r) s).mode ≡ true → P (cond b (kept r) s).rev) [ true ↦ λ _. now refl | false ↦ before ]
+kept_after P ReconcileDeleted s r before now = λ no. absurd (true≢false (sym no))
+kept_after P ReconcileKept s r before now = λ _. now refl
+
+-- a document makes no entry
+no_entry : (e : Event) (r : ℕ) (reply : Result Bytes Cause) → is_ok reply ≡ true → entry_of e r reply ≡ []
+no_entry e r (Ok bytes) found = refl
+no_entry e r (Err cause) found = absurd (true≢false (sym found))
+
+module _ (unfit : Judgement) (contents : ℕ → Option Bytes) where
+  -- nothing is named, and each page that is there is a document
+  record AllFound (p : Played) : Type 0 where
+    none : p.side ≡ []
+    found : (x : EntityId) → is_kept (record_of p.records x).state.mode ≡ true → has_document unfit contents x (record_of p.records x).state.rev ≡ true
+
+  found-own : (e : Event) (r : Record Bytes) → FindsDocument unfit contents e → (is_kept r.state.mode ≡ true → has_document unfit contents e.entity r.state.rev ≡ true) →
+      is_kept (state_after r.state e).mode ≡ true → has_document unfit contents e.entity (state_after r.state e).rev ≡ true
+  found-own e r finds before = kept_after (λ n. has_document unfit contents e.entity n ≡ true) e.kind r.state e.rev before finds
+
+  no_entries : (e : Event) (r : Record Bytes) → (is_kept (state_after r.state e).mode ≡ true → has_document unfit contents e.entity (state_after r.state e).rev ≡ true) → entries_after (source_replies unfit contents []) e r ≡ []
+  no_entries e r found = by (wants (state_after r.state e) (held_revision r.held)) refl
+    where
+      by : (w : Bool) → wants (state_after r.state e) (held_revision r.held) ≡ w → cond w (entry_of e (state_after r.state e).rev (reply_there unfit e.entity (contents (state_after r.state e).rev))) [] ≡ []
+      by true wanted = no_entry e (state_after r.state e).rev _ (found (and_left (is_kept (state_after r.state e).mode) _ wanted))
+      by false wanted = refl
+
+  found-apply : (p : Played) (e : Event) → FindsDocument unfit contents e → AllFound p → AllFound (apply (source_replies unfit contents []) p e)
+  found-apply p e finds all = record {
+    none = ap (λ l. l ++ entries_after (source_replies unfit contents []) e (record_of p.records e.entity)) all.none
+        ∙ no_entries e (record_of p.records e.entity) (found-own e (record_of p.records e.entity) finds (all.found e.entity));
+    found = λ x.
+        subst (λ (r : Record Bytes). is_kept r.state.mode ≡ true → has_document unfit contents x r.state.rev ≡ true) (sym (record-after (source_replies unfit contents []) p.records e x)) (by x (is_of x e) refl);
+  }
+    where
+      by : (x : EntityId) (b : Bool) → is_of x e ≡ b → is_kept (cond b (record_after (source_replies unfit contents []) e (record_of p.records x)) (record_of p.records x)).state.mode ≡ true →
+          has_document unfit contents x (cond b (record_after (source_replies unfit contents []) e (record_of p.records x)) (record_of p.records x)).state.rev ≡ true
+      by x true of = subst (λ y. is_kept (state_after (record_of p.records x).state e).mode ≡ true → has_document unfit contents y (state_after (record_of p.records x).state e).rev ≡ true) (sym (entity_of x e of))
+          (found-own e (record_of p.records x) finds (subst (λ y. is_kept (record_of p.records x).state.mode ≡ true → has_document unfit contents y (record_of p.records x).state.rev ≡ true) (entity_of x e of) (all.found x)))
+      by x false of = all.found x
+
+  -- each of these events finds its document
+  abbrev AllFind : List Event → Type 0
+  AllFind es = (e : Event) → has event_cmp e es ≡ true → FindsDocument unfit contents e
+
+  found-apply_all : (p : Played) (es : List Event) → AllFind es → AllFound p → AllFound (apply_all (source_replies unfit contents []) p es)
+  found-apply_all p [] find all = all
+  found-apply_all p (e ∷ es) find all =
+      found-apply_all (apply (source_replies unfit contents []) p e) es (λ q h. find q (or_true _ (has event_cmp q es) h))
+      (found-apply p e (find e (has_itself event_cmp_total e es)) all)
+
+  -- what is newly due was accepted
+  find-due : (before : List Delivery) (closed : Bool) (after : List Delivery) → AllFind (accepted after) → AllFind (newly_due before closed after)
+  find-due before closed after find e h =
+      let new : Event → Bool = λ q. not (is_due false (mark before) q) in
+      let was_due : has event_cmp e (due closed after) ≡ true = and_right (new e) (has event_cmp e (due closed after)) (sym (has-filter event_cmp event_cmp_same new e (due closed after)) ∙ sym (has-sorted event_cmp_total e (filter new (due closed after))) ∙ h) in
+      find e (and_right (is_due closed (mark after) e) (has event_cmp e (accepted after)) (sym (has-filter event_cmp event_cmp_same (is_due closed (mark after)) e (accepted after)) ∙ was_due))
+
+  -- a list with more at its end is empty
+  first_empty : {A : Type 0} (xs ys : List A) → xs ++ ys ≡ [] → xs ≡ []
+  first_empty [] ys none = refl
+  first_empty (x ∷ xs) ys none = cc
+
+  rest_empty : {A : Type 0} (xs ys : List A) → xs ++ ys ≡ [] → ys ≡ []
+  rest_empty [] ys none = none
+  rest_empty (x ∷ xs) ys none = cc
+
+  no_late_entry : (e : Event) (late_now : Bool) → cons_option (cond late_now (Some e) None) [] ≡ [] → cond late_now (Late e ∷ []) [] ≡ []
+  no_late_entry e true none = cc
+  no_late_entry e false none = refl
+
+  found-happens : (ds : List Delivery) (d : Delivery) (p : Played) → late (ds ++ d ∷ []) ≡ [] → AllFind (accepted (ds ++ d ∷ [])) → AllFound p → AllFound (happens (source_replies unfit contents []) ds d p)
+  found-happens ds (Told e) p none find all = record {
+    none = ap (λ l. l ++ cond (is_late ds e) (Late e ∷ []) []) all.none
+        ∙ no_late_entry e (is_late ds e) (rest_empty (late ds) _ (sym (events_passing-push is_late ds (Told e)) ∙ none));
+    found = all.found;
+  }
+  found-happens ds (Watermark w) p none find all = found-apply_all p (newly_due ds false (ds ++ Watermark w ∷ [])) (find-due ds false (ds ++ Watermark w ∷ []) find) all
+  found-happens ds (Ask q) p none find all = all
+
+  found-nothing : AllFound nothing_played
+  found-nothing = record {
+    none = refl;
+    found = λ x kept. let never : is_kept (record_of nothing_played.records x).state.mode ≡ false = ap (λ (r : Record Bytes). is_kept r.state.mode) (record_of-empty x) in absurd (true≢false (sym kept ∙ never));
+  }
+
+  has-front : (e : Event) (xs ys : List Event) → has event_cmp e xs ≡ true → has event_cmp e (xs ++ ys) ≡ true
+  has-front e xs ys h = has-append event_cmp e xs ys ∙ ap (λ b. b || has event_cmp e ys) h
+
+  found-play : (ds : List Delivery) → late ds ≡ [] → AllFind (accepted ds) → AllFound (play (source_replies unfit contents []) ds)
+  found-play = by_pushes (λ ds. late ds ≡ [] → AllFind (accepted ds) → AllFound (play (source_replies unfit contents []) ds)) (λ none find. found-nothing)
+      (λ ds d before none find. subst AllFound (sym (play-push (source_replies unfit contents []) ds d))
+      (found-happens ds d (play (source_replies unfit contents []) ds) none find
+      (before (first_empty (late ds) _ (sym (events_passing-push is_late ds d) ∙ none)) (λ e h. find e (ap (has event_cmp e) (events_passing-push is_accepted ds d) ∙ has-front e (accepted ds) _ h)))))
+
+  -- the side output of the whole play is empty
+  pub none_named : (ds : List Delivery) → late ds ≡ [] → AllFind (accepted ds) → (play_to_end (source_replies unfit contents []) ds).side ≡ []
+  none_named ds none find = (found-apply_all (play (source_replies unfit contents []) ds) (newly_due ds true ds) (find-due ds true ds find) (found-play ds none find)).none

@@ -1,0 +1,41 @@
+-- Words for what follows where nothing goes wrong: a count that stands still, and pages that are there.
+use Rattle.std.specs.Prelude.{◌≡◌, ℕ, ◌-◌, ◌^◌, ◌<◌, Bool, true, false, cond, List, [], Option, is_ok, unwrap_or}
+use Rattle.std.specs.Option.{option_map}
+use Rattle.entity_model.specs.declared.id.EntityId.{EntityId}
+use Rattle.entity_model.specs.declared.event.Event.{Event}
+use Rattle.entity_model.specs.declared.event.Kind.{Kind}
+use Rattle.entity_model.specs.declared.event.Kind.TheVariants.{Edit, Delete, Undelete, ReconcileDeleted, ReconcileKept}
+use Rattle.entity_state.specs.declared.state.State.{State}
+use Rattle.entity_state.specs.State.{is_kept}
+use Rattle.replay_model.specs.Records.{Bytes}
+use Rattle.replay_model.specs.Replies.{Judgement, reply_there}
+use Rattle.replay_model.specs.Union.{Meaning}
+
+-- a count of 64 bits didn't rise, and says so: it is below its last value
+pub record IsStill (before now : ℕ) : Type 0 where
+  pub same : now ≡ before
+  pub below : now < 2 ^ 64 - 1
+
+-- whether an event of this kind may say that its page is there
+abbrev pub keeps_page : Kind → Bool
+keeps_page Edit = true
+keeps_page Delete = false
+keeps_page Undelete = true
+keeps_page ReconcileDeleted = false
+keeps_page ReconcileKept = true
+
+-- whether a document of the entity is there at the revision
+abbrev pub has_document : Judgement → (ℕ → Option Bytes) → EntityId → ℕ → Bool
+has_document unfit contents x r = is_ok (reply_there unfit x (contents r))
+
+-- where the event may say that its page is there, a document is there at its revision
+abbrev pub FindsDocument : Judgement → (ℕ → Option Bytes) → Event → Type 0
+FindsDocument unfit contents e = keeps_page e.kind ≡ true → has_document unfit contents e.entity e.rev ≡ true
+
+-- the triples that what is there at a revision means
+abbrev pub triples_there : {Triple : Type 0} → Meaning Triple → (ℕ → Option Bytes) → EntityId → ℕ → List Triple
+triples_there meaning contents x r = unwrap_or (option_map (meaning x r) (contents r)) []
+
+-- the triples of an entity in a state: those of what is there at its revision where the page is kept, and else none
+abbrev pub triples_in : {Triple : Type 0} → Meaning Triple → (ℕ → Option Bytes) → EntityId → State → List Triple
+triples_in meaning contents x s = cond (is_kept s.mode) (triples_there meaning contents x s.rev) []

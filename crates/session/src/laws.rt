@@ -1,0 +1,65 @@
+// What follows from the contract of a run where nothing goes wrong. Each law is the contract of a function that does nothing.
+
+ghost use Rattle.std.specs.Prelude.{◌≡◌, ◌⊎◌, ℕ, true, false, List, [], Option, Some, IfSome};
+ghost use Rattle.std.specs.FinMap as map;
+ghost use Rattle.std.specs.List.{flat_map};
+ghost use Rattle.rising.specs.Rising.{has, sorted};
+ghost use Rattle.rdf_term.specs.Order.{triple_cmp};
+ghost use Rattle.entity_model.specs.declared.delivery.Delivery.{Delivery};
+ghost use Rattle.entity_model.specs.declared.event.Event.{Event};
+ghost use Rattle.entity_model.specs.declared.id.EntityId.{EntityId};
+ghost use Rattle.entity_model.specs.Event.{event_cmp};
+ghost use Rattle.entity_state.specs.State.{is_kept};
+ghost use Rattle.replay_model.specs.Acceptance.{accepted, late};
+ghost use Rattle.replay_model.specs.Records.{Bytes, is_settled, record_of};
+ghost use Rattle.replay_model.specs.Union.{union};
+ghost use Rattle.world.specs.Meaning.{meaning};
+ghost use Rattle.words.specs.Options.{limit_of};
+ghost use Rattle.session.specs.declared.status.Status.{Status};
+ghost use Rattle.session.specs.Complete.{FindsDocument, IsStill, has_document, triples_in};
+ghost use Rattle.session.specs.Headline.{Ending, Stopped};
+ghost use Rattle.session.specs.Moment.{Moment, Run};
+ghost use Rattle.session.specs.Reading.{AreDeliveries};
+ghost use Rattle.session.specs.Stop.{stop_of};
+ghost use Rattle.session.specs.Taking.{IsFull, judgement};
+
+/// A replay ends well, or for want of memory, where the words are understood, each line of the input is a delivery, the input is
+/// within the limit, no read and no write fails, and the page that the least due event wants has room.
+pub fn good_input_is_replayed()
+    ensures { (run : Run) (before now : Moment) (status : Status) (bytes : List ℕ) (ds : List Delivery) →
+        (status ≡ Status.BadWords → ⊥) → IfSome (stop_of status) (λ stop. Stopped stop run before now) →
+        before.input.left ≡ Some bytes → AreDeliveries (limit_of run.choices) bytes ds →
+        IsStill before.input.faults now.input.faults → IsStill before.stage.output.faults now.stage.output.faults →
+        (IsFull run.setting now.stage.world → ⊥) →
+        (status ≡ Status.Ok) ⊎ (status ≡ Status.OutOfMemory) }
+{}
+
+/// After a replay that ended well over told contents, and whose fetches didn't fail, each entity that isn't settled is kept at a
+/// revision where nothing is, or no document of it.
+pub fn unsettled_pages_have_no_document()
+    ensures { (run : Run) (before now : Moment) (contents : ℕ → Option Bytes) →
+        Ending run before now → run.setting.known ≡ Some contents → IsStill before.stage.counts.faults now.stage.counts.faults →
+        (x : EntityId) → is_settled (record_of now.stage.world.played.records x) ≡ false →
+        (is_kept (record_of now.stage.world.played.records x).state.mode ≡ true)
+        × (has_document judgement contents x (record_of now.stage.world.played.records x).state.rev ≡ false) }
+{}
+
+/// After a replay that ended well over told contents, and that left each entity settled, the triples of all that is held are those
+/// that the kept revisions mean, as the source has them.
+pub fn settled_pages_are_the_union()
+    ensures { (run : Run) (before now : Moment) (contents : ℕ → Option Bytes) →
+        Ending run before now → run.setting.known ≡ Some contents →
+        ((x : EntityId) → is_settled (record_of now.stage.world.played.records x) ≡ true) →
+        union triple_cmp meaning now.stage.world.played.records
+        ≡ sorted triple_cmp (flat_map (λ entry. triples_in meaning contents entry.0 entry.1.state) (map.entries now.stage.world.played.records)) }
+{}
+
+/// After a replay that ended well over told contents, and whose fetches didn't fail, the side output is empty where no event is late
+/// and each accepted event that may say that its page is there finds a document at its revision.
+pub fn found_pages_leave_no_entries()
+    ensures { (run : Run) (before now : Moment) (contents : ℕ → Option Bytes) → (ending : Ending run before now) →
+        run.setting.known ≡ Some contents → IsStill before.stage.counts.faults now.stage.counts.faults →
+        late ending.replayed.deliveries ≡ [] →
+        ((e : Event) → has event_cmp e (accepted ending.replayed.deliveries) ≡ true → FindsDocument judgement contents e) →
+        now.stage.world.played.side ≡ [] }
+{}
