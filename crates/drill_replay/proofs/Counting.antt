@@ -1,15 +1,17 @@
 -- How one delivery more is counted, and what the world answers to it.
 use Rattle.std.proofs.Common.{◌≡◌, ◌∙◌, refl, sym, ap, ℕ, ◌+◌, Bool, true, false, cond, not, ◌&&◌, List, [], ◌∷◌, ◌++◌, append-nil, length, length-append, Option, None, Some, arith}
 use Rattle.rising.specs.Rising.{has}
+use Rattle.rising.proofs.Filtering.{has-filter}
 use Rattle.rising.proofs.Rising.{has-sorted}
 use Rattle.entity_model.specs.declared.event.Event.{Event}
-use Rattle.entity_model.specs.Event.{event_cmp, event_cmp_total}
+use Rattle.entity_model.specs.Event.{event_cmp, event_cmp_same, event_cmp_total}
 use Rattle.entity_model.specs.declared.delivery.Delivery.{Delivery}
 use Rattle.entity_model.specs.declared.delivery.Delivery.TheVariants.{Event as Told, Watermark, Ask}
 use Rattle.reorder_buffer.specs.declared.taken.Taken.{Taken}
 use Rattle.reorder_buffer.specs.declared.taken.Taken.TheVariants.{New, Repeat, Late}
 use Rattle.reorder_buffer.specs.Watermarks.{reached}
 use Rattle.replay_model.specs.Acceptance.{accepted, events, is_accepted, is_late, is_repeat, late, mark}
+use Rattle.replay_model.specs.Fate.{in_order}
 use Rattle.replay_model.specs.Play.{Replies}
 use Rattle.replay_model.specs.ReplayState.{following}
 use Rattle.replay_model.proofs.Deliveries.{events_passing-kept, events_passing-told}
@@ -20,7 +22,7 @@ one_more : (ds : List Delivery) (d : Delivery) (n : ℕ) → n ≡ length ds →
 one_more ds d n is = omega (arith, length-append ds (d ∷ []))
 
 -- what tells no event is one delivery more
-no_event : (ds : List Delivery) (d : Delivery) (c : Counts) → accepted (ds ++ d ∷ []) ≡ accepted ds → late (ds ++ d ∷ []) ≡ late ds → Counted ds c
+no_event : (ds : List Delivery) (d : Delivery) (c : Counts) → accepted None (ds ++ d ∷ []) ≡ accepted None ds → late None (ds ++ d ∷ []) ≡ late None ds → Counted ds c
     → Counted (ds ++ d ∷ []) (with_answer None c)
 no_event ds d c same_accepted same_late counted = record {
   deliveries = one_more ds d c.deliveries counted.deliveries;
@@ -40,20 +42,20 @@ passing_more test passing ds e false n more is counted =
     omega (arith, ap length same, counted)
 
 -- an event that is this
-event_counted : (ds : List Delivery) (e : Event) (c : Counts) (repeat reach : Bool) → is_repeat ds e ≡ repeat → reached (mark ds) e.time ≡ reach → Counted ds c
+event_counted : (ds : List Delivery) (e : Event) (c : Counts) (repeat reach : Bool) → is_repeat None ds e ≡ repeat → reached (mark ds) e.time ≡ reach → Counted ds c
     → Counted (ds ++ Told e ∷ []) (with_answer (Some (cond repeat Repeat (cond reach Late New))) c)
 event_counted ds e c repeat reach is_r is_m counted =
-    let accepting : is_accepted ds e ≡ (not repeat && not reach) = (λ i. not (is_r i) && not (is_m i)) in
-    let lating : is_late ds e ≡ (not repeat && reach) = (λ i. not (is_r i) && is_m i) in
+    let accepting : is_accepted None ds e ≡ (not repeat && not reach) = (λ i. not (is_r i) && not (is_m i)) in
+    let lating : is_late None ds e ≡ (not repeat && reach) = (λ i. not (is_r i) && is_m i) in
     by repeat reach
-    (passing_more is_accepted accepted ds e (not repeat && not reach) c.accepted (events_passing-told is_accepted ds e) accepting counted.accepted)
-    (passing_more is_late late ds e (not repeat && reach) c.late (events_passing-told is_late ds e) lating counted.late)
+    (passing_more (is_accepted None) (accepted None) ds e (not repeat && not reach) c.accepted (events_passing-told (is_accepted None) ds e) accepting counted.accepted)
+    (passing_more (is_late None) (late None) ds e (not repeat && reach) c.late (events_passing-told (is_late None) ds e) lating counted.late)
   where
     same : (n m : ℕ) → n + 0 ≡ m → n ≡ m
     same n m is = omega arith
 
-    by : (repeat reach : Bool) → c.accepted + cond (not repeat && not reach) 1 0 ≡ length (accepted (ds ++ Told e ∷ []))
-        → c.late + cond (not repeat && reach) 1 0 ≡ length (late (ds ++ Told e ∷ []))
+    by : (repeat reach : Bool) → c.accepted + cond (not repeat && not reach) 1 0 ≡ length (accepted None (ds ++ Told e ∷ []))
+        → c.late + cond (not repeat && reach) 1 0 ≡ length (late None (ds ++ Told e ∷ []))
         → Counted (ds ++ Told e ∷ []) (with_answer (Some (cond repeat Repeat (cond reach Late New))) c)
     by true reach a l = record { deliveries = one_more ds (Told e) c.deliveries counted.deliveries; accepted = same _ _ a; late = same _ _ l }
     by false true a l = record { deliveries = one_more ds (Told e) c.deliveries counted.deliveries; accepted = same _ _ a; late = l }
@@ -61,11 +63,12 @@ event_counted ds e c repeat reach is_r is_m counted =
 
 -- one delivery more, by what the world of those before answers
 pub counted-next : (replies : Replies) (ds : List Delivery) (d : Delivery) (c : Counts) → Counted ds c
-    → Counted (ds ++ d ∷ []) (with_answer (answer_of (following replies ds).buffer d) c)
+    → Counted (ds ++ d ∷ []) (with_answer (answer_of (following None replies ds).buffer d) c)
 counted-next replies ds (Told e) c counted =
-    event_counted ds e c (has event_cmp e (following replies ds).buffer.taken) (reached (mark ds) e.time) (sym (has-sorted event_cmp_total e (events ds))) refl counted
-counted-next replies ds (Watermark w) c counted = no_event ds (Watermark w) c (events_passing-kept is_accepted ds (Watermark w) refl) (events_passing-kept is_late ds (Watermark w) refl) counted
-counted-next replies ds (Ask p) c counted = no_event ds (Ask p) c (events_passing-kept is_accepted ds (Ask p) refl) (events_passing-kept is_late ds (Ask p) refl) counted
+    event_counted ds e c (has event_cmp e (following None replies ds).buffer.kept) (reached (mark ds) e.time)
+    (sym (has-filter event_cmp event_cmp_same (λ (x : Event). true) e (in_order (events ds)) ∙ has-sorted event_cmp_total e (events ds))) refl counted
+counted-next replies ds (Watermark w) c counted = no_event ds (Watermark w) c (events_passing-kept (is_accepted None) ds (Watermark w) refl) (events_passing-kept (is_late None) ds (Watermark w) refl) counted
+counted-next replies ds (Ask p) c counted = no_event ds (Ask p) c (events_passing-kept (is_accepted None) ds (Ask p) refl) (events_passing-kept (is_late None) ds (Ask p) refl) counted
 
 -- each count rises by one at most
 pub few-next : (answer : Option Taken) (c : Counts) (n : ℕ) → HasFew c n → HasFew (with_answer answer c) (n + 1)

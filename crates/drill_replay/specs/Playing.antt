@@ -14,8 +14,8 @@ use Rattle.drill_replay.specs.Summary.{replies_of}
 -- these deliveries were counted
 pub record Counted (ds : List Delivery) (counts : Counts) : Type 0 where
   pub deliveries : counts.deliveries ≡ length ds
-  pub accepted : counts.accepted ≡ length (accepted ds)
-  pub late : counts.late ≡ length (late ds)
+  pub accepted : counts.accepted ≡ length (accepted None ds)
+  pub late : counts.late ≡ length (late None ds)
 
 -- each count is at most this
 abbrev pub HasFew : Counts → ℕ → Type 0
@@ -36,14 +36,14 @@ with_answer (Some Repeat) c = record c { deliveries = c.deliveries + 1 }
 
 -- the world has taken these deliveries of a drill and has applied what they made due
 abbrev pub IsAfter : ℕ → List Delivery → ReplayState → Type 0
-IsAfter size ds world = world ≡ following (replies_of size) ds
+IsAfter size ds world = world ≡ following None (replies_of size) ds
 
 -- the world has taken the first deliveries
 pub record StandsBetween (size : ℕ) (ds : List Delivery) (world : ReplayState) : Type 0 where
   pub before : List Delivery
   pub after : List Delivery
   pub all : ds ≡ before ++ after
-  pub is : world ≡ following (replies_of size) before
+  pub is : world ≡ following None (replies_of size) before
 
 -- the world has taken the first deliveries, and has applied some of the events that the last of them made due
 pub record StandsWithin (size : ℕ) (ds : List Delivery) (world : ReplayState) : Type 0 where
@@ -52,7 +52,7 @@ pub record StandsWithin (size : ℕ) (ds : List Delivery) (world : ReplayState) 
   pub after : List Delivery
   pub all : ds ≡ before ++ last ∷ after
   pub steps : ℕ
-  pub is : world ≡ after_some (replies_of size) steps (entered (following (replies_of size) before) last)
+  pub is : world ≡ after_some (replies_of size) steps (entered (following None (replies_of size) before) last)
 
 -- the world has come to a part of these deliveries
 abbrev pub IsPartOf : ℕ → List Delivery → ReplayState → Type 0
@@ -61,7 +61,7 @@ IsPartOf size ds world = StandsBetween size ds world ⊎ StandsWithin size ds wo
 -- the world has taken all deliveries and the end, and has applied some of the events that the end made due
 pub record StandsAtEnd (size : ℕ) (world : ReplayState) : Type 0 where
   pub steps : ℕ
-  pub is : world ≡ after_some (replies_of size) steps (after_end (following (replies_of size) (drill size)))
+  pub is : world ≡ after_some (replies_of size) steps (after_end (following None (replies_of size) (drill size)))
 
 -- the world of a first part of the drill: each due event was applied whole or not at all
 abbrev pub HasBegun : ℕ → ReplayState → Type 0

@@ -1,5 +1,5 @@
 -- What a drill leads to, and what is told of it.
-use Rattle.std.specs.Prelude.{ℕ, Bool, List, [], ◌∷◌, ◌++◌, count_by, codes, decimal, flat_map, length}
+use Rattle.std.specs.Prelude.{ℕ, Bool, Option, None, List, [], ◌∷◌, ◌++◌, count_by, codes, decimal, flat_map, length}
 use Rattle.std.specs.FinMap as map
 use Rattle.rdf_term.specs.declared.triple.Triple.{Triple}
 use Rattle.rdf_term.specs.Order.{triple_cmp}
@@ -25,7 +25,7 @@ replies_of size = source_replies unfit_of (contents_of size) []
 
 -- the state that a drill ends with
 abbrev pub drilled : ℕ → ReplayState
-drilled size = following_to_end (replies_of size) (drill size)
+drilled size = following_to_end None (replies_of size) (drill size)
 
 -- whether an entity's page is kept
 abbrev pub is_kept_in : Records → EntityId → Bool
@@ -49,8 +49,8 @@ abbrev pub summary_of : ℕ → Summary
 summary_of size = record {
   size = size;
   deliveries = length (drill size);
-  accepted = length (accepted (drill size));
-  late = length (late (drill size));
+  accepted = length (accepted None (drill size));
+  late = length (late None (drill size));
   kept = kept_in (drilled size).played.records;
   triples = length (triples_of size);
   digest = md5 (triple_lines (triples_of size));

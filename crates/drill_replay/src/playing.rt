@@ -1,6 +1,6 @@
 // The deliveries of a drill are taken one by one: what is due is applied, and they are counted.
 
-ghost use Rattle.std.specs.Prelude.{◌≡◌, ◌⊎◌, ℕ, ◌+◌, ◌*◌, ◌≤◌, ◌<◌, ◌∷◌, ◌++◌, [], false, List, IfOk, OnErr, OnOk};
+ghost use Rattle.std.specs.Prelude.{◌≡◌, ◌⊎◌, ℕ, ◌+◌, ◌*◌, ◌≤◌, ◌<◌, ◌∷◌, ◌++◌, [], false, None, List, IfOk, OnErr, OnOk};
 ghost use Rattle.entity_model.specs.declared.delivery.Delivery.{Delivery};
 ghost use Rattle.replay_model.specs.ReplayState.{after_due, after_mark, after_some, entered, following, nothing_delivered};
 ghost use Rattle.drill.specs.Drill.{IsSize, drill};
@@ -98,7 +98,7 @@ fn take(size: u32, delivery: &Delivery, world: &mut World) -> Result<Option<Take
     ensures ok { OnOk result ((ds : List Delivery) → IsAfter size ds world.old.replay → IsAfter size (ds ++ delivery.now ∷ []) world.new.replay) }
     ensures answer { IfOk result (λ answer. answer ≡ answer_of world.old.replay.buffer delivery.now) }
     ensures err { OnErr result ((ds : List Delivery) → IsAfter size ds world.old.replay → (world.new.replay ≡ world.old.replay)
-        ⊎ ((steps : ℕ) × (world.new.replay ≡ after_some (replies_of size) steps (entered (following (replies_of size) ds) delivery.now)))) }
+        ⊎ ((steps : ℕ) × (world.new.replay ≡ after_some (replies_of size) steps (entered (following None (replies_of size) ds) delivery.now)))) }
 {
     match delivery {
         Delivery::Event(event) => Ok(Some(world.take(*event)?)),

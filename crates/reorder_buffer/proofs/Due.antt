@@ -13,7 +13,7 @@ use Rattle.entity_model.specs.Event.{event_cmp}
 use Rattle.reorder_buffer.specs.Watermarks.{reached, is_due}
 
 -- where a chain of orders doesn't say that the second is first, neither does the first order
-first_not_after : (a b : Ordering) → is_gt (ordering_then a b) ≡ false → is_gt a ≡ false
+pub first_not_after : (a b : Ordering) → is_gt (ordering_then a b) ≡ false → is_gt a ≡ false
 first_not_after Less b h = refl
 first_not_after Equal b h = refl
 first_not_after Greater b h = h
@@ -45,7 +45,7 @@ none_due closed mark x xs after waits =
     sym (find_none (is_due closed mark) xs (λ k d here. due_before closed mark x _ (after k d here) waits))
 
 -- an event that is before another isn't after it
-not_after : (o : Ordering) → o ≡ Less → is_gt o ≡ false
+pub not_after : (o : Ordering) → o ≡ Less → is_gt o ≡ false
 not_after o is = rw is refl
 
 -- without the first event that is due, where it is the first of all

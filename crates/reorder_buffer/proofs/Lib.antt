@@ -1,2 +1,3 @@
 mod Due
+mod Forgetting
 mod Undo

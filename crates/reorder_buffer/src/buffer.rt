@@ -1,11 +1,12 @@
 // The reorder buffer.
 
-ghost use Rattle.std.specs.Prelude.{◌≡◌, false, length, OnOk, OnErr, IfOk, IsSome, IfSome, All};
+ghost use Rattle.std.specs.Prelude.{◌≡◌, false, Some, length, OnOk, OnErr, IfOk, IsSome, IfSome, All};
+ghost use Rattle.std.specs.List.{list_any};
 ghost use Rattle.std.specs.Option.{option_copied};
 ghost use Rattle.std.specs.BTreeMap.Range.{IsLeBy};
 ghost use Rattle.entity_model.specs.Event.{event_cmp};
-ghost use Rattle.reorder_buffer.specs.Watermarks.{is_due};
-ghost use Rattle.reorder_buffer.specs.Buffered.{nothing_taken, answer_to, after_taking, after_raising, after_closing, first_due, after_dropping};
+ghost use Rattle.reorder_buffer.specs.Watermarks.{floor, is_below, is_due};
+ghost use Rattle.reorder_buffer.specs.Buffered.{nothing_taken, nothing_taken_within, answer_to, after_taking, after_raising, after_closing, first_due, after_dropping, unforgotten};
 
 use crate::taken::Taken;
 use crate::watermarks;
@@ -15,13 +16,14 @@ use std::alloc::Global;
 use std::collections::BTreeSet;
 use std::marker::Model;
 
-/// The events that were taken and those of them that wait, each in the order of events, with the
-/// greatest watermark so far.
+/// The events that were taken and aren't forgotten, and those that wait, each in the order of events, with the
+/// greatest watermark so far. An event is forgotten once its time is further behind that watermark than the horizon.
 #[derive(Drop)]
 pub struct Buffer {
-    taken: BTreeSet<Event>,
+    kept: BTreeSet<Event>,
     waiting: BTreeSet<Event>,
     mark: Option<i64>,
+    horizon: Option<u64>,
     closed: bool,
 }
 
@@ -30,24 +32,34 @@ impl Model for Buffer {
 
     ghost Value = { Buffered };
 
-    ghost view = { λ a. record { taken = a.taken.keys; waiting = a.waiting.keys; mark = a.mark; closed = a.closed } };
+    ghost view = { λ a. record { kept = a.kept.keys; waiting = a.waiting.keys; mark = a.mark; horizon = a.horizon; closed = a.closed } };
 }
 
 impl Buffer {
-    /// The buffer before the first event and the first watermark.
+    /// The buffer before the first event and the first watermark. Without a horizon, nothing is forgotten.
     pub fn new(alloc: Global) -> Result<Buffer, OutOfMemory>
         ensures { IfOk result (λ buffer. buffer ≡ nothing_taken) }
     {
         Ok(Buffer {
-            taken: BTreeSet::new(alloc),
+            kept: BTreeSet::new(alloc),
             waiting: BTreeSet::new(alloc),
             mark: None,
+            horizon: None,
             closed: false,
         })
     }
 
-    /// Takes an event: one that was taken before changes nothing, one whose time the watermark has
-    /// reached is remembered, and any other waits too. After `OutOfMemory` nothing has changed.
+    /// Sets the horizon, in microseconds: events whose time is further behind the greatest watermark are forgotten. No event
+    /// and no watermark was taken yet.
+    pub fn set_horizon(&mut self, micros: u64)
+        requires { self.old ≡ nothing_taken_within self.old.horizon }
+        ensures { self.new ≡ nothing_taken_within (Some micros) }
+    {
+        self.horizon = Some(micros);
+    }
+
+    /// Takes an event: one that is remembered changes nothing, one whose time the watermark has reached is remembered
+    /// unless it is below the floor, and any other is remembered and waits. After `OutOfMemory` nothing has changed.
     pub fn take(&mut self, event: Event) -> Result<Taken, OutOfMemory>
         requires { self.old.closed ≡ false }
         ensures answer { IfOk result (λ taken. taken ≡ answer_to self.old event) }
@@ -55,7 +67,14 @@ impl Buffer {
         ensures err { OnErr result (self.new ≡ self.old) }
         ensures not_closed { self.new.closed ≡ false }
     {
-        if !self.taken.insert(event)? {
+        if watermarks::is_below(self.horizon, self.mark, event.time) {
+            return Ok(if self.kept.contains(&event) {
+                Taken::Repeat
+            } else {
+                Taken::Late
+            });
+        }
+        if !self.kept.insert(event)? {
             return Ok(Taken::Repeat);
         }
         if watermarks::reached(self.mark, event.time) {
@@ -64,18 +83,20 @@ impl Buffer {
         match self.waiting.insert(event) {
             Ok(_) => Ok(Taken::New),
             Err(_) => {
-                self.taken.remove(&event);
+                self.kept.remove(&event);
                 Err(OutOfMemory)
             }
         }
     }
 
     /// Takes a watermark: events up to its time, in microseconds since 1970-01-01T00:00:00Z, are
-    /// due from now on. A watermark below an earlier one changes nothing.
+    /// due from now on, and those below the new floor are forgotten, at a cost of time near their number. A watermark
+    /// below an earlier one changes nothing.
     pub fn raise(&mut self, mark: i64)
         ensures { self.new ≡ after_raising self.old mark }
     {
         self.mark = watermarks::greater(self.mark, mark);
+        forget(&mut self.kept, self.horizon, self.mark);
     }
 
     /// Makes all events due, since no more come.
@@ -113,10 +134,43 @@ impl Buffer {
         self.waiting.len()
     }
 
+    /// The number of the events that are remembered.
+    pub fn remembered(&self) -> usize
+        ensures { result ≡ length self.now.kept }
+    {
+        self.kept.len()
+    }
+
     /// Whether an event is due.
     fn is_due(&self, event: &Event) -> bool
         ensures { result ≡ is_due self.now.closed self.now.mark event.now }
     {
         self.closed || watermarks::reached(self.mark, event.time)
     }
+}
+
+// Forgets the events below the floor, which are the first ones.
+fn forget(kept: &mut BTreeSet<Event>, horizon: Option<u64>, mark: Option<i64>)
+    ensures { kept.new.keys ≡ unforgotten (floor horizon mark) kept.old.keys }
+{
+    while has_below(kept, horizon, mark) {
+        let _ = kept.pop_first();
+    }
+}
+
+// Whether an event is below the floor, as the first one is then.
+fn has_below(kept: &BTreeSet<Event>, horizon: Option<u64>, mark: Option<i64>) -> bool
+    ensures { result ≡ list_any (λ e. is_below (floor horizon mark) e.time) kept.now.keys }
+{
+    match kept.first() {
+        Some(first) => is_forgotten(first, horizon, mark),
+        None => false,
+    }
+}
+
+// Whether an event is below the floor.
+fn is_forgotten(event: &Event, horizon: Option<u64>, mark: Option<i64>) -> bool
+    ensures { result ≡ is_below (floor horizon mark) event.now.time }
+{
+    watermarks::is_below(horizon, mark, event.time)
 }

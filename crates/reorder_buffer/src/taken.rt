@@ -5,8 +5,8 @@
 pub enum Taken {
     /// It waits to be applied in its order.
     New,
-    /// An equal event was taken before, and nothing changes.
+    /// An equal event is remembered, and nothing changes.
     Repeat,
-    /// The watermark is at or above its time, so it is remembered and doesn't wait.
+    /// The watermark is at or above its time, so it doesn't wait; it is remembered where it isn't below the floor.
     Late,
 }

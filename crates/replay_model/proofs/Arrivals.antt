@@ -1,5 +1,5 @@
 -- What one more delivery at the end adds to the deliveries' arrivals, events, mark and play.
-use Rattle.std.proofs.Common.{◌≡◌, Bool, List, [], ◌∷◌, ◌++◌, None, sym, ◌∙◌, ap, append_assoc, append-nil, fold, filter_map, flat_map}
+use Rattle.std.proofs.Common.{◌≡◌, Bool, List, [], ◌∷◌, ◌++◌, None, sym, ◌∙◌, ap, append_assoc, append-nil, fold, filter_map, flat_map, Option, ℕ}
 use Rattle.std.specs.List.{cons_option}
 use Rattle.std.proofs.lemmas.List.Elements.{filter_map-append}
 use Rattle.std.proofs.lemmas.List.Concat.{flat_map-append}
@@ -29,13 +29,13 @@ mark-push ds d = ap (fold greater None) (filter_map-append watermark_of ds (d �
 pub events_passing-push : (test : List Delivery → Event → Bool) (ds : List Delivery) (d : Delivery) → events_passing test (ds ++ d ∷ []) ≡ events_passing test ds ++ cons_option (event_passing test (record { before = ds; delivery = d })) []
 events_passing-push test ds d = ap (filter_map (event_passing test)) (arrivals-push ds d) ∙ filter_map-append (event_passing test) (arrivals ds) (record { before = ds; delivery = d } ∷ [])
 
-pub play-push : (replies : Replies) (ds : List Delivery) (d : Delivery) → play replies (ds ++ d ∷ []) ≡ happens replies ds d (play replies ds)
-play-push replies ds d =
-    ap (fold (λ (p : Played) (a : Arrival). happens replies a.before a.delivery p) nothing_played) (arrivals-push ds d)
-    ∙ fold_push (λ (p : Played) (a : Arrival). happens replies a.before a.delivery p) nothing_played (arrivals ds) (record { before = ds; delivery = d })
+pub play-push : (hz : Option ℕ) (replies : Replies) (ds : List Delivery) (d : Delivery) → play hz replies (ds ++ d ∷ []) ≡ happens hz replies ds d (play hz replies ds)
+play-push hz replies ds d =
+    ap (fold (λ (p : Played) (a : Arrival). happens hz replies a.before a.delivery p) nothing_played) (arrivals-push ds d)
+    ∙ fold_push (λ (p : Played) (a : Arrival). happens hz replies a.before a.delivery p) nothing_played (arrivals ds) (record { before = ds; delivery = d })
 
-pub fetches-push : (replies : Replies) (ds : List Delivery) (d : Delivery) → fetches replies (ds ++ d ∷ []) ≡ fetches replies ds ++ fetches_at replies (record { before = ds; delivery = d })
-fetches-push replies ds d =
-    ap (flat_map (fetches_at replies)) (arrivals-push ds d)
-    ∙ flat_map-append (fetches_at replies) (arrivals ds) (record { before = ds; delivery = d } ∷ [])
-    ∙ ap (λ l. fetches replies ds ++ l) (append-nil (fetches_at replies (record { before = ds; delivery = d })))
+pub fetches-push : (hz : Option ℕ) (replies : Replies) (ds : List Delivery) (d : Delivery) → fetches hz replies (ds ++ d ∷ []) ≡ fetches hz replies ds ++ fetches_at hz replies (record { before = ds; delivery = d })
+fetches-push hz replies ds d =
+    ap (flat_map (fetches_at hz replies)) (arrivals-push ds d)
+    ∙ flat_map-append (fetches_at hz replies) (arrivals ds) (record { before = ds; delivery = d } ∷ [])
+    ∙ ap (λ l. fetches hz replies ds ++ l) (append-nil (fetches_at hz replies (record { before = ds; delivery = d })))

@@ -1,5 +1,5 @@
 -- Closed lists of deliveries with the same accepted events give the same records.
-use Rattle.std.proofs.Common.{◌≡◌, true, List, sym, ◌∙◌, ap, refl}
+use Rattle.std.proofs.Common.{◌≡◌, true, List, sym, ◌∙◌, ap, refl, Option, ℕ}
 use Rattle.entity_model.specs.declared.event.Event.{Event}
 use Rattle.entity_model.specs.Event.{event_cmp, event_cmp_total, event_cmp_same}
 use Rattle.entity_model.specs.declared.delivery.Delivery.{Delivery}
@@ -12,11 +12,11 @@ use Rattle.replay_model.specs.Play.{Replies, play_to_end}
 use Rattle.replay_model.proofs.PlayedRecords.{records_of, records-played}
 
 -- at the end all accepted events are due
-pub due-closed : (ds : List Delivery) → due true ds ≡ accepted ds
-due-closed ds = filter_all (is_due true (mark ds)) (accepted ds) (λ e. refl)
+pub due-closed : (hz : Option ℕ) (ds : List Delivery) → due hz true ds ≡ accepted hz ds
+due-closed hz ds = filter_all (is_due true (mark ds)) (accepted hz ds) (λ e. refl)
 
-pub records-confluent : (replies : Replies) (ds es : List Delivery) → ((e : Event) → has event_cmp e (accepted ds) ≡ has event_cmp e (accepted es)) → (play_to_end replies ds).records ≡ (play_to_end replies es).records
-records-confluent replies ds es same =
-    records-played true replies ds
-    ∙ ap (records_of replies) (sorted_same event_cmp_total event_cmp_same (due true ds) (due true es) (λ e. ap (has event_cmp e) (due-closed ds) ∙ same e ∙ sym (ap (has event_cmp e) (due-closed es))))
-    ∙ sym (records-played true replies es)
+pub records-confluent : (hz : Option ℕ) (replies : Replies) (ds es : List Delivery) → ((e : Event) → has event_cmp e (accepted hz ds) ≡ has event_cmp e (accepted hz es)) → (play_to_end hz replies ds).records ≡ (play_to_end hz replies es).records
+records-confluent hz replies ds es same =
+    records-played hz true replies ds
+    ∙ ap (records_of replies) (sorted_same event_cmp_total event_cmp_same (due hz true ds) (due hz true es) (λ e. ap (has event_cmp e) (due-closed hz ds) ∙ same e ∙ sym (ap (has event_cmp e) (due-closed hz es))))
+    ∙ sym (records-played hz true replies es)

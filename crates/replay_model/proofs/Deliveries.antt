@@ -1,5 +1,5 @@
 -- What one more event or watermark adds to the accepted, late, due and known events.
-use Rattle.std.proofs.Common.{◌≡◌, Bool, true, false, not, cond, ◌&&◌, ℤ, List, [], ◌∷◌, ◌++◌, None, Some, refl, ◌∙◌, ap, append-nil, fold, filter, option_and_then}
+use Rattle.std.proofs.Common.{◌≡◌, Bool, true, false, not, cond, ◌&&◌, ℤ, List, [], ◌∷◌, ◌++◌, None, Some, refl, ◌∙◌, ap, append-nil, fold, filter, option_and_then, Option, ℕ}
 use Rattle.std.specs.List.{cons_option}
 use Rattle.std.proofs.lemmas.List.Elements.{filter-append}
 use Rattle.entity_model.specs.declared.event.Event.{Event}
@@ -35,13 +35,13 @@ pub events-told : (ds : List Delivery) (e : Event) → events (ds ++ Told e ∷ 
 events-told ds e = events-push ds (Told e)
 
 -- an event that is told now isn't due yet
-pub due-told : (ds : List Delivery) (e : Event) → due false (ds ++ Told e ∷ []) ≡ due false ds
-due-told ds e =
-    ap (λ m. filter (is_due false m) (accepted (ds ++ Told e ∷ []))) (mark-kept ds (Told e) refl)
-    ∙ ap (filter (is_due false (mark ds))) (events_passing-told is_accepted ds e)
-    ∙ filter-append (is_due false (mark ds)) (accepted ds) (cond (is_accepted ds e) (e ∷ []) [])
-    ∙ ap (λ l. due false ds ++ l) (above (is_repeat ds e) (reached (mark ds) e.time) refl)
-    ∙ append-nil (due false ds)
+pub due-told : (hz : Option ℕ) (ds : List Delivery) (e : Event) → due hz false (ds ++ Told e ∷ []) ≡ due hz false ds
+due-told hz ds e =
+    ap (λ m. filter (is_due false m) (accepted hz (ds ++ Told e ∷ []))) (mark-kept ds (Told e) refl)
+    ∙ ap (filter (is_due false (mark ds))) (events_passing-told (is_accepted hz) ds e)
+    ∙ filter-append (is_due false (mark ds)) (accepted hz ds) (cond (is_accepted hz ds e) (e ∷ []) [])
+    ∙ ap (λ l. due hz false ds ++ l) (above (is_repeat hz ds e) (reached (mark ds) e.time) refl)
+    ∙ append-nil (due hz false ds)
   where
     above : (a b : Bool) → reached (mark ds) e.time ≡ b → filter (is_due false (mark ds)) (cond (not a && not b) (e ∷ []) []) ≡ []
     above true b h = refl
@@ -53,5 +53,5 @@ pub mark-watermark : (ds : List Delivery) (w : ℤ) → mark (ds ++ Watermark w 
 mark-watermark ds w = mark-push ds (Watermark w)
 
 -- a delivery that is neither an event nor a watermark leaves what is due
-pub due-kept : (closed : Bool) (ds : List Delivery) (d : Delivery) → event_of d ≡ None → watermark_of d ≡ None → due closed (ds ++ d ∷ []) ≡ due closed ds
-due-kept closed ds d no_event no_watermark = λ i. filter (is_due closed (mark-kept ds d no_watermark i)) (events_passing-kept is_accepted ds d no_event i)
+pub due-kept : (hz : Option ℕ) (closed : Bool) (ds : List Delivery) (d : Delivery) → event_of d ≡ None → watermark_of d ≡ None → due hz closed (ds ++ d ∷ []) ≡ due hz closed ds
+due-kept hz closed ds d no_event no_watermark = λ i. filter (is_due closed (mark-kept ds d no_watermark i)) (events_passing-kept (is_accepted hz) ds d no_event i)

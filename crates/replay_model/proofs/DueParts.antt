@@ -1,5 +1,5 @@
 -- What a watermark or the end makes due, in order, stands after what was due before, in order.
-use Rattle.std.proofs.Common.{◌≡◌, Bool, true, false, not, ℤ, List, [], ◌∷◌, ◌++◌, Option, refl, ◌∙◌, ap, filter}
+use Rattle.std.proofs.Common.{◌≡◌, Bool, true, false, not, ℤ, List, [], ◌∷◌, ◌++◌, Option, refl, ◌∙◌, ap, filter, ℕ}
 use Rattle.entity_model.specs.declared.event.Event.{Event}
 use Rattle.entity_model.specs.Event.{event_cmp_total, event_cmp_same}
 use Rattle.entity_model.specs.declared.delivery.Delivery.{Delivery}
@@ -20,11 +20,11 @@ due_by_marks c m m' later es =
     ∙ ap (λ l. in_order l ++ in_order (filter (λ e. not (is_due false m e)) (filter (is_due c m') es))) (filter_stronger (is_due false m) (is_due c m') later es)
 
 -- after a watermark
-pub due-watermark : (ds : List Delivery) (w : ℤ) → in_order (due false (ds ++ Watermark w ∷ [])) ≡ in_order (due false ds) ++ newly_due ds false (ds ++ Watermark w ∷ [])
-due-watermark ds w =
-    due_by_marks false (mark ds) (mark (ds ++ Watermark w ∷ [])) (λ e h. ap (λ m. is_due false m e) (mark-watermark ds w) ∙ due-greater (mark ds) w e h) (accepted (ds ++ Watermark w ∷ []))
-    ∙ ap (λ l. in_order (filter (is_due false (mark ds)) l) ++ newly_due ds false (ds ++ Watermark w ∷ [])) (events_passing-kept is_accepted ds (Watermark w) refl)
+pub due-watermark : (hz : Option ℕ) (ds : List Delivery) (w : ℤ) → in_order (due hz false (ds ++ Watermark w ∷ [])) ≡ in_order (due hz false ds) ++ newly_due hz ds false (ds ++ Watermark w ∷ [])
+due-watermark hz ds w =
+    due_by_marks false (mark ds) (mark (ds ++ Watermark w ∷ [])) (λ e h. ap (λ m. is_due false m e) (mark-watermark ds w) ∙ due-greater (mark ds) w e h) (accepted hz (ds ++ Watermark w ∷ []))
+    ∙ ap (λ l. in_order (filter (is_due false (mark ds)) l) ++ newly_due hz ds false (ds ++ Watermark w ∷ [])) (events_passing-kept (is_accepted hz) ds (Watermark w) refl)
 
 -- after the end
-pub due-end : (ds : List Delivery) → in_order (due true ds) ≡ in_order (due false ds) ++ newly_due ds true ds
-due-end ds = due_by_marks true (mark ds) (mark ds) (λ e h. refl) (accepted ds)
+pub due-end : (hz : Option ℕ) (ds : List Delivery) → in_order (due hz true ds) ≡ in_order (due hz false ds) ++ newly_due hz ds true ds
+due-end hz ds = due_by_marks true (mark ds) (mark ds) (λ e h. refl) (accepted hz ds)

@@ -35,10 +35,10 @@ edit = event Edit
 abbrev swapped : List Delivery
 swapped = Told (edit 1 5 5) ∷ Told (edit 1 4 4) ∷ Watermark (pos 6) ∷ []
 
-swapped-in_order : newly_due (Told (edit 1 5 5) ∷ Told (edit 1 4 4) ∷ []) false swapped ≡ edit 1 4 4 ∷ edit 1 5 5 ∷ []
+swapped-in_order : newly_due None (Told (edit 1 5 5) ∷ Told (edit 1 4 4) ∷ []) false swapped ≡ edit 1 4 4 ∷ edit 1 5 5 ∷ []
 swapped-in_order = refl
 
-swapped-fate : fate (in_order (due false swapped)) ≡ kept 5
+swapped-fate : fate (in_order (due None false swapped)) ≡ kept 5
 swapped-fate = refl
 
 -- ---- a late event, one that is just in time, and a repeat
@@ -46,24 +46,41 @@ swapped-fate = refl
 abbrev one_late : List Delivery
 one_late = Watermark (pos 100) ∷ Told (edit 1 1 100) ∷ Told (edit 2 2 101) ∷ Told (edit 1 1 100) ∷ []
 
-one_late-late : late one_late ≡ edit 1 1 100 ∷ []
+one_late-late : late None one_late ≡ edit 1 1 100 ∷ []
 one_late-late = refl
 
-one_late-accepted : accepted one_late ≡ edit 2 2 101 ∷ []
+one_late-accepted : accepted None one_late ≡ edit 2 2 101 ∷ []
 one_late-accepted = refl
 
-one_late-not_due : due false one_late ≡ []
+one_late-not_due : due None false one_late ≡ []
 one_late-not_due = refl
 
-one_late-due : due true one_late ≡ edit 2 2 101 ∷ []
+one_late-due : due None true one_late ≡ edit 2 2 101 ∷ []
 one_late-due = refl
 
 one_late-known : in_order (known true one_late) ≡ edit 1 1 100 ∷ edit 2 2 101 ∷ []
 one_late-known = refl
 
 -- an event that comes first in time and again after the mark passed it is a repeat, and not late
-late_repeat : late (Told (edit 1 1 1) ∷ Watermark (pos 2) ∷ Told (edit 1 1 1) ∷ []) ≡ []
+late_repeat : late None (Told (edit 1 1 1) ∷ Watermark (pos 2) ∷ Told (edit 1 1 1) ∷ []) ≡ []
 late_repeat = refl
+
+-- ---- a horizon: an event at the floor is a repeat, and one below it is late each time that it comes, though it was accepted
+
+abbrev forgotten : List Delivery
+forgotten = Told (edit 1 1 1) ∷ Watermark (pos 3) ∷ Told (edit 1 1 1) ∷ Watermark (pos 4) ∷ Told (edit 1 1 1) ∷ Told (edit 1 1 1) ∷ []
+
+forgotten-late : late (Some 2) forgotten ≡ edit 1 1 1 ∷ edit 1 1 1 ∷ []
+forgotten-late = refl
+
+forgotten-accepted : accepted (Some 2) forgotten ≡ edit 1 1 1 ∷ []
+forgotten-accepted = refl
+
+forgotten-at_floor : late (Some 3) forgotten ≡ []
+forgotten-at_floor = refl
+
+forgotten-never : late None forgotten ≡ []
+forgotten-never = refl
 
 -- a watermark that falls leaves the mark
 falling : mark (Watermark (pos 5) ∷ Watermark (pos 3) ∷ []) ≡ Some (pos 5)
@@ -74,13 +91,13 @@ falling = refl
 abbrev undeleted : List Delivery
 undeleted = Told (edit 1 1 1) ∷ Told (event Delete 1 1 2) ∷ Watermark (pos 2) ∷ Told (event Delete 1 1 2) ∷ Told (event Undelete 1 1 3) ∷ Watermark (pos 3) ∷ Told (event Delete 1 1 2) ∷ []
 
-undeleted-accepted : accepted undeleted ≡ edit 1 1 1 ∷ event Delete 1 1 2 ∷ event Undelete 1 1 3 ∷ []
+undeleted-accepted : accepted None undeleted ≡ edit 1 1 1 ∷ event Delete 1 1 2 ∷ event Undelete 1 1 3 ∷ []
 undeleted-accepted = refl
 
-undeleted-late : late undeleted ≡ []
+undeleted-late : late None undeleted ≡ []
 undeleted-late = refl
 
-undeleted-fate : fate (in_order (due true undeleted)) ≡ kept 1
+undeleted-fate : fate (in_order (due None true undeleted)) ≡ kept 1
 undeleted-fate = refl
 
 -- ---- a late edit, before a reconciliation that closes it and after one that doesn't
@@ -88,26 +105,26 @@ undeleted-fate = refl
 abbrev closed_later : List Delivery
 closed_later = Told (edit 1 1 1) ∷ Watermark (pos 5) ∷ Told (edit 1 2 3) ∷ Told (event ReconcileKept 1 2 6) ∷ []
 
-closed_later-fate : fate (in_order (due true closed_later)) ≡ kept 2
+closed_later-fate : fate (in_order (due None true closed_later)) ≡ kept 2
 closed_later-fate = refl
 
-closed_later-closed : is_open_late (due true closed_later) (edit 1 2 3) ≡ false
+closed_later-closed : is_open_late (due None true closed_later) (edit 1 2 3) ≡ false
 closed_later-closed = refl
 
 -- until the reconciliation is due, the late edit is open
-closed_later-open_before : is_open_late (due false closed_later) (edit 1 2 3) ≡ true
+closed_later-open_before : is_open_late (due None false closed_later) (edit 1 2 3) ≡ true
 closed_later-open_before = refl
 
 abbrev left_open : List Delivery
 left_open = Told (event ReconcileKept 1 1 2) ∷ Told (event ReconcileKept 2 9 9) ∷ Watermark (pos 5) ∷ Told (edit 1 2 3) ∷ []
 
-left_open-fate : fate (in_order (events_of (edit 1 2 3).entity (due true left_open))) ≡ kept 1
+left_open-fate : fate (in_order (events_of (edit 1 2 3).entity (due None true left_open))) ≡ kept 1
 left_open-fate = refl
 
 left_open-known : fate (in_order (events_of (edit 1 2 3).entity (known true left_open))) ≡ kept 2
 left_open-known = refl
 
-left_open-open : is_open_late (due true left_open) (edit 1 2 3) ≡ true
+left_open-open : is_open_late (due None true left_open) (edit 1 2 3) ≡ true
 left_open-open = refl
 
 -- events of one time go by revision, then by kind

@@ -11,16 +11,16 @@ use Rattle.entity_model.specs.declared.delivery.Delivery.{Delivery}
 use Rattle.entity_model.specs.declared.delivery.Delivery.TheVariants.{Event as Told, Watermark, Ask}
 use Rattle.reorder_buffer.specs.Watermarks.{is_due}
 use Rattle.reorder_buffer.specs.Buffered.{answer_to, first_due}
-use Rattle.rising.specs.Rising.{has}
+use Rattle.rising.specs.Rising.{has, IsRising}
 use Rattle.rising.proofs.Bools.{equal, or_none, or_true}
 use Rattle.rising.proofs.Rising.{has-append}
-use Rattle.rising.proofs.FirstPassing.{has-found}
+use Rattle.rising.proofs.FirstPassing.{has-found, IsRising-remove_key}
 use Rattle.replay_model.specs.Records.{Bytes}
 use Rattle.replay_model.specs.Play.{Replies, Fetch, fetches, fetches_to_end}
 use Rattle.replay_model.specs.Replies.{Judgement, reply_there, source_replies, failed_events}
-use Rattle.replay_model.specs.ReplayState.{ReplayState, nothing_delivered, after_event, after_mark, after_end, after_applying, after_due, after_next, following, fetches_for, fetches_due}
+use Rattle.replay_model.specs.ReplayState.{ReplayState, nothing_delivered_within, after_event, after_mark, after_end, after_applying, after_due, after_next, following, fetches_for, fetches_due}
 use Rattle.replay_model.specs.Explained.{is_applied, AgreeOnApplied, revision_wanted, is_fetching, IsHonest, Explained, ExplainedAfter, ExplainedToEnd}
-use Rattle.replay_model.proofs.Applied.{Apart, Apart-following, Apart-applying, applied-event, applied-next, waiting_not_applied}
+use Rattle.replay_model.proofs.Applied.{applied-end, applied-event, applied-mark, applied-next, following_rises, waiting_not_applied}
 use Rattle.replay_model.proofs.FetchCounts.{fetches_due-none, fetches_due-some, fetches-delivered, fetches-end}
 use Rattle.replay_model.proofs.Fetching.{apply-same, failed_of, failed_by, failed-applying, failed-taken, has-failed_by, failed_of-there}
 use Rattle.replay_model.proofs.Following.{following-delivered, following-end, following-rests, after_due-none, after_due-some}
@@ -28,17 +28,20 @@ use Rattle.replay_model.proofs.Following.{following-delivered, following-end, fo
 contradicts : {G : Type 0} (b : Bool) → b ≡ true → b ≡ false → G
 contradicts b p q = absurd (true≢false (sym p ∙ q))
 
+-- the replies before the first delivery: those of the source, where contents are told
+abbrev start_replies : Judgement → Option (ℕ → Option Bytes) → Replies
+start_replies unfit None e r = Err Failed
+start_replies unfit (Some contents) e r = source_replies unfit contents [] e r
+
 module _ (unfit : Judgement) (told : Option (ℕ → Option Bytes)) where
   -- before the first delivery
-  pub Explained-start : ExplainedAfter unfit told [] 0 nothing_delivered
-  Explained-start = record {
-    replies = λ e r. Err Failed;
+  pub Explained-start : (hz : Option ℕ) → ExplainedAfter hz unfit told [] 0 (nothing_delivered_within hz)
+  Explained-start hz = record {
+    replies = start_replies unfit told;
     rises = tt;
-    within = λ q h. contradicts false h refl;
-    not_late = λ q h. contradicts false h refl;
     leads = λ others agree. refl;
     counts = λ others agree. refl;
-    honest = λ contents is q r h. contradicts false h refl;
+    honest = λ contents is q r. ap (λ known. start_replies unfit known q r) is;
     failed_applied = λ q h. contradicts false h refl;
   }
 
@@ -61,41 +64,39 @@ module _ (unfit : Judgement) (told : Option (ℕ → Option Bytes)) where
 
     -- where the contents are told, the play with the source's replies
     pub Explained-source : (contents : ℕ → Option Bytes) → told ≡ Some contents → w ≡ play_of (source_replies unfit contents (failed_events w.played.side))
-    Explained-source contents is = Explained-rests (source_replies unfit contents (failed_events w.played.side)) (λ q r h. sym (x.honest contents is q r h))
+    Explained-source contents is = Explained-rests (source_replies unfit contents (failed_events w.played.side)) (λ q r h. sym (x.honest contents is q r))
 
     pub Explained-source_fetches : (contents : ℕ → Option Bytes) → told ≡ Some contents → made ≡ length (fetches_of (source_replies unfit contents (failed_events w.played.side)))
-    Explained-source_fetches contents is = Explained-made (source_replies unfit contents (failed_events w.played.side)) (λ q r h. sym (x.honest contents is q r h))
+    Explained-source_fetches contents is = Explained-made (source_replies unfit contents (failed_events w.played.side)) (λ q r h. sym (x.honest contents is q r))
 
-  module _ (ds : List Delivery) (made : ℕ) (w : ReplayState) (x : ExplainedAfter unfit told ds made w) (none : first_due w.buffer ≡ None) where
-    following_others : (others : Replies) → AgreeOnApplied w x.replies others → w ≡ following others ds
-    following_others = Explained-rests (λ replies. following replies ds) (λ replies. fetches replies ds) made w x none
+  module _ (hz : Option ℕ) (ds : List Delivery) (made : ℕ) (w : ReplayState) (x : ExplainedAfter hz unfit told ds made w) (none : first_due w.buffer ≡ None) where
+    following_others : (others : Replies) → AgreeOnApplied w x.replies others → w ≡ following hz others ds
+    following_others = Explained-rests (λ replies. following hz replies ds) (λ replies. fetches hz replies ds) made w x none
 
-    made_before : (others : Replies) → AgreeOnApplied w x.replies others → made ≡ length (fetches others ds)
-    made_before = Explained-made (λ replies. following replies ds) (λ replies. fetches replies ds) made w x none
+    made_before : (others : Replies) → AgreeOnApplied w x.replies others → made ≡ length (fetches hz others ds)
+    made_before = Explained-made (λ replies. following hz replies ds) (λ replies. fetches hz replies ds) made w x none
 
-    following_itself : w ≡ following x.replies ds
+    following_itself : w ≡ following hz x.replies ds
     following_itself = following_others x.replies (λ q r h. refl)
 
     -- an event is taken
-    pub Explained-event : (e : Event) → ExplainedAfter unfit told (ds ++ Told e ∷ []) made (after_event w e)
+    pub Explained-event : (e : Event) → ExplainedAfter hz unfit told (ds ++ Told e ∷ []) made (after_event w e)
     Explained-event e =
-        let is : after_event w e ≡ following x.replies (ds ++ Told e ∷ []) = ap (λ v. after_event v e) following_itself ∙ sym (following-delivered x.replies ds (Told e)) in
-        let parts : Apart (after_event w e) = subst Apart (sym is) (Apart-following x.replies (ds ++ Told e ∷ [])) in
+        let is : after_event w e ≡ following hz x.replies (ds ++ Told e ∷ []) = ap (λ v. after_event v e) following_itself ∙ sym (following-delivered hz x.replies ds (Told e)) in
+        let not_closed : w.buffer.closed ≡ false = ap (λ (v : ReplayState). v.buffer.closed) following_itself in
         let failed = failed-taken w.played.side (answer_to w.buffer e) e in
-        let before : (others : Replies) → AgreeOnApplied (after_event w e) x.replies others → AgreeOnApplied w x.replies others = λ others agree q r h. agree q r (applied-event w e q ∙ h) in
-        let same : (others : Replies) → AgreeOnApplied (after_event w e) x.replies others → after_event w e ≡ following others (ds ++ Told e ∷ []) = λ others agree. ap (λ v. after_event v e) (following_others others (before others agree)) ∙ sym (following-delivered others ds (Told e)) in
+        let before : (others : Replies) → AgreeOnApplied (after_event w e) x.replies others → AgreeOnApplied w x.replies others = λ others agree q r h. agree q r (applied-event w e q not_closed ∙ h) in
+        let same : (others : Replies) → AgreeOnApplied (after_event w e) x.replies others → after_event w e ≡ following hz others (ds ++ Told e ∷ []) = λ others agree. ap (λ v. after_event v e) (following_others others (before others agree)) ∙ sym (following-delivered hz others ds (Told e)) in
         record {
           replies = x.replies;
-          rises = parts.rises;
-          within = parts.within;
-          not_late = parts.not_late;
-          leads = λ others agree. ap (after_due others) (same others agree) ∙ after_due-none others (following others (ds ++ Told e ∷ [])) (following-rests others (ds ++ Told e ∷ []));
+          rises = subst (λ (v : ReplayState). IsRising event_cmp v.buffer.waiting) (sym is) (following_rises hz x.replies (ds ++ Told e ∷ []));
+          leads = λ others agree. ap (after_due others) (same others agree) ∙ after_due-none others (following hz others (ds ++ Told e ∷ [])) (following-rests hz others (ds ++ Told e ∷ []));
           counts = λ others agree.
-              let left : length (fetches_due others (after_event w e)) ≡ 0 = ap (λ v. length (fetches_due others v)) (same others agree) ∙ ap length (fetches_due-none others (following others (ds ++ Told e ∷ [])) (following-rests others (ds ++ Told e ∷ []))) in
-              let all : length (fetches others (ds ++ Told e ∷ [])) ≡ length (fetches others ds) = ap length (fetches-delivered others ds (Told e) ∙ append-nil (fetches others ds)) in
+              let left : length (fetches_due others (after_event w e)) ≡ 0 = ap (λ v. length (fetches_due others v)) (same others agree) ∙ ap length (fetches_due-none others (following hz others (ds ++ Told e ∷ [])) (following-rests hz others (ds ++ Told e ∷ []))) in
+              let all : length (fetches hz others (ds ++ Told e ∷ [])) ≡ length (fetches hz others ds) = ap length (fetches-delivered hz others ds (Told e) ∙ append-nil (fetches hz others ds)) in
               omega (arith, made_before others (before others agree));
-          honest = λ contents known q r h. x.honest contents known q r (sym (applied-event w e q) ∙ h) ∙ ap (λ fs. source_replies unfit contents fs q r) (sym failed);
-          failed_applied = λ q h. applied-event w e q ∙ x.failed_applied q (ap (has event_cmp q) (sym failed) ∙ h);
+          honest = λ contents known q r. x.honest contents known q r ∙ ap (λ fs. source_replies unfit contents fs q r) (sym failed);
+          failed_applied = λ q h. applied-event w e q not_closed ∙ x.failed_applied q (ap (has event_cmp q) (sym failed) ∙ h);
         }
 
     -- the replies stay
@@ -106,24 +107,24 @@ module _ (unfit : Judgement) (told : Option (ℕ → Option Bytes)) where
     -- and no event is due after it
     pub Explained-event_rests : (e : Event) → first_due (after_event w e).buffer ≡ None
     Explained-event_rests e =
-        ap (λ (v : ReplayState). first_due v.buffer) (ap (λ v. after_event v e) following_itself ∙ sym (following-delivered x.replies ds (Told e)))
-        ∙ following-rests x.replies (ds ++ Told e ∷ [])
+        ap (λ (v : ReplayState). first_due v.buffer) (ap (λ v. after_event v e) following_itself ∙ sym (following-delivered hz x.replies ds (Told e)))
+        ∙ following-rests hz x.replies (ds ++ Told e ∷ [])
 
     -- a watermark is taken
-    pub Explained-mark : (m : ℤ) → ExplainedAfter unfit told (ds ++ Watermark m ∷ []) made (after_mark w m)
-    Explained-mark m = record {
-      replies = x.replies;
-      rises = x.rises;
-      within = x.within;
-      not_late = x.not_late;
-      leads = λ others agree. ap (λ v. after_due others (after_mark v m)) (following_others others agree) ∙ sym (following-delivered others ds (Watermark m));
-      counts = λ others agree.
-          let now : length (fetches_due others (after_mark w m)) ≡ length (fetches_due others (after_mark (following others ds) m)) = ap (λ v. length (fetches_due others (after_mark v m))) (following_others others agree) in
-          let all : length (fetches others (ds ++ Watermark m ∷ [])) ≡ length (fetches others ds) + length (fetches_due others (after_mark (following others ds) m)) = ap length (fetches-delivered others ds (Watermark m)) ∙ length-append (fetches others ds) (fetches_due others (after_mark (following others ds) m)) in
-          omega (arith, made_before others agree);
-      honest = x.honest;
-      failed_applied = x.failed_applied;
-    }
+    pub Explained-mark : (m : ℤ) → ExplainedAfter hz unfit told (ds ++ Watermark m ∷ []) made (after_mark w m)
+    Explained-mark m =
+        let before : (others : Replies) → AgreeOnApplied (after_mark w m) x.replies others → AgreeOnApplied w x.replies others = λ others agree q r h. agree q r (applied-mark w m q h) in
+        record {
+          replies = x.replies;
+          rises = x.rises;
+          leads = λ others agree. ap (λ v. after_due others (after_mark v m)) (following_others others (before others agree)) ∙ sym (following-delivered hz others ds (Watermark m));
+          counts = λ others agree.
+              let now : length (fetches_due others (after_mark w m)) ≡ length (fetches_due others (after_mark (following hz others ds) m)) = ap (λ v. length (fetches_due others (after_mark v m))) (following_others others (before others agree)) in
+              let all : length (fetches hz others (ds ++ Watermark m ∷ [])) ≡ length (fetches hz others ds) + length (fetches_due others (after_mark (following hz others ds) m)) = ap length (fetches-delivered hz others ds (Watermark m)) ∙ length-append (fetches hz others ds) (fetches_due others (after_mark (following hz others ds) m)) in
+              omega (arith, made_before others (before others agree));
+          honest = x.honest;
+          failed_applied = λ q h. applied-mark w m q (x.failed_applied q h);
+        }
 
     -- the replies stay
     pub mark_replies : (m : ℤ) → (Explained-mark m).replies ≡ x.replies
@@ -131,15 +132,13 @@ module _ (unfit : Judgement) (told : Option (ℕ → Option Bytes)) where
     mark_replies m = refl
 
     -- a question is asked, which changes nothing
-    pub Explained-ask : (q : Pattern) → ExplainedAfter unfit told (ds ++ Ask q ∷ []) made w
+    pub Explained-ask : (q : Pattern) → ExplainedAfter hz unfit told (ds ++ Ask q ∷ []) made w
     Explained-ask q = record {
       replies = x.replies;
       rises = x.rises;
-      within = x.within;
-      not_late = x.not_late;
-      leads = λ others agree. x.leads others agree ∙ sym (following-delivered others ds (Ask q));
+      leads = λ others agree. x.leads others agree ∙ sym (following-delivered hz others ds (Ask q));
       counts = λ others agree.
-          let all : length (fetches others (ds ++ Ask q ∷ [])) ≡ length (fetches others ds) = ap length (fetches-delivered others ds (Ask q) ∙ append-nil (fetches others ds)) in
+          let all : length (fetches hz others (ds ++ Ask q ∷ [])) ≡ length (fetches hz others ds) = ap length (fetches-delivered hz others ds (Ask q) ∙ append-nil (fetches hz others ds)) in
           omega (arith, x.counts others agree);
       honest = x.honest;
       failed_applied = x.failed_applied;
@@ -151,20 +150,20 @@ module _ (unfit : Judgement) (told : Option (ℕ → Option Bytes)) where
     ask_replies q = refl
 
     -- the end is taken
-    pub Explained-end : ExplainedToEnd unfit told ds made (after_end w)
-    Explained-end = record {
-      replies = x.replies;
-      rises = x.rises;
-      within = x.within;
-      not_late = x.not_late;
-      leads = λ others agree. ap (λ v. after_due others (after_end v)) (following_others others agree) ∙ sym (following-end others ds);
-      counts = λ others agree.
-          let now : length (fetches_due others (after_end w)) ≡ length (fetches_due others (after_end (following others ds))) = ap (λ v. length (fetches_due others (after_end v))) (following_others others agree) in
-          let all : length (fetches_to_end others ds) ≡ length (fetches others ds) + length (fetches_due others (after_end (following others ds))) = ap length (fetches-end others ds) ∙ length-append (fetches others ds) (fetches_due others (after_end (following others ds))) in
-          omega (arith, made_before others agree);
-      honest = x.honest;
-      failed_applied = x.failed_applied;
-    }
+    pub Explained-end : ExplainedToEnd hz unfit told ds made (after_end w)
+    Explained-end =
+        let before : (others : Replies) → AgreeOnApplied (after_end w) x.replies others → AgreeOnApplied w x.replies others = λ others agree q r h. agree q r (applied-end w q h) in
+        record {
+          replies = x.replies;
+          rises = x.rises;
+          leads = λ others agree. ap (λ v. after_due others (after_end v)) (following_others others (before others agree)) ∙ sym (following-end hz others ds);
+          counts = λ others agree.
+              let now : length (fetches_due others (after_end w)) ≡ length (fetches_due others (after_end (following hz others ds))) = ap (λ v. length (fetches_due others (after_end v))) (following_others others (before others agree)) in
+              let all : length (fetches_to_end hz others ds) ≡ length (fetches hz others ds) + length (fetches_due others (after_end (following hz others ds))) = ap length (fetches-end hz others ds) ∙ length-append (fetches hz others ds) (fetches_due others (after_end (following hz others ds))) in
+              omega (arith, made_before others (before others agree));
+          honest = x.honest;
+          failed_applied = λ q h. applied-end w q (x.failed_applied q h);
+        }
 
     -- the replies stay
     pub end_replies : Explained-end.replies ≡ x.replies
@@ -240,13 +239,11 @@ module _ (unfit : Judgement) (told : Option (ℕ → Option Bytes)) (play_of : R
       → ((contents : ℕ → Option Bytes) → told ≡ Some contents → is_fetching w e ≡ true → IsHonest unfit contents e (revision_wanted w e) reply)
       → Next x
   Explained-next x some honest =
-      let parts : Apart w = record { rises = x.rises; within = x.within; not_late = x.not_late } in
-      let parts_next : Apart (next_by w e reply) = Apart-applying (λ q r. reply) w e parts some in
       let there : has event_cmp e w.buffer.waiting ≡ true = has-found (is_due w.buffer.closed w.buffer.mark) event_cmp_total e w.buffer.waiting some in
       let not_yet : is_applied w e ≡ false = waiting_not_applied w e there in
       let fresh : has event_cmp e (failed_events w.played.side) ≡ false = false_unless (has event_cmp e (failed_events w.played.side)) (λ h. contradicts _ (x.failed_applied e h) not_yet) in
       let failed : failed_events (next_by w e reply).played.side ≡ failed_events w.played.side ++ failed_by (is_fetching w e) e reply = failed-applying (λ q r. reply) w e in
-      let applied : (q : Event) → is_applied (next_by w e reply) q ≡ (eq_by_cmp event_cmp q e || is_applied w q) = λ q. applied-next (λ q r. reply) w e q parts some in
+      let applied : (q : Event) → is_applied (next_by w e reply) q ≡ (eq_by_cmp event_cmp q e || is_applied w q) = λ q. applied-next (λ q r. reply) w e q x.rises some in
       let other : (q : Event) → is_applied w q ≡ true → eq_by_cmp event_cmp q e ≡ false = λ q h. false_unless (eq_by_cmp event_cmp q e) (λ tie. contradicts _ (ap (is_applied w) (sym (event_cmp_same q e (equal _ tie))) ∙ h) not_yet) in
       let before : (others : Replies) → AgreeOnApplied (next_by w e reply) (replies_next x.replies) others → AgreeOnApplied w x.replies others = λ others agree q r h.
       agree q r (applied q ∙ or_true (eq_by_cmp event_cmp q e) _ h)
@@ -258,9 +255,7 @@ module _ (unfit : Judgement) (told : Option (ℕ → Option Bytes)) (play_of : R
       ∙ fetched told fresh (is_fetching w e) fetching (λ contents is. honest contents is fetching) in
       let explained : Explained unfit told play_of fetches_of (made + fetches_counted (is_fetching w e)) (next_by w e reply) = record {
         replies = replies_next x.replies;
-        rises = parts_next.rises;
-        within = parts_next.within;
-        not_late = parts_next.not_late;
+        rises = IsRising-remove_key (is_due w.buffer.closed w.buffer.mark) event_cmp w.buffer.waiting x.rises;
         leads = λ others agree.
             ap (after_due others) (apply-same (λ q r. reply) others w e (now others agree))
             ∙ after_due-some others w e some
@@ -269,7 +264,7 @@ module _ (unfit : Judgement) (told : Option (ℕ → Option Bytes)) (play_of : R
             let same : length (fetches_due others (next_by w e reply)) ≡ length (fetches_due others (after_applying others w (Some e))) = ap (λ v. length (fetches_due others v)) (apply-same (λ q r. reply) others w e (now others agree)) in
             let all : length (fetches_due others w) ≡ fetches_counted (is_fetching w e) + length (fetches_due others (after_applying others w (Some e))) = length-fetches_due others w e some in
             omega (arith, x.counts others (before others agree));
-        honest = λ contents is q r h. from_source contents is q r x (applied q) failed (eq_by_cmp event_cmp q e) refl h;
+        honest = λ contents is q r. from_source contents is q r x failed (eq_by_cmp event_cmp q e) refl;
         failed_applied = λ q h. applied q ∙ from_failed q x failed (eq_by_cmp event_cmp q e) refl h;
       } in
       record {
@@ -286,13 +281,13 @@ module _ (unfit : Judgement) (told : Option (ℕ → Option Bytes)) (play_of : R
       from_failed q x failed true tie h = refl
       from_failed q x failed false tie h = x.failed_applied q (sym (ap (has event_cmp q) failed ∙ has-append event_cmp q (failed_events w.played.side) (failed_by (is_fetching w e) e reply) ∙ ap (λ b. has event_cmp q (failed_events w.played.side) || b) (has-failed_by q e (is_fetching w e) reply tie) ∙ or_none _) ∙ h)
 
-      from_source : (contents : ℕ → Option Bytes) → told ≡ Some contents → (q : Event) (r : ℕ) (x : Explained unfit told play_of fetches_of made w) → is_applied (next_by w e reply) q ≡ (eq_by_cmp event_cmp q e || is_applied w q) → failed_events (next_by w e reply).played.side ≡ failed_events w.played.side ++ failed_by (is_fetching w e) e reply → (t : Bool) → eq_by_cmp event_cmp q e ≡ t → is_applied (next_by w e reply) q ≡ true
+      from_source : (contents : ℕ → Option Bytes) → told ≡ Some contents → (q : Event) (r : ℕ) (x : Explained unfit told play_of fetches_of made w) → failed_events (next_by w e reply).played.side ≡ failed_events w.played.side ++ failed_by (is_fetching w e) e reply → (t : Bool) → eq_by_cmp event_cmp q e ≡ t
           → replies_next x.replies q r ≡ source_replies unfit contents (failed_events (next_by w e reply).played.side) q r
-      from_source contents is q r x applied failed true tie h =
+      from_source contents is q r x failed true tie =
           ap (λ b. cond b (now_replied unfit told (failed_events (next_by w e reply).played.side) e reply r) (x.replies q r)) tie
           ∙ told_now told contents (failed_events (next_by w e reply).played.side) r is
           ∙ ap (λ y. source_replies unfit contents (failed_events (next_by w e reply).played.side) y r) (sym (event_cmp_same q e (equal _ tie)))
-      from_source contents is q r x applied failed false tie h =
+      from_source contents is q r x failed false tie =
           ap (λ b. cond b (now_replied unfit told (failed_events (next_by w e reply).played.side) e reply r) (x.replies q r)) tie
-          ∙ x.honest contents is q r (sym (applied ∙ ap (λ b. b || is_applied w q) tie) ∙ h)
+          ∙ x.honest contents is q r
           ∙ ap (λ b. cond b (Err Failed) (reply_there unfit q.entity (contents r))) (sym (ap (has event_cmp q) failed ∙ has-append event_cmp q (failed_events w.played.side) (failed_by (is_fetching w e) e reply) ∙ ap (λ b. has event_cmp q (failed_events w.played.side) || b) (has-failed_by q e (is_fetching w e) reply tie) ∙ or_none _))

@@ -1,5 +1,5 @@
 -- The fetches of a replay, delivery by delivery and event by event, and how a count rises by them.
-use Rattle.std.proofs.Common.{◌≡◌, ℕ, ◌<◌, Bool, true, false, cond, max, min, ◌^◌, ◌-◌, ◌+◌, List, [], ◌∷◌, ◌++◌, None, Some, refl, ◌∙◌, ap, arith}
+use Rattle.std.proofs.Common.{◌≡◌, ℕ, ◌<◌, Bool, true, false, cond, max, min, ◌^◌, ◌-◌, ◌+◌, List, [], ◌∷◌, ◌++◌, None, Some, refl, ◌∙◌, ap, arith, Option}
 use Rattle.entity_model.specs.declared.event.Event.{Event}
 use Rattle.entity_model.specs.declared.delivery.Delivery.{Delivery}
 use Rattle.entity_model.specs.declared.delivery.Delivery.TheVariants.{Event as Told, Watermark, Ask}
@@ -26,14 +26,14 @@ pub fetches_due-none : (replies : Replies) (w : ReplayState) → first_due w.buf
 fetches_due-none replies w none = ap (fetches_of_all replies w.played) (filter-none (is_due w.buffer.closed w.buffer.mark) w.buffer.waiting none)
 
 -- after one more delivery
-pub fetches-delivered : (replies : Replies) (ds : List Delivery) (d : Delivery) → fetches replies (ds ++ d ∷ []) ≡ fetches replies ds ++ fetches_delivered replies (following replies ds) d
-fetches-delivered replies ds (Told e) = fetches-push replies ds (Told e)
-fetches-delivered replies ds (Ask q) = fetches-push replies ds (Ask q)
-fetches-delivered replies ds (Watermark w) = fetches-push replies ds (Watermark w) ∙ ap (λ es. fetches replies ds ++ fetches_of_all replies (play replies ds) es) (newly_due-watermark ds w)
+pub fetches-delivered : (hz : Option ℕ) (replies : Replies) (ds : List Delivery) (d : Delivery) → fetches hz replies (ds ++ d ∷ []) ≡ fetches hz replies ds ++ fetches_delivered replies (following hz replies ds) d
+fetches-delivered hz replies ds (Told e) = fetches-push hz replies ds (Told e)
+fetches-delivered hz replies ds (Ask q) = fetches-push hz replies ds (Ask q)
+fetches-delivered hz replies ds (Watermark w) = fetches-push hz replies ds (Watermark w) ∙ ap (λ es. fetches hz replies ds ++ fetches_of_all replies (play hz replies ds) es) (newly_due-watermark hz ds w)
 
 -- after the end
-pub fetches-end : (replies : Replies) (ds : List Delivery) → fetches_to_end replies ds ≡ fetches replies ds ++ fetches_due replies (after_end (following replies ds))
-fetches-end replies ds = ap (λ es. fetches replies ds ++ fetches_of_all replies (play replies ds) es) (newly_due-end ds)
+pub fetches-end : (hz : Option ℕ) (replies : Replies) (ds : List Delivery) → fetches_to_end hz replies ds ≡ fetches hz replies ds ++ fetches_due replies (after_end (following hz replies ds))
+fetches-end hz replies ds = ap (λ es. fetches hz replies ds ++ fetches_of_all replies (play hz replies ds) es) (newly_due-end hz ds)
 
 -- a count that rises twice
 pub risen_by-risen_by : (m n count : ℕ) → risen_by m (risen_by n count) ≡ risen_by (n + m) count

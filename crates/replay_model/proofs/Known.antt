@@ -1,5 +1,5 @@
 -- The fate over the due events is that over all known events, where no late event of the entity is open.
-use Rattle.std.proofs.Common.{◌≡◌, Bool, true, false, not, cond, ◌&&◌, ◌||◌, ℤ, List, [], ◌∷◌, ◌++◌, Option, Less, Equal, Greater, is_lt, fold, refl, sym, ◌∙◌, ap, true≢false}
+use Rattle.std.proofs.Common.{◌≡◌, Bool, true, false, not, cond, ◌&&◌, ◌||◌, ℤ, List, [], ◌∷◌, ◌++◌, Option, Less, Equal, Greater, is_lt, fold, refl, sym, ◌∙◌, ap, true≢false, ℕ}
 use Rattle.std.specs.BTreeSet.{insert_key}
 use Rattle.std.specs.Ordering.{eq_by_cmp, match_ordering}
 use Rattle.std.specs.List.{list_any}
@@ -25,6 +25,7 @@ use Rattle.replay_model.specs.Acceptance.{mark, events, is_repeat, is_late, is_a
 use Rattle.replay_model.specs.Fate.{is_of, events_of, in_order, fate}
 use Rattle.entity_state.specs.Standing.{is_reconciliation}
 use Rattle.replay_model.specs.Entries.{is_later, is_open_late}
+use Rattle.replay_model.proofs.Floors.{repeat_delivered}
 use Rattle.replay_model.proofs.Times.{not_false, reached-greater}
 use Rattle.replay_model.proofs.Deliveries.{mark-kept, mark-watermark, events-kept, events-told, events_passing-kept, events_passing-told}
 use Rattle.replay_model.proofs.RecordOf.{entity_of, events_of-in_order}
@@ -124,31 +125,31 @@ pub has-one : (q e : Event) (b : Bool) → has event_cmp q (cond b (e ∷ []) []
 has-one q e true = refl
 has-one q e false = refl
 
-pub has-events : (q : Event) (ds : List Delivery) → has event_cmp q (events ds) ≡ (has event_cmp q (late ds) || has event_cmp q (accepted ds))
-has-events q = by_pushes (λ ds. has event_cmp q (events ds) ≡ (has event_cmp q (late ds) || has event_cmp q (accepted ds))) refl step
+pub has-events : (hz : Option ℕ) (q : Event) (ds : List Delivery) → has event_cmp q (events ds) ≡ (has event_cmp q (late hz ds) || has event_cmp q (accepted hz ds))
+has-events hz q = by_pushes (λ ds. has event_cmp q (events ds) ≡ (has event_cmp q (late hz ds) || has event_cmp q (accepted hz ds))) refl step
   where
-    step : (ds : List Delivery) (d : Delivery) → has event_cmp q (events ds) ≡ (has event_cmp q (late ds) || has event_cmp q (accepted ds)) → has event_cmp q (events (ds ++ d ∷ [])) ≡ (has event_cmp q (late (ds ++ d ∷ [])) || has event_cmp q (accepted (ds ++ d ∷ [])))
+    step : (ds : List Delivery) (d : Delivery) → has event_cmp q (events ds) ≡ (has event_cmp q (late hz ds) || has event_cmp q (accepted hz ds)) → has event_cmp q (events (ds ++ d ∷ [])) ≡ (has event_cmp q (late hz (ds ++ d ∷ [])) || has event_cmp q (accepted hz (ds ++ d ∷ [])))
     step ds (Told e) before =
         ap (has event_cmp q) (events-told ds e)
         ∙ has-append event_cmp q (events ds) (e ∷ [])
-        ∙ split (is_repeat ds e) (reached (mark ds) e.time) (has event_cmp q (events ds)) (has event_cmp q (late ds)) (has event_cmp q (accepted ds)) (eq_by_cmp event_cmp q e) before
-        (λ repeat tie. ap (λ y. has event_cmp y (events ds)) (event_cmp_same q e (equal _ tie)) ∙ repeat)
-        ∙ sym (ap (λ b. b || has event_cmp q (accepted (ds ++ Told e ∷ []))) (ap (has event_cmp q) (events_passing-told is_late ds e) ∙ has-append event_cmp q (late ds) (cond (is_late ds e) (e ∷ []) []) ∙ ap (λ b. has event_cmp q (late ds) || b) (has-one q e (is_late ds e)))
-        ∙ ap (λ b. (has event_cmp q (late ds) || cond (is_late ds e) (eq_by_cmp event_cmp q e || false) false) || b) (ap (has event_cmp q) (events_passing-told is_accepted ds e) ∙ has-append event_cmp q (accepted ds) (cond (is_accepted ds e) (e ∷ []) []) ∙ ap (λ b. has event_cmp q (accepted ds) || b) (has-one q e (is_accepted ds e))))
+        ∙ split (is_repeat hz ds e) (reached (mark ds) e.time) (has event_cmp q (events ds)) (has event_cmp q (late hz ds)) (has event_cmp q (accepted hz ds)) (eq_by_cmp event_cmp q e) before
+        (λ repeat tie. ap (λ y. has event_cmp y (events ds)) (event_cmp_same q e (equal _ tie)) ∙ repeat_delivered hz ds e repeat)
+        ∙ sym (ap (λ b. b || has event_cmp q (accepted hz (ds ++ Told e ∷ []))) (ap (has event_cmp q) (events_passing-told (is_late hz) ds e) ∙ has-append event_cmp q (late hz ds) (cond (is_late hz ds e) (e ∷ []) []) ∙ ap (λ b. has event_cmp q (late hz ds) || b) (has-one q e (is_late hz ds e)))
+        ∙ ap (λ b. (has event_cmp q (late hz ds) || cond (is_late hz ds e) (eq_by_cmp event_cmp q e || false) false) || b) (ap (has event_cmp q) (events_passing-told (is_accepted hz) ds e) ∙ has-append event_cmp q (accepted hz ds) (cond (is_accepted hz ds e) (e ∷ []) []) ∙ ap (λ b. has event_cmp q (accepted hz ds) || b) (has-one q e (is_accepted hz ds e))))
     step ds (Watermark w) before =
         ap (has event_cmp q) (events-kept ds (Watermark w) refl)
         ∙ before
-        ∙ sym (ap (λ b. b || has event_cmp q (accepted (ds ++ Watermark w ∷ []))) (ap (has event_cmp q) (events_passing-kept is_late ds (Watermark w) refl))
-        ∙ ap (λ b. has event_cmp q (late ds) || b) (ap (has event_cmp q) (events_passing-kept is_accepted ds (Watermark w) refl)))
+        ∙ sym (ap (λ b. b || has event_cmp q (accepted hz (ds ++ Watermark w ∷ []))) (ap (has event_cmp q) (events_passing-kept (is_late hz) ds (Watermark w) refl))
+        ∙ ap (λ b. has event_cmp q (late hz ds) || b) (ap (has event_cmp q) (events_passing-kept (is_accepted hz) ds (Watermark w) refl)))
     step ds (Ask a) before =
         ap (has event_cmp q) (events-kept ds (Ask a) refl)
         ∙ before
-        ∙ sym (ap (λ b. b || has event_cmp q (accepted (ds ++ Ask a ∷ []))) (ap (has event_cmp q) (events_passing-kept is_late ds (Ask a) refl))
-        ∙ ap (λ b. has event_cmp q (late ds) || b) (ap (has event_cmp q) (events_passing-kept is_accepted ds (Ask a) refl)))
+        ∙ sym (ap (λ b. b || has event_cmp q (accepted hz (ds ++ Ask a ∷ []))) (ap (has event_cmp q) (events_passing-kept (is_late hz) ds (Ask a) refl))
+        ∙ ap (λ b. has event_cmp q (late hz ds) || b) (ap (has event_cmp q) (events_passing-kept (is_accepted hz) ds (Ask a) refl)))
 
 -- the mark has reached each late event
-late_reached : (q : Event) (ds : List Delivery) → has event_cmp q (late ds) ≡ true → reached (mark ds) q.time ≡ true
-late_reached q = by_pushes (λ ds. has event_cmp q (late ds) ≡ true → reached (mark ds) q.time ≡ true) (λ h. contradicts false h refl) step
+late_reached : (hz : Option ℕ) (q : Event) (ds : List Delivery) → has event_cmp q (late hz ds) ≡ true → reached (mark ds) q.time ≡ true
+late_reached hz q = by_pushes (λ ds. has event_cmp q (late hz ds) ≡ true → reached (mark ds) q.time ≡ true) (λ h. contradicts false h refl) step
   where
     either : (a b : Bool) {G : Type 0} → (a || b) ≡ true → (a ≡ true → G) → (b ≡ true → G) → G
     either true b h p q = p refl
@@ -159,18 +160,18 @@ late_reached q = by_pushes (λ ds. has event_cmp q (late ds) ≡ true → reache
     here ds e false false m h = contradicts false h refl
     here ds e false true m h = ap (λ (y : Event). reached (mark ds) y.time) (event_cmp_same q e (equal _ (sym (or_none _) ∙ h))) ∙ m
 
-    step : (ds : List Delivery) (d : Delivery) → (has event_cmp q (late ds) ≡ true → reached (mark ds) q.time ≡ true) → has event_cmp q (late (ds ++ d ∷ [])) ≡ true → reached (mark (ds ++ d ∷ [])) q.time ≡ true
+    step : (ds : List Delivery) (d : Delivery) → (has event_cmp q (late hz ds) ≡ true → reached (mark ds) q.time ≡ true) → has event_cmp q (late hz (ds ++ d ∷ [])) ≡ true → reached (mark (ds ++ d ∷ [])) q.time ≡ true
     step ds (Told e) before h =
         ap (λ m. reached m q.time) (mark-kept ds (Told e) refl)
-        ∙ either (has event_cmp q (late ds)) (cond (is_late ds e) (eq_by_cmp event_cmp q e || false) false)
-        (ap (λ b. has event_cmp q (late ds) || b) (sym (has-one q e (is_late ds e))) ∙ sym (has-append event_cmp q (late ds) (cond (is_late ds e) (e ∷ []) [])) ∙ sym (ap (has event_cmp q) (events_passing-told is_late ds e)) ∙ h)
-        before (here ds e (is_repeat ds e) (reached (mark ds) e.time) refl)
+        ∙ either (has event_cmp q (late hz ds)) (cond (is_late hz ds e) (eq_by_cmp event_cmp q e || false) false)
+        (ap (λ b. has event_cmp q (late hz ds) || b) (sym (has-one q e (is_late hz ds e))) ∙ sym (has-append event_cmp q (late hz ds) (cond (is_late hz ds e) (e ∷ []) [])) ∙ sym (ap (has event_cmp q) (events_passing-told (is_late hz) ds e)) ∙ h)
+        before (here ds e (is_repeat hz ds e) (reached (mark ds) e.time) refl)
     step ds (Watermark w) before h =
         ap (λ m. reached m q.time) (mark-watermark ds w)
-        ∙ reached-greater (mark ds) w q.time (before (sym (ap (has event_cmp q) (events_passing-kept is_late ds (Watermark w) refl)) ∙ h))
+        ∙ reached-greater (mark ds) w q.time (before (sym (ap (has event_cmp q) (events_passing-kept (is_late hz) ds (Watermark w) refl)) ∙ h))
     step ds (Ask a) before h =
         ap (λ m. reached m q.time) (mark-kept ds (Ask a) refl)
-        ∙ before (sym (ap (has event_cmp q) (events_passing-kept is_late ds (Ask a) refl)) ∙ h)
+        ∙ before (sym (ap (has event_cmp q) (events_passing-kept (is_late hz) ds (Ask a) refl)) ∙ h)
 
 distributed : (p a b : Bool) → (a ≡ true → p ≡ true) → (p && (a || b)) ≡ (a || (p && b))
 distributed true a b h = refl
@@ -182,21 +183,21 @@ reached_due true m e h = refl
 reached_due false m e h = h
 
 -- the known events are the late and the due ones
-pub has-known : (closed : Bool) (ds : List Delivery) (q : Event) → has event_cmp q (known closed ds) ≡ has event_cmp q (late ds ++ due closed ds)
-has-known closed ds q =
+pub has-known : (hz : Option ℕ) (closed : Bool) (ds : List Delivery) (q : Event) → has event_cmp q (known closed ds) ≡ has event_cmp q (late hz ds ++ due hz closed ds)
+has-known hz closed ds q =
     has-filter event_cmp event_cmp_same (is_due closed (mark ds)) q (events ds)
-    ∙ ap (λ b. is_due closed (mark ds) q && b) (has-events q ds)
-    ∙ distributed (is_due closed (mark ds) q) (has event_cmp q (late ds)) (has event_cmp q (accepted ds)) (λ h. reached_due closed (mark ds) q (late_reached q ds h))
-    ∙ ap (λ b. has event_cmp q (late ds) || b) (sym (has-filter event_cmp event_cmp_same (is_due closed (mark ds)) q (accepted ds)))
-    ∙ sym (has-append event_cmp q (late ds) (due closed ds))
+    ∙ ap (λ b. is_due closed (mark ds) q && b) (has-events hz q ds)
+    ∙ distributed (is_due closed (mark ds) q) (has event_cmp q (late hz ds)) (has event_cmp q (accepted hz ds)) (λ h. reached_due closed (mark ds) q (late_reached hz q ds h))
+    ∙ ap (λ b. has event_cmp q (late hz ds) || b) (sym (has-filter event_cmp event_cmp_same (is_due closed (mark ds)) q (accepted hz ds)))
+    ∙ sym (has-append event_cmp q (late hz ds) (due hz closed ds))
 
-known_in_order : (closed : Bool) (ds : List Delivery) (x : EntityId) → in_order (events_of x (known closed ds)) ≡ in_order (events_of x (late ds) ++ events_of x (due closed ds))
-known_in_order closed ds x =
+known_in_order : (hz : Option ℕ) (closed : Bool) (ds : List Delivery) (x : EntityId) → in_order (events_of x (known closed ds)) ≡ in_order (events_of x (late hz ds) ++ events_of x (due hz closed ds))
+known_in_order hz closed ds x =
     sym (events_of-in_order x (known closed ds))
-    ∙ ap (events_of x) (sorted_same event_cmp_total event_cmp_same (known closed ds) (late ds ++ due closed ds) (has-known closed ds))
-    ∙ events_of-in_order x (late ds ++ due closed ds)
-    ∙ ap in_order (filter-append (is_of x) (late ds) (due closed ds))
+    ∙ ap (events_of x) (sorted_same event_cmp_total event_cmp_same (known closed ds) (late hz ds ++ due hz closed ds) (has-known hz closed ds))
+    ∙ events_of-in_order x (late hz ds ++ due hz closed ds)
+    ∙ ap in_order (filter-append (is_of x) (late hz ds) (due hz closed ds))
 
 -- where no late event of the entity is open, its fate is that over all known events
-pub fate-known : (closed : Bool) (ds : List Delivery) (x : EntityId) → list_any (is_open_late (due closed ds)) (events_of x (late ds)) ≡ false → fate (in_order (events_of x (due closed ds))) ≡ fate (in_order (events_of x (known closed ds)))
-fate-known closed ds x none = sym (ap fate (known_in_order closed ds x) ∙ dropped x (due closed ds) (late ds) none)
+pub fate-known : (hz : Option ℕ) (closed : Bool) (ds : List Delivery) (x : EntityId) → list_any (is_open_late (due hz closed ds)) (events_of x (late hz ds)) ≡ false → fate (in_order (events_of x (due hz closed ds))) ≡ fate (in_order (events_of x (known closed ds)))
+fate-known hz closed ds x none = sym (ap fate (known_in_order hz closed ds x) ∙ dropped x (due hz closed ds) (late hz ds) none)

@@ -1,5 +1,5 @@
 -- The late entries of a replay are the late events, in the order of their first deliveries.
-use Rattle.std.proofs.Common.{◌≡◌, Bool, true, false, cond, List, [], ◌∷◌, ◌++◌, Result, Ok, Err, filter_map, refl, sym, ◌∙◌, ap, append-nil}
+use Rattle.std.proofs.Common.{◌≡◌, Bool, true, false, cond, List, [], ◌∷◌, ◌++◌, Result, Ok, Err, filter_map, refl, sym, ◌∙◌, ap, append-nil, Option, ℕ}
 use Rattle.std.proofs.lemmas.List.Elements.{filter_map-append}
 use Rattle.entity_model.specs.declared.event.Event.{Event}
 use Rattle.entity_state.specs.declared.record.Record.{Record}
@@ -39,23 +39,23 @@ late-apply_all replies p (e ∷ es) =
     late-apply_all replies (apply replies p e) es
     ∙ late-append p.side (entries_after replies e (record_of p.records e.entity)) (late-entries_after replies e (record_of p.records e.entity))
 
-late-happens : (replies : Replies) (ds : List Delivery) (d : Delivery) (p : Played) → late_events p.side ≡ late ds → late_events (happens replies ds d p).side ≡ late (ds ++ d ∷ [])
-late-happens replies ds (Told e) p before =
-    filter_map-append late_event p.side (cond (is_late ds e) (Late e ∷ []) [])
-    ∙ ap (λ l. l ++ late_events (cond (is_late ds e) (Late e ∷ []) [])) before
-    ∙ ap (λ l. late ds ++ l) (one (is_late ds e))
-    ∙ sym (events_passing-told is_late ds e)
+late-happens : (hz : Option ℕ) (replies : Replies) (ds : List Delivery) (d : Delivery) (p : Played) → late_events p.side ≡ late hz ds → late_events (happens hz replies ds d p).side ≡ late hz (ds ++ d ∷ [])
+late-happens hz replies ds (Told e) p before =
+    filter_map-append late_event p.side (cond (is_late hz ds e) (Late e ∷ []) [])
+    ∙ ap (λ l. l ++ late_events (cond (is_late hz ds e) (Late e ∷ []) [])) before
+    ∙ ap (λ l. late hz ds ++ l) (one (is_late hz ds e))
+    ∙ sym (events_passing-told (is_late hz) ds e)
   where
     one : (b : Bool) → late_events (cond b (Late e ∷ []) []) ≡ cond b (e ∷ []) []
     one true = refl
     one false = refl
-late-happens replies ds (Ask q) p before = before ∙ sym (events_passing-kept is_late ds (Ask q) refl)
-late-happens replies ds (Watermark w) p before = late-apply_all replies p (newly_due ds false (ds ++ Watermark w ∷ [])) ∙ before ∙ sym (events_passing-kept is_late ds (Watermark w) refl)
+late-happens hz replies ds (Ask q) p before = before ∙ sym (events_passing-kept (is_late hz) ds (Ask q) refl)
+late-happens hz replies ds (Watermark w) p before = late-apply_all replies p (newly_due hz ds false (ds ++ Watermark w ∷ [])) ∙ before ∙ sym (events_passing-kept (is_late hz) ds (Watermark w) refl)
 
-late-play : (replies : Replies) (ds : List Delivery) → late_events (play replies ds).side ≡ late ds
-late-play replies = by_pushes (λ ds. late_events (play replies ds).side ≡ late ds) refl
-    (λ ds d before. ap (λ (p : Played). late_events p.side) (play-push replies ds d) ∙ late-happens replies ds d (play replies ds) before)
+late-play : (hz : Option ℕ) (replies : Replies) (ds : List Delivery) → late_events (play hz replies ds).side ≡ late hz ds
+late-play hz replies = by_pushes (λ ds. late_events (play hz replies ds).side ≡ late hz ds) refl
+    (λ ds d before. ap (λ (p : Played). late_events p.side) (play-push hz replies ds d) ∙ late-happens hz replies ds d (play hz replies ds) before)
 
-pub late-played : (closed : Bool) (replies : Replies) (ds : List Delivery) → late_events (played closed replies ds).side ≡ late ds
-late-played false replies ds = late-play replies ds
-late-played true replies ds = late-apply_all replies (play replies ds) (newly_due ds true ds) ∙ late-play replies ds
+pub late-played : (hz : Option ℕ) (closed : Bool) (replies : Replies) (ds : List Delivery) → late_events (played hz closed replies ds).side ≡ late hz ds
+late-played hz false replies ds = late-play hz replies ds
+late-played hz true replies ds = late-apply_all replies (play hz replies ds) (newly_due hz ds true ds) ∙ late-play hz replies ds

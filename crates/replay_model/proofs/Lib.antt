@@ -8,7 +8,9 @@ pub mod Examples
 pub mod Explaining
 pub mod FetchCounts
 pub mod Fetching
+pub mod Floors
 pub mod Following
+pub mod Horizons
 pub mod Known
 pub mod LateEntries
 pub mod OpenLate

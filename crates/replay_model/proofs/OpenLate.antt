@@ -1,5 +1,5 @@
 -- A late event is open exactly where its entity's record has no reconciliation after it.
-use Rattle.std.proofs.Common.{◌≡◌, Bool, true, false, not, cond, ◌&&◌, ◌||◌, List, [], ◌∷◌, Option, None, Some, Ordering, Less, Equal, Greater, is_lt, fold, refl, sym, ◌∙◌, ap, true≢false}
+use Rattle.std.proofs.Common.{◌≡◌, Bool, true, false, not, cond, ◌&&◌, ◌||◌, List, [], ◌∷◌, Option, None, Some, Ordering, Less, Equal, Greater, is_lt, fold, refl, sym, ◌∙◌, ap, true≢false, ℕ}
 use Rattle.std.specs.List.{list_any}
 use Rattle.entity_model.specs.declared.event.Event.{Event}
 use Rattle.entity_model.specs.Event.{event_cmp, event_cmp_total, event_cmp_same}
@@ -56,12 +56,12 @@ before-fold e s (r ∷ es) =
     ∙ ap (λ b. b || list_any (is_later e) es) (before-after e s r)
     ∙ or_regroup (is_before e s) (is_later e r) (list_any (is_later e) es)
 
-pub open_late-played : (closed : Bool) (replies : Replies) (ds : List Delivery) (e : Event) → is_open_late (due closed ds) e ≡ not (is_before e (record_of (played closed replies ds).records e.entity).reconciled)
-open_late-played closed replies ds e =
-    let own = events_of e.entity (due closed ds) in
+pub open_late-played : (hz : Option ℕ) (closed : Bool) (replies : Replies) (ds : List Delivery) (e : Event) → is_open_late (due hz closed ds) e ≡ not (is_before e (record_of (played hz closed replies ds).records e.entity).reconciled)
+open_late-played hz closed replies ds e =
+    let own = events_of e.entity (due hz closed ds) in
     ap not (sym (
-    ap (λ (r : Record Bytes). is_before e r.reconciled) (record-played closed replies ds e.entity)
+    ap (λ (r : Record Bytes). is_before e r.reconciled) (record-played hz closed replies ds e.entity)
     ∙ ap (is_before e) (reconciled-applied_to replies blank (in_order own))
     ∙ before-fold e None (in_order own)
     ∙ list_any-sorted event_cmp event_cmp_same (is_later e) own
-    ∙ list_any-filter (is_later e) (is_of e.entity) (due closed ds)))
+    ∙ list_any-filter (is_later e) (is_of e.entity) (due hz closed ds)))

@@ -1,5 +1,5 @@
 -- The records of a replay are those that the due events leave, applied in order.
-use Rattle.std.proofs.Common.{◌≡◌, Bool, true, false, List, [], ◌∷◌, ◌++◌, fold, refl, sym, ◌∙◌, ap}
+use Rattle.std.proofs.Common.{◌≡◌, Bool, true, false, List, [], ◌∷◌, ◌++◌, fold, refl, sym, ◌∙◌, ap, Option, ℕ}
 use Rattle.std.specs.FinMap as map
 use Rattle.std.proofs.lemmas.List.Sums.{fold-append}
 use Rattle.entity_model.specs.declared.event.Event.{Event}
@@ -29,15 +29,15 @@ records-more replies p es fs gs before parts =
     ∙ sym (fold-append (records_after replies) map.empty es fs)
     ∙ ap (records_of replies) (sym parts)
 
-records-delivery : (replies : Replies) (ds : List Delivery) (d : Delivery) → (play replies ds).records ≡ records_of replies (in_order (due false ds)) → (happens replies ds d (play replies ds)).records ≡ records_of replies (in_order (due false (ds ++ d ∷ [])))
-records-delivery replies ds (Told e) before = before ∙ ap (λ l. records_of replies (in_order l)) (sym (due-told ds e))
-records-delivery replies ds (Ask q) before = before ∙ ap (λ l. records_of replies (in_order l)) (sym (due-kept false ds (Ask q) refl refl))
-records-delivery replies ds (Watermark w) before = records-more replies (play replies ds) (in_order (due false ds)) (newly_due ds false (ds ++ Watermark w ∷ [])) _ before (due-watermark ds w)
+records-delivery : (hz : Option ℕ) (replies : Replies) (ds : List Delivery) (d : Delivery) → (play hz replies ds).records ≡ records_of replies (in_order (due hz false ds)) → (happens hz replies ds d (play hz replies ds)).records ≡ records_of replies (in_order (due hz false (ds ++ d ∷ [])))
+records-delivery hz replies ds (Told e) before = before ∙ ap (λ l. records_of replies (in_order l)) (sym (due-told hz ds e))
+records-delivery hz replies ds (Ask q) before = before ∙ ap (λ l. records_of replies (in_order l)) (sym (due-kept hz false ds (Ask q) refl refl))
+records-delivery hz replies ds (Watermark w) before = records-more replies (play hz replies ds) (in_order (due hz false ds)) (newly_due hz ds false (ds ++ Watermark w ∷ [])) _ before (due-watermark hz ds w)
 
-records-play : (replies : Replies) (ds : List Delivery) → (play replies ds).records ≡ records_of replies (in_order (due false ds))
-records-play replies = by_pushes (λ ds. (play replies ds).records ≡ records_of replies (in_order (due false ds))) refl
-    (λ ds d before. ap (λ p. p.records) (play-push replies ds d) ∙ records-delivery replies ds d before)
+records-play : (hz : Option ℕ) (replies : Replies) (ds : List Delivery) → (play hz replies ds).records ≡ records_of replies (in_order (due hz false ds))
+records-play hz replies = by_pushes (λ ds. (play hz replies ds).records ≡ records_of replies (in_order (due hz false ds))) refl
+    (λ ds d before. ap (λ p. p.records) (play-push hz replies ds d) ∙ records-delivery hz replies ds d before)
 
-pub records-played : (closed : Bool) (replies : Replies) (ds : List Delivery) → (played closed replies ds).records ≡ records_of replies (in_order (due closed ds))
-records-played false replies ds = records-play replies ds
-records-played true replies ds = records-more replies (play replies ds) (in_order (due false ds)) (newly_due ds true ds) _ (records-play replies ds) (due-end ds)
+pub records-played : (hz : Option ℕ) (closed : Bool) (replies : Replies) (ds : List Delivery) → (played hz closed replies ds).records ≡ records_of replies (in_order (due hz closed ds))
+records-played hz false replies ds = records-play hz replies ds
+records-played hz true replies ds = records-more replies (play hz replies ds) (in_order (due hz false ds)) (newly_due hz ds true ds) _ (records-play hz replies ds) (due-end hz ds)

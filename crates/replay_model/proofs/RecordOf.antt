@@ -1,5 +1,5 @@
 -- The record of an entity is what its own due events leave, applied in order; its state is their fate.
-use Rattle.std.proofs.Common.{◌≡◌, Bool, true, false, cond, List, [], ◌∷◌, Option, Some, fold, refl, sym, ◌∙◌, ap, unwrap_or}
+use Rattle.std.proofs.Common.{◌≡◌, Bool, true, false, cond, List, [], ◌∷◌, Option, Some, fold, refl, sym, ◌∙◌, ap, unwrap_or, ℕ}
 use Rattle.std.specs.FinMap as map
 use Rattle.entity_model.specs.declared.id.EntityId.{EntityId}
 use Rattle.entity_model.specs.declared.event.Event.{Event}
@@ -64,11 +64,11 @@ pub events_of-in_order : (x : EntityId) (es : List Event) → events_of x (in_or
 events_of-in_order x es = sym (sorted-filter event_cmp_total event_cmp_same (is_of x) es)
 
 -- after a replay
-pub record-played : (closed : Bool) (replies : Replies) (ds : List Delivery) (x : EntityId) → record_of (played closed replies ds).records x ≡ applied_to replies blank (in_order (events_of x (due closed ds)))
-record-played closed replies ds x =
-    ap (λ m. record_of m x) (records-played closed replies ds)
-    ∙ record-records_of replies (in_order (due closed ds)) x
-    ∙ ap (applied_to replies blank) (events_of-in_order x (due closed ds))
+pub record-played : (hz : Option ℕ) (closed : Bool) (replies : Replies) (ds : List Delivery) (x : EntityId) → record_of (played hz closed replies ds).records x ≡ applied_to replies blank (in_order (events_of x (due hz closed ds)))
+record-played hz closed replies ds x =
+    ap (λ m. record_of m x) (records-played hz closed replies ds)
+    ∙ record-records_of replies (in_order (due hz closed ds)) x
+    ∙ ap (applied_to replies blank) (events_of-in_order x (due hz closed ds))
 
 pub state-applied_to : (replies : Replies) (r : Record Bytes) (es : List Event) → (applied_to replies r es).state ≡ fold state_after r.state es
 state-applied_to replies r [] = refl
@@ -79,7 +79,7 @@ reconciled-applied_to replies r [] = refl
 reconciled-applied_to replies r (e ∷ es) = reconciled-applied_to replies (record_after replies e r) es
 
 -- the state of an entity is the fate of its due events
-pub state-played : (closed : Bool) (replies : Replies) (ds : List Delivery) (x : EntityId) → (record_of (played closed replies ds).records x).state ≡ fate (in_order (events_of x (due closed ds)))
-state-played closed replies ds x =
-    ap (λ (r : Record Bytes). r.state) (record-played closed replies ds x)
-    ∙ state-applied_to replies blank (in_order (events_of x (due closed ds)))
+pub state-played : (hz : Option ℕ) (closed : Bool) (replies : Replies) (ds : List Delivery) (x : EntityId) → (record_of (played hz closed replies ds).records x).state ≡ fate (in_order (events_of x (due hz closed ds)))
+state-played hz closed replies ds x =
+    ap (λ (r : Record Bytes). r.state) (record-played hz closed replies ds x)
+    ∙ state-applied_to replies blank (in_order (events_of x (due hz closed ds)))

@@ -107,21 +107,21 @@ Tells-apply_all : (replies : Replies) (p : Played) (es : List Event) → TellsAl
 Tells-apply_all replies p [] all = all
 Tells-apply_all replies p (e ∷ es) all = Tells-apply_all replies (apply replies p e) es (Tells-apply replies p e all)
 
-Tells-happens : (replies : Replies) (ds : List Delivery) (d : Delivery) (p : Played) → TellsAll p → TellsAll (happens replies ds d p)
-Tells-happens replies ds (Told e) p all x = Tells-more p.side (cond (is_late ds e) (Late e ∷ []) []) x (record_of p.records x) (all x)
-Tells-happens replies ds (Ask q) p all x = all x
-Tells-happens replies ds (Watermark w) p all x = Tells-apply_all replies p (newly_due ds false (ds ++ Watermark w ∷ [])) all x
+Tells-happens : (hz : Option ℕ) (replies : Replies) (ds : List Delivery) (d : Delivery) (p : Played) → TellsAll p → TellsAll (happens hz replies ds d p)
+Tells-happens hz replies ds (Told e) p all x = Tells-more p.side (cond (is_late hz ds e) (Late e ∷ []) []) x (record_of p.records x) (all x)
+Tells-happens hz replies ds (Ask q) p all x = all x
+Tells-happens hz replies ds (Watermark w) p all x = Tells-apply_all replies p (newly_due hz ds false (ds ++ Watermark w ∷ [])) all x
 
 Tells-nothing : TellsAll nothing_played
 Tells-nothing x = subst (λ r. Tells [] x r) (sym (record_of-empty x)) (record { empty_unless_kept = λ _. refl; named = λ w. contradicts false w refl })
 
-Tells-play : (replies : Replies) (ds : List Delivery) → TellsAll (play replies ds)
-Tells-play replies = by_pushes (λ ds. TellsAll (play replies ds)) Tells-nothing
-    (λ ds d all. subst TellsAll (sym (play-push replies ds d)) (Tells-happens replies ds d (play replies ds) all))
+Tells-play : (hz : Option ℕ) (replies : Replies) (ds : List Delivery) → TellsAll (play hz replies ds)
+Tells-play hz replies = by_pushes (λ ds. TellsAll (play hz replies ds)) Tells-nothing
+    (λ ds d all. subst TellsAll (sym (play-push hz replies ds d)) (Tells-happens hz replies ds d (play hz replies ds) all))
 
-pub Tells-played : (closed : Bool) (replies : Replies) (ds : List Delivery) (x : EntityId) → Tells (played closed replies ds).side x (record_of (played closed replies ds).records x)
-Tells-played false replies ds = Tells-play replies ds
-Tells-played true replies ds = Tells-apply_all replies (play replies ds) (newly_due ds true ds) (Tells-play replies ds)
+pub Tells-played : (hz : Option ℕ) (closed : Bool) (replies : Replies) (ds : List Delivery) (x : EntityId) → Tells (played hz closed replies ds).side x (record_of (played hz closed replies ds).records x)
+Tells-played hz false replies ds = Tells-play hz replies ds
+Tells-played hz true replies ds = Tells-apply_all replies (play hz replies ds) (newly_due hz ds true ds) (Tells-play hz replies ds)
 
 -- whether an entry is an open revision entry of the entity x with the record r
 abbrev is_open_of : EntityId → Record Bytes → Entry → Bool
@@ -166,8 +166,8 @@ settled_by side x r t =
     settled Deleted w none = ap (λ h. is_none (held_revision h)) (none refl)
 
 -- an entity holds what its state wants exactly where the side output has no open revision entry of it
-pub settled-played : (closed : Bool) (replies : Replies) (ds : List Delivery) (x : EntityId) → is_settled (record_of (played closed replies ds).records x) ≡ not (has_open_revision (played closed replies ds).records (played closed replies ds).side x)
-settled-played closed replies ds x = settled_by (played closed replies ds).side x (record_of (played closed replies ds).records x) (Tells-played closed replies ds x)
+pub settled-played : (hz : Option ℕ) (closed : Bool) (replies : Replies) (ds : List Delivery) (x : EntityId) → is_settled (record_of (played hz closed replies ds).records x) ≡ not (has_open_revision (played hz closed replies ds).records (played hz closed replies ds).side x)
+settled-played hz closed replies ds x = settled_by (played hz closed replies ds).side x (record_of (played hz closed replies ds).records x) (Tells-played hz closed replies ds x)
 
 -- the same, of any records and side output of which it holds
 told_holds : (p : Played) → TellsAll p → HoldsUnlessOpen p

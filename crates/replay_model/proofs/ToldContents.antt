@@ -63,11 +63,11 @@ module _ (unfit : Judgement) (contents : ℕ → Option Bytes) (failed : List Ev
         | false ↦ λ _. held-applied_to x r es before
       ] refl
 
-  pub held-told : (closed : Bool) (ds : List Delivery) (x : EntityId) → HoldsWhatIsThere unfit contents x (record_of (played closed (source_replies unfit contents failed) ds).records x).held
-  held-told closed ds x =
+  pub held-told : (hz : Option ℕ) (closed : Bool) (ds : List Delivery) (x : EntityId) → HoldsWhatIsThere unfit contents x (record_of (played hz closed (source_replies unfit contents failed) ds).records x).held
+  held-told hz closed ds x =
       subst (λ (r : Record Bytes). HoldsWhatIsThere unfit contents x r.held)
-      (sym (ap (λ m. record_of m x) (records-played closed (source_replies unfit contents failed) ds) ∙ record-records_of (source_replies unfit contents failed) (in_order (due closed ds)) x))
-      (held-applied_to x blank (in_order (due closed ds)) tt)
+      (sym (ap (λ m. record_of m x) (records-played hz closed (source_replies unfit contents failed) ds) ∙ record-records_of (source_replies unfit contents failed) (in_order (due hz closed ds)) x))
+      (held-applied_to x blank (in_order (due hz closed ds)) tt)
 
   -- ---- the entries
 
@@ -96,15 +96,15 @@ module _ (unfit : Judgement) (contents : ℕ → Option Bytes) (failed : List Ev
   told-apply_all p [] before = before
   told-apply_all p (e ∷ es) before = told-apply_all (apply (source_replies unfit contents failed) p e) es (Each-append (TellsWhatIsThere unfit contents failed) p.side (entries_after (source_replies unfit contents failed) e (record_of p.records e.entity)) before (told-entries e (record_of p.records e.entity)))
 
-  told-happens : (ds : List Delivery) (d : Delivery) (p : Played) → AllTold p.side → AllTold (happens (source_replies unfit contents failed) ds d p).side
-  told-happens ds (Told e) p before = Each-append (TellsWhatIsThere unfit contents failed) p.side (cond (is_late ds e) (Late e ∷ []) []) before (elim (is_late ds e) as (λ b. AllTold (cond b (Late e ∷ []) [])) [ true ↦ (tt, tt) | false ↦ tt ])
-  told-happens ds (Ask q) p before = before
-  told-happens ds (Watermark w) p before = told-apply_all p (newly_due ds false (ds ++ Watermark w ∷ [])) before
+  told-happens : (hz : Option ℕ) (ds : List Delivery) (d : Delivery) (p : Played) → AllTold p.side → AllTold (happens hz (source_replies unfit contents failed) ds d p).side
+  told-happens hz ds (Told e) p before = Each-append (TellsWhatIsThere unfit contents failed) p.side (cond (is_late hz ds e) (Late e ∷ []) []) before (elim (is_late hz ds e) as (λ b. AllTold (cond b (Late e ∷ []) [])) [ true ↦ (tt, tt) | false ↦ tt ])
+  told-happens hz ds (Ask q) p before = before
+  told-happens hz ds (Watermark w) p before = told-apply_all p (newly_due hz ds false (ds ++ Watermark w ∷ [])) before
 
-  told-play : (ds : List Delivery) → AllTold (play (source_replies unfit contents failed) ds).side
-  told-play = by_pushes (λ ds. AllTold (play (source_replies unfit contents failed) ds).side) tt
-      (λ ds d before. subst (λ (p : Played). AllTold p.side) (sym (play-push (source_replies unfit contents failed) ds d)) (told-happens ds d (play (source_replies unfit contents failed) ds) before))
+  told-play : (hz : Option ℕ) (ds : List Delivery) → AllTold (play hz (source_replies unfit contents failed) ds).side
+  told-play hz = by_pushes (λ ds. AllTold (play hz (source_replies unfit contents failed) ds).side) tt
+      (λ ds d before. subst (λ (p : Played). AllTold p.side) (sym (play-push hz (source_replies unfit contents failed) ds d)) (told-happens hz ds d (play hz (source_replies unfit contents failed) ds) before))
 
-  pub entries-told : (closed : Bool) (ds : List Delivery) → Each (TellsWhatIsThere unfit contents failed) (played closed (source_replies unfit contents failed) ds).side
-  entries-told false ds = told-play ds
-  entries-told true ds = told-apply_all (play (source_replies unfit contents failed) ds) (newly_due ds true ds) (told-play ds)
+  pub entries-told : (hz : Option ℕ) (closed : Bool) (ds : List Delivery) → Each (TellsWhatIsThere unfit contents failed) (played hz closed (source_replies unfit contents failed) ds).side
+  entries-told hz false ds = told-play hz ds
+  entries-told hz true ds = told-apply_all (play hz (source_replies unfit contents failed) ds) (newly_due hz ds true ds) (told-play hz ds)

@@ -1,11 +1,12 @@
--- Which events of a list of deliveries are accepted, late, due and known.
-use Rattle.std.specs.Prelude.{ℤ, Bool, not, ◌&&◌, cond, List, [], ◌∷◌, ◌++◌, Option, None, Some, fold, filter, filter_map, option_and_then}
+-- Which events of a list of deliveries are accepted, late, due and known, where all are remembered that aren't further behind the
+-- mark than a horizon; without a horizon, all are.
+use Rattle.std.specs.Prelude.{ℕ, ℤ, Bool, not, ◌&&◌, cond, List, [], ◌∷◌, ◌++◌, Option, None, Some, fold, filter, filter_map, option_and_then}
 use Rattle.rising.specs.Rising.{has}
 use Rattle.entity_model.specs.declared.event.Event.{Event}
 use Rattle.entity_model.specs.Event.{event_cmp}
 use Rattle.entity_model.specs.declared.delivery.Delivery.{Delivery}
 use Rattle.entity_model.specs.declared.delivery.Delivery.TheVariants.{Event as Told, Watermark}
-use Rattle.reorder_buffer.specs.Watermarks.{greater, reached, is_due}
+use Rattle.reorder_buffer.specs.Watermarks.{greater, reached, is_due, floor, is_below}
 
 -- a delivery and the deliveries before it
 pub record Arrival : Type 0 where
@@ -39,17 +40,17 @@ events ds = filter_map event_of ds
 abbrev pub mark : List Delivery → Option ℤ
 mark ds = fold greater None (filter_map watermark_of ds)
 
--- whether the event was delivered before
-abbrev pub is_repeat : List Delivery → Event → Bool
-is_repeat before e = has event_cmp e (events before)
+-- whether the event was delivered before, and isn't below the floor
+abbrev pub is_repeat : Option ℕ → List Delivery → Event → Bool
+is_repeat h before e = not (is_below (floor h (mark before)) e.time) && has event_cmp e (events before)
 
--- whether the event comes for the first time, and at or below the mark
-abbrev pub is_late : List Delivery → Event → Bool
-is_late before e = not (is_repeat before e) && reached (mark before) e.time
+-- whether the event is no repeat, and at or below the mark
+abbrev pub is_late : Option ℕ → List Delivery → Event → Bool
+is_late h before e = not (is_repeat h before e) && reached (mark before) e.time
 
--- whether the event comes for the first time, and above the mark
-abbrev pub is_accepted : List Delivery → Event → Bool
-is_accepted before e = not (is_repeat before e) && not (reached (mark before) e.time)
+-- whether the event is no repeat, and above the mark
+abbrev pub is_accepted : Option ℕ → List Delivery → Event → Bool
+is_accepted h before e = not (is_repeat h before e) && not (reached (mark before) e.time)
 
 -- the event of a delivery, if it passes a test on what came before and itself
 abbrev pub event_passing : (List Delivery → Event → Bool) → Arrival → Option Event
@@ -60,16 +61,16 @@ abbrev pub events_passing : (List Delivery → Event → Bool) → List Delivery
 events_passing test ds = filter_map (event_passing test) (arrivals ds)
 
 -- the accepted events, in the order of their first deliveries
-abbrev pub accepted : List Delivery → List Event
-accepted ds = events_passing is_accepted ds
+abbrev pub accepted : Option ℕ → List Delivery → List Event
+accepted h ds = events_passing (is_accepted h) ds
 
--- the late events, in the order of their first deliveries
-abbrev pub late : List Delivery → List Event
-late ds = events_passing is_late ds
+-- the events of the late deliveries, in the order of these
+abbrev pub late : Option ℕ → List Delivery → List Event
+late h ds = events_passing (is_late h) ds
 
 -- the accepted events at or below the mark, and all of them where the end of the input closes the deliveries
-abbrev pub due : Bool → List Delivery → List Event
-due closed ds = filter (is_due closed (mark ds)) (accepted ds)
+abbrev pub due : Option ℕ → Bool → List Delivery → List Event
+due h closed ds = filter (is_due closed (mark ds)) (accepted h ds)
 
 -- the delivered events at or below the mark, late ones included, and all of them where the end closes the deliveries
 abbrev pub known : Bool → List Delivery → List Event

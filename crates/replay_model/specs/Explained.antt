@@ -1,5 +1,5 @@
 -- When the state of a replay that fetches from a source is that of a play, and what a play over told contents replies.
-use Rattle.std.specs.Prelude.{◌≡◌, ℕ, ◌+◌, length, List, Bool, true, false, not, ◌&&◌, ◌⊎◌, Option, Some, Result, Err}
+use Rattle.std.specs.Prelude.{◌≡◌, ℕ, ◌+◌, length, List, Bool, true, not, ◌&&◌, ◌⊎◌, Option, Some, Result, Err}
 use Rattle.rising.specs.Rising.{has, IsRising}
 use Rattle.entity_model.specs.declared.event.Event.{Event}
 use Rattle.entity_model.specs.Event.{event_cmp}
@@ -7,18 +7,18 @@ use Rattle.side_output.specs.declared.entry.Cause.{Cause}
 use Rattle.side_output.specs.declared.entry.Cause.TheVariants.{Failed}
 use Rattle.entity_state.specs.State.{state_after}
 use Rattle.entity_state.specs.Record.{held_revision, wants}
-use Rattle.replay_model.specs.Entries.{late_events}
+use Rattle.reorder_buffer.specs.Watermarks.{is_due}
 use Rattle.replay_model.specs.Play.{Replies, Fetch, fetches, fetches_to_end}
 use Rattle.replay_model.specs.Records.{Bytes, record_of}
 use Rattle.replay_model.specs.Replies.{Judgement, reply_there, source_replies, failed_events}
 use Rattle.entity_model.specs.declared.delivery.Delivery.{Delivery}
 use Rattle.replay_model.specs.ReplayState.{ReplayState, after_due, fetches_due, following, following_to_end}
 
--- whether the event was applied: it was taken, doesn't wait and wasn't late
+-- whether what is replied to the event is settled: it is due by the mark and doesn't wait
 abbrev pub is_applied : ReplayState → Event → Bool
-is_applied w e = has event_cmp e w.buffer.taken && (not (has event_cmp e w.buffer.waiting) && not (has event_cmp e (late_events w.played.side)))
+is_applied w e = is_due w.buffer.closed w.buffer.mark e && not (has event_cmp e w.buffer.waiting)
 
--- others reply as these do to each event that was applied
+-- others reply as these do to each event whose replies are settled
 abbrev pub AgreeOnApplied : ReplayState → Replies → Replies → Type 0
 AgreeOnApplied w replies others = (e : Event) (r : ℕ) → is_applied w e ≡ true → others e r ≡ replies e r
 
@@ -38,22 +38,20 @@ IsHonest unfit contents e r reply = (reply ≡ Err Failed) ⊎ (reply ≡ reply_
 pub record Explained (unfit : Judgement) (told : Option (ℕ → Option Bytes)) (play_of : Replies → ReplayState) (fetches_of : Replies → List Fetch) (made : ℕ) (w : ReplayState) : Type 0 where
   -- the replies
   pub replies : Replies
-  -- the waiting events are in order, were taken and aren't late
+  -- the waiting events are in order
   pub rises : IsRising event_cmp w.buffer.waiting
-  pub within : (e : Event) → has event_cmp e w.buffer.waiting ≡ true → has event_cmp e w.buffer.taken ≡ true
-  pub not_late : (e : Event) → has event_cmp e w.buffer.waiting ≡ true → has event_cmp e (late_events w.played.side) ≡ false
-  -- the state leads to the play's, whatever is replied to events that aren't applied yet
+  -- the state leads to the play's, whatever is replied to events that wait or come later
   pub leads : (others : Replies) → AgreeOnApplied w replies others → after_due others w ≡ play_of others
   pub counts : (others : Replies) → AgreeOnApplied w replies others → made + length (fetches_due others w) ≡ length (fetches_of others)
   -- the replies are the source's
-  pub honest : (contents : ℕ → Option Bytes) → told ≡ Some contents → AgreeOnApplied w (source_replies unfit contents (failed_events w.played.side)) replies
-  -- fetches failed for applied events alone
+  pub honest : (contents : ℕ → Option Bytes) → told ≡ Some contents → (e : Event) (r : ℕ) → replies e r ≡ source_replies unfit contents (failed_events w.played.side) e r
+  -- fetches failed for such events alone
   pub failed_applied : (e : Event) → has event_cmp e (failed_events w.played.side) ≡ true → is_applied w e ≡ true
 
--- explained by the play of a list of deliveries
-abbrev pub ExplainedAfter : Judgement → Option (ℕ → Option Bytes) → List Delivery → ℕ → ReplayState → Type 0
-ExplainedAfter unfit told ds made w = Explained unfit told (λ replies. following replies ds) (λ replies. fetches replies ds) made w
+-- explained by the play of a list of deliveries with this horizon
+abbrev pub ExplainedAfter : Option ℕ → Judgement → Option (ℕ → Option Bytes) → List Delivery → ℕ → ReplayState → Type 0
+ExplainedAfter h unfit told ds made w = Explained unfit told (λ replies. following h replies ds) (λ replies. fetches h replies ds) made w
 
 -- explained by the play of a list of deliveries and the end of the input
-abbrev pub ExplainedToEnd : Judgement → Option (ℕ → Option Bytes) → List Delivery → ℕ → ReplayState → Type 0
-ExplainedToEnd unfit told ds made w = Explained unfit told (λ replies. following_to_end replies ds) (λ replies. fetches_to_end replies ds) made w
+abbrev pub ExplainedToEnd : Option ℕ → Judgement → Option (ℕ → Option Bytes) → List Delivery → ℕ → ReplayState → Type 0
+ExplainedToEnd h unfit told ds made w = Explained unfit told (λ replies. following_to_end h replies ds) (λ replies. fetches_to_end h replies ds) made w

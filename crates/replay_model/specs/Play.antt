@@ -1,11 +1,8 @@
--- The replay of a list of deliveries, where each fetch gives what a function of the applied event and the revision says.
-use Rattle.std.specs.Prelude.{ℕ, Bool, false, true, not, ◌&&◌, cond, List, [], ◌∷◌, ◌++◌, Option, None, Some, Result, Ok, Err, fold, filter, flat_map, min, ◌+◌, ◌-◌, ◌^◌}
+-- The replay of a list of deliveries, with a horizon or none, where each fetch gives what a function of the applied event and the
+-- revision says.
+use Rattle.std.specs.Prelude.{ℕ, Bool, false, true, not, cond, List, [], ◌∷◌, ◌++◌, Option, None, Some, Result, Ok, Err, fold, filter, flat_map, min, ◌+◌, ◌-◌, ◌^◌}
 use Rattle.std.specs.FinMap as map
-use Rattle.std.specs.Ordering.{is_lt}
 use Rattle.entity_model.specs.declared.event.Event.{Event}
-use Rattle.entity_model.specs.declared.event.Kind.{Kind}
-use Rattle.entity_model.specs.declared.event.Kind.TheVariants.{Edit, Delete, Undelete, ReconcileDeleted, ReconcileKept}
-use Rattle.entity_model.specs.Event.{event_cmp}
 use Rattle.entity_state.specs.declared.state.State.{State}
 use Rattle.entity_state.specs.declared.record.Held.{Held}
 use Rattle.entity_state.specs.declared.record.Record.{Record}
@@ -77,27 +74,27 @@ abbrev pub apply_all : Replies → Played → List Event → Played
 apply_all replies p es = fold (apply replies) p es
 
 -- the events that are due after some deliveries and weren't due before, in the order in which they are applied
-abbrev pub newly_due : List Delivery → Bool → List Delivery → List Event
-newly_due before closed after = in_order (filter (λ e. not (is_due false (mark before) e)) (due closed after))
+abbrev pub newly_due : Option ℕ → List Delivery → Bool → List Delivery → List Event
+newly_due h before closed after = in_order (filter (λ e. not (is_due false (mark before) e)) (due h closed after))
 
 -- what a delivery does: an event that is late is named in the side output, and a watermark applies what is due now
-abbrev pub happens : Replies → List Delivery → Delivery → Played → Played
-happens replies before (Told e) p = record { records = p.records; side = p.side ++ cond (is_late before e) (Late e ∷ []) [] }
-happens replies before (Watermark w) p = apply_all replies p (newly_due before false (before ++ Watermark w ∷ []))
-happens replies before (Ask q) p = p
+abbrev pub happens : Option ℕ → Replies → List Delivery → Delivery → Played → Played
+happens h replies before (Told e) p = record { records = p.records; side = p.side ++ cond (is_late h before e) (Late e ∷ []) [] }
+happens h replies before (Watermark w) p = apply_all replies p (newly_due h before false (before ++ Watermark w ∷ []))
+happens h replies before (Ask q) p = p
 
 -- the replay of the deliveries
-abbrev pub play : Replies → List Delivery → Played
-play replies ds = fold (λ p (a : Arrival). happens replies a.before a.delivery p) nothing_played (arrivals ds)
+abbrev pub play : Option ℕ → Replies → List Delivery → Played
+play h replies ds = fold (λ p (a : Arrival). happens h replies a.before a.delivery p) nothing_played (arrivals ds)
 
 -- the replay of the deliveries and of the end of the input, which applies all that waits
-abbrev pub play_to_end : Replies → List Delivery → Played
-play_to_end replies ds = apply_all replies (play replies ds) (newly_due ds true ds)
+abbrev pub play_to_end : Option ℕ → Replies → List Delivery → Played
+play_to_end h replies ds = apply_all replies (play h replies ds) (newly_due h ds true ds)
 
 -- the replay, perhaps with the end of the input
-abbrev pub played : Bool → Replies → List Delivery → Played
-played false replies ds = play replies ds
-played true replies ds = play_to_end replies ds
+abbrev pub played : Option ℕ → Bool → Replies → List Delivery → Played
+played h false replies ds = play h replies ds
+played h true replies ds = play_to_end h replies ds
 
 -- a fetch: the event whose application makes it, and the revision that it asks for
 pub record Fetch : Type 0 where
@@ -114,20 +111,20 @@ fetches_of_all replies p [] = []
 fetches_of_all replies p (e ∷ es) = fetches_of e (record_of p.records e.entity) ++ fetches_of_all replies (apply replies p e) es
 
 -- the fetches that a delivery makes
-abbrev pub fetches_at : Replies → Arrival → List Fetch
-fetches_at replies a = fetches_by a.delivery
+abbrev pub fetches_at : Option ℕ → Replies → Arrival → List Fetch
+fetches_at h replies a = fetches_by a.delivery
   where
     fetches_by : Delivery → List Fetch
-    fetches_by (Watermark w) = fetches_of_all replies (play replies a.before) (newly_due a.before false (a.before ++ a.delivery ∷ []))
+    fetches_by (Watermark w) = fetches_of_all replies (play h replies a.before) (newly_due h a.before false (a.before ++ a.delivery ∷ []))
     fetches_by _ = []
 
 -- the fetches of the replay, in the order in which they are made
-abbrev pub fetches : Replies → List Delivery → List Fetch
-fetches replies ds = flat_map (fetches_at replies) (arrivals ds)
+abbrev pub fetches : Option ℕ → Replies → List Delivery → List Fetch
+fetches h replies ds = flat_map (fetches_at h replies) (arrivals ds)
 
 -- the fetches of the replay and of the end of the input
-abbrev pub fetches_to_end : Replies → List Delivery → List Fetch
-fetches_to_end replies ds = fetches replies ds ++ fetches_of_all replies (play replies ds) (newly_due ds true ds)
+abbrev pub fetches_to_end : Option ℕ → Replies → List Delivery → List Fetch
+fetches_to_end h replies ds = fetches h replies ds ++ fetches_of_all replies (play h replies ds) (newly_due h ds true ds)
 
 -- a count in 64 bits that has risen n times and stays at its last value
 abbrev pub risen_by : ℕ → ℕ → ℕ

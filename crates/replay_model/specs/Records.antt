@@ -1,13 +1,11 @@
 -- What is kept of each entity.
-use Rattle.std.specs.Prelude.{ℕ, Bool, not, ◌&&◌, List, Option, is_none, unwrap_or}
+use Rattle.std.specs.Prelude.{ℕ, Bool, List, Option, is_none, unwrap_or}
 use Rattle.std.specs.FinMap as map
 use Rattle.entity_model.specs.declared.id.EntityId.{EntityId}
 use Rattle.entity_model.specs.EntityId.{entity_cmp}
 use Rattle.entity_state.specs.declared.state.Mode.{Mode}
 use Rattle.entity_state.specs.declared.state.Mode.TheVariants.{Unknown, Kept, Deleted}
-use Rattle.entity_state.specs.declared.state.State.{State}
 use Rattle.entity_state.specs.declared.record.Record.{Record}
-use Rattle.entity_state.specs.State.{is_kept}
 use Rattle.entity_state.specs.Record.{blank, held_revision, is_held}
 
 -- the bytes of a document

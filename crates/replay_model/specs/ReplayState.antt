@@ -7,21 +7,25 @@ use Rattle.entity_model.specs.declared.delivery.Delivery.{Delivery}
 use Rattle.entity_model.specs.declared.delivery.Delivery.TheVariants.{Event as Told, Watermark, Ask}
 use Rattle.reorder_buffer.specs.declared.taken.Taken.{Taken}
 use Rattle.reorder_buffer.specs.declared.taken.Taken.TheVariants.{New, Repeat, Late}
-use Rattle.reorder_buffer.specs.Watermarks.{is_due}
-use Rattle.reorder_buffer.specs.Buffered.{Buffered, nothing_taken, answer_to, after_taking, after_raising, after_closing, first_due, after_dropping}
+use Rattle.reorder_buffer.specs.Watermarks.{is_due, floor}
+use Rattle.reorder_buffer.specs.Buffered.{Buffered, nothing_taken, nothing_taken_within, unforgotten, answer_to, after_taking, after_raising, after_closing, first_due, after_dropping}
 use Rattle.replay_model.specs.Acceptance.{mark, events, accepted}
 use Rattle.replay_model.specs.Fate.{in_order}
 use Rattle.replay_model.specs.Records.{record_of}
 use Rattle.replay_model.specs.Play.{Replies, Played, Fetch, nothing_played, apply, apply_all, play, play_to_end, fetches_of, fetches_of_all}
 
--- the events that were taken and wait, and what was played of them
+-- the events that are kept and that wait, and what was played of them
 pub record ReplayState : Type 0 where
   pub buffer : Buffered
   pub played : Played
 
--- before the first delivery
+-- before the first delivery, without a horizon
 abbrev pub nothing_delivered : ReplayState
 nothing_delivered = record { buffer = nothing_taken; played = nothing_played }
+
+-- before the first delivery, with this horizon
+abbrev pub nothing_delivered_within : Option ℕ → ReplayState
+nothing_delivered_within h = record { buffer = nothing_taken_within h; played = nothing_played }
 
 -- the entry that taking an event makes
 abbrev pub taken_entries : Taken → Event → List Entry
@@ -87,22 +91,23 @@ abbrev pub ended : Replies → ReplayState → ReplayState
 ended replies w = after_due replies (after_end w)
 
 -- the state that a replay has after a list of deliveries
-abbrev pub following : Replies → List Delivery → ReplayState
-following replies ds = record {
+abbrev pub following : Option ℕ → Replies → List Delivery → ReplayState
+following h replies ds = record {
   buffer = record {
-    taken = in_order (events ds);
-    waiting = in_order (filter (λ e. not (is_due false (mark ds) e)) (accepted ds));
+    kept = unforgotten (floor h (mark ds)) (in_order (events ds));
+    waiting = in_order (filter (λ e. not (is_due false (mark ds) e)) (accepted h ds));
     mark = mark ds;
+    horizon = h;
     closed = false;
   };
-  played = play replies ds;
+  played = play h replies ds;
 }
 
 -- the state that a replay has after a list of deliveries and the end of the input
-abbrev pub following_to_end : Replies → List Delivery → ReplayState
-following_to_end replies ds = record {
-  buffer = record { taken = in_order (events ds); waiting = []; mark = mark ds; closed = true };
-  played = play_to_end replies ds;
+abbrev pub following_to_end : Option ℕ → Replies → List Delivery → ReplayState
+following_to_end h replies ds = record {
+  buffer = record { kept = unforgotten (floor h (mark ds)) (in_order (events ds)); waiting = []; mark = mark ds; horizon = h; closed = true };
+  played = play_to_end h replies ds;
 }
 
 -- the fetches that the application of an event makes in this state

@@ -1,4 +1,4 @@
--- What a replay prints: an answer at each delivery that asks, and the closing sections.
+-- What a replay, with a horizon or none, prints: an answer at each delivery that asks, and the closing sections.
 use Rattle.std.specs.Prelude.{ℕ, ◌+◌, Bool, true, false, cond, List, [], ◌++◌, Option, None, Some, filter_map, flat_map, length, decimal, codes}
 use Rattle.std.specs.FinMap as map
 use Rattle.std.specs.Fmt.{signed_decimal}
@@ -134,17 +134,17 @@ side_section records side = flat_map (λ entry. entry_line (is_open_in records e
 
 module _ (meaning : Meaning Triple) where
   -- the answer to an ask, after the deliveries before it
-  abbrev pub answer_said : Replies → List Delivery → Option Pattern → List ℕ
-  answer_said replies before None = []
-  answer_said replies before (Some pattern) = ask_section (asks before + 1) (rows (union triple_cmp meaning (play replies before).records) pattern)
+  abbrev pub answer_said : Option ℕ → Replies → List Delivery → Option Pattern → List ℕ
+  answer_said h replies before None = []
+  answer_said h replies before (Some pattern) = ask_section (asks before + 1) (rows (union triple_cmp meaning (play h replies before).records) pattern)
 
   -- what is printed at a delivery: the answer, if it asks
-  abbrev pub said_at : Replies → Arrival → List ℕ
-  said_at replies a = answer_said replies a.before (pattern_of a.delivery)
+  abbrev pub said_at : Option ℕ → Replies → Arrival → List ℕ
+  said_at h replies a = answer_said h replies a.before (pattern_of a.delivery)
 
   -- what is printed at the deliveries
-  abbrev pub said : Replies → List Delivery → List ℕ
-  said replies ds = flat_map (said_at replies) (arrivals ds)
+  abbrev pub said : Option ℕ → Replies → List Delivery → List ℕ
+  said h replies ds = flat_map (said_at h replies) (arrivals ds)
 
   -- what is printed after the end
   abbrev pub closing : Sections → Played → List ℕ
@@ -154,5 +154,5 @@ module _ (meaning : Meaning Triple) where
       ++ cond sections.side (side_section p.records p.side) []
 
   -- all that is printed
-  abbrev pub transcript : Sections → Replies → List Delivery → List ℕ
-  transcript sections replies ds = said replies ds ++ closing sections (play_to_end replies ds)
+  abbrev pub transcript : Option ℕ → Sections → Replies → List Delivery → List ℕ
+  transcript h sections replies ds = said h replies ds ++ closing sections (play_to_end h replies ds)

@@ -11,16 +11,16 @@ ghost use Rattle.reorder_buffer.specs.Buffered.{first_due};
 ghost use Rattle.replay_model.specs.Records.{Bytes, record_of};
 ghost use Rattle.replay_model.specs.Play.{Replies, Fetch, played};
 ghost use Rattle.replay_model.specs.Replies.{Judgement, source_replies, failed_events, HoldsWhatIsThere, TellsWhatIsThere};
-ghost use Rattle.replay_model.specs.ReplayState.{ReplayState, nothing_delivered, after_event, after_mark, after_end, after_applying, following, following_to_end};
+ghost use Rattle.replay_model.specs.ReplayState.{ReplayState, nothing_delivered_within, after_event, after_mark, after_end, after_applying, following, following_to_end};
 ghost use Rattle.replay_model.specs.Explained.{Explained, ExplainedAfter, ExplainedToEnd, IsHonest, is_fetching, revision_wanted};
 
 /// Over a source with told contents, an entity holds what the source has, which is a document of it, and each entry
 /// says of a revision what is so: nothing is there, no document is there, or the fetch failed.
 pub fn told_contents_are_held_and_named()
-    ensures held { (unfit : Judgement) (contents : ℕ → Option Bytes) (failed : List Event) (closed : Bool) (ds : List Delivery) (x : EntityId) →
-        HoldsWhatIsThere unfit contents x (record_of (played closed (source_replies unfit contents failed) ds).records x).held }
-    ensures entries { (unfit : Judgement) (contents : ℕ → Option Bytes) (failed : List Event) (closed : Bool) (ds : List Delivery) →
-        Each (TellsWhatIsThere unfit contents failed) (played closed (source_replies unfit contents failed) ds).side }
+    ensures held { (unfit : Judgement) (contents : ℕ → Option Bytes) (failed : List Event) (h : Option ℕ) (closed : Bool) (ds : List Delivery) (x : EntityId) →
+        HoldsWhatIsThere unfit contents x (record_of (played h closed (source_replies unfit contents failed) ds).records x).held }
+    ensures entries { (unfit : Judgement) (contents : ℕ → Option Bytes) (failed : List Event) (h : Option ℕ) (closed : Bool) (ds : List Delivery) →
+        Each (TellsWhatIsThere unfit contents failed) (played h closed (source_replies unfit contents failed) ds).side }
 {}
 
 /// A replay over a source is a play with some replies; where the contents are told, with those of the contents and of
@@ -35,21 +35,21 @@ pub fn replay_over_source_is_a_play()
         (w ≡ play_of (source_replies unfit contents (failed_events w.played.side)))
         × (made ≡ length (fetches_of (source_replies unfit contents (failed_events w.played.side)))) }
 
-    ensures start { (unfit : Judgement) (told : Option (ℕ → Option Bytes)) → ExplainedAfter unfit told [] 0 nothing_delivered }
-    ensures event { (unfit : Judgement) (told : Option (ℕ → Option Bytes)) (ds : List Delivery) (made : ℕ) (w : ReplayState) →
-        ExplainedAfter unfit told ds made w → first_due w.buffer ≡ None →
-        (e : Event) → ExplainedAfter unfit told (ds ++ Delivery.Event e ∷ []) made (after_event w e) }
-    ensures event_rests { (unfit : Judgement) (told : Option (ℕ → Option Bytes)) (ds : List Delivery) (made : ℕ) (w : ReplayState) →
-        ExplainedAfter unfit told ds made w → first_due w.buffer ≡ None →
+    ensures start { (unfit : Judgement) (told : Option (ℕ → Option Bytes)) (h : Option ℕ) → ExplainedAfter h unfit told [] 0 (nothing_delivered_within h) }
+    ensures event { (unfit : Judgement) (told : Option (ℕ → Option Bytes)) (h : Option ℕ) (ds : List Delivery) (made : ℕ) (w : ReplayState) →
+        ExplainedAfter h unfit told ds made w → first_due w.buffer ≡ None →
+        (e : Event) → ExplainedAfter h unfit told (ds ++ Delivery.Event e ∷ []) made (after_event w e) }
+    ensures event_rests { (unfit : Judgement) (told : Option (ℕ → Option Bytes)) (h : Option ℕ) (ds : List Delivery) (made : ℕ) (w : ReplayState) →
+        ExplainedAfter h unfit told ds made w → first_due w.buffer ≡ None →
         (e : Event) → first_due (after_event w e).buffer ≡ None }
-    ensures watermark { (unfit : Judgement) (told : Option (ℕ → Option Bytes)) (ds : List Delivery) (made : ℕ) (w : ReplayState) →
-        ExplainedAfter unfit told ds made w → first_due w.buffer ≡ None →
-        (m : ℤ) → ExplainedAfter unfit told (ds ++ Delivery.Watermark m ∷ []) made (after_mark w m) }
-    ensures ask { (unfit : Judgement) (told : Option (ℕ → Option Bytes)) (ds : List Delivery) (made : ℕ) (w : ReplayState) →
-        ExplainedAfter unfit told ds made w → first_due w.buffer ≡ None →
-        (q : Pattern) → ExplainedAfter unfit told (ds ++ Delivery.Ask q ∷ []) made w }
-    ensures the_end { (unfit : Judgement) (told : Option (ℕ → Option Bytes)) (ds : List Delivery) (made : ℕ) (w : ReplayState) →
-        ExplainedAfter unfit told ds made w → first_due w.buffer ≡ None → ExplainedToEnd unfit told ds made (after_end w) }
+    ensures watermark { (unfit : Judgement) (told : Option (ℕ → Option Bytes)) (h : Option ℕ) (ds : List Delivery) (made : ℕ) (w : ReplayState) →
+        ExplainedAfter h unfit told ds made w → first_due w.buffer ≡ None →
+        (m : ℤ) → ExplainedAfter h unfit told (ds ++ Delivery.Watermark m ∷ []) made (after_mark w m) }
+    ensures ask { (unfit : Judgement) (told : Option (ℕ → Option Bytes)) (h : Option ℕ) (ds : List Delivery) (made : ℕ) (w : ReplayState) →
+        ExplainedAfter h unfit told ds made w → first_due w.buffer ≡ None →
+        (q : Pattern) → ExplainedAfter h unfit told (ds ++ Delivery.Ask q ∷ []) made w }
+    ensures the_end { (unfit : Judgement) (told : Option (ℕ → Option Bytes)) (h : Option ℕ) (ds : List Delivery) (made : ℕ) (w : ReplayState) →
+        ExplainedAfter h unfit told ds made w → first_due w.buffer ≡ None → ExplainedToEnd h unfit told ds made (after_end w) }
 
     // One due event is applied, with any reply where the contents aren't told.
     ensures next { (unfit : Judgement) (told : Option (ℕ → Option Bytes)) (play_of : Replies → ReplayState) (fetches_of : Replies → List Fetch) (made : ℕ) (w : ReplayState) (e : Event) (reply : Result Bytes Cause) →

@@ -17,7 +17,7 @@ use Rattle.replay_model.specs.ReplayState.{ReplayState, after_end, after_event, 
 use Rattle.replay_model.specs.Transcript.{ask_section, asks, pattern_of, said, said_at}
 use Rattle.rdf_term.specs.Pattern.{rows}
 use Rattle.replay_model.specs.Union.{union}
-use Rattle.replay_model.proofs.Applied.{applied-event}
+use Rattle.replay_model.proofs.Applied.{applied-end, applied-event, applied-mark}
 use Rattle.replay_model.proofs.Explaining.{Explained-ask, Explained-end, Explained-event, Explained-event_rests, Explained-is, Explained-mark, Explained-rests, ask_replies, end_replies, event_replies, mark_replies}
 use Rattle.replay_model.proofs.Fetching.{failed-taken, missing-taken}
 use Rattle.replay_model.proofs.Printing.{said-push}
@@ -60,6 +60,12 @@ module _ (setting : Setting) (ds : List Delivery) (start : Stage) where
   rest_is now at_rest =
       Explained-rests judgement setting.known (course_after ds start).state (course_after ds start).fetched at_rest.leads.made now.world at_rest.leads.explained at_rest.rests
 
+  -- a world at rest isn't closed
+  pub rest_open : (now : Stage) → AtRest setting ds start now → now.world.buffer.closed ≡ false
+  rest_open now at_rest =
+      ap (λ (w : ReplayState). w.buffer.closed)
+      (Explained-is judgement setting.known (course_after ds start).state (course_after ds start).fetched at_rest.leads.made now.world at_rest.leads.explained at_rest.rests)
+
   -- an event is taken
   pub event_taken : (now : Stage) (e : Event) → AtRest setting ds start now → AtRest setting (ds ++ Told e ∷ []) start (onward now now.counts (after_event now.world e))
   event_taken now e at_rest = record {
@@ -69,7 +75,7 @@ module _ (setting : Setting) (ds : List Delivery) (start : Stage) where
       counted = counted_taking now.counts at_rest.leads.made now.world.played.side (answer_to now.world.buffer e) e at_rest.leads.counted;
       documents = at_rest.leads.documents;
       says = λ others agree. silent now.output.bytes (Told e) others refl (at_rest.leads.says others
-          (λ q r h. agree q r (applied-event now.world e q ∙ h) ∙ ap (λ (replies : Replies). replies q r) (event_replies judgement setting.known ds at_rest.leads.made now.world at_rest.leads.explained at_rest.rests e)));
+          (λ q r h. agree q r (applied-event now.world e q (rest_open now at_rest) ∙ h) ∙ ap (λ (replies : Replies). replies q r) (event_replies judgement setting.known ds at_rest.leads.made now.world at_rest.leads.explained at_rest.rests e)));
     };
     rests = Explained-event_rests judgement setting.known ds at_rest.leads.made now.world at_rest.leads.explained at_rest.rests e;
     later = at_rest.later;
@@ -87,7 +93,7 @@ module _ (setting : Setting) (ds : List Delivery) (start : Stage) where
     counted = at_rest.leads.counted;
     documents = at_rest.leads.documents;
     says = λ others agree. at_rest.leads.says others
-        (λ q r h. agree q r h ∙ ap (λ (replies : Replies). replies q r) (mark_replies judgement setting.known ds at_rest.leads.made now.world at_rest.leads.explained at_rest.rests m));
+        (λ q r h. agree q r (applied-mark now.world m q h) ∙ ap (λ (replies : Replies). replies q r) (mark_replies judgement setting.known ds at_rest.leads.made now.world at_rest.leads.explained at_rest.rests m));
   }
 
   -- the end is taken: the world leads to the play to the end
@@ -98,7 +104,7 @@ module _ (setting : Setting) (ds : List Delivery) (start : Stage) where
     counted = at_rest.leads.counted;
     documents = at_rest.leads.documents;
     says = λ others agree. at_rest.leads.says others
-        (λ q r h. agree q r h ∙ ap (λ (replies : Replies). replies q r) (end_replies judgement setting.known ds at_rest.leads.made now.world at_rest.leads.explained at_rest.rests));
+        (λ q r h. agree q r (applied-end now.world q h) ∙ ap (λ (replies : Replies). replies q r) (end_replies judgement setting.known ds at_rest.leads.made now.world at_rest.leads.explained at_rest.rests));
   }
 
   -- a watermark is taken, and what is due is applied
@@ -132,12 +138,6 @@ module _ (setting : Setting) (ds : List Delivery) (start : Stage) where
       let There : List Delivery → Type 0 = λ l. IsWithin setting (record (course_after l start) { bytes = said_behind ds start }) (λ replies. following replies ds) start now in
       subst There (sym (append-nil ds)) (within setting (course_after ds start) (λ replies. following replies ds) start now now.counts (no_call now.counts) (record { leads = at_rest.leads; steps = 0; is = rest_is now at_rest }))
 
-  -- a world at rest isn't closed
-  pub rest_open : (now : Stage) → AtRest setting ds start now → now.world.buffer.closed ≡ false
-  rest_open now at_rest =
-      ap (λ (w : ReplayState). w.buffer.closed)
-      (Explained-is judgement setting.known (course_after ds start).state (course_after ds start).fetched at_rest.leads.made now.world at_rest.leads.explained at_rest.rests)
-
   -- a watermark is taken, and some of what is due is applied
   pub mark_begun : (now : Stage) (counts : Counts) (new : ReplayState) (m : ℤ) → StaysWithin setting now.counts counts (after_mark now.world m) new → AtRest setting ds start now →
       IsWithin setting (course_of_mark m) (λ replies. entered (following replies ds) (Watermark m)) start (onward now counts new)
@@ -146,7 +146,7 @@ module _ (setting : Setting) (ds : List Delivery) (start : Stage) where
         leads = mark_leads now m at_rest;
         steps = 0;
         is = λ others agree. ap (λ w. after_mark w m) (rest_is now at_rest others
-            (λ q r h. agree q r h ∙ ap (λ (replies : Replies). replies q r) (mark_replies judgement setting.known ds at_rest.leads.made now.world at_rest.leads.explained at_rest.rests m)));
+            (λ q r h. agree q r (applied-mark now.world m q h) ∙ ap (λ (replies : Replies). replies q r) (mark_replies judgement setting.known ds at_rest.leads.made now.world at_rest.leads.explained at_rest.rests m)));
       })
 
   -- the end is taken, and some of what waits is applied
@@ -157,7 +157,7 @@ module _ (setting : Setting) (ds : List Delivery) (start : Stage) where
         leads = end_leads now at_rest;
         steps = 0;
         is = λ others agree. ap after_end (rest_is now at_rest others
-            (λ q r h. agree q r h ∙ ap (λ (replies : Replies). replies q r) (end_replies judgement setting.known ds at_rest.leads.made now.world at_rest.leads.explained at_rest.rests)));
+            (λ q r h. agree q r (applied-end now.world q h) ∙ ap (λ (replies : Replies). replies q r) (end_replies judgement setting.known ds at_rest.leads.made now.world at_rest.leads.explained at_rest.rests)));
       })
 
   -- the answer of a world at rest is that of its play

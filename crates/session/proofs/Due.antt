@@ -232,7 +232,7 @@ pub within : (setting : Setting) (course : Course) (begun : Replies → ReplaySt
     IsWithin setting course begun start (onward now counts now.world)
 within setting course begun start now counts last under_way =
     let honest : (contents : ℕ → Option Bytes) → setting.known ≡ Some contents → AgreeOnApplied now.world under_way.leads.explained.replies (replies_there contents now.world) =
-    λ contents is q r h. sym (under_way.leads.explained.honest contents is q r h) in
+    λ contents is q r h. sym (under_way.leads.explained.honest contents is q r) in
     record {
       steps = under_way.steps;
       replies = under_way.leads.explained.replies;

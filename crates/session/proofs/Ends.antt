@@ -45,7 +45,7 @@ is_played setting course start now x rests = record {
   says = x.says x.explained.replies (λ q r h. refl);
   counted = subst (λ (n : ℕ). HasCounted start.counts now.counts n now.world.played.side) (Explained-fetches judgement setting.known course.state course.fetched x.made now.world x.explained rests) x.counted;
   source = Explained-source judgement setting.known course.state course.fetched x.made now.world x.explained rests;
-  source_says = λ contents is. x.says (replies_there contents now.world) (λ q r h. sym (x.explained.honest contents is q r h));
+  source_says = λ contents is. x.says (replies_there contents now.world) (λ q r h. sym (x.explained.honest contents is q r));
   source_counted = λ contents is.
       subst (λ (n : ℕ). HasCounted start.counts now.counts n now.world.played.side) (Explained-source_fetches judgement setting.known course.state course.fetched x.made now.world x.explained rests contents is) x.counted;
 }

@@ -23,8 +23,9 @@ played_code =
 -- a buffer
 abbrev pub buffered_code : Coded Buffered
 buffered_code =
-    code_by (List Event × (List Event × (Option ℤ × Bool))) (coded× (coded_list (event.the_row).coded) (coded× (coded_list (event.the_row).coded) (coded× (coded_option coded_ℤ) coded_bool)))
-    (λ b. (b.taken, (b.waiting, (b.mark, b.closed)))) (λ c. record { taken = c.0; waiting = c.1.0; mark = c.1.1.0; closed = c.1.1.1 }) (λ _. refl)
+    code_by (List Event × (List Event × (Option ℤ × (Option ℕ × Bool))))
+    (coded× (coded_list (event.the_row).coded) (coded× (coded_list (event.the_row).coded) (coded× (coded_option coded_ℤ) (coded× (coded_option coded_ℕ) coded_bool))))
+    (λ b. (b.kept, (b.waiting, (b.mark, (b.horizon, b.closed))))) (λ c. record { kept = c.0; waiting = c.1.0; mark = c.1.1.0; horizon = c.1.1.1.0; closed = c.1.1.1.1 }) (λ _. refl)
 
 -- the state of a replay
 abbrev pub state_code : Coded ReplayState

@@ -10,7 +10,7 @@ ghost use Rattle.revisions.specs.Revisions.{counted};
 ghost use Rattle.reorder_buffer.specs.Buffered.{after_taking, answer_to, first_due};
 ghost use Rattle.replay_model.specs.Entries.{HoldsUnlessOpen, is_open_in};
 ghost use Rattle.replay_model.specs.Records.{record_of};
-ghost use Rattle.replay_model.specs.ReplayState.{after_end, after_event, after_mark, nothing_delivered, taken_entries};
+ghost use Rattle.replay_model.specs.ReplayState.{after_end, after_event, after_mark, nothing_delivered, nothing_delivered_within, taken_entries};
 ghost use Rattle.rdf_term.specs.Pattern.{rows};
 ghost use Rattle.replay_model.specs.Union.{owners, triples_held, union};
 ghost use Rattle.world.specs.Applying.{Applies, IsReply, IsShown, calls_after, outcome_of_reply};
@@ -66,7 +66,7 @@ impl Model for World {
 }
 
 impl World {
-    /// The world before the first delivery, with room for 20,000,000 terms. The hashes of its terms are keyed by `keys`.
+    /// The world before the first delivery, without a horizon and with room for 20,000,000 terms. The hashes of its terms are keyed by `keys`.
     pub fn new(alloc: Global, keys: RandomState) -> Result<World, OutOfMemory>
         ensures { IfOk result (λ world. world ≡ record { replay = nothing_delivered; room = 20000000 }) }
     {
@@ -87,7 +87,16 @@ impl World {
         self.pages.set_room(terms);
     }
 
-    /// Takes an event: one that was taken before changes nothing, one whose time the watermark has reached is named in
+    /// Sets the horizon, in microseconds: events whose time is further behind the greatest watermark are forgotten, so that
+    /// one that comes again is late again. No delivery was taken yet.
+    pub fn set_horizon(&mut self, micros: u64)
+        requires { self.old.replay ≡ nothing_delivered_within self.old.replay.buffer.horizon }
+        ensures { self.new ≡ record { replay = nothing_delivered_within (Some micros); room = self.old.room } }
+    {
+        self.buffer.set_horizon(micros);
+    }
+
+    /// Takes an event: one that is remembered changes nothing, one whose time the watermark has reached is named in
     /// the side output, and any other waits. After `OutOfMemory` nothing has changed.
     pub fn take(&mut self, event: Event) -> Result<Taken, OutOfMemory>
         requires { self.old.replay.buffer.closed ≡ false }
@@ -99,7 +108,8 @@ impl World {
         take_event(&mut self.buffer, &mut self.pages.side, event)
     }
 
-    /// Takes a watermark, in microseconds since 1970-01-01T00:00:00Z: events up to its time are due from now on.
+    /// Takes a watermark, in microseconds since 1970-01-01T00:00:00Z: events up to its time are due from now on, and what is
+    /// further behind it than the horizon is forgotten.
     pub fn raise(&mut self, mark: i64)
         ensures { self.new ≡ record { replay = after_mark self.old.replay mark; room = self.old.room } }
     {

@@ -1,5 +1,5 @@
 -- The deliveries of the item are taken and counted, one after the other.
-use Rattle.std.proofs.Common.{◌≡◌, ◌∙◌, ◌+◌, ◌*◌, ◌++◌, ap, subst, List, take, arith}
+use Rattle.std.proofs.Common.{◌≡◌, ◌∙◌, ◌+◌, ◌*◌, ◌++◌, ap, subst, List, None, take, arith}
 use Rattle.entity_model.specs.declared.delivery.Delivery.{Delivery}
 use Rattle.replay_model.specs.ReplayState.{following}
 use Rattle.drill.specs.Drill.{deliveries_of, drill}
@@ -32,7 +32,7 @@ loop-delivery-preserved c =
 pub returns-clause-after : goal.returns-clause-after
 returns-clause-after c =
     let are : c.as_slice-delivery-items.result.now ≡ deliveries_of (c.args.done + 1) = c.as_slice-delivery-items.ensures ∙ c.in_ok-list.ensures in
-    c.loop-delivery.invariant.after ∙ ap (following (replies_of c.args.size)) (whole c.args.done c.as_slice-delivery-items.result.now c.loop-delivery.delivery-index are c.loop-delivery-test.false)
+    c.loop-delivery.invariant.after ∙ ap (following None (replies_of c.args.size)) (whole c.args.done c.as_slice-delivery-items.result.now c.loop-delivery.delivery-index are c.loop-delivery-test.false)
 
 pub returns-clause-counted : goal.returns-clause-counted
 returns-clause-counted c =

@@ -6,7 +6,7 @@ pub returns-clause-settled : goal.returns-clause-settled
 returns-clause-settled c = settled-played
 
 pub returns-clause-empty : goal.returns-clause-empty
-returns-clause-empty c closed replies ds x = (Tells-played closed replies ds x).empty_unless_kept
+returns-clause-empty c h closed replies ds x = (Tells-played h closed replies ds x).empty_unless_kept
 
 pub returns-clause-start : goal.returns-clause-start
 returns-clause-start c = holds-nothing

@@ -5,4 +5,4 @@ use Rattle.replay_model.proofs.Known.{fate-known}
 use Rattle.replay_model.proofs.laws.state_is_fate_of_known.Goals as goal
 
 pub returns : goal.returns
-returns c closed replies ds x none = state-played closed replies ds x ∙ fate-known closed ds x none
+returns c h closed replies ds x none = state-played h closed replies ds x ∙ fate-known h closed ds x none

@@ -7,4 +7,4 @@ returns c =
     let first = c.pop_first.ensures in
     let due = rw (← c.self.view_is) at c.requires in
     let waiting = dropped c.self.inside.closed c.self.inside.mark c.pop_first.result c.self.inside.waiting.keys c.pop_first.new.self.keys first.variant.1 first.removal first.all_above due in
-    rw (← c.self.view_is) (λ i. record { taken = c.self.inside.taken.keys; waiting = waiting i; mark = c.self.inside.mark; closed = c.self.inside.closed })
+    rw (← c.self.view_is) (λ i. record { kept = c.self.inside.kept.keys; waiting = waiting i; mark = c.self.inside.mark; horizon = c.self.inside.horizon; closed = c.self.inside.closed })

@@ -15,7 +15,7 @@ returns-in-Err-clause-err c =
     let removed = c.remove.ensures.keys in
     let inserted = c.in_ok-insert.ensures.keys in
     let not_put = c.in-Err.ensures.err in
-    let taken : c.remove.new.self.keys ≡ c.self.inside.taken.keys =
+    let kept : c.remove.new.self.keys ≡ c.self.inside.kept.keys =
     rw (removed, inserted) (remove_key-insert_key event_cmp event_cmp_total _ _ (is_new c.in_ok-insert.field-0 _ absent c.if-not-branch.false)) in
     let waiting : c.insert-2.new.self.keys ≡ c.self.inside.waiting.keys = not_put in
-    rw (← c.self.view_is) (λ i. record { taken = taken i; waiting = waiting i; mark = c.self.inside.mark; closed = c.self.inside.closed })
+    rw (← c.self.view_is) (λ i. record { kept = kept i; waiting = waiting i; mark = c.self.inside.mark; horizon = c.self.inside.horizon; closed = c.self.inside.closed })

@@ -1,0 +1,32 @@
+// The laws of the horizon: what it changes, and what a buffer with one answers.
+
+ghost use Rattle.std.specs.Prelude.{◌≡◌, ℕ, Bool, not, ◌&&◌, cond, List, ◌++◌, Option, None};
+ghost use Rattle.rising.specs.Rising.{has};
+ghost use Rattle.entity_model.specs.declared.event.Event.{Event};
+ghost use Rattle.entity_model.specs.Event.{event_cmp};
+ghost use Rattle.entity_model.specs.declared.delivery.Delivery.{Delivery};
+ghost use Rattle.reorder_buffer.specs.declared.taken.Taken.TheVariants.{New, Repeat, Late};
+ghost use Rattle.reorder_buffer.specs.Buffered.{answer_to};
+ghost use Rattle.reorder_buffer.specs.Watermarks.{floor, is_below};
+ghost use Rattle.replay_model.specs.Acceptance.{accepted, due, events, is_late, is_repeat, known, late, mark};
+ghost use Rattle.replay_model.specs.Play.{Replies, played};
+ghost use Rattle.replay_model.specs.ReplayState.{following};
+
+/// A horizon changes late entries alone: the accepted events are those without one, and so are the records, from which
+/// states, answers and export are made. The known events are the late and the due ones, whatever the horizon.
+pub fn horizon_leaves_records()
+    ensures accepted { (h : Option ℕ) (ds : List Delivery) → accepted h ds ≡ accepted None ds }
+    ensures records { (h : Option ℕ) (closed : Bool) (replies : Replies) (ds : List Delivery) →
+        (played h closed replies ds).records ≡ (played None closed replies ds).records }
+    ensures known { (h : Option ℕ) (closed : Bool) (ds : List Delivery) (e : Event) →
+        has event_cmp e (known closed ds) ≡ has event_cmp e (late h ds ++ due h closed ds) }
+{}
+
+/// Over any deliveries, a buffer keeps exactly the delivered events that aren't below the floor, and answers to each event
+/// whether its delivery is a repeat, late or accepted.
+pub fn buffer_answers_by_deliveries()
+    ensures kept { (h : Option ℕ) (replies : Replies) (ds : List Delivery) (e : Event) →
+        has event_cmp e (following h replies ds).buffer.kept ≡ (not (is_below (floor h (mark ds)) e.time) && has event_cmp e (events ds)) }
+    ensures answers { (h : Option ℕ) (replies : Replies) (ds : List Delivery) (e : Event) →
+        answer_to (following h replies ds).buffer e ≡ cond (is_repeat h ds e) Repeat (cond (is_late h ds e) Late New) }
+{}
