@@ -1,8 +1,8 @@
 // What no page shows: statements of an item's id, and more statements than a page can have. The crate `cases` tries the rest.
 
-use super::*;
 use entity_model::{Content, EntityId, Rank, Snak, Statement};
 use rdf_term::{List, Piece};
+use statement_rdf::best;
 use std::alloc::Global;
 use std::test::Fail;
 
