@@ -8,8 +8,6 @@ mod laws;
 mod pages;
 mod source;
 mod stream;
-#[cfg(test)]
-mod tests;
 
 pub use laws::drill_has_this_length;
 pub use source::DrillRevisions;

@@ -11,8 +11,6 @@ mod dump;
 mod laws;
 mod property;
 mod statements;
-#[cfg(test)]
-mod tests;
 mod walk;
 
 pub use dump::{direct_texts, direct_triples, dump_triples};

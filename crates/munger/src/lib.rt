@@ -9,8 +9,6 @@ mod iris;
 mod munging;
 mod naming;
 mod sink;
-#[cfg(test)]
-mod tests;
 mod verdict;
 
 pub use munging::munge;

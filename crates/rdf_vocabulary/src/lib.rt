@@ -8,8 +8,6 @@ mod fields;
 mod predicate;
 mod prefix;
 mod resource;
-#[cfg(test)]
-mod tests;
 mod unreserved;
 
 pub use datatype::Datatype;

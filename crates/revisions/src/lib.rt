@@ -7,8 +7,6 @@
 mod folder;
 mod memory;
 mod revisions;
-#[cfg(test)]
-mod tests;
 
 pub use folder::Folder;
 pub use memory::{MemoryRevisions, RevisionBytes};

@@ -10,8 +10,6 @@ mod ranking;
 mod role;
 mod snak;
 mod statement;
-#[cfg(test)]
-mod tests;
 
 pub use laws::{
     best_is_ranked_highest, statement_names_keep_characters, statement_terms_are_fit,

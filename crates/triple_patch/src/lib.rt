@@ -6,6 +6,3 @@ mod merge;
 
 pub use changes::Patch;
 pub use merge::patch;
-
-#[cfg(test)]
-mod tests;

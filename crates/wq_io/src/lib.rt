@@ -11,8 +11,6 @@ mod memory;
 mod sink;
 mod source;
 mod streams;
-#[cfg(test)]
-mod tests;
 
 pub use failing::FailingCalls;
 pub use lines::{LineFault, Lines};

@@ -1,9 +1,9 @@
 // What no page shows: statements of an item's id, more statements than a page can have, and the versions of
 // the mapping. The crate `cases` tries the rest.
 
-use super::*;
 use entity_model::{Content, EntityId, QuantityParts, Rank, Snak, Statement, Value};
 use rdf_term::{List, Piece, Term};
+use statement_rdf::{best, emit_statement};
 use std::alloc::Global;
 use std::test::Fail;
 use triple_sink::{MappingVersion, Setting, TermRef};

@@ -1,7 +1,7 @@
 // The dump of a small document, which no output shows. The crate `cases` tries whole pages.
 
-use crate::dump_triples;
 use entity_model::{Document, Entity, EntityId, Tagged};
+use entity_rdf::dump_triples;
 use rdf_term::{List, Piece, write_triple};
 use std::alloc::Global;
 use std::process::Abort;

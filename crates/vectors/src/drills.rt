@@ -2,7 +2,7 @@
 
 ghost use Rattle.drill.specs.Drill.{IsSize};
 
-use crate::{DrillRevisions, deliveries};
+use drill::{DrillRevisions, deliveries};
 use entity_json::document;
 use entity_model::{Delivery, Document, EntityId, IdKind, Kind};
 use revisions::{NoRevision, Revisions};

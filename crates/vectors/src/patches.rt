@@ -1,10 +1,10 @@
 // Patches between small sets, worked out by hand.
 
-use super::*;
 use rdf_term::{List, Term, Text, Triple, TripleSet};
 use std::alloc::Global;
 use std::process::Abort;
 use std::test::Fail;
+use triple_patch::patch;
 
 // An old set, a new one, what comes and what goes. A letter stands for a triple.
 const ROWS: [(&str, &str, &str, &str); 9] = [

@@ -1,7 +1,7 @@
 // Values from outside: the data differences that the Wikidata Query Service documents, by hand.
 
-use super::*;
 use entity_model::EntityId;
+use munger::munge;
 use rdf_term::{List, Term, Triple, TripleSet, read_term, write_triple};
 use std::alloc::Global;
 use std::process::Abort;

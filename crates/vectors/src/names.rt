@@ -1,0 +1,35 @@
+// The test suite of RFC 1321, and fields that are told apart.
+
+use rdf_term::Piece;
+use rdf_vocabulary::{hashed_name, push_field, push_optional_field};
+use std::test::Fail;
+
+// Each message of RFC 1321, appendix A.5, and its digest.
+const DIGESTS: &str = " => d41d8cd98f00b204e9800998ecf8427e
+a => 0cc175b9c0f1b6a831c399e269772661
+abc => 900150983cd24fb0d6963f7d28e17f72
+message digest => f96b697d7cb7938d525a2f31aaf161d0
+abcdefghijklmnopqrstuvwxyz => c3fcd3d76192e4007dfb496cca67e13b
+ABCDEFGHIJKLMNOPQRSTUVWXYZabcdefghijklmnopqrstuvwxyz0123456789 => d174ab98d277d9f5a5611c2c9f419d9f
+12345678901234567890123456789012345678901234567890123456789012345678901234567890 => 57edf4a22be3c955ac49da2e2107b67a";
+
+#[test]
+fn messages_are_hashed(rt: HostRuntime) -> Result<(), Fail> {
+    for line in DIGESTS.lines() {
+        let (message, want) = line.split_once(" => ").ok_or("a row")?;
+        let name = hashed_name(rt.alloc(), message)?;
+        assert_eq!(rt; name.as_str(), want, "of {message:?}");
+    }
+    Ok(())
+}
+
+#[test]
+fn fields_are_told_apart(rt: HostRuntime) -> Result<(), Fail> {
+    let mut fields = String::new(rt.alloc());
+    push_field("äb", &mut fields)?;
+    push_optional_field(None, &mut fields)?;
+    let empty = Piece::borrowed("");
+    push_optional_field(Some(&empty), &mut fields)?;
+    assert_eq!(rt; fields.as_str(), "3:äb-0:");
+    Ok(())
+}
