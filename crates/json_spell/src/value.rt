@@ -15,6 +15,9 @@ use crate::string::read_string;
 use rdf_term::Piece;
 use std::alloc::Global;
 
+// How many members an object that has some gets room for at first: as many as most objects of a page have.
+const ROOM: usize = 6;
+
 // A literal name.
 #[tactic(auto, unfolding(crate::specs::Reading::literal_at))]
 fn read_literal<'a>(bytes: &'a [u8]) -> Option<(Json<'a>, &'a [u8])>
@@ -172,10 +175,10 @@ fn read_members<'a>(
     ensures no_longer { IfOk result (λ p. length p.1.now ≤ length bytes.now) }
     ensures nests { IfOk result (λ p. MembersNest levels (pairs_of (map member_view p.0.items))) }
 {
-    let mut members = Vec::new(alloc);
     if let Some(rest) = after_byte(skip_ws(bytes), b'}') {
-        return Ok((members, rest));
+        return Ok((Vec::new(alloc), rest));
     }
+    let mut members = Vec::with_capacity(alloc, ROOM)?;
     let mut left = bytes;
     loop {
         let (member, rest) = read_member(alloc, levels, left)?;

@@ -132,7 +132,7 @@ read_members-returns-in_err-member-clause-read t c =
     let bytes = c.args.bytes.now in
     let same = c.loop-members.invariant.same in
     let opened = list_by-open no_pairs 125 members_at bytes c.skip_ws.result.now c.skip_ws.ensures.rest c.after_byte.ensures.rest c.in_default.is in
-    let p = err_from_is_err_and c.from_residual.result c.from_residual.ensures.1 in
+    let p = err_from_is_err_and c.from_residual-in_err-member.result c.from_residual-in_err-member.ensures.1 in
     rw (p.1, p.2) (Refuses-passed c.in_err-member.field-0.0 (member_by value_at left) (list_by no_pairs 125 members_at bytes) (λ e. opened ∙ so-none (member_by value_at) add_pair no_pairs 125 members_at members_at-is xs left bytes same e) c.in_err-member.ensures.read)
 
 pub read_members-returns-in_default-next-clause-read : goal.read_members-returns-in_default-next-clause-read
