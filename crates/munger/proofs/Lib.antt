@@ -3,3 +3,4 @@ pub mod FlatMap
 pub mod Joined
 pub mod Kept
 pub mod MungedList
+pub mod Namespaces

@@ -3,7 +3,7 @@
 ghost use Rattle.std.specs.Prelude.{◌≡◌, ◌++◌, IfOk};
 ghost use Rattle.rdf_vocabulary.specs.Prefix.{prefix_text};
 ghost use Rattle.triple_sink.specs.TermRef.{meant, meant_triple};
-ghost use Rattle.munger.specs.Iris.{dataset_iri, entity_iri};
+ghost use Rattle.munger.specs.Iris.{dataset_iri, entity_iri, is_data, is_iri_of};
 ghost use Rattle.munger.specs.Verdict.{has_untold_type, is_moved};
 
 use crate::iris::{is_iri_of, is_predicate, is_resource};
@@ -53,6 +53,7 @@ impl Page {
     }
 
     // What becomes of the triple, by the first rule that names it.
+    #[tactic(auto, using(crate::proofs::Namespaces::no_type, crate::proofs::Namespaces::no_preferred_label, crate::proofs::Namespaces::no_name))]
     pub(crate) fn verdict(
         &self,
         subject: &TermRef<'_>,
@@ -61,12 +62,16 @@ impl Page {
     ) -> Verdict
         ensures { result ≡ verdict self.now.id (meant_triple subject.now predicate.now object.now) }
     {
-        if is_iri_of(subject, self.dataset.as_str()) {
+        if self.is_dataset(subject) {
             return if is_moved(predicate) {
                 Verdict::Moved
             } else {
                 Verdict::Dropped
             };
+        }
+        // A property's predicate is named by its namespace, and no rule names one.
+        if let TermRef::Id(_, _) | TermRef::Named(_, _) = predicate {
+            return Verdict::Kept;
         }
         if has_untold_type(subject, predicate, object)
             || self.repeats_label(subject, predicate, object)
@@ -74,6 +79,18 @@ impl Page {
             return Verdict::Dropped;
         }
         Verdict::Kept
+    }
+
+    // Whether the term is the dataset.
+    #[tactic(auto, using(crate::proofs::Namespaces::other_namespace))]
+    fn is_dataset(&self, term: &TermRef<'_>) -> bool
+        ensures { result ≡ is_iri_of (dataset_iri self.now.id) (meant term.now) }
+    {
+        match term {
+            TermRef::Named(prefix, _) if !is_data(*prefix) => false,
+            TermRef::Id(prefix, _) if !is_data(*prefix) => false,
+            _ => is_iri_of(term, self.dataset.as_str()),
+        }
     }
 
     // Whether the triple has the entity's label again, under another name.
@@ -111,6 +128,13 @@ fn has_untold_type(subject: &TermRef<'_>, predicate: &TermRef<'_>, object: &Term
         && (is_resource(object, Resource::Item)
             || is_resource(object, Resource::Statement)
             || is_resource(object, Resource::Reference))
+}
+
+// Whether the namespace is that of the datasets.
+fn is_data(prefix: Prefix) -> bool
+    ensures { result ≡ is_data prefix }
+{
+    matches!(prefix, Prefix::Data)
 }
 
 // The IRI of a name in a namespace.

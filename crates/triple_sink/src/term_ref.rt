@@ -90,9 +90,9 @@ impl<'a> TermRef<'a> {
         ensures utf8 { IsUtf8 (term_text (meant self.now)) }
     {
         match self {
-            TermRef::Named(prefix, name) => write_iri(prefix.text(), name, "", out),
+            TermRef::Named(prefix, name) => write_named(prefix.text(), name, out),
             TermRef::Id(prefix, id) => write_id(*prefix, *id, out),
-            TermRef::Iri(iri) => write_iri(iri, "", "", out),
+            TermRef::Iri(iri) => write_iri(iri, out),
             TermRef::Blank(label) => write_blank(label, out),
             TermRef::Plain(text) => write_plain(text, out),
             TermRef::Lang(text, tag) => write_lang(text, tag, out),
@@ -115,7 +115,7 @@ fn write_id(prefix: Prefix, id: EntityId, out: &mut Vec<u8>) -> Result<(), OutOf
     ensures utf8 { IsUtf8 (term_text (prefixed prefix (id_text id))) }
 {
     let mut buffer = Buffer::new();
-    write_iri(
+    write_numbered(
         prefix.text(),
         letter(id.kind),
         buffer.format(id.number),
@@ -133,17 +133,45 @@ fn letter(kind: IdKind) -> &'static str
     }
 }
 
-// Appends an IRI in its brackets, by its parts.
-#[tactic(auto, using(crate::proofs::Written::iri_utf8, rdf_term::proofs::Appending::still_front, std::proofs::lemmas::List::append_assoc))]
-fn write_iri(front: &str, name: &str, end: &str, out: &mut Vec<u8>) -> Result<(), OutOfMemory>
-    ensures text { Appends out.old.items out.new.items (in_brackets (front.now ++ name.now ++ end.now)) result }
-    ensures utf8 { IsUtf8 (in_brackets (front.now ++ name.now ++ end.now)) }
+// Appends an IRI in its brackets: a namespace, a letter and a number.
+#[tactic(auto, using(crate::proofs::Written::numbered_utf8, rdf_term::proofs::Appending::still_front, std::proofs::lemmas::List::append_assoc))]
+fn write_numbered(
+    front: &str,
+    letter: &str,
+    number: &str,
+    out: &mut Vec<u8>,
+) -> Result<(), OutOfMemory>
+    ensures text { Appends out.old.items out.new.items (in_brackets (front.now ++ letter.now ++ number.now)) result }
+    ensures utf8 { IsUtf8 (in_brackets (front.now ++ letter.now ++ number.now)) }
 {
-    append(b"<", out)?;
+    append_byte(b'<', out)?;
+    append(front.as_bytes(), out)?;
+    append(letter.as_bytes(), out)?;
+    append(number.as_bytes(), out)?;
+    append_byte(b'>', out)
+}
+
+// Appends an IRI in its brackets: a namespace and a name.
+#[tactic(auto, using(crate::proofs::Written::named_utf8, rdf_term::proofs::Appending::still_front, std::proofs::lemmas::List::append_assoc))]
+fn write_named(front: &str, name: &str, out: &mut Vec<u8>) -> Result<(), OutOfMemory>
+    ensures text { Appends out.old.items out.new.items (in_brackets (front.now ++ name.now)) result }
+    ensures utf8 { IsUtf8 (in_brackets (front.now ++ name.now)) }
+{
+    append_byte(b'<', out)?;
     append(front.as_bytes(), out)?;
     append(name.as_bytes(), out)?;
-    append(end.as_bytes(), out)?;
-    append(b">", out)
+    append_byte(b'>', out)
+}
+
+// Appends an IRI in its brackets.
+#[tactic(auto, using(rdf_term::proofs::Utf8Texts::iri_utf8, rdf_term::proofs::Appending::still_front, std::proofs::lemmas::List::append_assoc))]
+fn write_iri(iri: &str, out: &mut Vec<u8>) -> Result<(), OutOfMemory>
+    ensures text { Appends out.old.items out.new.items (in_brackets iri.now) result }
+    ensures utf8 { IsUtf8 (in_brackets iri.now) }
+{
+    append_byte(b'<', out)?;
+    append(iri.as_bytes(), out)?;
+    append_byte(b'>', out)
 }
 
 // Appends a blank node by its label.
@@ -171,7 +199,7 @@ fn write_lang(text: &str, tag: &str, out: &mut Vec<u8>) -> Result<(), OutOfMemor
     ensures utf8 { IsUtf8 (quoted text.now (64 ∷ tag.now)) }
 {
     write_quoted(text, out)?;
-    append(b"@", out)?;
+    append_byte(b'@', out)?;
     append(tag.as_bytes(), out)
 }
 
@@ -184,7 +212,7 @@ fn write_typed(text: &str, datatype: &str, out: &mut Vec<u8>) -> Result<(), OutO
     write_quoted(text, out)?;
     append(b"^^<", out)?;
     append(datatype.as_bytes(), out)?;
-    append(b">", out)
+    append_byte(b'>', out)
 }
 
 // Appends the bytes.
@@ -192,5 +220,13 @@ fn append(bytes: &[u8], out: &mut Vec<u8>) -> Result<(), OutOfMemory>
     ensures { Appends out.old.items out.new.items bytes.now result }
 {
     out.extend_from_slice(bytes)?;
+    Ok(())
+}
+
+// Appends the byte.
+fn append_byte(byte: u8, out: &mut Vec<u8>) -> Result<(), OutOfMemory>
+    ensures { Appends out.old.items out.new.items (byte ∷ []) result }
+{
+    out.push(byte)?;
     Ok(())
 }

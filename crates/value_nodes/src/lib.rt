@@ -10,9 +10,7 @@ mod name;
 mod nodes;
 mod simple;
 
-pub use laws::{
-    node_terms_are_fit, simple_terms_are_fit, unit_one_is_named_as_the_number_one,
-};
+pub use laws::{node_terms_are_fit, simple_terms_are_fit, unit_one_is_named_as_the_number_one};
 pub use name::node_name;
 pub use nodes::emit_parts;
 pub use simple::{emit_iri, emit_simple};

@@ -51,7 +51,10 @@ fn quantity_fields(setting: Setting, quantity: &QuantityParts) -> Result<String,
 {
     let mut fields = begun_fields(setting, "q")?;
     push_field(quantity.amount.as_str(), &mut fields)?;
-    push_field(named_unit(setting.version, quantity.unit.as_str()), &mut fields)?;
+    push_field(
+        named_unit(setting.version, quantity.unit.as_str()),
+        &mut fields,
+    )?;
     push_optional_field(quantity.upper.as_ref(), &mut fields)?;
     push_optional_field(quantity.lower.as_ref(), &mut fields)?;
     Ok(fields)
