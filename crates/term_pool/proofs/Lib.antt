@@ -1,4 +1,5 @@
 pub mod Beside
 pub mod Foreign
+pub mod Fronts
 pub mod Indexed
 pub mod Lying

@@ -1,4 +1,6 @@
 pub mod Counting
+pub mod Front
+pub mod Hashing
 pub mod Index
 pub mod Making
 pub mod Pool

@@ -27,11 +27,11 @@ use text_region::Region;
 #[derive(Drop)]
 pub struct Pool {
     alloc: Global,
-    slots: Slab<Entry>,
+    pub(crate) slots: Slab<Entry>,
     // The slot of the first term with each hash, and the slots of all other terms: hashes of 64 bits hardly ever meet.
-    by_hash: HashMap<u64, u32>,
-    more: Vec<u32>,
-    keys: RandomState,
+    pub(crate) by_hash: HashMap<u64, u32>,
+    pub(crate) more: Vec<u32>,
+    pub(crate) keys: RandomState,
     limit: u32,
 }
 
