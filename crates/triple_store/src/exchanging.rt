@@ -22,18 +22,22 @@ use std::collections::BTreeSet;
 use text_region::Region;
 use triple_texts::{TripleText, TripleTexts};
 
-// Where a triple is looked for first: in the slots of the key before it, and at a place of the old keys.
+// Places of the old keys where the next one may be, the last used first: a walk over a page comes back to a subject that it
+// left for the nodes of its statements.
+type Places = [usize; 4];
+
+// Where a triple is looked for first: in the slots of the key before it, and at places of the old keys.
 #[derive(Clone, Copy)]
 struct Near {
     last: Option<Key>,
-    next: usize,
+    places: Places,
 }
 
-// A key that is at hand, and the place of the old keys where the next one may be.
+// A key that is at hand, and where the next one may be.
 #[derive(Clone, Copy)]
 struct Found {
     key: Key,
-    next: usize,
+    places: Places,
 }
 
 impl Store {
@@ -100,16 +104,16 @@ impl Store {
         ensures free { new.now ≡ [] → IsOk result }
     {
         let mut added = BTreeSet::new(self.alloc);
-        let mut next = 0;
+        let mut places = [0; 4];
         for index in 0..new.len() {
             let texts = new.get(index);
             let near = Near {
                 last: keys.last().copied(),
-                next,
+                places,
             };
             if let Some(found) = self.find_held(region, &texts, near, old, &added) {
                 keys.push_reserved(found.key);
-                next = found.next;
+                places = found.places;
                 continue;
             }
             let key = match self.add(region, &texts) {
@@ -124,8 +128,7 @@ impl Store {
         Ok(())
     }
 
-    // The key of the triple with these texts, where it is among the old ones or those that were added. What stays mostly
-    // stands in the order of the old keys, so the next of them is tried first, which costs no look-up.
+    // The key of the triple with these texts, where it is among the old ones or those that were added.
     fn find_held(
         &self,
         region: &Region,
@@ -140,25 +143,56 @@ impl Store {
         ensures held { IfSome result (λ found. has key_cmp found.key (old.now ++ added.now.keys) ≡ true) }
         ensures none { IfNone result ((key : TheKey) → HasTexts self.now.pool region.now key texts.now → has key_cmp key (old.now ++ added.now.keys) ≡ false) }
     {
-        let next = near.next;
-        if next < old.len() && self.has_texts(region, old[next], texts) {
-            return Some(Found {
-                key: old[next],
-                next: next + 1,
-            });
+        let places = near.places;
+        if let Some(found) = self.find_again(region, texts, places, old) {
+            return Some(found);
         }
         let key = self.find_key(region, texts, near.last)?;
         if let Ok(place) = old.binary_search(&key) {
-            return Some(Found {
-                key,
-                next: place + 1,
-            });
+            let places = with_front(places, 3, place + 1);
+            return Some(Found { key, places });
         }
         if added.contains(&key) {
-            Some(Found { key, next })
+            Some(Found { key, places })
         } else {
             None
         }
+    }
+
+    // The key of the triple with these texts, where it is at one of the places of the old keys. What stays mostly stands in
+    // their order, so this saves most look-ups.
+    fn find_again(
+        &self,
+        region: &Region,
+        texts: &TripleText<'_>,
+        places: Places,
+        old: &[Key],
+    ) -> Option<Found>
+        requires stored { IsStored self.now region.now }
+        ensures texts { IfSome result (λ found. HasTexts self.now.pool region.now found.key texts.now) }
+        ensures there { IfSome result (λ found. has key_cmp found.key old.now ≡ true) }
+    {
+        for (from, place) in places.iter().enumerate() {
+            let place = *place;
+            if place < old.len() && self.has_texts(region, old[place], texts) {
+                return Some(Found {
+                    key: old[place],
+                    places: with_front(places, from, place + 1),
+                });
+            }
+        }
+        None
+    }
+}
+
+// The places with another one in front, in the stead of the one that stood at `from`.
+fn with_front(places: Places, from: usize, front: usize) -> Places {
+    let [first, second, third, fourth] = places;
+    match from {
+        0 => [front, second, third, fourth],
+        1 => [front, first, third, fourth],
+        2 => [front, first, second, fourth],
+        _ => [front, first, second, third],
     }
 }
 

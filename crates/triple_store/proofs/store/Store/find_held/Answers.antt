@@ -13,4 +13,4 @@ pub returns-else-contains-clause-none : goal.returns-else-contains-clause-none
 returns-else-contains-clause-none c key texts =
     subst (λ (k : Key). has key_cmp k (c.args.old.now ++ c.args.added.now.keys) ≡ false)
     (one_of_texts _ _ c.requires.stored.lies _ _ _ c.in_ok-key.ensures.found texts)
-    (not_held c.args.old.now c.args.added.now.keys c.in_ok-key.key c.binary_search.result c.requires.rising c.binary_search.ensures.bound c.binary_search.ensures.position (ap is_ok c.in_default.is) (sym c.contains.ensures ∙ c.if-contains.false))
+    (not_held c.args.old.now c.args.added.now.keys c.in_ok-key.key c.binary_search.result c.requires.rising c.binary_search.ensures.bound c.binary_search.ensures.position (ap is_ok c.in_default-binary_search.is) (sym c.contains.ensures ∙ c.if-contains.false))
