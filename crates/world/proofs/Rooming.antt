@@ -36,7 +36,7 @@ use Rattle.replay_model.proofs.Owners.{has-union, union-rises}
 use Rattle.world.specs.InStep.{IsCounted, IsKept}
 use Rattle.world.specs.Keeping.{KeptRecords, record_with, seen}
 use Rattle.world.specs.Meaning.{meaning}
-use Rattle.world.specs.Roomed.{room_with, triples_of_reply}
+use Rattle.world.specs.Roomed.{HasRoom, room_with, triples_of_reply}
 use Rattle.world.proofs.Owning.{countable}
 use Rattle.world.proofs.Values.{rising_keys, values_len}
 
@@ -111,6 +111,13 @@ no_keys st r kept h none =
     let entries : map.entries (seen st r kept) ≡ [] = no_entries (map.entries (seen st r kept)) (sym (map.len-entries (seen st r kept)) ∙ none) in
     let keys : map.keys (counts_in st r) ≡ [] = stored_union st r kept h ∙ ap (λ es. sorted triple_cmp (flat_map (triples_at meaning) es)) entries in
     sym (len_image st r h.stored) ∙ map.len-entries (counts_in st r) ∙ sym (length-map (map.entries (counts_in st r)) (λ e. e.0)) ∙ ap length keys
+
+-- without records nothing needs room
+pub nothing_held : (records : Records) (room : ℕ) → map.len records ≡ 0 → HasRoom room records
+nothing_held records room none =
+    let entries : map.entries records ≡ [] = no_entries (map.entries records) (sym (map.len-entries records) ∙ none) in
+    let zero : room_with records [] ≡ 0 = ap (λ es. distinct (flat_map terms_of (sorted triple_cmp (flat_map (triples_at meaning) es) ++ []))) entries in
+    omega arith
 
 -- what an application stores is the page that came
 pub stored_page : (records : Records) (e : Event) (reply : Result Bytes Cause) (outcome : Outcome) → outcome ≡ outcome_after (record_of records e.entity) e reply → outcome ≡ Stored

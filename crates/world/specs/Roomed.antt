@@ -1,5 +1,5 @@
 -- How many terms the store needs room for, and the values that have this room.
-use Rattle.std.specs.Prelude.{◌≡◌, ℕ, ◌<◌, List, [], ◌++◌, Option, Some, Result, Ok, Err}
+use Rattle.std.specs.Prelude.{◌≡◌, ℕ, ◌<◌, ◌≤◌, List, [], ◌++◌, Option, Some, Result, Ok, Err}
 use Rattle.std.specs.List.{flat_map}
 use Rattle.rdf_term.specs.declared.triple.Triple.{Triple}
 use Rattle.rdf_term.specs.Order.{triple_cmp}
@@ -20,6 +20,10 @@ use Rattle.world.specs.Meaning.{meaning}
 -- how many different terms the triples of all that is held have together with other triples
 abbrev pub room_with : Records → List Triple → ℕ
 room_with records triples = distinct (flat_map terms_of (union triple_cmp meaning records ++ triples))
+
+-- the triples of all that is held have no more different terms than there may be
+abbrev pub HasRoom : ℕ → Records → Type 0
+HasRoom room records = room_with records [] ≤ room
 
 -- the triples that a reply brings
 abbrev pub triples_of_reply : EntityId → ℕ → Result Bytes Cause → List Triple

@@ -16,7 +16,7 @@ ghost use Rattle.world.specs.Fetched.{AreMeant, reply_or_any};
 ghost use Rattle.world.specs.Keeping.{held_with, kept_of, piece_at};
 ghost use Rattle.world.specs.Laid.{IsLaid};
 ghost use Rattle.world.specs.Meaning.{meaning};
-ghost use Rattle.world.specs.Roomed.{Overfills, room_with, triples_of_reply};
+ghost use Rattle.world.specs.Roomed.{HasRoom, Overfills, room_with, triples_of_reply};
 
 use crate::applied::Outcome;
 use crate::fetching::Reply;
@@ -80,7 +80,8 @@ impl Pages {
     /// Sets how many terms there may be. There is no record yet.
     pub fn set_room(&mut self, room: u32)
         requires { map.len self.old.played.records ≡ 0 }
-        ensures { self.new ≡ record { played = self.old.played; room = room } }
+        ensures room { self.new ≡ record { played = self.old.played; room = room } }
+        ensures held { HasRoom self.new.room self.new.played.records }
     {
         self.store.set_limit(room);
     }
@@ -104,6 +105,7 @@ impl Pages {
             (standing_after (standing_of (record_of self.old.played.records event.entity)) event).state.rev (reply_or_any reply) }
         ensures within { OnOk result (room_with self.old.played.records
             (triples_of_reply event.entity (standing_after (standing_of (record_of self.old.played.records event.entity)) event).state.rev (reply_or_any reply)) ≤ self.old.room) }
+        ensures held { HasRoom self.new.room self.new.played.records }
         ensures err { OnErr result (self.new ≡ self.old) }
     {
         let after = self.standing(event.entity).after(&event);
@@ -192,7 +194,8 @@ impl Pages {
 
     /// How many different terms the triples of all that is held have.
     pub fn terms(&self) -> u32
-        ensures { result ≡ room_with self.now.played.records [] }
+        ensures count { result ≡ room_with self.now.played.records [] }
+        ensures within { result ≤ self.now.room }
     {
         self.store.terms()
     }

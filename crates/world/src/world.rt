@@ -19,7 +19,7 @@ ghost use Rattle.entity_state.specs.State.{state_after};
 ghost use Rattle.world.specs.Fetched.{AreMeant, reply_of, reply_or_any};
 ghost use Rattle.world.specs.Laid.{IsLaid};
 ghost use Rattle.world.specs.Meaning.{meaning};
-ghost use Rattle.world.specs.Roomed.{IsOverfull, room_with};
+ghost use Rattle.world.specs.Roomed.{HasRoom, IsOverfull, room_with};
 ghost use Rattle.world.specs.declared.applied.Outcome.TheVariants.{Stored};
 ghost use Rattle.world.specs.declared.applied.WorldFault.TheVariants.{Full, Nothing as NothingDue};
 
@@ -54,7 +54,7 @@ pub struct World {
 impl Model for World {
     ghost use Rattle.replay_model.specs.Entries.{HoldsUnlessOpen};
     ghost use Rattle.world.specs.Codes.{replay_in_room_code};
-    ghost use Rattle.world.specs.Roomed.{ReplayInRoom};
+    ghost use Rattle.world.specs.Roomed.{HasRoom, ReplayInRoom};
 
     ghost Value = { ReplayInRoom };
 
@@ -62,7 +62,7 @@ impl Model for World {
 
     ghost view = { λ a. record { replay = record { buffer = a.buffer; played = a.pages.played }; room = a.pages.room } };
 
-    ghost invariant = { λ a. HoldsUnlessOpen a.pages.played };
+    ghost invariant = { λ a. HoldsUnlessOpen a.pages.played × HasRoom a.pages.room a.pages.played.records };
 }
 
 impl World {
@@ -123,7 +123,7 @@ impl World {
     /// Applies the least due event: its entity's state is set, and where the new state is of a page that is there at a
     /// revision that isn't held, this revision is fetched once. After a fault nothing has changed, but that a fetch may
     /// have been made. `Full` is said exactly where its triples, with those of all that is held, have more terms than there
-    /// is room for.
+    /// is room for. What is held has room, before and after.
     pub fn apply_next<R: Revisions>(
         &mut self,
         revisions: &mut R,
@@ -133,6 +133,7 @@ impl World {
         ensures room { self.new.room ≡ self.old.room }
         ensures within { IfOk result (λ applied. applied.outcome ≡ Stored → room_with self.old.replay.played.records
             (triples_held meaning applied.event.entity (record_of self.new.replay.played.records applied.event.entity).held) ≤ self.old.room) }
+        ensures held { HasRoom self.new.room self.new.replay.played.records }
         ensures full { IsErrOf result Full → IsOverfull (R.contents revisions.old) place.now self.old }
         ensures err { OnErr result (self.new ≡ self.old) }
         ensures nothing { IsErrOf result NothingDue ↔ (first_due self.old.replay.buffer ≡ None) }
@@ -194,7 +195,8 @@ impl World {
 
     /// How many different terms the triples of all that is held have.
     pub fn terms(&self) -> u32
-        ensures { result ≡ room_with self.now.replay.played.records [] }
+        ensures count { result ≡ room_with self.now.replay.played.records [] }
+        ensures within { result ≤ self.now.room }
     {
         self.pages.terms()
     }

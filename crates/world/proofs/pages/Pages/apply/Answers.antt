@@ -1,4 +1,4 @@
--- Where no page came, what is held has room.
+-- What is held has room.
 use Rattle.world.proofs.Rooming.{room_held}
 use Rattle.world.proofs.pages.Pages.apply.Goals as goal
 
@@ -9,3 +9,15 @@ returns-in-Some-Err-clause-within c = rw (← c.self.view_is, c.in-Some-Err.is, 
 pub returns-in-None-clause-within : goal.returns-in-None-clause-within
 returns-in-None-clause-within c = rw (← c.self.view_is, c.in-None.is)
     (room_held c.self.inside.store c.self.inside.region c.self.inside.table.records c.self.invariant)
+
+pub returns-then-is_err-clause-held : goal.returns-then-is_err-clause-held
+returns-then-is_err-clause-held c = rw c.make_room.ensures.records (room_held c.self.inside.store c.self.inside.region c.self.inside.table.records c.self.invariant)
+
+pub returns-after-hold-clause-held : goal.returns-after-hold-clause-held
+returns-after-hold-clause-held c = room_held _ _ _ c.hold.ensures.kept
+
+pub returns-in-Some-Err-clause-held : goal.returns-in-Some-Err-clause-held
+returns-in-Some-Err-clause-held c = room_held _ _ _ c.keep.ensures.kept
+
+pub returns-in-None-clause-held : goal.returns-in-None-clause-held
+returns-in-None-clause-held c = room_held _ _ _ c.settle_unfetched.ensures.kept

@@ -1,6 +1,6 @@
 -- Without records nothing is stored, and another limit changes nothing else.
 use Rattle.world.proofs.Replacing.{kept_refused}
-use Rattle.world.proofs.Rooming.{no_keys}
+use Rattle.world.proofs.Rooming.{no_keys, room_held}
 use Rattle.world.proofs.pages.Pages.set_room.Goals as goal
 
 pub set_limit-requires : goal.set_limit-requires
@@ -11,3 +11,10 @@ invariant_of-self c =
     kept_refused c.self.inside.store c.self.inside.region c.set_limit.new.self c.self.inside.region c.self.inside.table.records c.self.invariant
     (c.set_limit.ensures.stored c.self.inside.region c.self.invariant.stored) (c.set_limit.ensures.counts c.self.inside.region)
     (record { kept = λ key t is _. c.set_limit.ensures.kept c.self.inside.region key t is }) (c.set_limit.ensures.beside c.self.inside.region)
+
+pub returns-clause-held : goal.returns-clause-held
+returns-clause-held c =
+    room_held c.set_limit.new.self c.self.inside.region c.self.inside.table.records
+    (kept_refused c.self.inside.store c.self.inside.region c.set_limit.new.self c.self.inside.region c.self.inside.table.records c.self.invariant
+    (c.set_limit.ensures.stored c.self.inside.region c.self.invariant.stored) (c.set_limit.ensures.counts c.self.inside.region)
+    (record { kept = λ key t is _. c.set_limit.ensures.kept c.self.inside.region key t is }) (c.set_limit.ensures.beside c.self.inside.region))

@@ -13,7 +13,7 @@ use Rattle.world.proofs.world.World.apply_next.Goals as goal
 
 pub invariant_of-self : goal.invariant_of-self
 invariant_of-self g c =
-    rw c.in-Ok.ensures.applied (holds-apply (λ _ _. reply_or_any c.in_ok-reply.reply) c.self.inside.pages.played c.in-Some.event c.self.invariant)
+    (rw c.in-Ok.ensures.applied (holds-apply (λ _ _. reply_or_any c.in_ok-reply.reply) c.self.inside.pages.played c.in-Some.event c.self.invariant.0), c.in-Ok.ensures.held)
 
 pub returns-in-Ok-clause-within : goal.returns-in-Ok-clause-within
 returns-in-Ok-clause-within g c = rw (← c.self.view_is) (λ stored.
