@@ -47,6 +47,7 @@ pub fn fetch<R: Revisions>(
     ensures called { R.calls revisions.new ≡ counted (R.calls revisions.old) }
     ensures more_faults { R.faults revisions.old ≤ R.faults revisions.new }
     ensures more_misses { R.misses revisions.old ≤ R.misses revisions.new }
+    ensures most { R.most_faults revisions.new ≡ R.most_faults revisions.old }
 {
     match revisions.fetch(alloc, place, rev) {
         Ok(bytes) => judge(alloc, id, rev, bytes),

@@ -157,6 +157,7 @@ impl World {
         ensures calls_at_full { IsErrOf result Full → R.calls revisions.new ≡ counted (R.calls revisions.old) }
         ensures more_faults { R.faults revisions.old ≤ R.faults revisions.new }
         ensures more_misses { R.misses revisions.old ≤ R.misses revisions.new }
+        ensures most { R.most_faults revisions.new ≡ R.most_faults revisions.old }
     {
         let Some(event) = self.buffer.least_due() else {
             return Err(WorldFault::Nothing);
@@ -288,6 +289,7 @@ impl World {
         ensures called { OnErr result (R.calls revisions.new ≡ counted (R.calls revisions.old)) }
         ensures more_faults { R.faults revisions.old ≤ R.faults revisions.new }
         ensures more_misses { R.misses revisions.old ≤ R.misses revisions.new }
+        ensures most { R.most_faults revisions.new ≡ R.most_faults revisions.old }
     {
         let after = self.pages.standing(event.entity).after(event);
         if !after.wants() {
