@@ -1,6 +1,6 @@
 use crate::{
-    Json, JsonFault, has_one_tree, members_weigh_no_more_than_value, read, text_is_utf8,
-    weighs_no_more_than_text,
+    Json, JsonFault, has_one_tree, members_weigh_no_more_than_value, nesting_to_64_is_not_deep,
+    read, text_is_utf8, weighs_no_more_than_text,
 };
 use std::alloc::{AllocError, Global};
 use std::test::Fail;
@@ -277,6 +277,7 @@ fn finds_members(rt: HostRuntime) -> Result<(), Fail> {
     has_one_tree();
     members_weigh_no_more_than_value();
     text_is_utf8();
+    nesting_to_64_is_not_deep();
     weighs_no_more_than_text();
     Ok(())
 }
