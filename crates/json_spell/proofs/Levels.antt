@@ -137,7 +137,7 @@ none-deep : (o c : ℕ) → deep_from Outside o c [] ≡ false
 unfolding deep_from
 none-deep o c = refl
 
-pub reads-low : (bytes : List ℕ) (t : Tree) → Reads bytes t → Nests 64 t → ¬ (IsDeep bytes)
-reads-low bytes t h nests =
+pub reads_low : (bytes : List ℕ) (t : Tree) → Reads bytes t → Nests 64 t → ¬ (IsDeep bytes)
+reads_low bytes t h nests =
     let p = spaced-passes 64 (IsValue t) (λ y i. value-passes 64 t y nests i) bytes h 0 0 [] (omega arith) in
     shallow bytes (ap (deep_from Outside 0 0) (sym (append-nil bytes)) ∙ p.is ∙ none-deep p.opened p.closed)

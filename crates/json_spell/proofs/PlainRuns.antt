@@ -1,13 +1,13 @@
 -- A run of plain bytes is UTF-8, and up to a quotation mark it is the content of a string.
-use Rattle.std.proofs.Common.{◌≡◌, ℕ, ◌<◌, Bool, true, false, not, ◌&&◌, ◌||◌, ◌==◌, List, [], ◌∷◌, ◌++◌, Some, nat_lt, refl, sym, ap, subst, ◌∙◌, arith}
+use Rattle.std.proofs.Common.{◌≡◌, ℕ, ◌<◌, true, List, [], ◌∷◌, ◌++◌, Some, refl, sym, ap, subst, ◌∙◌, arith}
 use Rattle.std.specs.Str.{IsUtf8, is_utf8}
 use Rattle.std.proofs.lemmas.Str.{IsUtf8-from_ascii, is_utf8-from_IsUtf8}
 use Rattle.std.proofs.lemmas.Bool.Decides.{nat_tests}
 use Rattle.json_spell.specs.Number.{Each}
 use Rattle.json_spell.specs.Text.{is_unescaped}
 use Rattle.json_spell.specs.Reading.{skip, before, run_at, content_at}
-use Rattle.json_spell.specs.Runs.{is_stop, is_plain}
-use Rattle.json_spell.proofs.Skips.{stops, skip-split, skip-all, before-append}
+use Rattle.json_spell.specs.Runs.{is_plain}
+use Rattle.json_spell.proofs.Skips.{skip-split, skip-all, before-append}
 use Rattle.json_spell.proofs.Numbers.{each-ascii}
 use Rattle.json_spell.proofs.ContentSteps.{content_at-closed}
 

@@ -4,6 +4,8 @@ ghost use Rattle.std.specs.Prelude.{◌≡◌, ℕ, ◌≤◌, List, length, tru
 ghost use Rattle.std.specs.Str.{IsUtf8};
 ghost use Rattle.json_spell.specs.Tree.{Tree};
 ghost use Rattle.json_spell.specs.Grammar.{Reads};
+ghost use Rattle.json_spell.specs.Nesting.{Nests};
+ghost use Rattle.json_spell.specs.Deep.{IsDeep};
 ghost use Rattle.json_spell.specs.Weight.{weight, weights_at, are_distinct};
 
 /// A text has at most one value.
@@ -28,4 +30,9 @@ pub fn members_weigh_no_more_than_value()
 #[tactic(auto, using(crate::proofs::Utf8Texts::reads_utf8))]
 pub fn text_is_utf8()
     ensures { (bytes : List ℕ) (t : Tree) → Reads bytes t → IsUtf8 bytes }
+{}
+
+/// A text whose value nests at most 64 arrays and objects isn't deep.
+pub fn nesting_to_64_is_not_deep()
+    ensures { (bytes : List ℕ) (t : Tree) → Reads bytes t → Nests 64 t → ¬ (IsDeep bytes) }
 {}

@@ -2,8 +2,8 @@
 //!
 //! `json` has the values and the look-up of a member, `fault` what a text is refused for, and `reader` the reader of
 //! a whole text. It stands on `deep`, which counts brackets, and on `value`, which reads the value; `number` and
-//! `string` read those two, and `bytes` steps over white space, digits and the like. `laws` has what holds of the
-//! grammar itself.
+//! `string` read those two, `bytes` steps over white space, digits and the like, and `runs` over the plain bytes of
+//! strings, sixteen at a time. `laws` has what holds of the grammar itself.
 #![tactic(auto)]
 
 mod bytes;
@@ -20,6 +20,7 @@ mod value;
 pub use fault::JsonFault;
 pub use json::{Json, Member};
 pub use laws::{
-    has_one_tree, members_weigh_no_more_than_value, text_is_utf8, weighs_no_more_than_text,
+    has_one_tree, members_weigh_no_more_than_value, nesting_to_64_is_not_deep, text_is_utf8,
+    weighs_no_more_than_text,
 };
 pub use reader::read;

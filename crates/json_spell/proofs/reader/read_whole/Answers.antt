@@ -5,7 +5,7 @@ use Rattle.std.proofs.lemmas.Result.{err_from_is_err_and}
 use Rattle.std.proofs.lemmas.Bool.Decides.{nat_tests}
 use Rattle.json_spell.specs.View.{json_view}
 use Rattle.json_spell.proofs.Complete.{text-sound}
-use Rattle.json_spell.proofs.Levels.{reads-low}
+use Rattle.json_spell.proofs.Levels.{reads_low}
 use Rattle.json_spell.proofs.AnswerLemmas.{excuses-passed, excuses-behind}
 use Rattle.json_spell.proofs.reader.read_whole.Goals as goal
 
@@ -25,4 +25,4 @@ returns c =
     let none_left : (length c.in_ok-json.rest.now == 0) ≡ true = sym c.is_empty.ensures ∙ c.if-not-is_empty.false in
     let rest_is = nil_from_length c.in_ok-json.rest.now (grind (arith, nat_tests)) in
     let reads = text-sound c.args.bytes.now (json_view c.in_ok-json.json) (c.in_ok-json.ensures.read ∙ ap (λ q. Some (json_view c.in_ok-json.json, q)) rest_is) in
-    (reads-low c.args.bytes.now (json_view c.in_ok-json.json) reads c.in_ok-json.ensures.nests, reads)
+    (reads_low c.args.bytes.now (json_view c.in_ok-json.json) reads c.in_ok-json.ensures.nests, reads)

@@ -1,5 +1,5 @@
 -- Where a quotation mark follows the plain bytes, they are the content.
-use Rattle.std.proofs.Common.{◌≡◌, ◌∷◌, List, ℕ, Some, sym, ap, ap₂, ◌∙◌, subst}
+use Rattle.std.proofs.Common.{◌≡◌, ◌∷◌, Some, sym, ap, ◌∙◌, subst}
 use Rattle.std.specs.Str.{IsUtf8}
 use Rattle.json_spell.specs.Runs.{is_plain}
 use Rattle.json_spell.specs.Reading.{skip, before}
