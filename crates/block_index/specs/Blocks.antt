@@ -1,5 +1,5 @@
 -- Blocks of keys, and the list of keys that they make.
-use Rattle.std.specs.Prelude.{◌≡◌, ℕ, ◌<◌, ◌≤◌, ◌&&◌, List, [], ◌∷◌, ◌++◌, length, filter}
+use Rattle.std.specs.Prelude.{◌≡◌, ℕ, ◌<◌, ◌≤◌, ◌&&◌, List, [], ◌∷◌, ◌++◌, length, filter, slice_index_or}
 use Rattle.std.specs.declared.cmp.Ordering.{Ordering}
 use Rattle.std.specs.Ordering.{is_le}
 use Rattle.rising.specs.Rising.{IsRising}
@@ -9,6 +9,10 @@ module _ {K : Type 0} where
   abbrev pub keys_of : List (List K) → List K
   keys_of [] = []
   keys_of (b ∷ bs) = b ++ keys_of bs
+
+  -- a block's keys begin with this one
+  abbrev pub IsFirst : K → List K → Type 0
+  IsFirst first b = (d : K) → slice_index_or b 0 d ≡ first
 
   -- a block has 1 to 128 keys
   abbrev pub IsFilled : List K → Type 0

@@ -1,5 +1,5 @@
 -- The map to counts, from the set of its triples and the counts of the owners after the first.
-use Rattle.std.proofs.Common.{◌≡◌, ℕ, ◌+◌, ◌-◌, ◌<◌, ◌≤◌, ◌==◌, eq-eqb, Bool, true, false, cond, ◌||◌, List, [], ◌∷◌, length, Option, Some, None, Ordering, Less, Equal, Greater, is_eq, is_some, unwrap_or, refl, sym, ◌∙◌, ap, subst, arith, true≢false, ⊎_elim}
+use Rattle.std.proofs.Common.{◌≡◌, ℕ, ◌+◌, ◌-◌, ◌<◌, ◌==◌, eq-eqb, Bool, true, false, cond, ◌||◌, List, [], ◌∷◌, length, Some, None, Less, Equal, Greater, is_eq, is_some, unwrap_or, refl, sym, ◌∙◌, ap, subst, arith, true≢false, ⊎_elim}
 use Rattle.std.specs.Prelude.{map as mapped}
 use Rattle.std.specs.FinMap as map
 use Rattle.std.specs.Map.{lookup}

@@ -1,12 +1,11 @@
 -- A triple that comes or goes in each of the three orders leaves them the same set.
-use Rattle.std.proofs.Common.{◌≡◌, ℕ, ◌+◌, Bool, true, false, not, ◌&&◌, List, length, Ordering, Less, Equal, Greater, is_eq, count_by, nat_lt, refl, sym, ◌∙◌, ap, subst, arith, ⊎_elim}
-use Rattle.std.specs.List.{All}
-use Rattle.std.specs.Ordering.{eq_by_cmp, nat_cmp, ordering_then}
+use Rattle.std.proofs.Common.{◌≡◌, ℕ, ◌+◌, Bool, true, false, ◌&&◌, List, length, Ordering, Less, Equal, Greater, is_eq, count_by, nat_lt, refl, sym, ◌∙◌, ap, subst, arith, ⊎_elim}
+use Rattle.std.specs.Ordering.{nat_cmp, ordering_then}
 use Rattle.std.specs.BTreeSet.{insert_key}
 use Rattle.std.specs.Set.{remove_key}
 use Rattle.std.proofs.lemmas.Bool.{cases_Bool}
 use Rattle.std.proofs.lemmas.Map.Views.{All-insert_key, All-remove_key}
-use Rattle.rising.specs.Rising.{has, IsRising}
+use Rattle.rising.specs.Rising.{has}
 use Rattle.rising.proofs.Rising.{IsRising-insert_key}
 use Rattle.block_index.proofs.Removed.{IsRising-remove_key, remove_key-absent}
 use Rattle.slot_index.specs.declared.key.Key.{Key}

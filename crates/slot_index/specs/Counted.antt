@@ -1,5 +1,5 @@
 -- The map to counts, kept as the set of its triples and the counts of the owners after the first.
-use Rattle.std.specs.Prelude.{◌≡◌, ℕ, ◌+◌, ◌<◌, true, List}
+use Rattle.std.specs.Prelude.{◌≡◌, ◌+◌, ◌<◌, true, List}
 use Rattle.std.specs.Prelude.{map as mapped}
 use Rattle.rising.specs.Rising.{has}
 use Rattle.slot_index.specs.declared.key.Key.{Key}

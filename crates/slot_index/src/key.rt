@@ -2,7 +2,7 @@
 
 ghost use Rattle.std.specs.Prelude.{◌≡◌, refl};
 ghost use Rattle.std.specs.Cmp.{partial_equiv_from_equiv, eq_by_cmp_equiv, partial_order_from_total};
-ghost use Rattle.std.specs.Ordering.{as_partial_cmp, eq_by_cmp};
+ghost use Rattle.std.specs.Ordering.{as_partial_cmp, eq_by_cmp, nat_cmp, ordering_then};
 ghost use Rattle.slot_index.specs.Keys.{IsFit, key_cmp, key_cmp-total, key_cmp-IsAntisymmetric, turned};
 
 use block_index::{Ranked, Steps};
@@ -34,6 +34,16 @@ impl Key {
             third: self.first,
         }
     }
+
+    // The order by the second slot, then the third.
+    fn compare_rest(&self, other: &Key) -> Ordering
+        ensures { result ≡ ordering_then (nat_cmp self.now.second other.now.second) (nat_cmp self.now.third other.now.third) }
+    {
+        match self.second.cmp(&other.second) {
+            Ordering::Equal => self.third.cmp(&other.third),
+            decided => decided,
+        }
+    }
 }
 
 impl PartialEq for Key {
@@ -60,11 +70,10 @@ impl Ord for Key {
     ghost matches_eq = { λ x y. refl };
 
     fn cmp(&self, other: &Key) -> Ordering {
-        let rest = self
-            .second
-            .cmp(&other.second)
-            .then(self.third.cmp(&other.third));
-        self.first.cmp(&other.first).then(rest)
+        match self.first.cmp(&other.first) {
+            Ordering::Equal => self.compare_rest(other),
+            decided => decided,
+        }
     }
 }
 

@@ -11,6 +11,13 @@ returns-then-len-lt-MOST-clause-ok g c =
     let same = ap length (get_or_read c.args.blocks.now.items c.args.block c.index.result.now li c.index.ensures []) in
     edits_grown c.args.blocks.now.items c.args.block c.args.at c.args.key c.index_mut.result.now c.insert.new.self li c.index_mut.ensures.value (omega arith) c.requires.within c.in_ok-insert.ensures.ok
 
+pub insert-requires-clause-some : goal.insert-requires-clause-some
+insert-requires-clause-some g c =
+    let li : c.args.block < length c.args.blocks.now.items = omega (arith, c.args.blocks.now.ok) in
+    let same = ap length (get_or_read c.args.blocks.now.items c.args.block c.index_mut.result.now li c.index_mut.ensures.value []) in
+    let some = (filled_at c.args.blocks.now.items c.args.block li c.requires.filled).0 in
+    omega arith
+
 pub halves-requires-clause-full : goal.halves-requires-clause-full
 halves-requires-clause-full g c =
     let li : c.args.block < length c.args.blocks.now.items = omega (arith, c.args.blocks.now.ok) in

@@ -1,5 +1,5 @@
 -- A stored triple has one owner, and as many as are counted beside it.
-use Rattle.std.proofs.Common.{◌≡◌, ℕ, ◌+◌, ◌∙◌, sym, ap, subst}
+use Rattle.std.proofs.Common.{◌+◌, ◌∙◌, sym, ap, subst}
 use Rattle.std.specs.FinMap as map
 use Rattle.block_index.specs.Steps.{Within}
 use Rattle.slot_index.specs.Counts.{count_of, counts_of}

@@ -1,5 +1,5 @@
 -- A further owner goes, or the one owner.
-use Rattle.std.proofs.Common.{◌≡◌, ◌==◌, ne_eqb, ◌+◌, ◌*◌, ◌^◌, ◌<◌, ◌≤◌, length, ◌∙◌, sym, ap, subst, arith}
+use Rattle.std.proofs.Common.{◌==◌, ne_eqb, ◌∙◌, sym, ap, subst, arith}
 use Rattle.std.specs.FinMap as map
 use Rattle.slot_index.specs.Counts.{count_of, counts_of, lowered}
 use Rattle.slot_index.specs.Counted.{IsCounted, with_more}

@@ -1,5 +1,5 @@
 -- A new triple has its first owner in the indexes, and further ones in the counts.
-use Rattle.std.proofs.Common.{◌≡◌, ◌==◌, eq-eqb, ne_eqb, ◌+◌, ◌*◌, ◌^◌, ◌<◌, ◌≤◌, true, false, length, ◌∙◌, sym, ap, subst, arith}
+use Rattle.std.proofs.Common.{◌≡◌, eq-eqb, ne_eqb, ◌∙◌, sym, ap, subst, arith}
 use Rattle.std.specs.FinMap as map
 use Rattle.std.specs.Bool.{OnFalse}
 use Rattle.std.proofs.lemmas.Bool.{not-true, not-false}

@@ -1,5 +1,5 @@
 -- The stored triples are those of the indexes.
-use Rattle.std.proofs.Common.{◌≡◌, ◌+◌, ◌∙◌, ◌&&◌, Bool, List, length, count_by, sym, ap, subst}
+use Rattle.std.proofs.Common.{◌+◌, ◌∙◌, ◌&&◌, length, count_by, sym, ap, subst}
 use Rattle.std.specs.FinMap as map
 use Rattle.rising.specs.Rising.{IsRising}
 use Rattle.block_index.specs.Steps.{Within}

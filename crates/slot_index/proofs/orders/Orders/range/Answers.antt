@@ -1,5 +1,5 @@
 -- Each pattern is one range, and the triples are turned back.
-use Rattle.std.proofs.Common.{◌≡◌, ◌∙◌, ◌+◌, ◌^◌, ◌<◌, ◌≤◌, ◌&&◌, length, filter, count_by, sym, ap, arith}
+use Rattle.std.proofs.Common.{◌∙◌, ◌&&◌, length, filter, count_by, ap, arith}
 use Rattle.std.specs.Prelude.{map}
 use Rattle.std.proofs.lemmas.List.{length-map}
 use Rattle.slot_index.specs.Keys.{turned}

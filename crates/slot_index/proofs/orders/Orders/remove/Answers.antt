@@ -1,8 +1,8 @@
 -- The triple goes from each index in its turn.
-use Rattle.std.proofs.Common.{◌≡◌, ◌∙◌, ◌+◌, ◌*◌, ◌^◌, ◌<◌, ◌≤◌, length, sym, ap, arith}
+use Rattle.std.proofs.Common.{◌∙◌, length, ap, arith}
 use Rattle.std.specs.Set.{remove_key}
 use Rattle.block_index.specs.Blocks.{keys_of}
-use Rattle.slot_index.specs.Keys.{key_cmp, same_key, turned}
+use Rattle.slot_index.specs.Keys.{same_key, turned}
 use Rattle.slot_index.proofs.Turning.{IsOrders-remove, length-turned, same_orders}
 use Rattle.slot_index.proofs.orders.Orders.remove.Goals as goal
 
