@@ -4,3 +4,4 @@ pub mod TypeNames
 pub mod Fit
 pub mod Labels
 pub mod Direct
+pub mod Keeping

@@ -3,3 +3,4 @@ pub mod Property
 pub mod Dump
 pub mod Statements
 pub mod Gives
+pub mod Keeps

@@ -14,5 +14,5 @@ mod statements;
 mod walk;
 
 pub use dump::{direct_texts, direct_triples, dump_triples};
-pub use laws::dump_triples_are_given;
+pub use laws::{dump_triples_are_given, kept_triples_are_left_of_given_ones};
 pub use walk::emit_dump;

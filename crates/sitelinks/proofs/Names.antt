@@ -139,8 +139,8 @@ looked_up id site (by_special row s is) = rw s (ap Some (sym is))
 looked_up id site (by_code code project s e l is) = rw (s, coded-is id code project e, l) (ap Some (sym is))
 
 -- a site is looked up where the rules name it, and only there
-pub site_of-IsNamed : (id : List ℕ) → IsNamed id (site_of id)
-site_of-IsNamed id site = (named id site, looked_up id site)
+pub site_is_named : (id : List ℕ) → IsNamed id (site_of id)
+site_is_named id site = (named id site, looked_up id site)
 
 pub IsNamed-looked_up : (id : List ℕ) (found : Option Site) → found ≡ site_of id → IsNamed id found
-IsNamed-looked_up id found e = rw e (site_of-IsNamed id)
+IsNamed-looked_up id found e = rw e (site_is_named id)

@@ -3,10 +3,12 @@
 //!
 //! `special` and `project` name the sites, `language` reads a site's language, `lookup` puts these together to a
 //! site of `sites`; `replaced` writes names with one character for another, and `article` has the triples of a link.
+//! `laws` has what holds of the definitions themselves.
 #![tactic(auto)]
 
 mod article;
 mod language;
+mod laws;
 mod lookup;
 mod project;
 mod replaced;
@@ -14,5 +16,6 @@ mod sites;
 mod special;
 
 pub use article::emit_article;
+pub use laws::ids_name_their_sites;
 pub use lookup::site;
 pub use sites::Site;

@@ -9,6 +9,9 @@ use crate::written::written_time;
 use rdf_term::{OutOfMemory, Text};
 use std::alloc::Global;
 
+// How many bytes most dates and times have at most, as `-0044-03-15T00:00:00Z`.
+const USUAL_LENGTH: usize = 24;
+
 /// The text of a literal that stands for a time.
 #[derive(Debug, Drop)]
 pub enum TimeText {
@@ -52,6 +55,7 @@ fn date_time_text(alloc: Global, date: CalendarDate, clock: &str) -> Result<Text
     let sign = if date.year < 0 { "-" } else { "" };
     let year = date.year.unsigned_abs();
     let CalendarDate { month, day, .. } = date;
-    let text = format!(in alloc; "{sign}{year:04}-{month:02}-{day:02}T{clock}")?;
+    let mut text = String::with_capacity(alloc, USUAL_LENGTH)?;
+    write!(text, "{sign}{year:04}-{month:02}-{day:02}T{clock}")?;
     Ok(Text::from_string(text))
 }

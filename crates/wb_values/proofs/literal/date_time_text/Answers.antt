@@ -10,9 +10,9 @@ returns c =
     let date = c.args.date in
     let fits : FitsSigned w64 date.year = search rules in
     let year = to_z-of_z fits in
-    let written : string_bytes c.in_ok-text.text ≡ c.if-date-lt0.sign.now ++ (styled_decimal c.laid_out.result c.unsigned_abs-year.result ++ ((45 ∷ []) ++ (styled_decimal c.laid_out-2.result date.month ++ ((45 ∷ []) ++ (styled_decimal c.laid_out-3.result date.day ++ ((84 ∷ []) ++ c.args.clock.now)))))) = c.in_ok-text.ensures.ok in
+    let written : string_bytes c.write.new.self ≡ string_bytes c.in_ok-text.text ++ (c.if-date-lt0.sign.now ++ (styled_decimal c.laid_out.result c.unsigned_abs-year.result ++ ((45 ∷ []) ++ (styled_decimal c.laid_out-2.result date.month ++ ((45 ∷ []) ++ (styled_decimal c.laid_out-3.result date.day ++ ((84 ∷ []) ++ c.args.clock.now))))))) = c.in_ok-write.ensures.bytes in
     let sign : c.if-date-lt0.sign.now ≡ sign_text date.year = elim c.if-date-lt0.branch [
       | then-date-lt0 w ↦ ap (λ s. s.now) w.sign-is ∙ rw (rw year at w.if-date-lt0.true)
       | else-date-lt0 w ↦ ap (λ s. s.now) w.sign-is ∙ rw (rw year at w.if-date-lt0.false)
     ] in
-    c.from_string.ensures ∙ written ∙ rw (c.laid_out.ensures, c.laid_out-2.ensures, c.laid_out-3.ensures, four_digits, two_digits, two_digits, c.unsigned_abs-year.ensures.value ∙ ap unsigned_abs year) (date_time_text_is date c.args.clock.now _ sign)
+    c.from_string.ensures ∙ written ∙ rw (c.in_ok-text.ensures.bytes, c.laid_out.ensures, c.laid_out-2.ensures, c.laid_out-3.ensures, four_digits, two_digits, two_digits, c.unsigned_abs-year.ensures.value ∙ ap unsigned_abs year) (date_time_text_is date c.args.clock.now _ sign)

@@ -1,0 +1,27 @@
+-- A text whose bytes stand for themselves is the name that it becomes, and a `$` becomes `-`.
+use Rattle.std.proofs.Common.{◌≡◌, ℕ, Bool, true, false, ◌&&◌, List, [], ◌∷◌, ◌++◌, Option, Some, None, IfSome, refl, ap, ◌∙◌, arith}
+use Rattle.std.specs.Prelude.{MatchOption}
+use Rattle.std.proofs.lemmas.List.Concat.{flat_map-append}
+use Rattle.std.specs.List.{list_all}
+use Rattle.std.proofs.lemmas.Bool.Decides.{nat_tests}
+use Rattle.statement_rdf.specs.Node.{is_kept, name_byte, statement_name}
+
+stands : (b : ℕ) → is_kept b ≡ true → name_byte b ≡ b ∷ []
+stands b h = grind (arith, nat_tests)
+
+both : (a b : Bool) → (a && b) ≡ true → (a ≡ true) × (b ≡ true)
+both true b e = (refl, e)
+both false b e = cc
+
+pub kept_same : (id : List ℕ) → list_all is_kept id ≡ true → statement_name id ≡ id
+kept_same [] h = refl
+kept_same (b ∷ id) h =
+    let parts = both (is_kept b) (list_all is_kept id) h in
+    rw (stands b parts.0) (ap (λ t. b ∷ t) (kept_same id parts.1))
+
+pub name_around : (id front back : List ℕ) → id ≡ front ++ 36 ∷ back → statement_name id ≡ statement_name front ++ 45 ∷ statement_name back
+name_around id front back e = ap statement_name e ∙ flat_map-append name_byte front (36 ∷ back)
+
+pub where_some : {X : Type 0} (A : Type 0) (P : X → Type 0) (r : Option X) → MatchOption r A P → IfSome r P
+where_some A P None h = tt
+where_some A P (Some x) h = h
