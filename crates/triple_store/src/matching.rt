@@ -101,11 +101,11 @@ impl Store {
         requires there { (key : TheKey) → has key_cmp key keys.now ≡ true → is_key self.now key ≡ true }
         ensures { IfOk result (λ found. found ≡ mapped (triple_at self.now.pool region.now) keys.now) }
     {
-        let mut found = List::new(self.alloc);
+        let mut found = Vec::with_capacity(self.alloc, keys.len())?;
         for key in keys {
             found.push(self.triple_of(region, *key)?)?;
         }
-        Ok(found)
+        Ok(List::from_vec(found))
     }
 
     // The triple of a stored triple of slots.
