@@ -16,7 +16,7 @@ ghost use Rattle.triple_store.specs.Stored.{IsStored, counts_in, is_key};
 
 use crate::store::Store;
 use crate::uncounted::{count, range};
-use rdf_term::{List, OutOfMemory, Pattern, Term, Triple, TripleSet, read_term, write_term};
+use rdf_term::{List, OutOfMemory, Pattern, Term, Triple, TripleSet, read_term};
 use slot_index::{Key, SlotPattern};
 use std::alloc::Global;
 use term_pool::{Pool, Slot};
@@ -38,13 +38,13 @@ impl Store {
         )
     }
 
-    /// The stored triples that agree with the pattern, in memory of their own. A wanted term costs its text and one
-    /// look-up; then it is one range of one index, and the triples of that range are read from their texts and sorted.
+    /// The stored triples that agree with the pattern, in memory of their own. A wanted term costs one look-up; then it is
+    /// one range of one index, and the triples of that range are read from their texts and sorted.
     pub fn matches(&self, region: &Region, pattern: &Pattern) -> Result<TripleSet, OutOfMemory>
         requires { IsStored self.now region.now }
         ensures rows { IfOk result (λ set. set ≡ rows (map.keys (counts_in self.now region.now)) pattern.now) }
     {
-        let Some(wanted) = self.slots_of(region, pattern)? else {
+        let Some(wanted) = self.slots_of(region, pattern) else {
             return Ok(TripleSet::from_rising(List::new(self.alloc)));
         };
         let keys = range(&self.index, wanted)?;
@@ -53,63 +53,46 @@ impl Store {
         Ok(set)
     }
 
-    /// How many entities own the triple. The texts of its terms are written in memory of their own; then it is three
-    /// look-ups and one search in one index.
-    pub fn count(&self, region: &Region, triple: &Triple) -> Result<u64, OutOfMemory>
+    /// How many entities own the triple, which takes no memory: three look-ups and one search in one index.
+    pub fn count(&self, region: &Region, triple: &Triple) -> u64
         requires { IsStored self.now region.now }
-        ensures { IfOk result (λ count. count ≡ count_of (counts_in self.now region.now) triple.now) }
+        ensures { result ≡ count_of (counts_in self.now region.now) triple.now }
     {
-        match self.key_of(region, triple)? {
-            Some(key) => Ok(count(&self.index, key)),
-            None => Ok(0),
+        match self.key_of(region, triple) {
+            Some(key) => count(&self.index, key),
+            None => 0,
         }
     }
 
     // The triple of slots of a triple, where each of its terms is in one.
-    fn key_of(&self, region: &Region, triple: &Triple) -> Result<Option<Key>, OutOfMemory>
+    fn key_of(&self, region: &Region, triple: &Triple) -> Option<Key>
         requires { IsStored self.now region.now }
-        ensures found { IfOk result (λ found. IfSome found (λ key. HasTriple self.now.pool region.now key triple.now)) }
-        ensures nowhere { IfOk result (λ found. IfNone found ((key : TheKey) → HasTriple self.now.pool region.now key triple.now → ⊥)) }
+        ensures found { IfSome result (λ key. HasTriple self.now.pool region.now key triple.now) }
+        ensures nowhere { IfNone result ((key : TheKey) → HasTriple self.now.pool region.now key triple.now → ⊥) }
     {
-        let Some(first) = find_term(self.alloc, &self.pool, region, &triple.subject)? else {
-            return Ok(None);
-        };
-        let Some(second) = find_term(self.alloc, &self.pool, region, &triple.predicate)? else {
-            return Ok(None);
-        };
-        let Some(third) = find_term(self.alloc, &self.pool, region, &triple.object)? else {
-            return Ok(None);
-        };
-        Ok(Some(Key {
+        let first = self.pool.find(region, &triple.subject)?;
+        let second = self.pool.find(region, &triple.predicate)?;
+        let third = self.pool.find(region, &triple.object)?;
+        Some(Key {
             first: first.number,
             second: second.number,
             third: third.number,
-        }))
+        })
     }
 
     // The pattern of slots; `None` where a wanted term is in none.
-    fn slots_of(
-        &self,
-        region: &Region,
-        pattern: &Pattern,
-    ) -> Result<Option<SlotPattern>, OutOfMemory>
+    fn slots_of(&self, region: &Region, pattern: &Pattern) -> Option<SlotPattern>
         requires { IsStored self.now region.now }
-        ensures { IfOk result (λ found. (key : TheKey) → is_key self.now key ≡ true → agrees pattern.now (triple_at self.now.pool region.now key) ≡ key_agrees found key) }
+        ensures { (key : TheKey) → is_key self.now key ≡ true → agrees pattern.now (triple_at self.now.pool region.now key) ≡ key_agrees result key }
     {
-        let Some(first) = slot_of(self.alloc, &self.pool, region, &pattern.subject)? else {
-            return Ok(None);
-        };
-        let Some(second) = slot_of(self.alloc, &self.pool, region, &pattern.predicate)? else {
-            return Ok(None);
-        };
-        let Some(third) = slot_of(self.alloc, &self.pool, region, &pattern.object)? else {
-            return Ok(None);
-        };
-        Ok(Some(SlotPattern {
+        let first = slot_of(&self.pool, region, &pattern.subject)?;
+        let second = slot_of(&self.pool, region, &pattern.predicate)?;
+        let third = slot_of(&self.pool, region, &pattern.object)?;
+        Some(SlotPattern {
             first,
             second,
             third,
-        }))
+        })
     }
 
     // The triples of stored triples of slots.
@@ -118,11 +101,11 @@ impl Store {
         requires there { (key : TheKey) → has key_cmp key keys.now ≡ true → is_key self.now key ≡ true }
         ensures { IfOk result (λ found. found ≡ mapped (triple_at self.now.pool region.now) keys.now) }
     {
-        let mut found = List::new(self.alloc);
+        let mut found = Vec::with_capacity(self.alloc, keys.len())?;
         for key in keys {
             found.push(self.triple_of(region, *key)?)?;
         }
-        Ok(found)
+        Ok(List::from_vec(found))
     }
 
     // The triple of a stored triple of slots.
@@ -140,39 +123,15 @@ impl Store {
 }
 
 // The slot that is wanted at a place, or none where each agrees; `None` where the wanted term is in no slot.
-fn slot_of(
-    alloc: Global,
-    pool: &Pool,
-    region: &Region,
-    wanted: &Option<Term>,
-) -> Result<Option<Option<u32>>, OutOfMemory>
+fn slot_of(pool: &Pool, region: &Region, wanted: &Option<Term>) -> Option<Option<u32>>
     requires { LiesIn pool.now region.now }
-    ensures { IfOk result (λ found. (slot : ℕ) → 0 < count_at pool.now slot → agrees_at wanted.now (term_in (text_at pool.now region.now slot)) ≡ slot_agrees found slot) }
+    ensures { (slot : ℕ) → 0 < count_at pool.now slot → agrees_at wanted.now (term_in (text_at pool.now region.now slot)) ≡ slot_agrees result slot }
 {
     let Some(term) = wanted else {
-        return Ok(Some(None));
+        return Some(None);
     };
-    match find_term(alloc, pool, region, term)? {
-        Some(slot) => Ok(Some(Some(slot.number))),
-        None => Ok(None),
-    }
-}
-
-// The slot of a term, where it is in one. Its text is written for that.
-fn find_term(
-    alloc: Global,
-    pool: &Pool,
-    region: &Region,
-    term: &Term,
-) -> Result<Option<Slot>, OutOfMemory>
-    requires { LiesIn pool.now region.now }
-    ensures found { IfOk result (λ found. IfSome found (λ slot. text_at pool.now region.now slot.number ≡ Some (term_text term.now))) }
-    ensures nowhere { IfOk result (λ found. IfNone found (IsNowhere pool.now region.now (term_text term.now))) }
-{
-    let mut text = Vec::new(alloc);
-    write_term(term, &mut text)?;
-    let found = pool.find_text(region, text.as_slice());
-    Ok(found)
+    let slot = pool.find(region, term)?;
+    Some(Some(slot.number))
 }
 
 // The term in a slot.

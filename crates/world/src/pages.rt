@@ -179,8 +179,8 @@ impl Pages {
     }
 
     /// How many entities hold the triple.
-    pub fn owners(&self, triple: &Triple) -> Result<u64, OutOfMemory>
-        ensures { IfOk result (λ count. count ≡ owners triple_cmp meaning self.now.played.records triple.now) }
+    pub fn owners(&self, triple: &Triple) -> u64
+        ensures { result ≡ owners triple_cmp meaning self.now.played.records triple.now }
     {
         self.store.count(&self.region, triple)
     }

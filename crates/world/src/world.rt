@@ -189,9 +189,9 @@ impl World {
         self.pages.matches(pattern)
     }
 
-    /// How many entities hold the triple.
-    pub fn owners(&self, triple: &Triple) -> Result<u64, OutOfMemory>
-        ensures { IfOk result (λ count. count ≡ owners triple_cmp meaning self.now.replay.played.records triple.now) }
+    /// How many entities hold the triple, which takes no memory.
+    pub fn owners(&self, triple: &Triple) -> u64
+        ensures { result ≡ owners triple_cmp meaning self.now.replay.played.records triple.now }
     {
         self.pages.owners(triple)
     }

@@ -2,7 +2,6 @@
 use Rattle.std.proofs.Common.{ap, ◌∙◌, count_by}
 use Rattle.rising.specs.Rising.{sorted}
 use Rattle.rdf_term.specs.Order.{triple_cmp}
-use Rattle.triple_store.specs.Matching.{key_agrees}
 use Rattle.triple_store.proofs.Matched.{found_stored, matched, none_matched}
 use Rattle.triple_store.proofs.store.Store.matches.Goals as goal
 
@@ -10,7 +9,7 @@ pub returns-in_default : goal.returns-in_default
 returns-in_default c = record {
   rows =
       c.from_rising.ensures ∙ c.new.ensures
-      ∙ none_matched c.args.self.now.pool c.args.region.now c.args.self.now.index c.args.pattern.now (λ k there. c.in_ok-wanted.ensures k there ∙ ap (λ w. key_agrees w k) c.in_default.is);
+      ∙ none_matched c.args.self.now.pool c.args.region.now c.args.self.now.index c.args.pattern.now c.in_default.ensures;
 }
 
 pub triples_of-requires-clause-there : goal.triples_of-requires-clause-there
@@ -21,6 +20,6 @@ returns c = record {
   rows =
       c.in_ok-set.ensures ∙ ap (sorted triple_cmp) c.in_ok-found.ensures
       ∙ matched c.args.self.now.pool c.args.region.now c.args.self.now.index c.args.pattern.now c.in-Some.wanted c.as_slice.result.now
-      (λ k there. c.in_ok-wanted.ensures k there ∙ ap (λ w. key_agrees w k) c.in-Some.is)
+      c.in-Some.ensures
       (λ f. ap (λ ks. count_by f ks) c.as_slice.ensures ∙ c.in_ok-keys.ensures f);
 }
