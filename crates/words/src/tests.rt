@@ -17,8 +17,8 @@ fn words(alloc: Global, text: &str) -> Result<Vec<String>, Fail> {
     Ok(list)
 }
 
-// A replay: its words, its place, its most bytes, its most terms, and whether each section is printed.
-type Row = (&'static str, &'static str, u64, u32, [bool; 3]);
+// A replay: its words, its place, its most bytes, its most terms, its horizon, and whether each section is printed.
+type Row = (&'static str, &'static str, u64, u32, Option<u64>, [bool; 3]);
 
 // The items of a replay, in any order and in both forms.
 const REPLAYS: &[Row] = &[
@@ -27,6 +27,7 @@ const REPLAYS: &[Row] = &[
         ".",
         1_073_741_824,
         20_000_000,
+        None,
         [false, false, false],
     ),
     (
@@ -34,20 +35,23 @@ const REPLAYS: &[Row] = &[
         "a=b",
         1_073_741_824,
         20_000_000,
+        None,
         [false, false, true],
     ),
     (
-        "replay --max-bytes 0 --state --from x --max-terms 1",
+        "replay --max-bytes 0 --horizon 0 --state --from x --max-terms 1",
         "x",
         0,
         1,
+        Some(0),
         [false, true, false],
     ),
     (
-        "replay --max-terms=4294967295 --side --export --state --max-bytes=1099511627776",
+        "replay --max-terms=4294967295 --side --export --state --horizon=9223372036854775807 --max-bytes=1099511627776",
         ".",
         1_099_511_627_776,
         4_294_967_295,
+        Some(9_223_372_036_854_775_807),
         [true, true, true],
     ),
 ];
@@ -56,12 +60,13 @@ const REPLAYS: &[Row] = &[
 fn check_replay(
     rt: &(impl Abort + AllocGlobal),
     options: &ReplayOptions<'_>,
-    (text, place, limit, terms, sections): &Row,
+    (text, place, limit, terms, horizon, sections): &Row,
 ) -> Result<(), Fail> {
     let arguments = take_arguments(rt.alloc(), options)?;
     assert_eq!(rt; arguments.place(), *place, "of {text}");
     assert_eq!(rt; arguments.limit(), *limit, "of {text}");
     assert_eq!(rt; arguments.terms(), *terms, "of {text}");
+    assert_eq!(rt; arguments.horizon(), *horizon, "of {text}");
     let found = [arguments.export(), arguments.state(), arguments.side()];
     assert_eq!(rt; found, *sections, "of {text}");
     Ok(())
@@ -97,7 +102,8 @@ fn drills(rt: HostRuntime) -> Result<(), Fail> {
 }
 
 // Words that aren't understood, a list each line: a drill without its size, with two, with a size that isn't one, with an
-// item of a replay; a replay with the item of a drill, and with most terms that aren't a number from 1 to 4,294,967,295.
+// item of a replay; a replay with the item of a drill, and with most terms that aren't a number from 1 to 4,294,967,295,
+// or a horizon that isn't one from 0 to 9,223,372,036,854,775,807.
 const NOT_UNDERSTOOD: &str = "drill
 drill --size
 drill --size=
@@ -131,7 +137,15 @@ replay --max-terms 18446744073709551617
 replay --max-terms 1 --max-terms 1
 replay --Max-terms 1
 drill --max-terms 1
-drill --size 1 --max-terms 1";
+drill --size 1 --max-terms 1
+replay --horizon
+replay --horizon=
+replay --horizon 00
+replay --horizon -1
+replay --horizon 9223372036854775808
+replay --horizon 18446744073709551616
+replay --horizon 1 --horizon 1
+drill --size 1 --horizon 1";
 
 #[test]
 fn words_that_are_not_understood(rt: HostRuntime) -> Result<(), Fail> {
