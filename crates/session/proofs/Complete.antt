@@ -32,7 +32,7 @@ use Rattle.session.specs.declared.status.Status.{Status}
 use Rattle.session.specs.declared.status.Status.TheVariants.{Ok as Ended, BadWords, BadLine, ReadFault, WriteFault, TooLong, StoreFull, OutOfMemory}
 use Rattle.session.specs.Complete.{FindsDocument, IsStill, has_document, triples_in}
 use Rattle.session.specs.Headline.{Ending, Stopped}
-use Rattle.session.specs.Moment.{Moment, Run}
+use Rattle.session.specs.Moment.{Moment, Run, horizon_at}
 use Rattle.session.specs.Reading.{AreDeliveries, IsPastLimit, IsRefusedLine, deliveries_of, line_delivers, onto_deliveries}
 use Rattle.session.specs.Stop.{stop_of}
 use Rattle.session.specs.Taking.{IsFull, judgement}
@@ -159,9 +159,9 @@ module _ (run : Run) (before now : Moment) (contents : ℕ → Option Bytes) (en
       alike (x ∷ xs) =
           rw (settled_triples judgement contents meaning x (record_of now.stage.world.played.records x) (ending.replayed.replay.holds.there contents known x) (all x), alike xs) refl
 
-  pub nothing_named : IsStill before.stage.counts.faults now.stage.counts.faults → late ending.replayed.deliveries ≡ [] →
-      ((e : Event) → has event_cmp e (accepted ending.replayed.deliveries) ≡ true → FindsDocument judgement contents e) → now.stage.world.played.side ≡ []
+  pub nothing_named : IsStill before.stage.counts.faults now.stage.counts.faults → late (horizon_at before.stage) ending.replayed.deliveries ≡ [] →
+      ((e : Event) → has event_cmp e (accepted (horizon_at before.stage) ending.replayed.deliveries) ≡ true → FindsDocument judgement contents e) → now.stage.world.played.side ≡ []
   nothing_named still none find =
       ap (λ (w : ReplayState). w.played.side) (ending.replayed.replay.played.source contents known)
-      ∙ ap (λ failed. (play_to_end (source_replies judgement contents failed) ending.replayed.deliveries).side) (none_failed_now still)
-      ∙ none_named judgement contents ending.replayed.deliveries none find
+      ∙ ap (λ failed. (play_to_end (horizon_at before.stage) (source_replies judgement contents failed) ending.replayed.deliveries).side) (none_failed_now still)
+      ∙ none_named judgement contents (horizon_at before.stage) ending.replayed.deliveries none find

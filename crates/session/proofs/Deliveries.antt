@@ -29,7 +29,7 @@ use Rattle.transcript.proofs.Parts.{after_twice}
 use Rattle.session.specs.declared.stop.Stop.TheVariants.{OutOfMemory}
 use Rattle.session.specs.declared.stop.Unapplied.{Unapplied}
 use Rattle.session.specs.declared.stop.Unapplied.TheVariants.{OutOfMemory as Starved}
-use Rattle.session.specs.Moment.{Setting, Stage, onward, with_output}
+use Rattle.session.specs.Moment.{Setting, Stage, onward, with_output, horizon_at}
 use Rattle.session.specs.Stop.{stop_of_unapplied, stop_of_unwritten}
 use Rattle.session.specs.Taking.{AppliesDue, AtEnd, AtRest, Course, CutsOff, IsHeldUp, IsWithin, Leads, StaysWithin, course_after, course_begun, course_to_end, judgement, said_behind, turn}
 use Rattle.session.proofs.Due.{no_call, within}
@@ -40,9 +40,9 @@ asks-push ds d = ap length (filter_map-append pattern_of ds (d ∷ [])) ∙ leng
 
 module _ (setting : Setting) (ds : List Delivery) (start : Stage) where
   -- where a delivery doesn't ask, what was said before it is said with it
-  silent : (bytes : Option (List ℕ)) (d : Delivery) (replies : Replies) → said_at meaning replies (record { before = ds; delivery = d }) ≡ [] → bytes ≡ said_behind ds start replies → bytes ≡ said_behind (ds ++ d ∷ []) start replies
+  silent : (bytes : Option (List ℕ)) (d : Delivery) (replies : Replies) → said_at meaning (horizon_at start) replies (record { before = ds; delivery = d }) ≡ [] → bytes ≡ said_behind ds start replies → bytes ≡ said_behind (ds ++ d ∷ []) start replies
   silent bytes d replies none is =
-      is ∙ ap (after_known start.output.bytes) (sym (said-push meaning replies ds d ∙ ap (λ l. said meaning replies ds ++ l) none ∙ append-nil (said meaning replies ds)))
+      is ∙ ap (after_known start.output.bytes) (sym (said-push (horizon_at start) meaning replies ds d ∙ ap (λ l. said meaning (horizon_at start) replies ds ++ l) none ∙ append-nil (said meaning (horizon_at start) replies ds)))
 
   -- an event that is taken is no fetch
   counted_taking : (now : Counts) (made : ℕ) (side : List Entry) (answer : Taken) (e : Event) → HasCounted start.counts now made side → HasCounted start.counts now made (side ++ taken_entries answer e)
@@ -56,7 +56,7 @@ module _ (setting : Setting) (ds : List Delivery) (start : Stage) where
       }
 
   -- a world at rest is where the play is, with all replies that agree on what was applied
-  rest_is : (now : Stage) (at_rest : AtRest setting ds start now) (others : Replies) → AgreeOnApplied now.world at_rest.leads.explained.replies others → now.world ≡ following others ds
+  rest_is : (now : Stage) (at_rest : AtRest setting ds start now) (others : Replies) → AgreeOnApplied now.world at_rest.leads.explained.replies others → now.world ≡ following (horizon_at start) others ds
   rest_is now at_rest =
       Explained-rests judgement setting.known (course_after ds start).state (course_after ds start).fetched at_rest.leads.made now.world at_rest.leads.explained at_rest.rests
 
@@ -71,13 +71,13 @@ module _ (setting : Setting) (ds : List Delivery) (start : Stage) where
   event_taken now e at_rest = record {
     leads = record {
       made = at_rest.leads.made;
-      explained = Explained-event judgement setting.known ds at_rest.leads.made now.world at_rest.leads.explained at_rest.rests e;
+      explained = Explained-event judgement setting.known (horizon_at start) ds at_rest.leads.made now.world at_rest.leads.explained at_rest.rests e;
       counted = counted_taking now.counts at_rest.leads.made now.world.played.side (answer_to now.world.buffer e) e at_rest.leads.counted;
       documents = at_rest.leads.documents;
       says = λ others agree. silent now.output.bytes (Told e) others refl (at_rest.leads.says others
-          (λ q r h. agree q r (applied-event now.world e q (rest_open now at_rest) ∙ h) ∙ ap (λ (replies : Replies). replies q r) (event_replies judgement setting.known ds at_rest.leads.made now.world at_rest.leads.explained at_rest.rests e)));
+          (λ q r h. agree q r (applied-event now.world e q (rest_open now at_rest) ∙ h) ∙ ap (λ (replies : Replies). replies q r) (event_replies judgement setting.known (horizon_at start) ds at_rest.leads.made now.world at_rest.leads.explained at_rest.rests e)));
     };
-    rests = Explained-event_rests judgement setting.known ds at_rest.leads.made now.world at_rest.leads.explained at_rest.rests e;
+    rests = Explained-event_rests judgement setting.known (horizon_at start) ds at_rest.leads.made now.world at_rest.leads.explained at_rest.rests e;
     later = at_rest.later;
   }
 
@@ -89,22 +89,22 @@ module _ (setting : Setting) (ds : List Delivery) (start : Stage) where
   abbrev mark_leads : (now : Stage) (m : ℤ) → AtRest setting ds start now → Leads setting (course_of_mark m) start (onward now now.counts (after_mark now.world m))
   mark_leads now m at_rest = record {
     made = at_rest.leads.made;
-    explained = Explained-mark judgement setting.known ds at_rest.leads.made now.world at_rest.leads.explained at_rest.rests m;
+    explained = Explained-mark judgement setting.known (horizon_at start) ds at_rest.leads.made now.world at_rest.leads.explained at_rest.rests m;
     counted = at_rest.leads.counted;
     documents = at_rest.leads.documents;
     says = λ others agree. at_rest.leads.says others
-        (λ q r h. agree q r (applied-mark now.world m q h) ∙ ap (λ (replies : Replies). replies q r) (mark_replies judgement setting.known ds at_rest.leads.made now.world at_rest.leads.explained at_rest.rests m));
+        (λ q r h. agree q r (applied-mark now.world m q h) ∙ ap (λ (replies : Replies). replies q r) (mark_replies judgement setting.known (horizon_at start) ds at_rest.leads.made now.world at_rest.leads.explained at_rest.rests m));
   }
 
   -- the end is taken: the world leads to the play to the end
   abbrev end_leads : (now : Stage) → AtRest setting ds start now → Leads setting (course_to_end ds start) start (onward now now.counts (after_end now.world))
   end_leads now at_rest = record {
     made = at_rest.leads.made;
-    explained = Explained-end judgement setting.known ds at_rest.leads.made now.world at_rest.leads.explained at_rest.rests;
+    explained = Explained-end judgement setting.known (horizon_at start) ds at_rest.leads.made now.world at_rest.leads.explained at_rest.rests;
     counted = at_rest.leads.counted;
     documents = at_rest.leads.documents;
     says = λ others agree. at_rest.leads.says others
-        (λ q r h. agree q r (applied-end now.world q h) ∙ ap (λ (replies : Replies). replies q r) (end_replies judgement setting.known ds at_rest.leads.made now.world at_rest.leads.explained at_rest.rests));
+        (λ q r h. agree q r (applied-end now.world q h) ∙ ap (λ (replies : Replies). replies q r) (end_replies judgement setting.known (horizon_at start) ds at_rest.leads.made now.world at_rest.leads.explained at_rest.rests));
   }
 
   -- a watermark is taken, and what is due is applied
@@ -133,36 +133,36 @@ module _ (setting : Setting) (ds : List Delivery) (start : Stage) where
   }
 
   -- a world at rest is where its play is
-  pub rest_within : (now : Stage) → AtRest setting ds start now → IsWithin setting (course_begun ds None start) (λ replies. following replies ds) start now
+  pub rest_within : (now : Stage) → AtRest setting ds start now → IsWithin setting (course_begun ds None start) (λ replies. following (horizon_at start) replies ds) start now
   rest_within now at_rest =
-      let There : List Delivery → Type 0 = λ l. IsWithin setting (record (course_after l start) { bytes = said_behind ds start }) (λ replies. following replies ds) start now in
-      subst There (sym (append-nil ds)) (within setting (course_after ds start) (λ replies. following replies ds) start now now.counts (no_call now.counts) (record { leads = at_rest.leads; steps = 0; is = rest_is now at_rest }))
+      let There : List Delivery → Type 0 = λ l. IsWithin setting (record (course_after l start) { bytes = said_behind ds start }) (λ replies. following (horizon_at start) replies ds) start now in
+      subst There (sym (append-nil ds)) (within setting (course_after ds start) (λ replies. following (horizon_at start) replies ds) start now now.counts (no_call now.counts) (record { leads = at_rest.leads; steps = 0; is = rest_is now at_rest }))
 
   -- a watermark is taken, and some of what is due is applied
   pub mark_begun : (now : Stage) (counts : Counts) (new : ReplayState) (m : ℤ) → StaysWithin setting now.counts counts (after_mark now.world m) new → AtRest setting ds start now →
-      IsWithin setting (course_of_mark m) (λ replies. entered (following replies ds) (Watermark m)) start (onward now counts new)
+      IsWithin setting (course_of_mark m) (λ replies. entered (following (horizon_at start) replies ds) (Watermark m)) start (onward now counts new)
   mark_begun now counts new m stays at_rest =
-      stays (course_of_mark m) (λ replies. entered (following replies ds) (Watermark m)) start now (record {
+      stays (course_of_mark m) (λ replies. entered (following (horizon_at start) replies ds) (Watermark m)) start now (record {
         leads = mark_leads now m at_rest;
         steps = 0;
         is = λ others agree. ap (λ w. after_mark w m) (rest_is now at_rest others
-            (λ q r h. agree q r (applied-mark now.world m q h) ∙ ap (λ (replies : Replies). replies q r) (mark_replies judgement setting.known ds at_rest.leads.made now.world at_rest.leads.explained at_rest.rests m)));
+            (λ q r h. agree q r (applied-mark now.world m q h) ∙ ap (λ (replies : Replies). replies q r) (mark_replies judgement setting.known (horizon_at start) ds at_rest.leads.made now.world at_rest.leads.explained at_rest.rests m)));
       })
 
   -- the end is taken, and some of what waits is applied
   pub end_begun : (now : Stage) (counts : Counts) (new : ReplayState) → StaysWithin setting now.counts counts (after_end now.world) new → AtRest setting ds start now →
-      IsWithin setting (course_to_end ds start) (λ replies. after_end (following replies ds)) start (onward now counts new)
+      IsWithin setting (course_to_end ds start) (λ replies. after_end (following (horizon_at start) replies ds)) start (onward now counts new)
   end_begun now counts new stays at_rest =
-      stays (course_to_end ds start) (λ replies. after_end (following replies ds)) start now (record {
+      stays (course_to_end ds start) (λ replies. after_end (following (horizon_at start) replies ds)) start now (record {
         leads = end_leads now at_rest;
         steps = 0;
         is = λ others agree. ap after_end (rest_is now at_rest others
-            (λ q r h. agree q r (applied-end now.world q h) ∙ ap (λ (replies : Replies). replies q r) (end_replies judgement setting.known ds at_rest.leads.made now.world at_rest.leads.explained at_rest.rests)));
+            (λ q r h. agree q r (applied-end now.world q h) ∙ ap (λ (replies : Replies). replies q r) (end_replies judgement setting.known (horizon_at start) ds at_rest.leads.made now.world at_rest.leads.explained at_rest.rests)));
       })
 
   -- the answer of a world at rest is that of its play
   answer_is : (now : Stage) (q : Pattern) (asked : ℕ) (at_rest : AtRest setting ds start now) (others : Replies) → AgreeOnApplied now.world at_rest.leads.explained.replies others → asked ≡ asks (ds ++ Ask q ∷ []) →
-      ask_section asked (rows (union triple_cmp meaning now.world.played.records) q) ≡ said_at meaning others (record { before = ds; delivery = Ask q })
+      ask_section asked (rows (union triple_cmp meaning now.world.played.records) q) ≡ said_at meaning (horizon_at start) others (record { before = ds; delivery = Ask q })
   answer_is now q asked at_rest others agree counts_it =
       ap (λ n. ask_section n (rows (union triple_cmp meaning now.world.played.records) q)) (counts_it ∙ asks-push ds (Ask q))
       ∙ ap (λ (w : ReplayState). ask_section (asks ds + 1) (rows (union triple_cmp meaning w.played.records) q)) (rest_is now at_rest others agree)
@@ -173,18 +173,18 @@ module _ (setting : Setting) (ds : List Delivery) (start : Stage) where
   ask_taken now q asked out counts_it prints at_rest = record {
     leads = record {
       made = at_rest.leads.made;
-      explained = Explained-ask judgement setting.known ds at_rest.leads.made now.world at_rest.leads.explained at_rest.rests q;
+      explained = Explained-ask judgement setting.known (horizon_at start) ds at_rest.leads.made now.world at_rest.leads.explained at_rest.rests q;
       counted = at_rest.leads.counted;
       documents = at_rest.leads.documents;
       says = λ others agree.
           let before : AgreeOnApplied now.world at_rest.leads.explained.replies others =
-          λ e r h. agree e r h ∙ ap (λ (replies : Replies). replies e r) (ask_replies judgement setting.known ds at_rest.leads.made now.world at_rest.leads.explained at_rest.rests q) in
+          λ e r h. agree e r h ∙ ap (λ (replies : Replies). replies e r) (ask_replies judgement setting.known (horizon_at start) ds at_rest.leads.made now.world at_rest.leads.explained at_rest.rests q) in
           let answer : List ℕ = ask_section asked (rows (union triple_cmp meaning now.world.played.records) q) in
           prints.outcome
           ∙ ap (λ b. after_known b answer) (at_rest.leads.says others before)
-          ∙ after_twice start.output.bytes (said meaning others ds) answer
-          ∙ ap (λ l. after_known start.output.bytes (said meaning others ds ++ l)) (answer_is now q asked at_rest others before counts_it)
-          ∙ ap (after_known start.output.bytes) (sym (said-push meaning others ds (Ask q)));
+          ∙ after_twice start.output.bytes (said meaning (horizon_at start) others ds) answer
+          ∙ ap (λ l. after_known start.output.bytes (said meaning (horizon_at start) others ds ++ l)) (answer_is now q asked at_rest others before counts_it)
+          ∙ ap (after_known start.output.bytes) (sym (said-push (horizon_at start) meaning others ds (Ask q)));
     };
     rests = at_rest.rests;
     later = omega (arith, at_rest.later, prints.later);

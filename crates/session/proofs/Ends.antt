@@ -27,7 +27,7 @@ use Rattle.transcript.specs.Printing.{Output, Prints}
 use Rattle.transcript.proofs.Parts.{after_twice}
 use Rattle.session.specs.Counts.{RoseBy, HasCounted}
 use Rattle.session.specs.Headline.{BrokenOff, Ending, HasFates, HasReplayed, HoldsRightly, IsFunction, IsInterrupted, IsPlayed, IsReplayed, NamesRightly, Stopped}
-use Rattle.session.specs.Moment.{Moment, Run, Setting, Stage, with_output}
+use Rattle.session.specs.Moment.{Moment, Run, Setting, Stage, with_output, horizon_at}
 use Rattle.session.specs.Reading.{AreDeliveries}
 use Rattle.session.specs.Sections.{sections_of}
 use Rattle.session.specs.Stop.{stop_of_unapplied, stop_of_unwritten}
@@ -50,48 +50,48 @@ is_played setting course start now x rests = record {
       subst (λ (n : ℕ). HasCounted start.counts now.counts n now.world.played.side) (Explained-source_fetches judgement setting.known course.state course.fetched x.made now.world x.explained rests contents is) x.counted;
 }
 
-fates : (ds : List Delivery) (world : ReplayState) (replies : Replies) → played true replies ds ≡ world.played → HasFates ds world
-fates ds world replies whole = record {
-  of_due = λ x. let P : Played → Type 0 = λ p. (record_of p.records x).state ≡ fate (in_order (events_of x (due true ds))) in subst P whole (state-played true replies ds x);
+fates : (hz : Option ℕ) (ds : List Delivery) (world : ReplayState) (replies : Replies) → played hz true replies ds ≡ world.played → HasFates hz ds world
+fates hz ds world replies whole = record {
+  of_due = λ x. let P : Played → Type 0 = λ p. (record_of p.records x).state ≡ fate (in_order (events_of x (due hz true ds))) in subst P whole (state-played hz true replies ds x);
   of_known = λ x none.
       let P : Played → Type 0 = λ p. (record_of p.records x).state ≡ fate (in_order (events_of x (known true ds))) in
-      subst P whole (state-played true replies ds x ∙ fate-known true ds x none);
+      subst P whole (state-played hz true replies ds x ∙ fate-known hz true ds x none);
 }
 
-module _ (setting : Setting) (ds : List Delivery) (world : ReplayState) (replies : Replies) (whole : played true replies ds ≡ world.played)
-    (source : (contents : ℕ → Option Bytes) → setting.known ≡ Some contents → played true (replies_there contents world) ds ≡ world.played) where
+module _ (setting : Setting) (hz : Option ℕ) (ds : List Delivery) (world : ReplayState) (replies : Replies) (whole : played hz true replies ds ≡ world.played)
+    (source : (contents : ℕ → Option Bytes) → setting.known ≡ Some contents → played hz true (replies_there contents world) ds ≡ world.played) where
   holds : HoldsDocuments world → HoldsRightly setting world
   holds documents = record {
-    settled = λ x. let P : Played → Type 0 = λ p. is_settled (record_of p.records x) ≡ not (has_open_revision p.records p.side x) in subst P whole (settled-played true replies ds x);
+    settled = λ x. let P : Played → Type 0 = λ p. is_settled (record_of p.records x) ≡ not (has_open_revision p.records p.side x) in subst P whole (settled-played hz true replies ds x);
     documents = documents;
     empty = λ x.
         let P : Played → Type 0 = λ p. is_kept (record_of p.records x).state.mode ≡ false → (record_of p.records x).held ≡ None in
-        subst P whole (Tells-played true replies ds x).empty_unless_kept;
+        subst P whole (Tells-played hz true replies ds x).empty_unless_kept;
     there = λ contents is x.
         let P : Played → Type 0 = λ p. HoldsWhatIsThere judgement contents x (record_of p.records x).held in
-        subst P (source contents is) (held-told judgement contents (failed_events world.played.side) true ds x);
+        subst P (source contents is) (held-told judgement contents (failed_events world.played.side) hz true ds x);
   }
 
-  names : NamesRightly setting ds world
+  names : NamesRightly setting hz ds world
   names = record {
-    late_ones = let P : Played → Type 0 = λ p. late_events p.side ≡ late ds in subst P whole (late-played true replies ds);
+    late_ones = let P : Played → Type 0 = λ p. late_events p.side ≡ late hz ds in subst P whole (late-played hz true replies ds);
     there = λ contents is.
         let P : Played → Type 0 = λ p. Each (TellsWhatIsThere judgement contents (failed_events world.played.side)) p.side in
-        subst P (source contents is) (entries-told judgement contents (failed_events world.played.side) true ds);
+        subst P (source contents is) (entries-told judgement contents (failed_events world.played.side) hz true ds);
   }
 
 -- at the end the world has the states, holds and names what it should
 is_replayed : (setting : Setting) (ds : List Delivery) (start now : Stage) → AtEnd setting ds start now → IsReplayed setting (course_to_end ds start) ds start now
 is_replayed setting ds start now at_end =
     let play : IsPlayed setting (course_to_end ds start) start now = is_played setting (course_to_end ds start) start now at_end.leads at_end.rests in
-    let whole : played true play.replies ds ≡ now.world.played = ap (λ (w : ReplayState). w.played) (sym play.is) in
-    let source : (contents : ℕ → Option Bytes) → setting.known ≡ Some contents → played true (replies_there contents now.world) ds ≡ now.world.played =
+    let whole : played (horizon_at start) true play.replies ds ≡ now.world.played = ap (λ (w : ReplayState). w.played) (sym play.is) in
+    let source : (contents : ℕ → Option Bytes) → setting.known ≡ Some contents → played (horizon_at start) true (replies_there contents now.world) ds ≡ now.world.played =
     λ contents is. ap (λ (w : ReplayState). w.played) (sym (play.source contents is)) in
     record {
       played = play;
-      fates = fates ds now.world play.replies whole;
-      holds = holds setting ds now.world play.replies whole source at_end.leads.documents;
-      names = names setting ds now.world play.replies whole source;
+      fates = fates (horizon_at start) ds now.world play.replies whole;
+      holds = holds setting (horizon_at start) ds now.world play.replies whole source at_end.leads.documents;
+      names = names setting (horizon_at start) ds now.world play.replies whole source;
     }
 
 -- the same, of an input that was read
@@ -111,14 +111,14 @@ prints_asked sections wanted p old new result same prints = subst (λ s. Prints 
 module _ (setting : Setting) (sections : Sections) (ds : List Delivery) (start now : Stage) (out : Output) (replay : IsReplayed setting (course_to_end ds start) ds start now)
     (prints : Prints (closing meaning sections now.world.played) now.output out (Ok tt)) where
   -- the answers and the sections are the transcript
-  transcribed : (replies : Replies) → now.world ≡ following_to_end replies ds → now.output.bytes ≡ said_behind ds start replies → out.bytes ≡ after_known start.output.bytes (transcript meaning sections replies ds)
+  transcribed : (replies : Replies) → now.world ≡ following_to_end (horizon_at start) replies ds → now.output.bytes ≡ said_behind ds start replies → out.bytes ≡ after_known start.output.bytes (transcript meaning (horizon_at start) sections replies ds)
   transcribed replies is says =
       prints.outcome ∙ ap (λ b. after_known b (closing meaning sections now.world.played)) says
-      ∙ after_twice start.output.bytes (said meaning replies ds) (closing meaning sections now.world.played)
-      ∙ ap (λ (w : ReplayState). after_known start.output.bytes (said meaning replies ds ++ closing meaning sections w.played)) is
+      ∙ after_twice start.output.bytes (said meaning (horizon_at start) replies ds) (closing meaning sections now.world.played)
+      ∙ ap (λ (w : ReplayState). after_known start.output.bytes (said meaning (horizon_at start) replies ds ++ closing meaning sections w.played)) is
 
   -- the same, with the replies of what is there
-  transcribed_there : (contents : ℕ → Option Bytes) → setting.known ≡ Some contents → out.bytes ≡ after_known start.output.bytes (transcript meaning sections (replies_there contents now.world) ds)
+  transcribed_there : (contents : ℕ → Option Bytes) → setting.known ≡ Some contents → out.bytes ≡ after_known start.output.bytes (transcript meaning (horizon_at start) sections (replies_there contents now.world) ds)
   transcribed_there contents is = transcribed (replies_there contents now.world) (replay.played.source contents is) (replay.played.source_says contents is)
 
   -- where no fetch failed, world and output are functions of the sections, the deliveries and the contents
@@ -126,8 +126,8 @@ module _ (setting : Setting) (sections : Sections) (ds : List Delivery) (start n
   is_function =
       let none = none_failed (failed_events now.world.played.side) start.counts.faults now.counts.faults replay.played.counted.failed in
       record {
-        world_is = λ contents is same below. replay.played.source contents is ∙ ap (λ failed. following_to_end (source_replies judgement contents failed) ds) (none same below);
-        output_is = λ contents is same below. transcribed_there contents is ∙ ap (λ failed. after_known start.output.bytes (transcript meaning sections (source_replies judgement contents failed) ds)) (none same below);
+        world_is = λ contents is same below. replay.played.source contents is ∙ ap (λ failed. following_to_end (horizon_at start) (source_replies judgement contents failed) ds) (none same below);
+        output_is = λ contents is same below. transcribed_there contents is ∙ ap (λ failed. after_known start.output.bytes (transcript meaning (horizon_at start) sections (source_replies judgement contents failed) ds)) (none same below);
       }
 
   -- the play says the transcript

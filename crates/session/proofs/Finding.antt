@@ -85,11 +85,11 @@ module _ (unfit : Judgement) (contents : ℕ → Option Bytes) where
       (found-apply p e (find e (has_itself event_cmp_total e es)) all)
 
   -- what is newly due was accepted
-  find-due : (before : List Delivery) (closed : Bool) (after : List Delivery) → AllFind (accepted after) → AllFind (newly_due before closed after)
-  find-due before closed after find e h =
+  find-due : (hz : Option ℕ) (before : List Delivery) (closed : Bool) (after : List Delivery) → AllFind (accepted hz after) → AllFind (newly_due hz before closed after)
+  find-due hz before closed after find e h =
       let new : Event → Bool = λ q. not (is_due false (mark before) q) in
-      let was_due : has event_cmp e (due closed after) ≡ true = and_right (new e) (has event_cmp e (due closed after)) (sym (has-filter event_cmp event_cmp_same new e (due closed after)) ∙ sym (has-sorted event_cmp_total e (filter new (due closed after))) ∙ h) in
-      find e (and_right (is_due closed (mark after) e) (has event_cmp e (accepted after)) (sym (has-filter event_cmp event_cmp_same (is_due closed (mark after)) e (accepted after)) ∙ was_due))
+      let was_due : has event_cmp e (due hz closed after) ≡ true = and_right (new e) (has event_cmp e (due hz closed after)) (sym (has-filter event_cmp event_cmp_same new e (due hz closed after)) ∙ sym (has-sorted event_cmp_total e (filter new (due hz closed after))) ∙ h) in
+      find e (and_right (is_due closed (mark after) e) (has event_cmp e (accepted hz after)) (sym (has-filter event_cmp event_cmp_same (is_due closed (mark after)) e (accepted hz after)) ∙ was_due))
 
   -- a list with more at its end is empty
   first_empty : {A : Type 0} (xs ys : List A) → xs ++ ys ≡ [] → xs ≡ []
@@ -104,14 +104,14 @@ module _ (unfit : Judgement) (contents : ℕ → Option Bytes) where
   no_late_entry e true none = cc
   no_late_entry e false none = refl
 
-  found-happens : (ds : List Delivery) (d : Delivery) (p : Played) → late (ds ++ d ∷ []) ≡ [] → AllFind (accepted (ds ++ d ∷ [])) → AllFound p → AllFound (happens (source_replies unfit contents []) ds d p)
-  found-happens ds (Told e) p none find all = record {
-    none = ap (λ l. l ++ cond (is_late ds e) (Late e ∷ []) []) all.none
-        ∙ no_late_entry e (is_late ds e) (rest_empty (late ds) _ (sym (events_passing-push is_late ds (Told e)) ∙ none));
+  found-happens : (hz : Option ℕ) (ds : List Delivery) (d : Delivery) (p : Played) → late hz (ds ++ d ∷ []) ≡ [] → AllFind (accepted hz (ds ++ d ∷ [])) → AllFound p → AllFound (happens hz (source_replies unfit contents []) ds d p)
+  found-happens hz ds (Told e) p none find all = record {
+    none = ap (λ l. l ++ cond (is_late hz ds e) (Late e ∷ []) []) all.none
+        ∙ no_late_entry e (is_late hz ds e) (rest_empty (late hz ds) _ (sym (events_passing-push (is_late hz) ds (Told e)) ∙ none));
     found = all.found;
   }
-  found-happens ds (Watermark w) p none find all = found-apply_all p (newly_due ds false (ds ++ Watermark w ∷ [])) (find-due ds false (ds ++ Watermark w ∷ []) find) all
-  found-happens ds (Ask q) p none find all = all
+  found-happens hz ds (Watermark w) p none find all = found-apply_all p (newly_due hz ds false (ds ++ Watermark w ∷ [])) (find-due hz ds false (ds ++ Watermark w ∷ []) find) all
+  found-happens hz ds (Ask q) p none find all = all
 
   found-nothing : AllFound nothing_played
   found-nothing = record {
@@ -122,12 +122,12 @@ module _ (unfit : Judgement) (contents : ℕ → Option Bytes) where
   has-front : (e : Event) (xs ys : List Event) → has event_cmp e xs ≡ true → has event_cmp e (xs ++ ys) ≡ true
   has-front e xs ys h = has-append event_cmp e xs ys ∙ ap (λ b. b || has event_cmp e ys) h
 
-  found-play : (ds : List Delivery) → late ds ≡ [] → AllFind (accepted ds) → AllFound (play (source_replies unfit contents []) ds)
-  found-play = by_pushes (λ ds. late ds ≡ [] → AllFind (accepted ds) → AllFound (play (source_replies unfit contents []) ds)) (λ none find. found-nothing)
-      (λ ds d before none find. subst AllFound (sym (play-push (source_replies unfit contents []) ds d))
-      (found-happens ds d (play (source_replies unfit contents []) ds) none find
-      (before (first_empty (late ds) _ (sym (events_passing-push is_late ds d) ∙ none)) (λ e h. find e (ap (has event_cmp e) (events_passing-push is_accepted ds d) ∙ has-front e (accepted ds) _ h)))))
+  found-play : (hz : Option ℕ) (ds : List Delivery) → late hz ds ≡ [] → AllFind (accepted hz ds) → AllFound (play hz (source_replies unfit contents []) ds)
+  found-play hz = by_pushes (λ ds. late hz ds ≡ [] → AllFind (accepted hz ds) → AllFound (play hz (source_replies unfit contents []) ds)) (λ none find. found-nothing)
+      (λ ds d before none find. subst AllFound (sym (play-push hz (source_replies unfit contents []) ds d))
+      (found-happens hz ds d (play hz (source_replies unfit contents []) ds) none find
+      (before (first_empty (late hz ds) _ (sym (events_passing-push (is_late hz) ds d) ∙ none)) (λ e h. find e (ap (has event_cmp e) (events_passing-push (is_accepted hz) ds d) ∙ has-front e (accepted hz ds) _ h)))))
 
   -- the side output of the whole play is empty
-  pub none_named : (ds : List Delivery) → late ds ≡ [] → AllFind (accepted ds) → (play_to_end (source_replies unfit contents []) ds).side ≡ []
-  none_named ds none find = (found-apply_all (play (source_replies unfit contents []) ds) (newly_due ds true ds) (find-due ds true ds find) (found-play ds none find)).none
+  pub none_named : (hz : Option ℕ) (ds : List Delivery) → late hz ds ≡ [] → AllFind (accepted hz ds) → (play_to_end hz (source_replies unfit contents []) ds).side ≡ []
+  none_named hz ds none find = (found-apply_all (play hz (source_replies unfit contents []) ds) (newly_due hz ds true ds) (find-due hz ds true ds find) (found-play hz ds none find)).none

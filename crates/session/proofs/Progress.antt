@@ -13,7 +13,7 @@ use Rattle.event_line.specs.Line.{delivery_of}
 use Rattle.entity_state.specs.declared.record.Record.{Record}
 use Rattle.replay_model.specs.Records.{Bytes}
 use Rattle.replay_model.specs.Replies.{HoldsDocument}
-use Rattle.replay_model.specs.ReplayState.{ReplayState, nothing_delivered}
+use Rattle.replay_model.specs.ReplayState.{ReplayState, nothing_delivered_within}
 use Rattle.replay_model.specs.Transcript.{ask_section, asks}
 use Rattle.replay_model.specs.Union.{union}
 use Rattle.rdf_term.specs.Pattern.{rows}
@@ -54,11 +54,11 @@ pub record Progress (run : Run) (before now : Moment) (reader : Reading) (asked 
   pub ended : reader.ended ≡ true → IsAtEnd now.input.left
 
 -- before the first delivery a world is at rest
-pub nothing_taken : (setting : Setting) (output : Output) (counts : Counts) → let s : Stage = record { output = output; counts = counts; world = nothing_delivered } in AtRest setting [] s s
-nothing_taken setting output counts = record {
+pub nothing_taken : (setting : Setting) (h : Option ℕ) (output : Output) (counts : Counts) → let s : Stage = record { output = output; counts = counts; world = nothing_delivered_within h } in AtRest setting [] s s
+nothing_taken setting h output counts = record {
   leads = record {
     made = 0;
-    explained = Explained-start judgement setting.known;
+    explained = Explained-start judgement setting.known h;
     counted = record { calls = sym (risen_by-none counts.calls); failed = λ below. omega arith; missing = λ below. omega arith };
     documents = λ x. subst (λ (r : Record Bytes). HoldsDocument judgement x r.held) (sym (record_of-empty x)) tt;
     says = λ others agree. sym (after_nothing output.bytes);
@@ -68,16 +68,16 @@ nothing_taken setting output counts = record {
 }
 
 -- a moment before the first delivery
-abbrev pub at_start : Input → Output → Counts → Moment
-at_start input output counts = record { input = input; stage = record { output = output; counts = counts; world = nothing_delivered } }
+abbrev pub at_start : Option ℕ → Input → Output → Counts → Moment
+at_start h input output counts = record { input = input; stage = record { output = output; counts = counts; world = nothing_delivered_within h } }
 
 -- before the first line
-pub nothing_begun : (run : Run) (input : Input) (output : Output) (counts : Counts) → Progress run (at_start input output counts) (at_start input output counts) (fresh (limit_of run.choices)) 0
-nothing_begun run input output counts = record {
+pub nothing_begun : (run : Run) (h : Option ℕ) (input : Input) (output : Output) (counts : Counts) → Progress run (at_start h input output counts) (at_start h input output counts) (fresh (limit_of run.choices)) 0
+nothing_begun run h input output counts = record {
   deliveries = [];
   read = nothing_read (limit_of run.choices) input.left;
   taken = nothing_taken_of (limit_of run.choices) input.left;
-  at_rest = nothing_taken run.setting output counts;
+  at_rest = nothing_taken run.setting h output counts;
   earlier = omega arith;
   asked_is = refl;
   few_asked = omega arith;

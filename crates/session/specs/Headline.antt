@@ -28,7 +28,7 @@ use Rattle.words.specs.Options.{limit_of}
 use Rattle.session.specs.declared.stop.Stop.{Stop}
 use Rattle.session.specs.declared.stop.Stop.TheVariants.{BadLine, ReadFault, WriteFault, TooLong, StoreFull, OutOfMemory}
 use Rattle.session.specs.Counts.{HasCounted}
-use Rattle.session.specs.Moment.{Moment, Run, Setting, Stage, with_output}
+use Rattle.session.specs.Moment.{Moment, Run, Setting, Stage, with_output, horizon_at}
 use Rattle.session.specs.Reading.{AreDeliveries, AreFirst, AreWhole, IsPastLimit, IsRefusedLine}
 use Rattle.session.specs.Sections.{sections_of}
 use Rattle.session.specs.Stops.{IsStarved}
@@ -53,9 +53,9 @@ IsPlayedAfter setting ds start now = IsPlayed setting (course_after ds start) st
 
 -- the states: each is the fate of the entity's due events in their order; where no late event of the entity is open,
 -- also the fate of all its events, late ones included
-pub record HasFates (ds : List Delivery) (world : ReplayState) : Type 0 where
-  pub of_due : (x : EntityId) → (record_of world.played.records x).state ≡ fate (in_order (events_of x (due true ds)))
-  pub of_known : (x : EntityId) → list_any (is_open_late (due true ds)) (events_of x (late ds)) ≡ false →
+pub record HasFates (h : Option ℕ) (ds : List Delivery) (world : ReplayState) : Type 0 where
+  pub of_due : (x : EntityId) → (record_of world.played.records x).state ≡ fate (in_order (events_of x (due h true ds)))
+  pub of_known : (x : EntityId) → list_any (is_open_late (due h true ds)) (events_of x (late h ds)) ≡ false →
       (record_of world.played.records x).state ≡ fate (in_order (events_of x (known true ds)))
 
 -- what is held: what the state wants, exactly where no revision entry of the entity is open; nothing of a page that
@@ -66,25 +66,24 @@ pub record HoldsRightly (setting : Setting) (world : ReplayState) : Type 0 where
   pub documents : HoldsDocuments world
   pub there : (contents : ℕ → Option Bytes) → setting.known ≡ Some contents → (x : EntityId) → HoldsWhatIsThere judgement contents x (record_of world.played.records x).held
 
--- the side output: each late event once, in the order of their first deliveries, and revision entries that say what the
--- source has
-pub record NamesRightly (setting : Setting) (ds : List Delivery) (world : ReplayState) : Type 0 where
-  pub late_ones : late_events world.played.side ≡ late ds
+-- the side output: an entry for each late delivery, in the order of these, and revision entries that say what the source has
+pub record NamesRightly (setting : Setting) (h : Option ℕ) (ds : List Delivery) (world : ReplayState) : Type 0 where
+  pub late_ones : late_events world.played.side ≡ late h ds
   pub there : (contents : ℕ → Option Bytes) → setting.known ≡ Some contents → Each (TellsWhatIsThere judgement contents (failed_events world.played.side)) world.played.side
 
 -- a play of these deliveries to their end: the world is where it leads, and has the states, holds and names what it should
 pub record IsReplayed (setting : Setting) (course : Course) (ds : List Delivery) (start now : Stage) : Type 0 where
   pub played : IsPlayed setting course start now
-  pub fates : HasFates ds now.world
+  pub fates : HasFates (horizon_at start) ds now.world
   pub holds : HoldsRightly setting now.world
-  pub names : NamesRightly setting ds now.world
+  pub names : NamesRightly setting (horizon_at start) ds now.world
 
 -- where no fetch failed, the world and what was printed are functions of the sections, the deliveries and the contents
 pub record IsFunction (setting : Setting) (sections : Sections) (ds : List Delivery) (start now : Stage) : Type 0 where
   pub world_is : (contents : ℕ → Option Bytes) → setting.known ≡ Some contents → now.counts.faults ≡ start.counts.faults → now.counts.faults < 2 ^ 64 - 1 →
-      now.world ≡ following_to_end (source_replies judgement contents []) ds
+      now.world ≡ following_to_end (horizon_at start) (source_replies judgement contents []) ds
   pub output_is : (contents : ℕ → Option Bytes) → setting.known ≡ Some contents → now.counts.faults ≡ start.counts.faults → now.counts.faults < 2 ^ 64 - 1 →
-      now.output.bytes ≡ after_known start.output.bytes (transcript meaning sections (source_replies judgement contents []) ds)
+      now.output.bytes ≡ after_known start.output.bytes (transcript meaning (horizon_at start) sections (source_replies judgement contents []) ds)
 
 -- the whole input was read, its lines are deliveries, and they were replayed; the output has what this play of them says
 pub record Replayed (run : Run) (course : List Delivery → Stage → Course) (before now : Moment) : Type 0 where

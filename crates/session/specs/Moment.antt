@@ -6,7 +6,7 @@ use Rattle.wq_io.specs.declared.sink.Sink.{Ghosts as SinkOf}
 use Rattle.revisions.specs.declared.revisions.Revisions.{Ghosts as RevisionsOf}
 use Rattle.revisions.specs.Revisions.{Contents}
 use Rattle.replay_model.specs.Records.{Bytes}
-use Rattle.replay_model.specs.ReplayState.{ReplayState}
+use Rattle.replay_model.specs.ReplayState.{ReplayState, nothing_delivered_within}
 use Rattle.transcript.specs.Printing.{Output, output}
 use Rattle.session.specs.Counts.{Counts, counts}
 use Rattle.words.specs.Options.{Choices, place_of, terms_of}
@@ -30,6 +30,10 @@ pub record Stage : Type 0 where
 -- the stage that these are
 abbrev pub stage : {R K : Type 0} → RevisionsOf R → SinkOf K → R → K → ReplayState → Stage
 stage source sink revisions out world = record { output = output sink out; counts = counts source revisions; world = world }
+
+-- the horizon of the world, if it has one
+abbrev pub horizon_at : Stage → Option ℕ
+horizon_at s = s.world.buffer.horizon
 
 -- the stage with these counts and this world
 abbrev pub onward : Stage → Counts → ReplayState → Stage
@@ -61,6 +65,10 @@ moment events_of source sink events revisions out world = record {
 pub record Run : Type 0 where
   pub choices : Choices
   pub setting : Setting
+
+-- the world that a run of these choices begins with: empty, with the horizon that was chosen
+abbrev pub world_at_start : Choices → ReplayState
+world_at_start choices = nothing_delivered_within choices.horizon
 
 -- the run of these choices over a source with these contents
 abbrev pub run_of : Option Contents → Choices → Run

@@ -26,7 +26,7 @@ use Rattle.session.specs.declared.stop.Stop.{Stop}
 use Rattle.session.specs.declared.stop.Unapplied.{Unapplied}
 use Rattle.session.specs.declared.stop.Unapplied.TheVariants.{StoreFull, OutOfMemory}
 use Rattle.session.specs.Counts.{Counts, HasCounted, HasCountedWithin}
-use Rattle.session.specs.Moment.{Setting, Stage, onward}
+use Rattle.session.specs.Moment.{Setting, Stage, onward, horizon_at}
 use Rattle.session.specs.Stop.{stop_of_unapplied, stop_of_unwritten}
 
 -- why bytes are no document of an entity
@@ -49,11 +49,11 @@ pub record Course : Type 0 where
 
 -- the bytes of an output behind what a play with these replies says at the deliveries
 abbrev pub said_behind : List Delivery → Stage → Replies → Option (List ℕ)
-said_behind ds start replies = after_known start.output.bytes (answers_said meaning replies ds)
+said_behind ds start replies = after_known start.output.bytes (answers_said meaning (horizon_at start) replies ds)
 
 -- the play of these deliveries
 abbrev pub course_after : List Delivery → Stage → Course
-course_after ds start = record { state = λ replies. following replies ds; fetched = λ replies. fetches replies ds; bytes = said_behind ds start }
+course_after ds start = record { state = λ replies. following (horizon_at start) replies ds; fetched = λ replies. fetches (horizon_at start) replies ds; bytes = said_behind ds start }
 
 -- the play of these deliveries and perhaps one more, which says nothing yet
 abbrev pub course_begun : List Delivery → Option Delivery → Stage → Course
@@ -61,11 +61,11 @@ course_begun ds last start = record (course_after (ds ++ option_to_list last) st
 
 -- the play of these deliveries and the end of the input
 abbrev pub course_to_end : List Delivery → Stage → Course
-course_to_end ds start = record { state = λ replies. following_to_end replies ds; fetched = λ replies. fetches_to_end replies ds; bytes = said_behind ds start }
+course_to_end ds start = record { state = λ replies. following_to_end (horizon_at start) replies ds; fetched = λ replies. fetches_to_end (horizon_at start) replies ds; bytes = said_behind ds start }
 
 -- the same, and these sections
 abbrev pub course_printed : Sections → List Delivery → Stage → Course
-course_printed sections ds start = record (course_to_end ds start) { bytes = λ replies. after_known start.output.bytes (transcript meaning sections replies ds) }
+course_printed sections ds start = record (course_to_end ds start) { bytes = λ replies. after_known start.output.bytes (transcript meaning (horizon_at start) sections replies ds) }
 
 -- the world leads to a play with some replies, the counts rose with what was fetched for it so far, and what is held are
 -- documents; the output has what the play says with all replies that agree with these on what was applied
@@ -173,7 +173,7 @@ pub record TakesInPart (why : Unapplied) (setting : Setting) (d : Delivery) (bef
   pub output : now.output ≡ before.output
   pub world : (ds : List Delivery) (start : Stage) → AtRest setting ds start before →
       ((now.world ≡ before.world) × (now.counts ≡ before.counts))
-      ⊎ IsWithin setting (course_begun ds (Some d) start) (λ replies. entered (following replies ds) d) start now
+      ⊎ IsWithin setting (course_begun ds (Some d) start) (λ replies. entered (following (horizon_at start) replies ds) d) start now
 
 -- a delivery wasn't taken, or not wholly: its answer wasn't written, or it or what it makes due wasn't applied
 abbrev pub CutsOff : Stop → Setting → Turn → Stage → Stage → Type 0

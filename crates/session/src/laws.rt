@@ -18,7 +18,7 @@ ghost use Rattle.words.specs.Options.{limit_of};
 ghost use Rattle.session.specs.declared.status.Status.{Status};
 ghost use Rattle.session.specs.Complete.{FindsDocument, IsStill, has_document, triples_in};
 ghost use Rattle.session.specs.Headline.{Ending, Stopped};
-ghost use Rattle.session.specs.Moment.{Moment, Run};
+ghost use Rattle.session.specs.Moment.{Moment, Run, horizon_at};
 ghost use Rattle.session.specs.Reading.{AreDeliveries};
 ghost use Rattle.session.specs.Stop.{stop_of};
 ghost use Rattle.session.specs.Taking.{IsFull, judgement};
@@ -54,12 +54,12 @@ pub fn settled_pages_are_the_union()
         ≡ sorted triple_cmp (flat_map (λ entry. triples_in meaning contents entry.0 entry.1.state) (map.entries now.stage.world.played.records)) }
 {}
 
-/// After a replay that ended well over told contents, and whose fetches didn't fail, the side output is empty where no event is late
+/// After a replay that ended well over told contents, and whose fetches didn't fail, the side output is empty where no delivery is late
 /// and each accepted event that may say that its page is there finds a document at its revision.
 pub fn found_pages_leave_no_entries()
     ensures { (run : Run) (before now : Moment) (contents : ℕ → Option Bytes) → (ending : Ending run before now) →
         run.setting.known ≡ Some contents → IsStill before.stage.counts.faults now.stage.counts.faults →
-        late ending.replayed.deliveries ≡ [] →
-        ((e : Event) → has event_cmp e (accepted ending.replayed.deliveries) ≡ true → FindsDocument judgement contents e) →
+        late (horizon_at before.stage) ending.replayed.deliveries ≡ [] →
+        ((e : Event) → has event_cmp e (accepted (horizon_at before.stage) ending.replayed.deliveries) ≡ true → FindsDocument judgement contents e) →
         now.stage.world.played.side ≡ [] }
 {}

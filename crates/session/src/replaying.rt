@@ -1,11 +1,11 @@
 // A replay: the lines of the input, the end, and the sections that are asked for.
 
 ghost use Rattle.std.specs.Prelude.{◌≡◌, ◌≤◌, IfErr, IfSome, OnOk};
-ghost use Rattle.replay_model.specs.ReplayState.{nothing_delivered};
+ghost use Rattle.replay_model.specs.ReplayState.{nothing_delivered, nothing_delivered_within};
 ghost use Rattle.transcript.specs.Sections.{chosen};
 ghost use Rattle.session.specs.Counts.{HasGoneOn};
 ghost use Rattle.session.specs.Headline.{Ending, HasReplayed, Stopped};
-ghost use Rattle.session.specs.Moment.{moment, run_of};
+ghost use Rattle.session.specs.Moment.{moment, run_of, world_at_start};
 ghost use Rattle.session.specs.Reading.{TakesByNeed};
 ghost use Rattle.session.specs.Sections.{sections_of};
 ghost use Rattle.words.specs.Options.{limit_of, terms_of};
@@ -20,7 +20,7 @@ use words::{Arguments, ReplayOptions, take_arguments};
 use world::World;
 use wq_io::{Sink, Source};
 
-// Takes the values of the options, the lines and the end, and prints.
+// Sets the horizon, takes the values of the options, the lines and the end, and prints.
 pub fn replay<S: Source, R: Revisions, K: Sink>(
     alloc: Global,
     options: &ReplayOptions<'_>,
@@ -30,6 +30,40 @@ pub fn replay<S: Source, R: Revisions, K: Sink>(
     world: &mut World,
 ) -> Result<(), Stop>
     requires { world.old.replay ≡ nothing_delivered }
+    ensures ok { OnOk result (Ending (run_of (R.contents revisions.old) options.now)
+        (moment S.Source R.Revisions K.Sink events.old revisions.old out.old (world_at_start options.now))
+        (moment S.Source R.Revisions K.Sink events.new revisions.new out.new world.new.replay)) }
+    ensures taken { IfSome (S.left events.old) (λ bytes. TakesByNeed (limit_of options.now) bytes (S.left events.new)) }
+    ensures most { S.most_faults events.new ≡ S.most_faults events.old }
+    ensures err { IfErr result (λ stop. Stopped stop (run_of (R.contents revisions.old) options.now)
+        (moment S.Source R.Revisions K.Sink events.old revisions.old out.old (world_at_start options.now))
+        (moment S.Source R.Revisions K.Sink events.new revisions.new out.new world.new.replay)) }
+    ensures source { HasGoneOn R.Revisions revisions.old revisions.new }
+{
+    set_horizon(options, world);
+    replay_within(alloc, options, events, revisions, out, world)
+}
+
+// Sets the horizon that is asked for, if one is.
+fn set_horizon(options: &ReplayOptions<'_>, world: &mut World)
+    requires { world.old.replay ≡ nothing_delivered }
+    ensures { world.new.replay ≡ world_at_start options.now }
+{
+    if let Some(micros) = options.horizon() {
+        world.set_horizon(micros);
+    }
+}
+
+// Takes the values of the options, the lines and the end, and prints.
+fn replay_within<S: Source, R: Revisions, K: Sink>(
+    alloc: Global,
+    options: &ReplayOptions<'_>,
+    events: &mut S,
+    revisions: &mut R,
+    out: &mut K,
+    world: &mut World,
+) -> Result<(), Stop>
+    requires { world.old.replay ≡ nothing_delivered_within world.old.replay.buffer.horizon }
     ensures ok { OnOk result (Ending (run_of (R.contents revisions.old) options.now)
         (moment S.Source R.Revisions K.Sink events.old revisions.old out.old world.old.replay)
         (moment S.Source R.Revisions K.Sink events.new revisions.new out.new world.new.replay)) }
@@ -66,7 +100,7 @@ fn take_all<S: Source, R: Revisions, K: Sink>(
     out: &mut K,
     world: &mut World,
 ) -> Result<(), Stop>
-    requires world { world.old.replay ≡ nothing_delivered }
+    requires world { world.old.replay ≡ nothing_delivered_within world.old.replay.buffer.horizon }
     requires room { world.old.room ≡ terms_of plan.now }
     ensures ok { OnOk result (HasReplayed (run_of (R.contents revisions.old) plan.now)
         (moment S.Source R.Revisions K.Sink events.old revisions.old out.old world.old.replay)

@@ -5,7 +5,7 @@ ghost use Rattle.wq_io.specs.Streams.{Rose};
 ghost use Rattle.replay_model.specs.ReplayState.{nothing_delivered};
 ghost use Rattle.session.specs.Drilling.{DrillEnding};
 ghost use Rattle.session.specs.Headline.{Ending, Stopped};
-ghost use Rattle.session.specs.Moment.{moment, run_of, stage};
+ghost use Rattle.session.specs.Moment.{moment, run_of, stage, world_at_start};
 ghost use Rattle.session.specs.Reading.{TakesByNeed};
 ghost use Rattle.session.specs.Stop.{stop_of};
 ghost use Rattle.words.specs.Options.{Choices, limit_of};
@@ -39,16 +39,17 @@ pub fn run<S: Source, R: Revisions, K: Sink>(
     ensures untouched { result ≡ Status.BadWords →
         (events.new ≡ events.old) × (revisions.new ≡ revisions.old) × (out.new ≡ out.old) × (world.new ≡ world.old) }
 
-    // The input was read to its end, everything was applied, and every answer and section was written.
+    // The input was read to its end, everything was applied, and every answer and section was written. The horizon is that of the
+    // words.
     ensures ok { result ≡ Status.Ok → (choices : Choices) → plan_of (map (λ w. string_bytes w) words.now) ≡ Some (Replay choices) →
         Ending (run_of (R.contents revisions.old) choices)
-        (moment S.Source R.Revisions K.Sink events.old revisions.old out.old world.old.replay)
+        (moment S.Source R.Revisions K.Sink events.old revisions.old out.old (world_at_start choices))
         (moment S.Source R.Revisions K.Sink events.new revisions.new out.new world.new.replay) }
 
     // Each other ending has its cause, and leaves the world of the lines before, with the answers to their questions.
     ensures stopped { IfSome (stop_of result) (λ stop. (choices : Choices) → plan_of (map (λ w. string_bytes w) words.now) ≡ Some (Replay choices) →
         Stopped stop (run_of (R.contents revisions.old) choices)
-        (moment S.Source R.Revisions K.Sink events.old revisions.old out.old world.old.replay)
+        (moment S.Source R.Revisions K.Sink events.old revisions.old out.old (world_at_start choices))
         (moment S.Source R.Revisions K.Sink events.new revisions.new out.new world.new.replay)) }
 
     // However a replay ends, the input was read no further than it had to be.

@@ -1,7 +1,7 @@
 // The lines of the input are taken one by one.
 
 ghost use Rattle.std.specs.Prelude.{◌≡◌, ◌⊎◌, Ok, Err, IfErr, IfOk, IfSome, OnOk};
-ghost use Rattle.replay_model.specs.ReplayState.{nothing_delivered};
+ghost use Rattle.replay_model.specs.ReplayState.{nothing_delivered_within};
 ghost use Rattle.event_line.specs.declared.faults.LineCause.{LineCause};
 ghost use Rattle.event_line.specs.Line.{delivery_of};
 ghost use Rattle.session.specs.declared.stop.Stop.TheVariants.{BadLine, OutOfMemory as Refused};
@@ -32,7 +32,7 @@ pub fn take_lines<S: Source, R: Revisions, K: Sink>(
     out: &mut K,
     world: &mut World,
 ) -> Result<(), Stop>
-    requires world { world.old.replay ≡ nothing_delivered }
+    requires world { world.old.replay ≡ nothing_delivered_within world.old.replay.buffer.horizon }
     requires room { world.old.room ≡ terms_of plan.now }
     ensures ok { OnOk result (HasTaken (run_of (R.contents revisions.old) plan.now)
         (moment S.Source R.Revisions K.Sink events.old revisions.old out.old world.old.replay)

@@ -1,19 +1,20 @@
 -- What clap makes of the words of a replay and of a drill.
-use Rattle.std.proofs.Common.{◌≡◌, ◌∙◌, ℕ, ◌≤◌, refl, sym, ap, ap₂, true, false, Bool, List, [], ◌∷◌, ◌++◌, Option, Some, None, codes, option_map, append_assoc, append-nil, arith}
+use Rattle.std.proofs.Common.{◌≡◌, ◌∙◌, ℕ, ◌≤◌, refl, sym, ap, ap₂, true, false, Bool, List, [], ◌∷◌, ◌++◌, Option, Some, None, Result, Ok, Err, IfOk, codes, option_map, append_assoc, append-nil, arith}
 use Rattle.std.specs.Prelude.{unwrap_or, slice_get, ◌&&◌}
 use Rattle.std.specs.List.{list_all}
 use Rattle.std.specs.Fmt.{decimal}
 use Rattle.std.specs.Option.{option_and_then}
 use Rattle.clap.specs.declared.builder.value_parser.Reading.{Reading}
 use Rattle.clap.specs.declared.builder.value_parser.Reading.TheVariants.{AsWritten}
+use Rattle.clap.specs.declared.parser.matches.ArgMatches.{ArgMatches}
 use Rattle.clap.specs.Walk.{Row, Walk, finished, nothing_held, reading_by, row_text, walk}
 use Rattle.clap.specs.Simple.{Shape, built, filled}
 use Rattle.clap.specs.Takes.{default_passes, is_valid, level_passes, settle_passes}
-use Rattle.clap.specs.Words.{Text, first_of, matches_of, one_of, takes}
+use Rattle.clap.specs.Words.{App, HasMatchesOf, Text, first_of, found_of, is_simple, matches_of, one_of, rows_of, takes}
 use Rattle.clap.proofs.OnLiterals.{clap_on_literals}
 use Rattle.clap.proofs.TakesLemmas.{leaf_takes}
 use Rattle.words.specs.Arguments.{Gives, drill_command, drill_words, flag_rule, flag_text, option_rule, replay_command, word_of_flag, word_of_value, words_of}
-use Rattle.words.specs.Options.{Choices, greatest_limit, greatest_terms, limit_in, terms_in}
+use Rattle.words.specs.Options.{Choices, greatest_horizon, greatest_limit, greatest_terms, horizon_in, limit_in, terms_in}
 use Rattle.words.specs.Plan.{greatest_size, size_in}
 use Rattle.words.proofs.Written.{number_between-decimal}
 use Rattle.words.proofs.Slots.{AreTaken, IsTaken, Slot, Use, WalksOver, default_row, found, found-slots, found_at, is_distinct, or_else, resting, rows_in, use_row, used_new, walks_over, words_at, words_in, defaults_at}
@@ -41,6 +42,7 @@ slots_of c =
     value_slot (codes "from") c.place
     ∷ value_slot (codes "max-bytes") (option_map decimal c.limit)
     ∷ value_slot (codes "max-terms") (option_map decimal c.terms)
+    ∷ value_slot (codes "horizon") (option_map decimal c.horizon)
     ∷ flag_slot (codes "export") c.export
     ∷ flag_slot (codes "state") c.state
     ∷ flag_slot (codes "side") c.side
@@ -48,6 +50,15 @@ slots_of c =
 
 abbrev replay_shape : Shape
 replay_shape = (built replay_command).top
+
+-- the command is simple, so its matches are known
+pub is_simple_replay : is_simple replay_command ≡ true
+unfolding clap_on_literals
+is_simple_replay = refl
+
+pub all_known : {E : Type 0} (r : Result ArgMatches E) (a b : App) (words : List Text) → a ≡ b → is_simple b ≡ true → IfOk r (HasMatchesOf a words) → IfOk r (λ m. rows_of (found_of m) ≡ matches_of b words)
+all_known (Ok m) a b words same simple has = (has (ap is_simple same ∙ simple)).0 ∙ ap (λ (c : App). matches_of c words) same
+all_known (Err e) a b words same simple has = tt
 
 -- each item's word is a use of its argument
 place_taken : (value : Option Text) → let slot = value_slot (codes "from") value in IsTaken replay_shape slot.id slot.how slot.given
@@ -64,6 +75,11 @@ terms_taken : (value : Option Text) → let slot = value_slot (codes "max-terms"
 unfolding clap_on_literals
 terms_taken None = tt
 terms_taken (Some value) = record { walks = λ rows none. ap resting (used_new _ _ value rows none); passes = λ rows none. rw none refl }
+
+horizon_taken : (value : Option Text) → let slot = value_slot (codes "horizon") value in IsTaken replay_shape slot.id slot.how slot.given
+unfolding clap_on_literals
+horizon_taken None = tt
+horizon_taken (Some value) = record { walks = λ rows none. ap resting (used_new _ _ value rows none); passes = λ rows none. rw none refl }
 
 export_taken : (flag : Bool) → let slot = flag_slot (codes "export") flag in IsTaken replay_shape slot.id slot.how slot.given
 unfolding clap_on_literals
@@ -83,7 +99,7 @@ side_taken true = record { walks = λ rows none. ap resting (used_new _ _ _ rows
 -- all of them, in their order
 are_taken : (c : Choices) → AreTaken replay_shape (slots_of c)
 are_taken c =
-    (place_taken c.place, (limit_taken (option_map decimal c.limit), (terms_taken (option_map decimal c.terms), (export_taken c.export, (state_taken c.state, (side_taken c.side, tt))))))
+    (place_taken c.place, (limit_taken (option_map decimal c.limit), (terms_taken (option_map decimal c.terms), (horizon_taken (option_map decimal c.horizon), (export_taken c.export, (state_taken c.state, (side_taken c.side, tt)))))))
 
 are_distinct : (c : Choices) → is_distinct (slots_of c) ≡ true
 are_distinct c = refl
@@ -105,9 +121,10 @@ slot_words c =
     (then_words _ _ _ _ (value_words (codes "from") c.place)
     (then_words _ _ _ _ (value_words (codes "max-bytes") (option_map decimal c.limit))
     (then_words _ _ _ _ (value_words (codes "max-terms") (option_map decimal c.terms))
+    (then_words _ _ _ _ (value_words (codes "horizon") (option_map decimal c.horizon))
     (then_words _ _ _ _ (flag_words (codes "export") c.export)
     (then_words _ _ _ _ (flag_words (codes "state") c.state)
-    (then_words _ _ _ _ (flag_words (codes "side") c.side) refl))))))
+    (then_words _ _ _ _ (flag_words (codes "side") c.side) refl)))))))
     ∙ simp (append_assoc, append-nil)
 
 walked_over : (c : Choices) → WalksOver replay_shape [] (words_in (slots_of c)) (rows_in (slots_of c))
@@ -167,6 +184,7 @@ gives c = record {
   place = value_matched c (codes "from") c.place (value_there (codes "from") (codes "from") (reading_by (filled (option_rule (codes "from")))) c.place);
   limit = value_matched c (codes "max-bytes") (option_map decimal c.limit) (value_there (codes "max-bytes") (codes "max-bytes") (reading_by (filled (option_rule (codes "max-bytes")))) (option_map decimal c.limit));
   terms = value_matched c (codes "max-terms") (option_map decimal c.terms) (value_there (codes "max-terms") (codes "max-terms") (reading_by (filled (option_rule (codes "max-terms")))) (option_map decimal c.terms));
+  horizon = value_matched c (codes "horizon") (option_map decimal c.horizon) (value_there (codes "horizon") (codes "horizon") (reading_by (filled (option_rule (codes "horizon")))) (option_map decimal c.horizon));
   export = flag_matched c (codes "export") c.export (flag_there (codes "export") (codes "export") c.export);
   state = flag_matched c (codes "state") c.state (flag_there (codes "state") (codes "state") c.state);
   side = flag_matched c (codes "side") c.side (flag_there (codes "side") (codes "side") c.side);
@@ -180,6 +198,10 @@ limit_again (Some n) low = number_between-decimal 0 greatest_limit n (omega arit
 pub terms_again : (terms : Option ℕ) → 1 ≤ unwrap_or terms 1 → unwrap_or terms 1 ≤ greatest_terms → option_and_then terms_in (option_map decimal terms) ≡ terms
 terms_again None low high = refl
 terms_again (Some n) low high = number_between-decimal 1 greatest_terms n low high (omega arith)
+
+pub horizon_again : (horizon : Option ℕ) → unwrap_or horizon 0 ≤ greatest_horizon → option_and_then horizon_in (option_map decimal horizon) ≡ horizon
+horizon_again None low = refl
+horizon_again (Some n) low = number_between-decimal 0 greatest_horizon n (omega arith) low (omega arith)
 
 -- a flag is read from its text
 pub flag_again : (flag now : Bool) (text : Option Text) → text ≡ Some (flag_text flag) →

@@ -19,7 +19,8 @@ word_of_flag name true = name ∷ []
 abbrev pub words_of : Choices → List (List ℕ)
 words_of c =
     codes "replay" ∷ [] ++ word_of_value (codes "--from") c.place ++ word_of_value (codes "--max-bytes") (option_map decimal c.limit)
-    ++ word_of_value (codes "--max-terms") (option_map decimal c.terms) ++ word_of_flag (codes "--export") c.export ++ word_of_flag (codes "--state") c.state ++ word_of_flag (codes "--side") c.side
+    ++ word_of_value (codes "--max-terms") (option_map decimal c.terms) ++ word_of_value (codes "--horizon") (option_map decimal c.horizon)
+    ++ word_of_flag (codes "--export") c.export ++ word_of_flag (codes "--state") c.state ++ word_of_flag (codes "--side") c.side
 
 -- the command's name, and then the word of the size
 abbrev pub drill_words : ℕ → List (List ℕ)
@@ -33,11 +34,11 @@ option_rule name = record (new_rule name) { long = Some name }
 abbrev pub flag_rule : List ℕ → Rule
 flag_rule name = record (new_rule name) { long = Some name; action = Some SetTrue }
 
--- the command `replay`, with its six items
+-- the command `replay`, with its seven items
 abbrev pub replay_command : App
 replay_command =
-    with_rule (with_rule (with_rule (with_rule (with_rule (with_rule (new_app (codes "replay")) (option_rule (codes "from"))) (option_rule (codes "max-bytes")))
-    (option_rule (codes "max-terms"))) (flag_rule (codes "export"))) (flag_rule (codes "state"))) (flag_rule (codes "side"))
+    with_rule (with_rule (with_rule (with_rule (with_rule (with_rule (with_rule (new_app (codes "replay")) (option_rule (codes "from"))) (option_rule (codes "max-bytes")))
+    (option_rule (codes "max-terms"))) (option_rule (codes "horizon"))) (flag_rule (codes "export"))) (flag_rule (codes "state"))) (flag_rule (codes "side"))
 
 -- the command `drill`, with its one item
 abbrev pub drill_command : App
@@ -53,6 +54,7 @@ pub record Gives (rows : List Row) (c : Choices) : Type 0 where
   pub place : first_of (codes "from") rows ≡ c.place
   pub limit : first_of (codes "max-bytes") rows ≡ option_map decimal c.limit
   pub terms : first_of (codes "max-terms") rows ≡ option_map decimal c.terms
+  pub horizon : first_of (codes "horizon") rows ≡ option_map decimal c.horizon
   pub export : one_of (codes "export") rows ≡ Some (flag_text c.export)
   pub state : one_of (codes "state") rows ≡ Some (flag_text c.state)
   pub side : one_of (codes "side") rows ≡ Some (flag_text c.side)

@@ -5,19 +5,20 @@ use Rattle.std.specs.Str.{bytes_eq}
 use Rattle.words.specs.Items.{Item, is_value}
 use Rattle.words.specs.Numbers.{number_between}
 
--- what is asked for: the place of the revisions, the most bytes of the input and the most terms, where the words say them,
--- and which sections are printed
+-- what is asked for: the place of the revisions, the most bytes of the input, the most terms and the horizon in microseconds, where
+-- the words say them, and which sections are printed
 pub record Choices : Type 0 where
   pub place : Option (List ℕ)
   pub limit : Option ℕ
   pub terms : Option ℕ
+  pub horizon : Option ℕ
   pub export : Bool
   pub state : Bool
   pub side : Bool
 
 -- nothing is asked for yet
 abbrev pub nothing_chosen : Choices
-nothing_chosen = record { place = None; limit = None; terms = None; export = false; state = false; side = false }
+nothing_chosen = record { place = None; limit = None; terms = None; horizon = None; export = false; state = false; side = false }
 
 -- the place of the revisions: without `--from` the current folder
 abbrev pub place_of : Choices → List ℕ
@@ -39,9 +40,13 @@ greatest_terms = 4294967295
 abbrev pub terms_of : Choices → ℕ
 terms_of c = unwrap_or c.terms 20000000
 
--- the most bytes and the most terms are within what may be allowed
+-- the greatest horizon
+abbrev pub greatest_horizon : ℕ
+greatest_horizon = 9223372036854775807
+
+-- the most bytes, the most terms and the horizon are within what may be allowed
 abbrev pub IsWithin : Choices → Type 0
-IsWithin c = (unwrap_or c.limit 0 ≤ greatest_limit) × (1 ≤ unwrap_or c.terms 1) × (unwrap_or c.terms 1 ≤ greatest_terms)
+IsWithin c = (unwrap_or c.limit 0 ≤ greatest_limit) × (1 ≤ unwrap_or c.terms 1) × (unwrap_or c.terms 1 ≤ greatest_terms) × (unwrap_or c.horizon 0 ≤ greatest_horizon)
 
 -- the most bytes that the text says
 abbrev pub limit_in : List ℕ → Option ℕ
@@ -50,6 +55,10 @@ limit_in = number_between 0 greatest_limit
 -- the most terms that the text says
 abbrev pub terms_in : List ℕ → Option ℕ
 terms_in = number_between 1 greatest_terms
+
+-- the horizon that the text says
+abbrev pub horizon_in : List ℕ → Option ℕ
+horizon_in = number_between 0 greatest_horizon
 
 -- the choices with a place, if there is none yet
 abbrev pub with_place : Choices → List ℕ → Option Choices
@@ -64,6 +73,11 @@ with_limit c (Some limit) = cond (is_none c.limit) (Some (record c { limit = Som
 abbrev pub with_terms : Choices → Option ℕ → Option Choices
 with_terms c None = None
 with_terms c (Some terms) = cond (is_none c.terms) (Some (record c { terms = Some terms })) None
+
+-- the choices with a horizon, if the text is one and there is none yet
+abbrev pub with_horizon : Choices → Option ℕ → Option Choices
+with_horizon c None = None
+with_horizon c (Some horizon) = cond (is_none c.horizon) (Some (record c { horizon = Some horizon })) None
 
 -- the choices with a section that is printed, if it isn't there yet
 abbrev pub with_export : Choices → Option Choices
@@ -88,7 +102,8 @@ with_value c name value =
     cond (not (is_value value)) None
     (cond (bytes_eq name (codes "--from")) (with_place c value)
     (cond (bytes_eq name (codes "--max-bytes")) (with_limit c (limit_in value))
-    (cond (bytes_eq name (codes "--max-terms")) (with_terms c (terms_in value)) None)))
+    (cond (bytes_eq name (codes "--max-terms")) (with_terms c (terms_in value))
+    (cond (bytes_eq name (codes "--horizon")) (with_horizon c (horizon_in value)) None))))
 
 -- the choices with one item more, which is refused where it is there already, isn't in the table or has no fit value
 abbrev pub with_item : Choices → List ℕ → Option (List ℕ) → Option Choices

@@ -5,10 +5,10 @@ ghost use Rattle.std.specs.Fmt.{decimal};
 ghost use Rattle.std.specs.Option.{option_and_then};
 ghost use Rattle.clap.specs.Words.{app_of, first_of, first_value, found_of, kind_of, matches_of, one_text, rows_of, rule_of, takes};
 ghost use Rattle.words.specs.Arguments.{Gives, drill_command, drill_words, flag_rule, option_rule, replay_command, word_of_flag, word_of_value, words_of};
-ghost use Rattle.words.specs.Options.{Choices, IsWithin, limit_in, limit_of, place_of, terms_in, terms_of};
+ghost use Rattle.words.specs.Options.{Choices, IsWithin, horizon_in, limit_in, limit_of, place_of, terms_in, terms_of};
 ghost use Rattle.words.specs.Plan.{greatest_size, size_in};
 
-use crate::options::{ReplayOptions, read_limit, read_terms};
+use crate::options::{ReplayOptions, read_horizon, read_limit, read_terms};
 use crate::plan::read_size;
 use clap::error::ErrorKind;
 use clap::{Arg, ArgAction, ArgMatches, Command, Error};
@@ -31,6 +31,7 @@ pub struct Arguments {
     place: Option<String>,
     limit: Option<u64>,
     terms: Option<u32>,
+    horizon: Option<u64>,
     export: bool,
     state: bool,
     side: bool,
@@ -39,7 +40,7 @@ pub struct Arguments {
 impl Model for Arguments {
     ghost use Rattle.std.specs.Prelude.{unwrap_or, string_bytes, ◌≤◌};
     ghost use Rattle.std.specs.Option.{option_map};
-    ghost use Rattle.words.specs.Options.{Choices, greatest_limit, greatest_terms};
+    ghost use Rattle.words.specs.Options.{Choices, greatest_horizon, greatest_limit, greatest_terms};
 
     ghost Value = { Choices };
 
@@ -47,12 +48,13 @@ impl Model for Arguments {
       place = option_map (λ p. string_bytes p) a.place;
       limit = a.limit;
       terms = a.terms;
+      horizon = a.horizon;
       export = a.export;
       state = a.state;
       side = a.side;
     } };
 
-    ghost invariant = { λ a. (unwrap_or a.limit 0 ≤ greatest_limit) × (1 ≤ unwrap_or a.terms 1) × (unwrap_or a.terms 1 ≤ greatest_terms) };
+    ghost invariant = { λ a. (unwrap_or a.limit 0 ≤ greatest_limit) × (1 ≤ unwrap_or a.terms 1) × (unwrap_or a.terms 1 ≤ greatest_terms) × (unwrap_or a.horizon 0 ≤ greatest_horizon) };
 }
 
 impl Arguments {
@@ -79,6 +81,13 @@ impl Arguments {
         ensures { result ≡ terms_of self.now }
     {
         self.terms.unwrap_or(TERMS)
+    }
+
+    /// The horizon in microseconds, if there is one.
+    pub fn horizon(&self) -> Option<u64>
+        ensures { result ≡ self.now.horizon }
+    {
+        self.horizon
     }
 
     /// Whether all triples are printed at the end.
@@ -126,6 +135,7 @@ fn item_words(alloc: Global, options: &ReplayOptions<'_>) -> Result<Vec<String>,
     push_value(alloc, &mut words, "--from", options.place())?;
     push_number(alloc, &mut words, "--max-bytes", options.limit())?;
     push_number(alloc, &mut words, "--max-terms", widened(options.terms()))?;
+    push_number(alloc, &mut words, "--horizon", options.horizon())?;
     push_flag(alloc, &mut words, "--export", options.export())?;
     push_flag(alloc, &mut words, "--state", options.state())?;
     push_flag(alloc, &mut words, "--side", options.side())?;
@@ -203,6 +213,7 @@ fn replay_command<'a>(alloc: Global) -> Result<Command<'a>, AllocError>
         .arg(option(alloc, "from"))?
         .arg(option(alloc, "max-bytes"))?
         .arg(option(alloc, "max-terms"))?
+        .arg(option(alloc, "horizon"))?
         .arg(flag(alloc, "export"))?
         .arg(flag(alloc, "state"))?
         .arg(flag(alloc, "side"))
@@ -232,6 +243,7 @@ fn arguments_in(alloc: Global, matches: &ArgMatches<'_>) -> Result<Arguments, Ou
         place: place_in(alloc, matches)?,
         limit: limit_in(matches),
         terms: terms_in(matches),
+        horizon: horizon_in(matches),
         export: matches.get_flag("export"),
         state: matches.get_flag("state"),
         side: matches.get_flag("side"),
@@ -260,6 +272,13 @@ fn terms_in(matches: &ArgMatches<'_>) -> Option<u32>
     ensures { result ≡ option_and_then terms_in (first_value (found_of matches.now) (codes "max-terms")) }
 {
     read_terms(matches.get_str("max-terms")?)
+}
+
+// The horizon that clap matched.
+fn horizon_in(matches: &ArgMatches<'_>) -> Option<u64>
+    ensures { result ≡ option_and_then horizon_in (first_value (found_of matches.now) (codes "horizon")) }
+{
+    read_horizon(matches.get_str("horizon")?)
 }
 
 // The refusal that clap's is, where memory was refused.

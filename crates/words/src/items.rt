@@ -33,7 +33,11 @@ pub fn is_value(text: &str) -> bool
 fn takes_value(word: &str) -> bool
     ensures { result ≡ takes_value word.now }
 {
-    word == "--from" || word == "--max-bytes" || word == "--max-terms" || word == "--size"
+    word == "--from"
+        || word == "--max-bytes"
+        || word == "--max-terms"
+        || word == "--horizon"
+        || word == "--size"
 }
 
 // The name and the value in one word.

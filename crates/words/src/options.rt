@@ -3,7 +3,7 @@
 ghost use Rattle.std.specs.Prelude.{◌≡◌, ◌≤◌, not, true, IfSome};
 ghost use Rattle.std.specs.Option.{option_map};
 ghost use Rattle.words.specs.Items.{is_value};
-ghost use Rattle.words.specs.Options.{IsAdded, IsWithin, greatest_limit, greatest_terms, limit_in, nothing_chosen, terms_in, with_flag, with_item, with_limit, with_place, with_terms, with_value};
+ghost use Rattle.words.specs.Options.{IsAdded, IsWithin, greatest_horizon, greatest_limit, greatest_terms, horizon_in, limit_in, nothing_chosen, terms_in, with_flag, with_horizon, with_item, with_limit, with_place, with_terms, with_value};
 
 use crate::items::is_value;
 use crate::numbers::read_number;
@@ -16,12 +16,16 @@ const GREATEST_LIMIT: u64 = 1_099_511_627_776;
 /// The most terms that the words may allow.
 const GREATEST_TERMS: u64 = 4_294_967_295;
 
+/// The greatest horizon that the words may say, in microseconds.
+const GREATEST_HORIZON: u64 = 9_223_372_036_854_775_807;
+
 /// What a replay is asked for, as the words say it.
 #[derive(Debug, Drop)]
 pub struct ReplayOptions<'a> {
     place: Option<&'a str>,
     limit: Option<u64>,
     terms: Option<u32>,
+    horizon: Option<u64>,
     export: bool,
     state: bool,
     side: bool,
@@ -30,7 +34,7 @@ pub struct ReplayOptions<'a> {
 impl<'a> Model for ReplayOptions<'a> {
     ghost use Rattle.std.specs.Prelude.{unwrap_or, ◌≤◌};
     ghost use Rattle.std.specs.Option.{option_map};
-    ghost use Rattle.words.specs.Options.{Choices, greatest_limit, greatest_terms};
+    ghost use Rattle.words.specs.Options.{Choices, greatest_horizon, greatest_limit, greatest_terms};
 
     ghost Value = { Choices };
 
@@ -38,12 +42,13 @@ impl<'a> Model for ReplayOptions<'a> {
       place = option_map (λ p. p.now) a.place;
       limit = a.limit;
       terms = a.terms;
+      horizon = a.horizon;
       export = a.export;
       state = a.state;
       side = a.side;
     } };
 
-    ghost invariant = { λ a. (unwrap_or a.limit 0 ≤ greatest_limit) × (1 ≤ unwrap_or a.terms 1) × (unwrap_or a.terms 1 ≤ greatest_terms) };
+    ghost invariant = { λ a. (unwrap_or a.limit 0 ≤ greatest_limit) × (1 ≤ unwrap_or a.terms 1) × (unwrap_or a.terms 1 ≤ greatest_terms) × (unwrap_or a.horizon 0 ≤ greatest_horizon) };
 }
 
 impl<'a> ReplayOptions<'a> {
@@ -55,6 +60,7 @@ impl<'a> ReplayOptions<'a> {
             place: None,
             limit: None,
             terms: None,
+            horizon: None,
             export: false,
             state: false,
             side: false,
@@ -81,6 +87,13 @@ impl<'a> ReplayOptions<'a> {
         ensures { result ≡ self.now.terms }
     {
         self.terms
+    }
+
+    /// The horizon in microseconds, if the words say one.
+    pub fn horizon(&self) -> Option<u64>
+        ensures { result ≡ self.now.horizon }
+    {
+        self.horizon
     }
 
     /// Whether all triples are printed at the end.
@@ -138,7 +151,10 @@ impl<'a> ReplayOptions<'a> {
         if name == "--max-bytes" {
             return self.add_limit(value);
         }
-        name == "--max-terms" && self.add_terms(value)
+        if name == "--max-terms" {
+            return self.add_terms(value);
+        }
+        name == "--horizon" && self.add_horizon(value)
     }
 
     // Adds the place of the revisions.
@@ -179,6 +195,20 @@ impl<'a> ReplayOptions<'a> {
         self.terms = Some(terms);
         true
     }
+
+    // Adds the horizon.
+    fn add_horizon(&mut self, digits: &str) -> bool
+        ensures { IsAdded result (with_horizon self.old (horizon_in digits.now)) self.new }
+    {
+        let Some(horizon) = read_horizon(digits) else {
+            return false;
+        };
+        if self.horizon.is_some() {
+            return false;
+        }
+        self.horizon = Some(horizon);
+        true
+    }
 }
 
 // Sets what isn't set yet, and says whether it wasn't.
@@ -195,6 +225,14 @@ pub fn read_limit(digits: &str) -> Option<u64>
     ensures within { IfSome result (λ n. n ≤ greatest_limit) }
 {
     read_number(digits, 0, GREATEST_LIMIT)
+}
+
+/// The horizon that the text says, in microseconds.
+pub fn read_horizon(digits: &str) -> Option<u64>
+    ensures value { result ≡ horizon_in digits.now }
+    ensures within { IfSome result (λ n. n ≤ greatest_horizon) }
+{
+    read_number(digits, 0, GREATEST_HORIZON)
 }
 
 /// The most terms that the text says.
