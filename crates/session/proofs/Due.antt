@@ -185,7 +185,7 @@ goes-further setting before between now old middle new first second = record {
 
 -- a source was asked further, twice
 pub gone-on : {R : Type 0} (members : RevisionsOf R) (old between new : R) → HasGoneOn members old between → HasGoneOn members between new → HasGoneOn members old new
-gone-on members old between new x y = record { known = y.known ∙ x.known; faults = omega (arith, x.faults, y.faults); misses = omega (arith, x.misses, y.misses) }
+gone-on members old between new x y = record { known = y.known ∙ x.known; faults = omega (arith, x.faults, y.faults); misses = omega (arith, x.misses, y.misses); most = y.most ∙ x.most }
 
 -- the counts of a source rise, and its calls by so many fetches
 counted_on : (start now last : Counts) (made more : ℕ) (side : List Entry) → last.calls ≡ risen_by more start.calls → now.faults ≤ last.faults → now.misses ≤ last.misses → HasCounted start now made side → HasCounted start last more side

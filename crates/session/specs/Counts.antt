@@ -33,8 +33,9 @@ pub record HasCounted (start now : Counts) (made : ℕ) (side : List Entry) : Ty
 abbrev pub HasCountedWithin : Counts → Counts → ℕ → List Entry → Type 0
 HasCountedWithin start now made side = HasCounted start now made side ⊎ HasCounted start now (made + 1) side
 
--- a source was asked further: its contents are the same, and no count of what went wrong fell
+-- a source was asked further: its contents and the most calls that ever fail are the same, and no count of what went wrong fell
 pub record HasGoneOn {R : Type 0} (members : RevisionsOf R) (old new : R) : Type 0 where
   pub known : members.contents new ≡ members.contents old
   pub faults : members.faults old ≤ members.faults new
   pub misses : members.misses old ≤ members.misses new
+  pub most : members.most_faults new ≡ members.most_faults old

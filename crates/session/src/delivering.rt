@@ -3,6 +3,7 @@
 ghost use Rattle.std.specs.Prelude.{◌≡◌, ◌≤◌, ◌∷◌, [], false, IfErr, OnErr, OnOk};
 ghost use Rattle.replay_model.specs.ReplayState.{after_end, after_event, after_mark};
 ghost use Rattle.replay_model.specs.Transcript.{asks};
+ghost use Rattle.world.specs.Roomed.{HasRoom};
 ghost use Rattle.session.specs.Counts.{HasGoneOn, counts};
 ghost use Rattle.session.specs.Moment.{setting, stage};
 ghost use Rattle.session.specs.Taking.{AppliesDue, CutsOff, IsHeldUp, StaysWithin, TakesDelivery, turn};
@@ -43,6 +44,8 @@ pub fn deliver<R: Revisions, K: Sink>(
     ensures err { IfErr result (λ stop. CutsOff stop (setting (R.contents revisions.old) directory.now world.old.room) (turn asked delivery.now)
         (stage R.Revisions K.Sink revisions.old out.old world.old.replay) (stage R.Revisions K.Sink revisions.new out.new world.new.replay)) }
     ensures room { world.new.room ≡ world.old.room }
+    ensures held { HasRoom world.old.room world.old.replay.played.records → HasRoom world.old.room world.new.replay.played.records }
+    ensures most { K.most_faults out.new ≡ K.most_faults out.old }
     ensures source { HasGoneOn R.Revisions revisions.old revisions.new }
 {
     match delivery {
@@ -64,6 +67,7 @@ pub fn take_end<R: Revisions>(
         (counts R.Revisions revisions.old) (counts R.Revisions revisions.new) (after_end world.old.replay) world.new.replay) }
     ensures held_up { IfErr result (λ why. IsHeldUp why (setting (R.contents revisions.old) directory.now world.old.room) world.new.replay) }
     ensures room { world.new.room ≡ world.old.room }
+    ensures held { HasRoom world.old.room world.new.replay.played.records }
     ensures source { HasGoneOn R.Revisions revisions.old revisions.new }
 {
     world.close();
@@ -83,6 +87,7 @@ fn take_mark<R: Revisions>(
         (counts R.Revisions revisions.old) (counts R.Revisions revisions.new) (after_mark world.old.replay mark.now) world.new.replay) }
     ensures held_up { IfErr result (λ why. IsHeldUp why (setting (R.contents revisions.old) directory.now world.old.room) world.new.replay) }
     ensures room { world.new.room ≡ world.old.room }
+    ensures held { HasRoom world.old.room world.new.replay.played.records }
     ensures source { HasGoneOn R.Revisions revisions.old revisions.new }
 {
     raise(mark, world);
@@ -120,6 +125,7 @@ fn apply_due<R: Revisions>(
         (counts R.Revisions revisions.old) (counts R.Revisions revisions.new) world.old.replay world.new.replay) }
     ensures held_up { IfErr result (λ why. IsHeldUp why (setting (R.contents revisions.old) directory.now world.old.room) world.new.replay) }
     ensures room { world.new.room ≡ world.old.room }
+    ensures held { HasRoom world.old.room world.new.replay.played.records }
     ensures source { HasGoneOn R.Revisions revisions.old revisions.new }
 {
     loop {

@@ -26,6 +26,7 @@ pub fn drill<K: Sink>(
     requires size { (1 ≤ size) × (size ≤ greatest_size) }
     requires world { world.old.replay ≡ nothing_delivered }
     ensures ok { OnOk result (HasDrilled size (output K.Sink out.old) (output K.Sink out.new) world.new.replay) }
+    ensures most { K.most_faults out.new ≡ K.most_faults out.old }
     ensures err { IfErr result (λ why. DrillStopped why size (output K.Sink out.old) (output K.Sink out.new) world.new.replay) }
 {
     let size = take_size(alloc, size)?;

@@ -1,6 +1,7 @@
 // A replay: the lines of the input, the end, and the sections that are asked for.
 
 ghost use Rattle.std.specs.Prelude.{◌≡◌, ◌≤◌, IfErr, IfSome, OnOk};
+ghost use Rattle.world.specs.Roomed.{HasRoom};
 ghost use Rattle.replay_model.specs.ReplayState.{nothing_delivered, nothing_delivered_within};
 ghost use Rattle.transcript.specs.Sections.{chosen};
 ghost use Rattle.session.specs.Counts.{HasGoneOn};
@@ -34,10 +35,11 @@ pub fn replay<S: Source, R: Revisions, K: Sink>(
         (moment S.Source R.Revisions K.Sink events.old revisions.old out.old (world_at_start options.now))
         (moment S.Source R.Revisions K.Sink events.new revisions.new out.new world.new.replay)) }
     ensures taken { IfSome (S.left events.old) (λ bytes. TakesByNeed (limit_of options.now) bytes (S.left events.new)) }
-    ensures most { S.most_faults events.new ≡ S.most_faults events.old }
+    ensures most { (S.most_faults events.new ≡ S.most_faults events.old) × (K.most_faults out.new ≡ K.most_faults out.old) }
     ensures err { IfErr result (λ stop. Stopped stop (run_of (R.contents revisions.old) options.now)
         (moment S.Source R.Revisions K.Sink events.old revisions.old out.old (world_at_start options.now))
         (moment S.Source R.Revisions K.Sink events.new revisions.new out.new world.new.replay)) }
+    ensures held { HasRoom (terms_of options.now) world.new.replay.played.records }
     ensures source { HasGoneOn R.Revisions revisions.old revisions.new }
 {
     set_horizon(options, world);
@@ -68,10 +70,11 @@ fn replay_within<S: Source, R: Revisions, K: Sink>(
         (moment S.Source R.Revisions K.Sink events.old revisions.old out.old world.old.replay)
         (moment S.Source R.Revisions K.Sink events.new revisions.new out.new world.new.replay)) }
     ensures taken { IfSome (S.left events.old) (λ bytes. TakesByNeed (limit_of options.now) bytes (S.left events.new)) }
-    ensures most { S.most_faults events.new ≡ S.most_faults events.old }
+    ensures most { (S.most_faults events.new ≡ S.most_faults events.old) × (K.most_faults out.new ≡ K.most_faults out.old) }
     ensures err { IfErr result (λ stop. Stopped stop (run_of (R.contents revisions.old) options.now)
         (moment S.Source R.Revisions K.Sink events.old revisions.old out.old world.old.replay)
         (moment S.Source R.Revisions K.Sink events.new revisions.new out.new world.new.replay)) }
+    ensures held { HasRoom (terms_of options.now) world.new.replay.played.records }
     ensures source { HasGoneOn R.Revisions revisions.old revisions.new }
 {
     let arguments = take_arguments(alloc, options)?;
@@ -102,14 +105,16 @@ fn take_all<S: Source, R: Revisions, K: Sink>(
 ) -> Result<(), Stop>
     requires world { world.old.replay ≡ nothing_delivered_within world.old.replay.buffer.horizon }
     requires room { world.old.room ≡ terms_of plan.now }
+    requires held { HasRoom world.old.room world.old.replay.played.records }
     ensures ok { OnOk result (HasReplayed (run_of (R.contents revisions.old) plan.now)
         (moment S.Source R.Revisions K.Sink events.old revisions.old out.old world.old.replay)
         (moment S.Source R.Revisions K.Sink events.new revisions.new out.new world.new.replay)) }
     ensures taken { IfSome (S.left events.old) (λ bytes. TakesByNeed (limit_of plan.now) bytes (S.left events.new)) }
-    ensures most { S.most_faults events.new ≡ S.most_faults events.old }
+    ensures most { (S.most_faults events.new ≡ S.most_faults events.old) × (K.most_faults out.new ≡ K.most_faults out.old) }
     ensures err { IfErr result (λ stop. Stopped stop (run_of (R.contents revisions.old) plan.now)
         (moment S.Source R.Revisions K.Sink events.old revisions.old out.old world.old.replay)
         (moment S.Source R.Revisions K.Sink events.new revisions.new out.new world.new.replay)) }
+    ensures held { HasRoom world.old.room world.new.replay.played.records }
     ensures source { HasGoneOn R.Revisions revisions.old revisions.new }
     ensures later { OnOk result (K.faults out.old ≤ K.faults out.new) }
 {

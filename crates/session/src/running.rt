@@ -3,12 +3,13 @@
 ghost use Rattle.std.specs.Prelude.{◌≡◌, ◌⊎◌, ◌↔◌, ℕ, ◌≤◌, None, Some, map, string_bytes, IfSome};
 ghost use Rattle.wq_io.specs.Streams.{Rose};
 ghost use Rattle.replay_model.specs.ReplayState.{nothing_delivered};
+ghost use Rattle.world.specs.Roomed.{HasRoom};
 ghost use Rattle.session.specs.Drilling.{DrillEnding};
 ghost use Rattle.session.specs.Headline.{Ending, Stopped};
 ghost use Rattle.session.specs.Moment.{moment, run_of, stage, world_at_start};
 ghost use Rattle.session.specs.Reading.{TakesByNeed};
 ghost use Rattle.session.specs.Stop.{stop_of};
-ghost use Rattle.words.specs.Options.{Choices, limit_of};
+ghost use Rattle.words.specs.Options.{Choices, limit_of, terms_of};
 ghost use Rattle.words.specs.Plan.{plan_of};
 ghost use Rattle.words.specs.declared.plan.Plan.TheVariants.{Replay, Drill};
 
@@ -56,6 +57,10 @@ pub fn run<S: Source, R: Revisions, K: Sink>(
     ensures taken { (choices : Choices) → plan_of (map (λ w. string_bytes w) words.now) ≡ Some (Replay choices) →
         IfSome (S.left events.old) (λ bytes. TakesByNeed (limit_of choices) bytes (S.left events.new)) }
 
+    // However a replay ends, what is held has no more different terms than the words allow.
+    ensures held { (choices : Choices) → plan_of (map (λ w. string_bytes w) words.now) ≡ Some (Replay choices) →
+        HasRoom (terms_of choices) world.new.replay.played.records }
+
     // A drill ends well, or while it printed, or for want of memory.
     ensures drilled { (size : ℕ) → plan_of (map (λ w. string_bytes w) words.now) ≡ Some (Drill size) →
         DrillEnding result size
@@ -71,7 +76,8 @@ pub fn run<S: Source, R: Revisions, K: Sink>(
     ensures told { R.contents revisions.new ≡ R.contents revisions.old }
     ensures more_faults { R.faults revisions.old ≤ R.faults revisions.new }
     ensures more_misses { R.misses revisions.old ≤ R.misses revisions.new }
-    ensures most { S.most_faults events.new ≡ S.most_faults events.old }
+    ensures most { (S.most_faults events.new ≡ S.most_faults events.old) × (R.most_faults revisions.new ≡ R.most_faults revisions.old)
+        × (K.most_faults out.new ≡ K.most_faults out.old) }
 {
     match read_plan(words) {
         None => Status::BadWords,

@@ -1,6 +1,7 @@
 // The lines of the input are taken one by one.
 
 ghost use Rattle.std.specs.Prelude.{◌≡◌, ◌⊎◌, Ok, Err, IfErr, IfOk, IfSome, OnOk};
+ghost use Rattle.world.specs.Roomed.{HasRoom};
 ghost use Rattle.replay_model.specs.ReplayState.{nothing_delivered_within};
 ghost use Rattle.event_line.specs.declared.faults.LineCause.{LineCause};
 ghost use Rattle.event_line.specs.Line.{delivery_of};
@@ -34,12 +35,14 @@ pub fn take_lines<S: Source, R: Revisions, K: Sink>(
 ) -> Result<(), Stop>
     requires world { world.old.replay ≡ nothing_delivered_within world.old.replay.buffer.horizon }
     requires room { world.old.room ≡ terms_of plan.now }
+    requires held { HasRoom world.old.room world.old.replay.played.records }
     ensures ok { OnOk result (HasTaken (run_of (R.contents revisions.old) plan.now)
         (moment S.Source R.Revisions K.Sink events.old revisions.old out.old world.old.replay)
         (moment S.Source R.Revisions K.Sink events.new revisions.new out.new world.new.replay)) }
     ensures taken { IfSome (S.left events.old) (λ bytes. TakesByNeed (limit_of plan.now) bytes (S.left events.new)) }
-    ensures most { S.most_faults events.new ≡ S.most_faults events.old }
+    ensures most { (S.most_faults events.new ≡ S.most_faults events.old) × (K.most_faults out.new ≡ K.most_faults out.old) }
     ensures room { OnOk result (world.new.room ≡ world.old.room) }
+    ensures held { HasRoom world.old.room world.new.replay.played.records }
     ensures err { IfErr result (λ stop. Stopped stop (run_of (R.contents revisions.old) plan.now)
         (moment S.Source R.Revisions K.Sink events.old revisions.old out.old world.old.replay)
         (moment S.Source R.Revisions K.Sink events.new revisions.new out.new world.new.replay)) }

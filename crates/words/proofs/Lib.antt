@@ -1,4 +1,6 @@
+mod Choosing
 mod Following
 mod Matched
 mod Slots
+mod Spelling
 mod Written

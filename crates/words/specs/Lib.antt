@@ -1,4 +1,5 @@
 pub mod Arguments
+pub mod Grammar
 pub mod Items
 pub mod Numbers
 pub mod Options

@@ -5,7 +5,7 @@ use Rattle.session.proofs.Due.{applies-fewer, applies-leads, goes-further, goes-
 use Rattle.session.proofs.delivering.apply_due.Goals as goal
 
 pub loop-init : goal.loop-init
-loop-init g c = (goes-nowhere _ _ c.args.world.now.replay, record { known = refl; faults = omega arith; misses = omega arith }, refl)
+loop-init g c = (goes-nowhere _ _ c.args.world.now.replay, record { known = refl; faults = omega arith; misses = omega arith; most = refl }, refl)
 
 pub loop-preserved : goal.loop-preserved
 loop-preserved g c =
@@ -13,7 +13,7 @@ loop-preserved g c =
     let call = c.in-Ok.ensures in
     let applied = rw before.1.known at call.applied in (
       goes-further _ _ _ _ _ _ _ before.0 (applies-leads _ _ _ _ _ _ _ _ applied (record { shown = call.shown; calls = call.calls; more_faults = call.more_faults; more_misses = call.more_misses })),
-      gone-on g.R.Revisions _ _ _ before.1 (record { known = call.told; faults = call.more_faults; misses = call.more_misses }),
+      gone-on g.R.Revisions _ _ _ before.1 (record { known = call.told; faults = call.more_faults; misses = call.more_misses; most = call.most }),
       call.room ∙ before.2,
     )
 
@@ -28,7 +28,7 @@ returns-in-Err-Nothing-clause-ok g c =
 pub returns-in-Err-Nothing-clause-source : goal.returns-in-Err-Nothing-clause-source
 returns-in-Err-Nothing-clause-source g c =
     let call = c.in-Err-Nothing.ensures in
-    gone-on g.R.Revisions _ _ _ c.loop.invariant.1 (record { known = call.told; faults = call.more_faults; misses = call.more_misses })
+    gone-on g.R.Revisions _ _ _ c.loop.invariant.1 (record { known = call.told; faults = call.more_faults; misses = call.more_misses; most = call.most })
 
 pub returns-in-Err-OutOfMemory-clause-err : goal.returns-in-Err-OutOfMemory-clause-err
 returns-in-Err-OutOfMemory-clause-err g c =
@@ -38,7 +38,7 @@ returns-in-Err-OutOfMemory-clause-err g c =
 pub returns-in-Err-OutOfMemory-clause-source : goal.returns-in-Err-OutOfMemory-clause-source
 returns-in-Err-OutOfMemory-clause-source g c =
     let call = c.in-Err-OutOfMemory.ensures in
-    gone-on g.R.Revisions _ _ _ c.loop.invariant.1 (record { known = call.told; faults = call.more_faults; misses = call.more_misses })
+    gone-on g.R.Revisions _ _ _ c.loop.invariant.1 (record { known = call.told; faults = call.more_faults; misses = call.more_misses; most = call.most })
 
 pub returns-in-Err-Full-clause-err : goal.returns-in-Err-Full-clause-err
 returns-in-Err-Full-clause-err g c =
@@ -54,4 +54,19 @@ returns-in-Err-Full-clause-held_up g c =
 pub returns-in-Err-Full-clause-source : goal.returns-in-Err-Full-clause-source
 returns-in-Err-Full-clause-source g c =
     let call = c.in-Err-Full.ensures in
-    gone-on g.R.Revisions _ _ _ c.loop.invariant.1 (record { known = call.told; faults = call.more_faults; misses = call.more_misses })
+    gone-on g.R.Revisions _ _ _ c.loop.invariant.1 (record { known = call.told; faults = call.more_faults; misses = call.more_misses; most = call.most })
+
+pub returns-in-Err-Nothing-clause-held : goal.returns-in-Err-Nothing-clause-held
+returns-in-Err-Nothing-clause-held g c =
+    let call = c.in-Err-Nothing.ensures in
+    rw (call.room ∙ c.loop.invariant.2) at call.held
+
+pub returns-in-Err-OutOfMemory-clause-held : goal.returns-in-Err-OutOfMemory-clause-held
+returns-in-Err-OutOfMemory-clause-held g c =
+    let call = c.in-Err-OutOfMemory.ensures in
+    rw (call.room ∙ c.loop.invariant.2) at call.held
+
+pub returns-in-Err-Full-clause-held : goal.returns-in-Err-Full-clause-held
+returns-in-Err-Full-clause-held g c =
+    let call = c.in-Err-Full.ensures in
+    rw (call.room ∙ c.loop.invariant.2) at call.held

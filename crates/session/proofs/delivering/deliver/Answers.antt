@@ -42,3 +42,9 @@ returns-in_err-print_answer-in-Ask-clause-err g c =
     let before : Stage = stage g.R.Revisions g.K.Sink c.args.revisions.now c.args.out.now c.args.world.now.replay in
     let p = err_from_is_err_and c.from_residual-in_err-print_answer-in-Ask.result c.from_residual-in_err-print_answer-in-Ask.ensures.1 in
     rw (p.1, p.2, c.in-Ask.is) (ask_cut_off _ s c.in-Ask.pattern c.args.asked before _ c.in_err-print_answer-in-Ask.ensures)
+
+pub returns-in_ok-take_event-in-Event-clause-held : goal.returns-in_ok-take_event-in-Event-clause-held
+returns-in_ok-take_event-in-Event-clause-held g c = rw c.in_ok-take_event-in-Event.ensures.ok (λ held. held)
+
+pub returns-in_err-take_event-in-Event-clause-held : goal.returns-in_err-take_event-in-Event-clause-held
+returns-in_err-take_event-in-Event-clause-held g c = rw c.in_err-take_event-in-Event.ensures.err (λ held. held)

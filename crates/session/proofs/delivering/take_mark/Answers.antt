@@ -9,3 +9,6 @@ returns-clause-err g c = rw (c.raise.ensures.mark, c.raise.ensures.room) at c.ap
 
 pub returns-clause-held_up : goal.returns-clause-held_up
 returns-clause-held_up g c = rw c.raise.ensures.room at c.apply_due.ensures.held_up
+
+pub returns-clause-held : goal.returns-clause-held
+returns-clause-held g c = rw c.raise.ensures.room at c.apply_due.ensures.held

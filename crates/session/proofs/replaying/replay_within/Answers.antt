@@ -1,9 +1,11 @@
 -- Values that are not taken, a stop of the taking, a fault of the sink, and the end.
-use Rattle.std.proofs.Common.{inl, []}
+use Rattle.std.proofs.Common.{inl, ◌∙◌, []}
 use Rattle.std.specs.FinMap.{len-empty}
 use Rattle.std.proofs.lemmas.Result.{err_from_is_err_and}
 use Rattle.session.specs.Moment.{Moment, Run, moment, run_of}
 use Rattle.session.proofs.Ends.{broken_off, ending, prints_asked}
+use Rattle.replay_model.specs.Play.{nothing_played}
+use Rattle.world.proofs.Rooming.{nothing_held}
 use Rattle.session.proofs.Progress.{nothing_begun, stands}
 use Rattle.session.proofs.Reading.{nothing_taken_of, still}
 use Rattle.session.proofs.replaying.replay_within.Goals as goal
@@ -48,3 +50,24 @@ returns-in_err-print_closing-clause-taken g c = rw c.in_ok-arguments.ensures at 
 
 pub returns-clause-taken : goal.returns-clause-taken
 returns-clause-taken g c = rw c.in_ok-arguments.ensures at c.take_all.ensures.taken
+
+pub returns-in_err-print_closing-clause-most : goal.returns-in_err-print_closing-clause-most
+returns-in_err-print_closing-clause-most g c = (c.take_all.ensures.most.0, c.print_closing.ensures.most ∙ c.take_all.ensures.most.1)
+
+pub returns-clause-most : goal.returns-clause-most
+returns-clause-most g c = (c.take_all.ensures.most.0, c.print_closing.ensures.most ∙ c.take_all.ensures.most.1)
+
+pub returns-in_err-arguments-clause-held : goal.returns-in_err-arguments-clause-held
+returns-in_err-arguments-clause-held g c = rw c.requires (nothing_held nothing_played.records _ (len-empty _ _))
+
+pub returns-in_err-take_all-clause-held : goal.returns-in_err-take_all-clause-held
+returns-in_err-take_all-clause-held g c = rw (c.set_room.ensures, c.terms.ensures, c.in_ok-arguments.ensures) at c.take_all.ensures.held
+
+pub returns-in_err-print_closing-clause-held : goal.returns-in_err-print_closing-clause-held
+returns-in_err-print_closing-clause-held g c = rw (c.set_room.ensures, c.terms.ensures, c.in_ok-arguments.ensures) at c.take_all.ensures.held
+
+pub returns-clause-held : goal.returns-clause-held
+returns-clause-held g c = rw (c.set_room.ensures, c.terms.ensures, c.in_ok-arguments.ensures) at c.take_all.ensures.held
+
+pub take_all-requires-clause-held : goal.take_all-requires-clause-held
+take_all-requires-clause-held g c = rw (c.set_room.ensures, c.requires) (nothing_held nothing_played.records _ (len-empty _ _))

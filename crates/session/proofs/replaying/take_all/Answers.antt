@@ -35,3 +35,9 @@ returns-in_err-take_end-clause-err g c =
     let held_up = rw (c.in_ok-take_lines.ensures.source.known, c.place.ensures, c.in_ok-take_lines.ensures.room ∙ c.requires.room) at c.in_err-take_end.ensures.held_up in
     let p = err_from_is_err_and c.from_residual-in_err-take_end.result c.from_residual-in_err-take_end.ensures.1 in
     rw (p.1, p.2) (halted _ run before _ held_up (inr (record { deliveries = taken.deliveries; read = taken.read; within = end_begun run.setting taken.deliveries before.stage between.stage _ _ stays taken.at_rest; are = taken.are })))
+
+pub returns-clause-held : goal.returns-clause-held
+returns-clause-held g c = rw c.in_ok-take_lines.ensures.room at c.take_end.ensures.held
+
+pub returns-in_err-take_end-clause-held : goal.returns-in_err-take_end-clause-held
+returns-in_err-take_end-clause-held g c = rw c.in_ok-take_lines.ensures.room at c.take_end.ensures.held

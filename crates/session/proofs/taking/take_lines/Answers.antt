@@ -12,9 +12,10 @@ pub loop-line-init : goal.loop-line-init
 loop-line-init g c =
     let run : Run = run_of (g.R.Revisions.contents c.args.revisions.now) c.args.plan.now in (
       rw (c.new-lines.ensures, c.limit.ensures.value, c.requires.world) (nothing_begun run _ _ _ _),
-      record { known = refl; faults = omega arith; misses = omega arith },
+      record { known = refl; faults = omega arith; misses = omega arith; most = refl },
       refl,
-      refl,
+      (refl, refl),
+      c.requires.held,
     )
 
 pub returns-in_err-number-clause-err : goal.returns-in_err-number-clause-err
@@ -64,7 +65,8 @@ loop-line-preserved g c =
           c.in_ok-number.ensures.later (sym number.1 ∙ number.0) c.in_ok-number.ensures.ended (omega (arith, asked, one)) takes,
       gone-on g.R.Revisions _ _ _ c.loop-line.invariant.1 c.in_ok-deliver.ensures.source,
       c.deliver.ensures.room ∙ c.loop-line.invariant.2,
-      c.next.ensures.most ∙ c.loop-line.invariant.3,
+      (c.next.ensures.most ∙ c.loop-line.invariant.3.0, c.deliver.ensures.most ∙ c.loop-line.invariant.3.1),
+      (rw c.loop-line.invariant.2 at c.deliver.ensures.held) c.loop-line.invariant.4,
     )
 
 pub returns-clause-ok : goal.returns-clause-ok
@@ -85,13 +87,16 @@ pub returns-in_err-deliver-clause-taken : goal.returns-in_err-deliver-clause-tak
 returns-in_err-deliver-clause-taken g c = taken_on _ _ _ _ _ c.loop-line.invariant.0 c.next.new.self _ c.next.ensures.reads
 
 pub returns-clause-most : goal.returns-clause-most
-returns-clause-most g c = c.next.ensures.most ∙ c.loop-line.invariant.3
+returns-clause-most g c = (c.next.ensures.most ∙ c.loop-line.invariant.3.0, c.loop-line.invariant.3.1)
 
 pub returns-in_err-number-clause-most : goal.returns-in_err-number-clause-most
-returns-in_err-number-clause-most g c = c.next.ensures.most ∙ c.loop-line.invariant.3
+returns-in_err-number-clause-most g c = (c.next.ensures.most ∙ c.loop-line.invariant.3.0, c.loop-line.invariant.3.1)
 
 pub returns-in_err-delivery-clause-most : goal.returns-in_err-delivery-clause-most
-returns-in_err-delivery-clause-most g c = c.next.ensures.most ∙ c.loop-line.invariant.3
+returns-in_err-delivery-clause-most g c = (c.next.ensures.most ∙ c.loop-line.invariant.3.0, c.loop-line.invariant.3.1)
 
 pub returns-in_err-deliver-clause-most : goal.returns-in_err-deliver-clause-most
-returns-in_err-deliver-clause-most g c = c.next.ensures.most ∙ c.loop-line.invariant.3
+returns-in_err-deliver-clause-most g c = (c.next.ensures.most ∙ c.loop-line.invariant.3.0, c.deliver.ensures.most ∙ c.loop-line.invariant.3.1)
+
+pub returns-in_err-deliver-clause-held : goal.returns-in_err-deliver-clause-held
+returns-in_err-deliver-clause-held g c = (rw c.loop-line.invariant.2 at c.deliver.ensures.held) c.loop-line.invariant.4

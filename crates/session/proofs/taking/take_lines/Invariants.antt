@@ -1,5 +1,6 @@
 -- The lines so far were read, and the world has taken them.
 use Rattle.std.proofs.Common.{◌≡◌, ◌-◌}
+use Rattle.world.specs.Roomed.{HasRoom}
 use Rattle.session.specs.Counts.{HasGoneOn}
 use Rattle.session.specs.Moment.{moment, run_of}
 use Rattle.session.proofs.Progress.{Progress}
@@ -12,7 +13,8 @@ invariant-loop-line g l =
     (moment g.S.Source g.R.Revisions g.K.Sink l.events l.revisions l.out l.world.replay) l.lines l.asked
     × HasGoneOn g.R.Revisions l.fn.revisions l.revisions
     × (l.world.room ≡ l.fn.world.room)
-    × (g.S.Source.most_faults l.events ≡ g.S.Source.most_faults l.fn.events)
+    × ((g.S.Source.most_faults l.events ≡ g.S.Source.most_faults l.fn.events) × (g.K.Sink.most_faults l.out ≡ g.K.Sink.most_faults l.fn.out))
+    × HasRoom l.fn.world.room l.world.replay.played.records
 
 abbrev pub decreases-loop-line : goal.decreases-loop-line
 decreases-loop-line g l = l.lines.max_bytes - l.lines.given
