@@ -11,7 +11,7 @@ use Rattle.words.specs.Plan.{plan_of, size_in, size_of}
 use Rattle.words.specs.Grammar.{IsDrill, IsReplay, Written, has_value, is_flag, is_item, words_of_item, words_written}
 use Rattle.words.specs.declared.plan.Plan.{Plan}
 use Rattle.words.specs.declared.plan.Plan.TheVariants.{Replay, Drill}
-use Rattle.words.proofs.Choosing.{and_left, and_right, made_as_said, one_of_three, said_as_made, same_name}
+use Rattle.words.proofs.Choosing.{and_left, and_right, made_as_said, one_of_four, one_of_three, said_as_made, same_name}
 use Rattle.words.proofs.Following.{items_apart, items_whole}
 
 -- ---- one item
@@ -37,6 +37,12 @@ terms_read value true others =
     items_whole (codes "--max-terms" ++ 61 ∷ value) others refl
     ∙ ap (λ b. cond b (item (codes "--max-terms") (Some value)) (item (codes "--max-terms" ++ 61 ∷ value) None) ∷ items_of others) (lt-ltb 11 (length (codes "--max-terms" ++ 61 ∷ value)) (omega arith))
 
+horizon_read : (value : List ℕ) (joined : Bool) (others : List (List ℕ)) → is_read (codes "--horizon") (Some value) joined others
+horizon_read value false others = items_apart (codes "--horizon") value others refl
+horizon_read value true others =
+    items_whole (codes "--horizon" ++ 61 ∷ value) others refl
+    ∙ ap (λ b. cond b (item (codes "--horizon") (Some value)) (item (codes "--horizon" ++ 61 ∷ value) None) ∷ items_of others) (lt-ltb 9 (length (codes "--horizon" ++ 61 ∷ value)) (omega arith))
+
 size_read : (value : List ℕ) (joined : Bool) (others : List (List ℕ)) → is_read (codes "--size") (Some value) joined others
 size_read value false others = items_apart (codes "--size") value others refl
 size_read value true others =
@@ -44,12 +50,13 @@ size_read value true others =
     ∙ ap (λ b. cond b (item (codes "--size") (Some value)) (item (codes "--size" ++ 61 ∷ value) None) ∷ items_of others) (lt-ltb 6 (length (codes "--size" ++ 61 ∷ value)) (omega arith))
 
 value_read : (name value : List ℕ) (joined : Bool) (others : List (List ℕ)) → has_value name ≡ true → is_read name (Some value) joined others
-value_read name value joined others known = by (bytes_eq name (codes "--from")) refl (bytes_eq name (codes "--max-bytes")) refl
+value_read name value joined others known = by (bytes_eq name (codes "--from")) refl (bytes_eq name (codes "--max-bytes")) refl (bytes_eq name (codes "--max-terms")) refl
   where
-    by : (p : Bool) → bytes_eq name (codes "--from") ≡ p → (q : Bool) → bytes_eq name (codes "--max-bytes") ≡ q → is_read name (Some value) joined others
-    by true ps q qs = subst (λ n. is_read n (Some value) joined others) (sym (same_name name (codes "--from") ps)) (from_read value joined others)
-    by false ps true qs = subst (λ n. is_read n (Some value) joined others) (sym (same_name name (codes "--max-bytes") qs)) (bytes_read value joined others)
-    by false ps false qs = subst (λ n. is_read n (Some value) joined others) (sym (same_name name (codes "--max-terms") (one_of_three _ _ _ known ps qs))) (terms_read value joined others)
+    by : (p : Bool) → bytes_eq name (codes "--from") ≡ p → (q : Bool) → bytes_eq name (codes "--max-bytes") ≡ q → (r : Bool) → bytes_eq name (codes "--max-terms") ≡ r → is_read name (Some value) joined others
+    by true ps q qs r rs = subst (λ n. is_read n (Some value) joined others) (sym (same_name name (codes "--from") ps)) (from_read value joined others)
+    by false ps true qs r rs = subst (λ n. is_read n (Some value) joined others) (sym (same_name name (codes "--max-bytes") qs)) (bytes_read value joined others)
+    by false ps false qs true rs = subst (λ n. is_read n (Some value) joined others) (sym (same_name name (codes "--max-terms") rs)) (terms_read value joined others)
+    by false ps false qs false rs = subst (λ n. is_read n (Some value) joined others) (sym (same_name name (codes "--horizon") (one_of_four _ _ _ _ known ps qs rs))) (horizon_read value joined others)
 
 flag_read : (name : List ℕ) (joined : Bool) (others : List (List ℕ)) → is_flag name ≡ true → is_read name None joined others
 flag_read name joined others known = by (bytes_eq name (codes "--export")) refl (bytes_eq name (codes "--state")) refl

@@ -3,7 +3,7 @@ use Rattle.std.specs.Prelude.{◌≡◌, ℕ, Bool, true, false, cond, ◌&&◌,
 use Rattle.std.specs.Str.{bytes_eq}
 use Rattle.std.specs.List.{AllByRecursion as Each}
 use Rattle.words.specs.Items.{Item, is_value, item}
-use Rattle.words.specs.Options.{Choices, limit_in, terms_in}
+use Rattle.words.specs.Options.{Choices, horizon_in, limit_in, terms_in}
 use Rattle.words.specs.Plan.{size_in}
 
 -- an item as it is written: with a value in one word or in two
@@ -22,7 +22,7 @@ words_written written = flat_map (λ w. words_of_item w.item.name w.item.value w
 
 -- whether an item of this name has a value
 abbrev pub has_value : List ℕ → Bool
-has_value name = bytes_eq name (codes "--from") || bytes_eq name (codes "--max-bytes") || bytes_eq name (codes "--max-terms")
+has_value name = bytes_eq name (codes "--from") || bytes_eq name (codes "--max-bytes") || bytes_eq name (codes "--max-terms") || bytes_eq name (codes "--horizon")
 
 -- whether an item of this name is a flag
 abbrev pub is_flag : List ℕ → Bool
@@ -57,6 +57,7 @@ pub record Say (items : List Item) (c : Choices) : Type 0 where
   pub place : SaysOnce (λ text. Some text) (said (codes "--from") items) c.place
   pub limit : SaysOnce limit_in (said (codes "--max-bytes") items) c.limit
   pub terms : SaysOnce terms_in (said (codes "--max-terms") items) c.terms
+  pub horizon : SaysOnce horizon_in (said (codes "--horizon") items) c.horizon
   pub export : IsSetOnce (said (codes "--export") items) c.export
   pub state : IsSetOnce (said (codes "--state") items) c.state
   pub side : IsSetOnce (said (codes "--side") items) c.side
