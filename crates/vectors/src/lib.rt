@@ -11,6 +11,8 @@ mod dumps;
 #[cfg(test)]
 mod folders;
 #[cfg(test)]
+mod horizons;
+#[cfg(test)]
 mod munged;
 #[cfg(test)]
 mod names;

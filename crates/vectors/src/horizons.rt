@@ -1,0 +1,46 @@
+// What a buffer with a horizon remembers, which no run prints.
+
+ghost use Rattle.std.specs.Prelude.{◌≡◌, false};
+
+use entity_model::{EntityId, Event, IdKind, Kind};
+use reorder_buffer::{Buffer, Taken};
+use std::process::Abort;
+use std::test::Fail;
+
+fn edit(time: i64, rev: u64) -> Event {
+    Event {
+        entity: EntityId {
+            kind: IdKind::Q,
+            number: 42,
+        },
+        time,
+        rev,
+        kind: Kind::Edit,
+    }
+}
+
+// Takes an event, which is to be answered so.
+fn take(rt: &impl Abort, buffer: &mut Buffer, event: Event, answer: Taken) -> Result<(), Fail>
+    requires { buffer.old.closed ≡ false }
+    ensures { buffer.new.closed ≡ false }
+{
+    let taken = buffer.take(event)?;
+    assert_eq!(rt; taken, answer, "{event:?}");
+    Ok(())
+}
+
+#[test]
+fn what_is_below_the_floor_is_forgotten(rt: HostRuntime) -> Result<(), Fail> {
+    let mut buffer = Buffer::new(rt.alloc())?;
+    buffer.set_horizon(0);
+    take(&rt, &mut buffer, edit(1, 1), Taken::New)?;
+    take(&rt, &mut buffer, edit(2, 2), Taken::New)?;
+    assert_eq!(rt; buffer.remembered(), 2);
+
+    buffer.raise(2);
+    assert_eq!(rt; buffer.remembered(), 1);
+    take(&rt, &mut buffer, edit(2, 2), Taken::Repeat)?;
+    take(&rt, &mut buffer, edit(1, 1), Taken::Late)?;
+    assert_eq!(rt; buffer.remembered(), 1);
+    Ok(())
+}
