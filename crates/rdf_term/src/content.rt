@@ -53,7 +53,7 @@ pub fn content<'a>(
 ) -> Result<Option<(Text, &'a str)>, OutOfMemory>
     ensures { IfOk result (λ read. option_map (λ p. (p.0, p.1.now)) read ≡ content_of enclosure State.Between text.now) }
 {
-    let mut out = String::new(alloc);
+    let mut out = String::with_capacity(alloc, text.len())?;
     let mut state = State::Between;
     let mut left = text.chars();
     while let Some(c) = left.next() {

@@ -3,7 +3,7 @@ use Rattle.rdf_term.proofs.Contents.{with_front-nil, at_close, at_refuse, at_go,
 use Rattle.rdf_term.proofs.content.content.Goals as goal
 
 pub loop-c-init : goal.loop-c-init
-loop-c-init c = rw (c.new-out.ensures.bytes, c.chars-left.ensures.rest) (sym (with_front-nil _))
+loop-c-init c = rw (c.in_ok-out.ensures.bytes, c.chars-left.ensures.rest) (sym (with_front-nil _))
 
 pub returns-in-Close : goal.returns-in-Close
 returns-in-Close c = rw (c.from_string.ensures, c.as_str.ensures) (at_close _ _ _ _ _ _ _ c.in-Some.ensures.steps.0 c.loop-c.invariant c.in-Close.ensures)
