@@ -19,5 +19,6 @@ pub mod PlayedRecords
 pub mod Printing
 pub mod RecordOf
 pub mod Settled
+pub mod Taking
 pub mod Times
 pub mod ToldContents
