@@ -10,6 +10,7 @@ pub mod FetchCounts
 pub mod Fetching
 pub mod Floors
 pub mod Following
+pub mod HorizonEntries
 pub mod Horizons
 pub mod Known
 pub mod LateEntries

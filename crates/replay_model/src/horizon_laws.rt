@@ -1,6 +1,6 @@
 // The laws of the horizon: what it changes, and what a buffer with one answers.
 
-ghost use Rattle.std.specs.Prelude.{◌≡◌, ℕ, ℤ, Bool, not, ◌&&◌, cond, List, [], ◌∷◌, ◌++◌, Option, None};
+ghost use Rattle.std.specs.Prelude.{◌≡◌, ℕ, ℤ, Bool, not, ◌&&◌, cond, List, [], ◌∷◌, ◌++◌, Option, None, filter, is_none};
 ghost use Rattle.rising.specs.Rising.{has};
 ghost use Rattle.entity_model.specs.declared.event.Event.{Event};
 ghost use Rattle.entity_model.specs.Event.{event_cmp};
@@ -9,17 +9,25 @@ ghost use Rattle.reorder_buffer.specs.declared.taken.Taken.TheVariants.{New, Rep
 ghost use Rattle.reorder_buffer.specs.Buffered.{Buffered, nothing_taken_within, answer_to, after_taking, after_raising, after_closing, after_dropping};
 ghost use Rattle.reorder_buffer.specs.Watermarks.{floor, is_below};
 ghost use Rattle.replay_model.specs.Acceptance.{accepted, due, events, is_late, is_repeat, known, late, mark};
-ghost use Rattle.replay_model.specs.Play.{Replies, played};
+ghost use Rattle.replay_model.specs.Entries.{late_event};
+ghost use Rattle.replay_model.specs.Play.{Replies, fetches, fetches_to_end, played};
 ghost use Rattle.replay_model.specs.ReplayState.{HasTakenIn, following};
 
 /// A horizon changes late entries alone: the accepted events are those without one, and so are the records, from which
-/// states, answers and export are made. The known events are the late and the due ones, whatever the horizon.
+/// states, answers and export are made. The known events are the late and the due ones, whatever the horizon. The entries that
+/// aren't late and the fetches, each in their order, are those without a horizon too.
 pub fn horizon_leaves_records()
     ensures accepted { (h : Option ℕ) (ds : List Delivery) → accepted h ds ≡ accepted None ds }
     ensures records { (h : Option ℕ) (closed : Bool) (replies : Replies) (ds : List Delivery) →
         (played h closed replies ds).records ≡ (played None closed replies ds).records }
     ensures known { (h : Option ℕ) (closed : Bool) (ds : List Delivery) (e : Event) →
         has event_cmp e (known closed ds) ≡ has event_cmp e (late h ds ++ due h closed ds) }
+    ensures entries { (h : Option ℕ) (closed : Bool) (replies : Replies) (ds : List Delivery) →
+        filter (λ entry. is_none (late_event entry)) (played h closed replies ds).side
+        ≡ filter (λ entry. is_none (late_event entry)) (played None closed replies ds).side }
+    ensures fetches { (h : Option ℕ) (replies : Replies) (ds : List Delivery) → fetches h replies ds ≡ fetches None replies ds }
+    ensures fetches_to_end { (h : Option ℕ) (replies : Replies) (ds : List Delivery) →
+        fetches_to_end h replies ds ≡ fetches_to_end None replies ds }
 {}
 
 /// Over any deliveries, a buffer keeps exactly the delivered events that aren't below the floor, and answers to each event
