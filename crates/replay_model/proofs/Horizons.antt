@@ -32,11 +32,15 @@ records-alike hz closed replies ds =
     ∙ ap (λ es. records_of replies (in_order (filter (is_due closed (mark ds)) es))) (accepted-alike hz ds)
     ∙ sym (records-played None closed replies ds)
 
-pub answer-following : (hz : Option ℕ) (replies : Replies) (ds : List Delivery) (e : Event) → answer_to (following hz replies ds).buffer e ≡ cond (is_repeat hz ds e) Repeat (cond (is_late hz ds e) Late New)
-answer-following hz replies ds e =
-    ap (λ b. cond b Repeat (cond (reached (mark ds) e.time) Late New)) (has-kept (floor hz (mark ds)) e (events ds))
-    ∙ by (is_repeat hz ds e)
+-- what is no repeat and at or below the mark is late
+pub answer_split : (hz : Option ℕ) (ds : List Delivery) (e : Event) → cond (is_repeat hz ds e) Repeat (cond (reached (mark ds) e.time) Late New) ≡ cond (is_repeat hz ds e) Repeat (cond (is_late hz ds e) Late New)
+answer_split hz ds e = by (is_repeat hz ds e)
   where
     by : (b : Bool) → cond b Repeat (cond (reached (mark ds) e.time) Late New) ≡ cond b Repeat (cond (not b && reached (mark ds) e.time) Late New)
     by true = refl
     by false = refl
+
+pub answer-following : (hz : Option ℕ) (replies : Replies) (ds : List Delivery) (e : Event) → answer_to (following hz replies ds).buffer e ≡ cond (is_repeat hz ds e) Repeat (cond (is_late hz ds e) Late New)
+answer-following hz replies ds e =
+    ap (λ b. cond b Repeat (cond (reached (mark ds) e.time) Late New)) (has-kept (floor hz (mark ds)) e (events ds))
+    ∙ answer_split hz ds e

@@ -10,6 +10,7 @@ pub mod FetchCounts
 pub mod Fetching
 pub mod Floors
 pub mod Following
+pub mod HorizonEntries
 pub mod Horizons
 pub mod Known
 pub mod LateEntries
@@ -19,5 +20,6 @@ pub mod PlayedRecords
 pub mod Printing
 pub mod RecordOf
 pub mod Settled
+pub mod Taking
 pub mod Times
 pub mod ToldContents

@@ -1,13 +1,15 @@
 -- A world as a value: the buffer and what was played, and what each delivery makes of them.
-use Rattle.std.specs.Prelude.{ℤ, ℕ, zero, suc, true, false, not, List, [], ◌∷◌, ◌++◌, Option, None, Some, filter}
+use Rattle.std.specs.Prelude.{◌≡◌, ℤ, ℕ, zero, suc, true, false, not, ◌&&◌, List, [], ◌∷◌, ◌++◌, Option, None, Some, filter}
+use Rattle.rising.specs.Rising.{has}
 use Rattle.entity_model.specs.declared.event.Event.{Event}
+use Rattle.entity_model.specs.Event.{event_cmp}
 use Rattle.side_output.specs.declared.entry.Entry.{Entry}
 use Rattle.side_output.specs.declared.entry.Entry.TheVariants.{Late as LateEntry}
 use Rattle.entity_model.specs.declared.delivery.Delivery.{Delivery}
 use Rattle.entity_model.specs.declared.delivery.Delivery.TheVariants.{Event as Told, Watermark, Ask}
 use Rattle.reorder_buffer.specs.declared.taken.Taken.{Taken}
 use Rattle.reorder_buffer.specs.declared.taken.Taken.TheVariants.{New, Repeat, Late}
-use Rattle.reorder_buffer.specs.Watermarks.{is_due, floor}
+use Rattle.reorder_buffer.specs.Watermarks.{is_due, floor, is_below}
 use Rattle.reorder_buffer.specs.Buffered.{Buffered, nothing_taken, nothing_taken_within, unforgotten, answer_to, after_taking, after_raising, after_closing, first_due, after_dropping}
 use Rattle.replay_model.specs.Acceptance.{mark, events, accepted}
 use Rattle.replay_model.specs.Fate.{in_order}
@@ -128,3 +130,9 @@ abbrev pub fetches_delivered : Replies → ReplayState → Delivery → List Fet
 fetches_delivered replies w (Told e) = []
 fetches_delivered replies w (Watermark m) = fetches_due replies (after_mark w m)
 fetches_delivered replies w (Ask q) = []
+
+-- a buffer that has taken these deliveries with this horizon, whatever was dropped, closed or not
+pub record HasTakenIn (h : Option ℕ) (ds : List Delivery) (b : Buffered) : Type 0 where
+  pub horizon : b.horizon ≡ h
+  pub mark_is : b.mark ≡ mark ds
+  pub kept : (e : Event) → has event_cmp e b.kept ≡ (not (is_below (floor h (mark ds)) e.time) && has event_cmp e (events ds))

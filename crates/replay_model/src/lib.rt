@@ -10,7 +10,9 @@ mod source_laws;
 mod step_laws;
 mod union_laws;
 
-pub use horizon_laws::{buffer_answers_by_deliveries, horizon_leaves_records};
+pub use horizon_laws::{
+    buffer_answers_by_calls, buffer_answers_by_deliveries, horizon_leaves_records,
+};
 pub use laws::{
     late_entries_are_late_events, open_late_by_record, reconciliation_forgets,
     same_events_give_same_records, settled_unless_open, state_is_fate, state_is_fate_of_known,
