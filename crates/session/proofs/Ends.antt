@@ -43,6 +43,7 @@ is_played setting course start now x rests = record {
   replies = x.explained.replies;
   is = Explained-is judgement setting.known course.state course.fetched x.made now.world x.explained rests;
   says = x.says x.explained.replies (λ q r h. refl);
+  documents = x.documents;
   counted = subst (λ (n : ℕ). HasCounted start.counts now.counts n now.world.played.side) (Explained-fetches judgement setting.known course.state course.fetched x.made now.world x.explained rests) x.counted;
   source = Explained-source judgement setting.known course.state course.fetched x.made now.world x.explained rests;
   source_says = λ contents is. x.says (replies_there contents now.world) (λ q r h. sym (x.explained.honest contents is q r));
@@ -137,6 +138,7 @@ module _ (setting : Setting) (sections : Sections) (ds : List Delivery) (start n
       replies = replay.played.replies;
       is = replay.played.is;
       says = transcribed replay.played.replies replay.played.is replay.played.says;
+      documents = replay.played.documents;
       counted = replay.played.counted;
       source = replay.played.source;
       source_says = transcribed_there;

@@ -1,7 +1,6 @@
 -- How far the taking of lines has come, and what follows where it goes on, stops or ends.
 use Rattle.std.proofs.Common.{refl, sym, subst, ◌∙◌, ap, inl, ⊎_elim, ◌≡◌, ◌⊎◌, ℕ, ◌+◌, ◌≤◌, true, false, List, [], ◌∷◌, ◌++◌, length, Option, None, Some, IfSome, Ok, Err, arith, append-nil}
 use Rattle.wq_io.specs.Streams.{IsAtEnd}
-use Rattle.wq_io.specs.Streams.{before_known}
 use Rattle.wq_io.specs.Lines.{HasCause, IsSound, Leaves, ReadsAsNeeded, Reading, fresh, unread}
 use Rattle.wq_io.specs.declared.lines.LineFault.{LineFault}
 use Rattle.wq_io.specs.declared.lines.LineFault.TheVariants.{ReadFault as NotRead, TooLong as PastLimit, LineLong as OverLong, OutOfMemory as NoMemory}
@@ -37,7 +36,7 @@ use Rattle.words.specs.Options.{limit_of}
 use Rattle.session.proofs.Deliveries.{asks-push, rest_within}
 use Rattle.session.proofs.Due.{risen_by-none}
 use Rattle.session.proofs.Ends.{halted, interrupted, is_played, rose_since}
-use Rattle.session.proofs.Reading.{IsNextLine, all_read, as_many, bad_line, first_lines, first_with, nothing_read, nothing_taken_of, over_long, past_limit, read_more, takes_on, whole_read}
+use Rattle.session.proofs.Reading.{IsNextLine, all_read, as_many, bad_line, first_lines, first_with, not_called, nothing_read, nothing_taken_of, over_long, past_limit, read_more, takes_on, whole_read}
 
 -- the lines so far were read, the world has taken them, and so many of them asked
 pub record Progress (run : Run) (before now : Moment) (reader : Reading) (asked : ℕ) : Type 0 where
@@ -82,7 +81,7 @@ nothing_begun run h input output counts = record {
   asked_is = refl;
   few_asked = omega arith;
   max = refl;
-  sound = record { within = omega arith; counted = omega arith; bounded = omega arith };
+  sound = record { within = omega arith; counted = omega arith; bounded = omega arith; buffered = omega arith };
   going = refl;
   ended = λ never. cc;
 }
@@ -97,13 +96,13 @@ module _ (run : Run) (before now : Moment) (reader : Reading) (asked : ℕ) (so_
       takes_on (limit_of run.choices) reader now.input.left so_far.deliveries so_far.max so_far.sound before.input.left next left_next so_far.read reads so_far.taken
 
   -- memory was refused: the world is as it was after the lines so far
-  pub stands : (input : Input) (moved : List ℕ) → now.input.left ≡ before_known moved input.left → StopsWithin run before (record now { input = input })
-  stands input moved told = record {
+  pub stands : (next : Reading) (input : Input) → ReadsAsNeeded reader next now.input.left input.left → StopsWithin run before (record now { input = input })
+  stands next input reads = record {
     deliveries = so_far.deliveries;
     last = None;
     within = rest_within run.setting so_far.deliveries before.stage now.stage so_far.at_rest;
     first = rw (append-nil so_far.deliveries)
-        (first_lines (limit_of run.choices) reader now.input.left so_far.deliveries so_far.max so_far.sound before.input.left input.left moved told so_far.read);
+        (first_lines (limit_of run.choices) reader now.input.left so_far.deliveries so_far.max so_far.sound before.input.left next input.left reads so_far.read);
   }
 
   -- the number of the next line
@@ -121,7 +120,7 @@ module _ (run : Run) (before now : Moment) (reader : Reading) (asked : ℕ) (so_
       record { deliveries = so_far.deliveries; played = played; past = past_limit (limit_of run.choices) reader now.input.left so_far.deliveries so_far.max so_far.sound before.input.left so_far.read cause }
   fault_stops (OverLong number) next input cause leaves reads =
       record { deliveries = so_far.deliveries; played = played; counted = numbered number cause.0; bad = over_long (limit_of run.choices) reader now.input.left so_far.deliveries so_far.max so_far.sound before.input.left number so_far.read cause.0 cause.1 }
-  fault_stops NoMemory next input cause leaves reads = inl (inl (stands input (reads.before ++ reads.last) reads.told))
+  fault_stops NoMemory next input cause leaves reads = inl (inl (stands next input reads))
 
   -- at the end of the input all lines were taken
   pub end_reached : (input : Input) → IsAtEnd input.left → IsAtEnd (unread reader now.input.left) → HasTaken run before (record now { input = input })
@@ -143,7 +142,7 @@ module _ (run : Run) (before now : Moment) (reader : Reading) (asked : ℕ) (so_
           counted = numbered number counted;
           bad = bad_line (limit_of run.choices) reader now.input.left so_far.deliveries so_far.max so_far.sound line next input.left is before.input.left number bad.0 so_far.read counted bad.2;
         }))
-        (λ refused. subst (λ s. Stopped s run before (record now { input = input })) (sym refused) (inl (inl (stands input (is.reads.before ++ is.reads.last) is.reads.told))))
+        (λ refused. subst (λ s. Stopped s run before (record now { input = input })) (sym refused) (inl (inl (stands next input is.reads))))
         why
 
     module _ (after : Moment) (d : Delivery) (asked_now : ℕ) (is : IsNextLine line reader next now.input.left after.input.left) (delivers : delivery_of line ≡ Ok d) (more : asked_now ≡ asked + asks (d ∷ [])) where
@@ -173,7 +172,7 @@ module _ (run : Run) (before now : Moment) (reader : Reading) (asked : ℕ) (so_
           (λ same. subst (λ o. StopsWithin run before (record after { stage = with_output after.stage o })) (sym in_part.output)
           (subst (λ w. StopsWithin run before (record { input = after.input; stage = onward now.stage after.stage.counts w })) (sym same.0)
           (subst (λ c. StopsWithin run before (record { input = after.input; stage = onward now.stage c now.stage.world })) (sym same.1)
-          (stands after.input (is.reads.before ++ is.reads.last) is.reads.told))))
+          (stands next after.input is.reads))))
           (λ begun. record { deliveries = so_far.deliveries; last = Some d; within = begun; first = first })
           (in_part.world so_far.deliveries before.stage so_far.at_rest)
 
@@ -201,3 +200,10 @@ module _ (run : Run) (before now : Moment) (reader : Reading) (asked : ℕ) (so_
         going = is.goes.going;
         ended = ended;
       }
+
+-- memory was refused before the first line
+pub stands_at_start : (run : Run) (h : Option ℕ) (input : Input) (output : Output) (counts : Counts) → StopsWithin run (at_start h input output counts) (at_start h input output counts)
+stands_at_start run h input output counts =
+    let so_far : Progress run (at_start h input output counts) (at_start h input output counts) (fresh (limit_of run.choices)) 0 = nothing_begun run h input output counts in
+    stands run (at_start h input output counts) (at_start h input output counts) (fresh (limit_of run.choices)) 0 so_far (fresh (limit_of run.choices)) input
+    (not_called (fresh (limit_of run.choices)) input.left so_far.sound)

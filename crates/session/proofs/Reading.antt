@@ -6,7 +6,7 @@ use Rattle.std.proofs.Math.Seq.{drop-append_seam}
 use Rattle.std.specs.Option.{option_map}
 use Rattle.rising.specs.Rising.{Each}
 use Rattle.wq_io.specs.Streams.{IsAtEnd, before_known}
-use Rattle.wq_io.specs.Lines.{GoesOn, IsLineLong, IsOneLine, IsSound, IsTooLong, IsUndecided, ReadsAsNeeded, Reading, StopsInLine, TakesBytes, before_lines, ended_lines, fresh, input_length, line_feed, lines, lines_of, longest_line, room, unread, whole_lines}
+use Rattle.wq_io.specs.Lines.{GoesOn, IsLineLong, IsOneLine, IsSound, IsTooLong, IsUndecided, ReadsAsNeeded, Reading, StopsInLine, TakesBytes, before_lines, ended_lines, fresh, input_length, line_feed, lines, lines_of, longest_line, longest_read, room, unread, whole_lines}
 use Rattle.wq_io.proofs.LineLists.{whole_lines-ended}
 use Rattle.entity_model.specs.declared.delivery.Delivery.{Delivery}
 use Rattle.event_line.specs.declared.faults.LineCause.{LineCause}
@@ -84,6 +84,24 @@ pub still : (left : Option (List ℕ)) → left ≡ before_known [] left
 still None = refl
 still (Some bytes) = refl
 
+-- a reader that wasn't called took nothing
+pub not_called : (reader : Reading) (left : Option (List ℕ)) → IsSound reader → ReadsAsNeeded reader reader left left
+not_called reader left sound = record {
+  before = [];
+  last = [];
+  told = still left;
+  counted = omega arith;
+  needed = λ some. absurd (omega (arith, some));
+  going = λ some. absurd (omega (arith, some));
+  piece = omega arith;
+  limit = refl;
+  sound = sound;
+}
+
+-- no bytes decide nothing
+nothing_undecided : (room : ℕ) → IsUndecided room []
+nothing_undecided room = record { in_line = refl; within = omega arith; short = omega arith }
+
 pub nothing_taken_of : (limit : ℕ) (left : Option (List ℕ)) → IfSome left (λ bytes. TakesByNeed limit bytes left)
 nothing_taken_of limit None = tt
 nothing_taken_of limit (Some bytes) = record {
@@ -94,10 +112,31 @@ nothing_taken_of limit (Some bytes) = record {
   are_lines = tt;
   ds = [];
   delivered = refl;
-  undecided = record { in_line = refl; within = omega arith; short = omega arith };
+  undecided = nothing_undecided (limit - 0);
   piece = omega arith;
   bounded = omega arith;
 }
+
+-- where the bytes aren't told, those that are left aren't either
+untold : (xs : List ℕ) (known : Option (List ℕ)) → None ≡ before_known xs known → None ≡ known
+untold xs None is = refl
+untold xs (Some ys) is = cc
+
+-- where the bytes aren't told, nothing is said of what was taken behind the lines
+first_untold : (limit : ℕ) (left_now : Option (List ℕ)) (done : List (List ℕ)) (ds : List Delivery) → deliveries_of done ≡ Some ds → None ≡ left_now → AreFirst limit None left_now ds
+first_untold limit None done ds delivered is = record {
+  before = done;
+  read = [];
+  part = [];
+  last = [];
+  all = refl;
+  are_lines = refl;
+  within = tt;
+  delivered = delivered;
+  undecided = nothing_undecided (limit - 0);
+  piece = omega arith;
+}
+first_untold limit (Some bytes) done ds delivered is = cc
 
 -- bytes behind others
 before_both : (xs ys : List ℕ) (known : Option (List ℕ)) → before_known xs (before_known ys known) ≡ before_known (xs ++ ys) known
@@ -175,20 +214,39 @@ module _ (limit : ℕ) (reader : Reading) (left : Option (List ℕ)) (ds : List 
       let parts = known_now bytes read in
       omega (arith, max, sound.within, parts.read_is)
 
-  -- the lines so far are the first ones, whatever was taken behind them
-  pub first_lines : (start left_now : Option (List ℕ)) (moved : List ℕ) → left ≡ before_known moved left_now → HasRead start reader left ds → AreFirst limit start left_now ds
-  first_lines start left_now moved told read =
-      let behind : unread reader left ≡ before_known (reader.held ++ moved) left_now =
-      ap (λ (o : Option (List ℕ)). before_known reader.held o) told ∙ before_both reader.held moved left_now in
+  -- the lines so far are the first ones, where a part of a line that decided nothing and what one read gives are behind them
+  first_before : (bytes : List ℕ) (left_now : Option (List ℕ)) (part last : List ℕ) → (read : HasRead (Some bytes) reader left ds) → unread reader left ≡ before_known (part ++ last) left_now →
+      IsUndecided (room reader) part → length last ≤ longest_read → AreFirst limit (Some bytes) left_now ds
+  first_before bytes left_now part last read behind undecided piece =
+      let parts = known_now bytes read in
       record {
         before = read.done;
         read = read.read;
-        held = reader.held ++ moved;
+        part = part;
+        last = last;
         all = read.bytes ∙ ap (λ (o : Option (List ℕ)). before_known read.read o) behind;
         are_lines = read.are ∙ ap (λ (o : Option (List ℕ)). option_map (λ (ls : List (List ℕ)). read.done ++ ls) (lines_of o)) behind;
-        within = lines_within start read;
+        within = lines_within (Some bytes) read;
         delivered = read.delivered;
+        undecided = subst (λ n. IsUndecided n part) (same_room limit reader read.read max parts.read_is) undecided;
+        piece = piece;
       }
+
+  -- the lines so far are the first ones, after a call of the reader, whatever it answered
+  pub first_lines : (start : Option (List ℕ)) (next : Reading) (left_next : Option (List ℕ)) → ReadsAsNeeded reader next left left_next → HasRead start reader left ds → AreFirst limit start left_next ds
+  first_lines None next left_next reads read =
+      first_untold limit left_next read.done ds read.delivered (untold (reads.before ++ reads.last) left_next (untold reader.held left (untold read.read (unread reader left) read.bytes) ∙ reads.told))
+  first_lines (Some bytes) next left_next reads read = by (reads.before ++ reads.last) refl
+    where
+      behind : unread reader left ≡ before_known (reader.held ++ (reads.before ++ reads.last)) left_next
+      behind = ap (λ (o : Option (List ℕ)). before_known reader.held o) reads.told ∙ before_both reader.held (reads.before ++ reads.last) left_next
+
+      by : (moved : List ℕ) → reads.before ++ reads.last ≡ moved → AreFirst limit (Some bytes) left_next ds
+      by [] none =
+          first_before bytes left_next [] reader.held read (behind ∙ ap (λ xs. before_known (reader.held ++ xs) left_next) none ∙ ap (λ xs. before_known xs left_next) (append-nil reader.held)) (nothing_undecided (room reader)) sound.buffered
+      by (b ∷ bs) some =
+          let size : length (reads.before ++ reads.last) ≡ length (b ∷ bs) = ap length some in
+          first_before bytes left_next (reader.held ++ reads.before) reads.last read (behind ∙ ap (λ xs. before_known xs left_next) (sym (append_assoc reader.held reads.before reads.last))) (reads.needed (omega (arith, size))) reads.piece
 
   -- a call of the reader took what it needed
   needed : (bytes : List ℕ) (next : Reading) (left_next : Option (List ℕ)) → HasRead (Some bytes) reader left ds → (reads : ReadsAsNeeded reader next left left_next) → 0 < length (reads.before ++ reads.last) → TakesByNeed limit bytes left_next
@@ -327,11 +385,14 @@ module _ (limit : ℕ) (reader : Reading) (left : Option (List ℕ)) (ds : List 
     first_with start d read delivers = record {
       before = read.done ++ line ∷ [];
       read = read.read ++ is.takes.moved;
-      held = next.held;
+      part = [];
+      last = next.held;
       all = bytes_grow start read;
       are_lines = lines_grow (lines_of start) (lines_of (unread reader left)) (lines_of (unread next left_next)) read.done line read.are is.first;
       within = line_within start read;
       delivered = deliveries-push read.done line ds d read.delivered (short_delivers line d is.goes.short delivers);
+      undecided = nothing_undecided (limit - length (read.read ++ is.takes.moved));
+      piece = is.goes.sound.buffered;
     }
 
     -- this line is refused

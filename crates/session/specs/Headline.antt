@@ -35,12 +35,13 @@ use Rattle.session.specs.Stops.{IsStarved}
 use Rattle.session.specs.Taking.{Course, HoldsDocuments, IsFull, course_after, course_printed, course_to_end, judgement, replies_there}
 
 -- the world is where a play leads, with some replies to its fetches, the output has what the play says, and the counts of the
--- source rose by these fetches; where it is known what the source has, the replies are those of what is there, but for the
--- events whose fetches failed, which the side output names
+-- source rose by these fetches; what is held are documents of their entities; where it is known what the source has, the replies
+-- are those of what is there, but for the events whose fetches failed, which the side output names
 pub record IsPlayed (setting : Setting) (course : Course) (start now : Stage) : Type 0 where
   pub replies : Replies
   pub is : now.world ≡ course.state replies
   pub says : now.output.bytes ≡ course.bytes replies
+  pub documents : HoldsDocuments now.world
   pub counted : HasCounted start.counts now.counts (length (course.fetched replies)) now.world.played.side
   pub source : (contents : ℕ → Option Bytes) → setting.known ≡ Some contents → now.world ≡ course.state (replies_there contents now.world)
   pub source_says : (contents : ℕ → Option Bytes) → setting.known ≡ Some contents → now.output.bytes ≡ course.bytes (replies_there contents now.world)

@@ -41,16 +41,19 @@ pub record AreDeliveries (limit : ℕ) (bytes : List ℕ) (ds : List Delivery) :
   pub within : length bytes ≤ limit
   pub delivered : deliveries_of (lines bytes) ≡ Some ds
 
--- the first lines of the bytes that were taken are these deliveries, and end within the limit; the bytes that were taken behind
--- them are held, and those behind these are left
+-- the first lines of the bytes that were taken are these deliveries, and end within the limit; behind them were taken a part of a
+-- line that decided nothing and at most what one read gives; what is behind that is left
 pub record AreFirst (limit : ℕ) (left left_now : Option (List ℕ)) (ds : List Delivery) : Type 0 where
   pub before : List (List ℕ)
   pub read : List ℕ
-  pub held : List ℕ
-  pub all : left ≡ before_known read (before_known held left_now)
-  pub are_lines : lines_of left ≡ option_map (λ (ls : List (List ℕ)). before ++ ls) (lines_of (before_known held left_now))
+  pub part : List ℕ
+  pub last : List ℕ
+  pub all : left ≡ before_known read (before_known (part ++ last) left_now)
+  pub are_lines : lines_of left ≡ option_map (λ (ls : List (List ℕ)). before ++ ls) (lines_of (before_known (part ++ last) left_now))
   pub within : IfSome left (λ _. length read ≤ limit)
   pub delivered : deliveries_of before ≡ Some ds
+  pub undecided : IsUndecided (limit - length read) part
+  pub piece : length last ≤ longest_read
 
 -- the bytes behind the last line feed
 abbrev pub last_part : List ℕ → List ℕ

@@ -75,11 +75,12 @@ abbrev pub taken : Reading → ℕ
 taken r = r.consumed + length r.held
 
 -- what holds of each reader: no more bytes went into lines than the input may have, each line had a byte or a line
--- feed, and at most one byte past the limit was taken
+-- feed, at most one byte past the limit was taken, and no more is held than one read gives
 pub record IsSound (r : Reading) : Type 0 where
   pub within : r.consumed ≤ r.max_bytes
   pub counted : r.given ≤ r.consumed
   pub bounded : taken r ≤ r.max_bytes + 1
+  pub buffered : length r.held ≤ longest_read
 
 -- how many further bytes the input may have
 abbrev pub room : Reading → ℕ

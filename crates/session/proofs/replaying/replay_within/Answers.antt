@@ -1,20 +1,20 @@
 -- Values that are not taken, a stop of the taking, a fault of the sink, and the end.
-use Rattle.std.proofs.Common.{inl, ◌∙◌, []}
+use Rattle.std.proofs.Common.{inl, ◌∙◌}
 use Rattle.std.specs.FinMap.{len-empty}
 use Rattle.std.proofs.lemmas.Result.{err_from_is_err_and}
 use Rattle.session.specs.Moment.{Moment, Run, moment, run_of}
 use Rattle.session.proofs.Ends.{broken_off, ending, prints_asked}
 use Rattle.replay_model.specs.Play.{nothing_played}
 use Rattle.world.proofs.Rooming.{nothing_held}
-use Rattle.session.proofs.Progress.{nothing_begun, stands}
-use Rattle.session.proofs.Reading.{nothing_taken_of, still}
+use Rattle.session.proofs.Progress.{stands_at_start}
+use Rattle.session.proofs.Reading.{nothing_taken_of}
 use Rattle.session.proofs.replaying.replay_within.Goals as goal
 
 pub returns-in_err-arguments-clause-err : goal.returns-in_err-arguments-clause-err
 returns-in_err-arguments-clause-err g c =
     let p = err_from_is_err_and c.from_residual.result c.from_residual.ensures.1 in
     let run : Run = run_of (g.R.Revisions.contents c.args.revisions.now) c.args.options.now in
-    rw (p.1, p.2, c.requires) (inl (inl (stands run _ _ _ _ (nothing_begun run _ _ _ _) _ [] (still _))))
+    rw (p.1, p.2, c.requires) (inl (inl (stands_at_start run _ _ _ _)))
 
 pub returns-in_err-take_all-clause-err : goal.returns-in_err-take_all-clause-err
 returns-in_err-take_all-clause-err g c =
