@@ -3,6 +3,8 @@ use Rattle.std.proofs.Common.{◌≡◌, ℕ, ◌+◌, ℤ, length, length-appen
 use Rattle.std.specs.Ordering.{eq_by_cmp}
 use Rattle.std.proofs.lemmas.Cmp.{tied_itself}
 use Rattle.entity_model.specs.declared.event.Event.{Event}
+use Rattle.entity_model.specs.declared.id.EntityId.{EntityId}
+use Rattle.entity_model.specs.declared.unfit.Unfit.{Unfit}
 use Rattle.entity_model.specs.Event.{event_cmp, event_cmp_total, event_cmp_same}
 use Rattle.side_output.specs.declared.entry.Cause.{Cause}
 use Rattle.side_output.specs.declared.entry.Cause.TheVariants.{Failed}
@@ -17,7 +19,7 @@ use Rattle.rising.proofs.Rising.{has-append}
 use Rattle.rising.proofs.FirstPassing.{has-found, IsRising-remove_key}
 use Rattle.replay_model.specs.Records.{Bytes}
 use Rattle.replay_model.specs.Play.{Replies, Fetch, fetches, fetches_to_end}
-use Rattle.replay_model.specs.Replies.{Judgement, reply_there, source_replies, failed_events}
+use Rattle.replay_model.specs.Replies.{GivesDocument, Judgement, judged, reply_there, source_replies, failed_events}
 use Rattle.replay_model.specs.ReplayState.{ReplayState, nothing_delivered_within, after_event, after_mark, after_end, after_applying, after_due, after_next, following, fetches_for, fetches_due}
 use Rattle.replay_model.specs.Explained.{is_applied, AgreeOnApplied, revision_wanted, is_fetching, IsHonest, Explained, ExplainedAfter, ExplainedToEnd}
 use Rattle.replay_model.proofs.Applied.{applied-end, applied-event, applied-mark, applied-next, following_rises, waiting_not_applied}
@@ -33,6 +35,26 @@ abbrev start_replies : Judgement → Option (ℕ → Option Bytes) → Replies
 start_replies unfit None e r = Err Failed
 start_replies unfit (Some contents) e r = source_replies unfit contents [] e r
 
+-- the replies of a source give documents
+there_fits : (unfit : Judgement) (x : EntityId) (there : Option Bytes) → GivesDocument unfit x (reply_there unfit x there)
+there_fits unfit x None = tt
+there_fits unfit x (Some bytes) = by (unfit x bytes) refl
+  where
+    by : (why : Option Unfit) → unfit x bytes ≡ why → GivesDocument unfit x (judged why bytes)
+    by None is = is
+    by (Some why) is = tt
+
+source_fits : (unfit : Judgement) (contents : ℕ → Option Bytes) (failed : List Event) (e : Event) (r : ℕ) → GivesDocument unfit e.entity (source_replies unfit contents failed e r)
+source_fits unfit contents failed e r = by (has event_cmp e failed)
+  where
+    by : (b : Bool) → GivesDocument unfit e.entity (cond b (Err Failed) (reply_there unfit e.entity (contents r)))
+    by true = tt
+    by false = there_fits unfit e.entity (contents r)
+
+start_fits : (unfit : Judgement) (told : Option (ℕ → Option Bytes)) (e : Event) (r : ℕ) → GivesDocument unfit e.entity (start_replies unfit told e r)
+start_fits unfit None e r = tt
+start_fits unfit (Some contents) e r = source_fits unfit contents [] e r
+
 module _ (unfit : Judgement) (told : Option (ℕ → Option Bytes)) where
   -- before the first delivery
   pub Explained-start : (hz : Option ℕ) → ExplainedAfter hz unfit told [] 0 (nothing_delivered_within hz)
@@ -42,6 +64,7 @@ module _ (unfit : Judgement) (told : Option (ℕ → Option Bytes)) where
     leads = λ others agree. refl;
     counts = λ others agree. refl;
     honest = λ contents is q r. ap (λ known. start_replies unfit known q r) is;
+    fit = start_fits unfit told;
     failed_applied = λ q h. contradicts false h refl;
   }
 
@@ -96,6 +119,7 @@ module _ (unfit : Judgement) (told : Option (ℕ → Option Bytes)) where
               let all : length (fetches hz others (ds ++ Told e ∷ [])) ≡ length (fetches hz others ds) = ap length (fetches-delivered hz others ds (Told e) ∙ append-nil (fetches hz others ds)) in
               omega (arith, made_before others (before others agree));
           honest = λ contents known q r. x.honest contents known q r ∙ ap (λ fs. source_replies unfit contents fs q r) (sym failed);
+          fit = x.fit;
           failed_applied = λ q h. applied-event w e q not_closed ∙ x.failed_applied q (ap (has event_cmp q) (sym failed) ∙ h);
         }
 
@@ -123,6 +147,7 @@ module _ (unfit : Judgement) (told : Option (ℕ → Option Bytes)) where
               let all : length (fetches hz others (ds ++ Watermark m ∷ [])) ≡ length (fetches hz others ds) + length (fetches_due others (after_mark (following hz others ds) m)) = ap length (fetches-delivered hz others ds (Watermark m)) ∙ length-append (fetches hz others ds) (fetches_due others (after_mark (following hz others ds) m)) in
               omega (arith, made_before others (before others agree));
           honest = x.honest;
+          fit = x.fit;
           failed_applied = λ q h. applied-mark w m q (x.failed_applied q h);
         }
 
@@ -141,6 +166,7 @@ module _ (unfit : Judgement) (told : Option (ℕ → Option Bytes)) where
           let all : length (fetches hz others (ds ++ Ask q ∷ [])) ≡ length (fetches hz others ds) = ap length (fetches-delivered hz others ds (Ask q) ∙ append-nil (fetches hz others ds)) in
           omega (arith, x.counts others agree);
       honest = x.honest;
+      fit = x.fit;
       failed_applied = x.failed_applied;
     }
 
@@ -162,6 +188,7 @@ module _ (unfit : Judgement) (told : Option (ℕ → Option Bytes)) where
               let all : length (fetches_to_end hz others ds) ≡ length (fetches hz others ds) + length (fetches_due others (after_end (following hz others ds))) = ap length (fetches-end hz others ds) ∙ length-append (fetches hz others ds) (fetches_due others (after_end (following hz others ds))) in
               omega (arith, made_before others (before others agree));
           honest = x.honest;
+          fit = x.fit;
           failed_applied = λ q h. applied-end w q (x.failed_applied q h);
         }
 
@@ -205,6 +232,10 @@ abbrev now_replied : Judgement → Option (ℕ → Option Bytes) → List Event 
 now_replied unfit None failed e reply r = reply
 now_replied unfit (Some contents) failed e reply r = source_replies unfit contents failed e r
 
+now_fits : (unfit : Judgement) (told : Option (ℕ → Option Bytes)) (failed : List Event) (e : Event) (reply : Result Bytes Cause) (r : ℕ) → GivesDocument unfit e.entity reply → GivesDocument unfit e.entity (now_replied unfit told failed e reply r)
+now_fits unfit None failed e reply r fits = fits
+now_fits unfit (Some contents) failed e reply r fits = source_fits unfit contents failed e r
+
 -- an honest reply is the source's, after the failed events have this event if its fetch failed
 honest_is : (unfit : Judgement) (contents : ℕ → Option Bytes) (failed : List Event) (e : Event) (r : ℕ) (reply : Result Bytes Cause) → has event_cmp e failed ≡ false → IsHonest unfit contents e r reply → source_replies unfit contents (failed ++ failed_of e reply) e r ≡ reply
 honest_is unfit contents failed e r reply fresh honest =
@@ -237,8 +268,9 @@ module _ (unfit : Judgement) (told : Option (ℕ → Option Bytes)) (play_of : R
   -- one due event is applied, with any reply where contents aren't told, and an honest one where they are
   pub Explained-next : (x : Explained unfit told play_of fetches_of made w) → first_due w.buffer ≡ Some e
       → ((contents : ℕ → Option Bytes) → told ≡ Some contents → is_fetching w e ≡ true → IsHonest unfit contents e (revision_wanted w e) reply)
+      → GivesDocument unfit e.entity reply
       → Next x
-  Explained-next x some honest =
+  Explained-next x some honest fits =
       let there : has event_cmp e w.buffer.waiting ≡ true = has-found (is_due w.buffer.closed w.buffer.mark) event_cmp_total e w.buffer.waiting some in
       let not_yet : is_applied w e ≡ false = waiting_not_applied w e there in
       let fresh : has event_cmp e (failed_events w.played.side) ≡ false = false_unless (has event_cmp e (failed_events w.played.side)) (λ h. contradicts _ (x.failed_applied e h) not_yet) in
@@ -265,6 +297,7 @@ module _ (unfit : Judgement) (told : Option (ℕ → Option Bytes)) (play_of : R
             let all : length (fetches_due others w) ≡ fetches_counted (is_fetching w e) + length (fetches_due others (after_applying others w (Some e))) = length-fetches_due others w e some in
             omega (arith, x.counts others (before others agree));
         honest = λ contents is q r. from_source contents is q r x failed (eq_by_cmp event_cmp q e) refl;
+        fit = λ q r. still_fits q r x fits (eq_by_cmp event_cmp q e) refl;
         failed_applied = λ q h. applied q ∙ from_failed q x failed (eq_by_cmp event_cmp q e) refl h;
       } in
       record {
@@ -280,6 +313,13 @@ module _ (unfit : Judgement) (told : Option (ℕ → Option Bytes)) (play_of : R
       from_failed : (q : Event) (x : Explained unfit told play_of fetches_of made w) → failed_events (next_by w e reply).played.side ≡ failed_events w.played.side ++ failed_by (is_fetching w e) e reply → (t : Bool) → eq_by_cmp event_cmp q e ≡ t → has event_cmp q (failed_events (next_by w e reply).played.side) ≡ true → (t || is_applied w q) ≡ true
       from_failed q x failed true tie h = refl
       from_failed q x failed false tie h = x.failed_applied q (sym (ap (has event_cmp q) failed ∙ has-append event_cmp q (failed_events w.played.side) (failed_by (is_fetching w e) e reply) ∙ ap (λ b. has event_cmp q (failed_events w.played.side) || b) (has-failed_by q e (is_fetching w e) reply tie) ∙ or_none _) ∙ h)
+
+      still_fits : (q : Event) (r : ℕ) (x : Explained unfit told play_of fetches_of made w) → GivesDocument unfit e.entity reply → (t : Bool) → eq_by_cmp event_cmp q e ≡ t →
+          GivesDocument unfit q.entity (cond t (now_replied unfit told (failed_events (next_by w e reply).played.side) e reply r) (x.replies q r))
+      still_fits q r x fits true tie =
+          let Fits : Event → Type 0 = λ v. GivesDocument unfit v.entity (now_replied unfit told (failed_events (next_by w e reply).played.side) e reply r) in
+          subst Fits (sym (event_cmp_same q e (equal _ tie))) (now_fits unfit told (failed_events (next_by w e reply).played.side) e reply r fits)
+      still_fits q r x fits false tie = x.fit q r
 
       from_source : (contents : ℕ → Option Bytes) → told ≡ Some contents → (q : Event) (r : ℕ) (x : Explained unfit told play_of fetches_of made w) → failed_events (next_by w e reply).played.side ≡ failed_events w.played.side ++ failed_by (is_fetching w e) e reply → (t : Bool) → eq_by_cmp event_cmp q e ≡ t
           → replies_next x.replies q r ≡ source_replies unfit contents (failed_events (next_by w e reply).played.side) q r

@@ -10,7 +10,7 @@ use Rattle.entity_state.specs.Record.{held_revision, wants}
 use Rattle.reorder_buffer.specs.Watermarks.{is_due}
 use Rattle.replay_model.specs.Play.{Replies, Fetch, fetches, fetches_to_end}
 use Rattle.replay_model.specs.Records.{Bytes, record_of}
-use Rattle.replay_model.specs.Replies.{Judgement, reply_there, source_replies, failed_events}
+use Rattle.replay_model.specs.Replies.{GivesDocument, Judgement, reply_there, source_replies, failed_events}
 use Rattle.entity_model.specs.declared.delivery.Delivery.{Delivery}
 use Rattle.replay_model.specs.ReplayState.{ReplayState, after_due, fetches_due, following, following_to_end}
 
@@ -45,6 +45,8 @@ pub record Explained (unfit : Judgement) (told : Option (ℕ → Option Bytes)) 
   pub counts : (others : Replies) → AgreeOnApplied w replies others → made + length (fetches_due others w) ≡ length (fetches_of others)
   -- the replies are the source's
   pub honest : (contents : ℕ → Option Bytes) → told ≡ Some contents → (e : Event) (r : ℕ) → replies e r ≡ source_replies unfit contents (failed_events w.played.side) e r
+  -- each reply that gives bytes gives a document
+  pub fit : (e : Event) (r : ℕ) → GivesDocument unfit e.entity (replies e r)
   -- fetches failed for such events alone
   pub failed_applied : (e : Event) → has event_cmp e (failed_events w.played.side) ≡ true → is_applied w e ≡ true
 

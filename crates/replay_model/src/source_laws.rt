@@ -10,7 +10,7 @@ ghost use Rattle.entity_model.specs.declared.delivery.Delivery.{Delivery};
 ghost use Rattle.reorder_buffer.specs.Buffered.{first_due};
 ghost use Rattle.replay_model.specs.Records.{Bytes, record_of};
 ghost use Rattle.replay_model.specs.Play.{Replies, Fetch, played};
-ghost use Rattle.replay_model.specs.Replies.{Judgement, source_replies, failed_events, HoldsWhatIsThere, TellsWhatIsThere};
+ghost use Rattle.replay_model.specs.Replies.{GivesDocument, Judgement, source_replies, failed_events, HoldsWhatIsThere, TellsWhatIsThere};
 ghost use Rattle.replay_model.specs.ReplayState.{ReplayState, nothing_delivered_within, after_event, after_mark, after_end, after_applying, following, following_to_end};
 ghost use Rattle.replay_model.specs.Explained.{Explained, ExplainedAfter, ExplainedToEnd, IsHonest, is_fetching, revision_wanted};
 
@@ -51,9 +51,10 @@ pub fn replay_over_source_is_a_play()
     ensures the_end { (unfit : Judgement) (told : Option (ℕ → Option Bytes)) (h : Option ℕ) (ds : List Delivery) (made : ℕ) (w : ReplayState) →
         ExplainedAfter h unfit told ds made w → first_due w.buffer ≡ None → ExplainedToEnd h unfit told ds made (after_end w) }
 
-    // One due event is applied, with any reply where the contents aren't told.
+    // One due event is applied, with any reply that gives a document or none where the contents aren't told.
     ensures next { (unfit : Judgement) (told : Option (ℕ → Option Bytes)) (play_of : Replies → ReplayState) (fetches_of : Replies → List Fetch) (made : ℕ) (w : ReplayState) (e : Event) (reply : Result Bytes Cause) →
         Explained unfit told play_of fetches_of made w → first_due w.buffer ≡ Some e →
         ((contents : ℕ → Option Bytes) → told ≡ Some contents → is_fetching w e ≡ true → IsHonest unfit contents e (revision_wanted w e) reply) →
+        GivesDocument unfit e.entity reply →
         Explained unfit told play_of fetches_of (made + cond (is_fetching w e) 1 0) (after_applying (λ q r. reply) w (Some e)) }
 {}

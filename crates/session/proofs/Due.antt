@@ -143,7 +143,8 @@ applies-leads contents directory room before now old new applied a rises = recor
       let made : ℕ = leads.made + cond (is_fetching old e) 1 0 in
       let next : Next judgement known course.state course.fetched leads.made old e a.reply leads.explained =
       Explained-next judgement known course.state course.fetched leads.made old e a.reply leads.explained a.due
-      (λ there is _. reply_is_honest contents directory room e.entity _ a.reply a.is_reply there is) in
+      (λ there is _. reply_is_honest contents directory room e.entity _ a.reply a.is_reply there is)
+      (reply_gives contents directory e.entity _ a.reply a.is_reply) in
       let Counted : ReplayState → Type 0 = λ w. HasCounted start.counts now made w.played.side in
       let There : ReplayState → Type 0 = λ w. IsUnderWay (setting contents directory room) course begun start (onward s now w) in
       let there : There (next_by old e a.reply) = record {
@@ -236,6 +237,7 @@ within setting course begun start now counts last under_way =
     record {
       steps = under_way.steps;
       replies = under_way.leads.explained.replies;
+      fit = under_way.leads.explained.fit;
       is = under_way.is under_way.leads.explained.replies (λ q r h. refl);
       says = under_way.leads.says under_way.leads.explained.replies (λ q r h. refl);
       source = λ contents is. under_way.is (replies_there contents now.world) (honest contents is);

@@ -41,6 +41,7 @@ use Rattle.words.specs.Options.{limit_of}
 abbrev pub is_played : (setting : Setting) (course : Course) (start now : Stage) → Leads setting course start now → first_due now.world.buffer ≡ None → IsPlayed setting course start now
 is_played setting course start now x rests = record {
   replies = x.explained.replies;
+  fit = x.explained.fit;
   is = Explained-is judgement setting.known course.state course.fetched x.made now.world x.explained rests;
   says = x.says x.explained.replies (λ q r h. refl);
   documents = x.documents;
@@ -136,6 +137,7 @@ module _ (setting : Setting) (sections : Sections) (ds : List Delivery) (start n
   all_printed = record {
     played = record {
       replies = replay.played.replies;
+      fit = replay.played.fit;
       is = replay.played.is;
       says = transcribed replay.played.replies replay.played.is replay.played.says;
       documents = replay.played.documents;

@@ -6,6 +6,7 @@ use Rattle.wq_io.specs.Streams.{IsAtEnd, Rose, after_known}
 use Rattle.rdf_term.specs.declared.pattern.Pattern.{Pattern}
 use Rattle.rdf_term.specs.Order.{triple_cmp}
 use Rattle.entity_model.specs.declared.id.EntityId.{EntityId}
+use Rattle.entity_model.specs.declared.event.Event.{Event}
 use Rattle.entity_state.specs.State.{is_kept}
 use Rattle.entity_model.specs.declared.delivery.Delivery.{Delivery}
 use Rattle.entity_model.specs.declared.delivery.Delivery.TheVariants.{Ask}
@@ -15,7 +16,7 @@ use Rattle.replay_model.specs.Entries.{has_open_revision, is_open_late, late_eve
 use Rattle.replay_model.specs.Fate.{events_of, fate, in_order}
 use Rattle.replay_model.specs.Records.{Bytes, is_settled, record_of}
 use Rattle.replay_model.specs.Play.{Replies}
-use Rattle.replay_model.specs.Replies.{HoldsWhatIsThere, TellsWhatIsThere, failed_events, source_replies}
+use Rattle.replay_model.specs.Replies.{GivesDocument, HoldsWhatIsThere, TellsWhatIsThere, failed_events, source_replies}
 use Rattle.replay_model.specs.ReplayState.{ReplayState, following_to_end}
 use Rattle.replay_model.specs.Transcript.{Sections, ask_section, asks, closing, transcript}
 use Rattle.replay_model.specs.Union.{union}
@@ -34,11 +35,12 @@ use Rattle.session.specs.Sections.{sections_of}
 use Rattle.session.specs.Stops.{IsStarved}
 use Rattle.session.specs.Taking.{Course, HoldsDocuments, IsFull, course_after, course_printed, course_to_end, judgement, replies_there}
 
--- the world is where a play leads, with some replies to its fetches, the output has what the play says, and the counts of the
--- source rose by these fetches; what is held are documents of their entities; where it is known what the source has, the replies
--- are those of what is there, but for the events whose fetches failed, which the side output names
+-- the world is where a play leads, with some replies to its fetches, each a document of its entity or a reason, the output has what
+-- the play says, and the counts of the source rose by these fetches; what is held are documents of their entities; where it is known
+-- what the source has, the replies are those of what is there, but for the events whose fetches failed, which the side output names
 pub record IsPlayed (setting : Setting) (course : Course) (start now : Stage) : Type 0 where
   pub replies : Replies
+  pub fit : (e : Event) (r : ℕ) → GivesDocument judgement e.entity (replies e r)
   pub is : now.world ≡ course.state replies
   pub says : now.output.bytes ≡ course.bytes replies
   pub documents : HoldsDocuments now.world

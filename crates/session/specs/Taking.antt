@@ -12,7 +12,7 @@ use Rattle.entity_model.specs.declared.delivery.Delivery.TheVariants.{Ask}
 use Rattle.reorder_buffer.specs.Buffered.{first_due}
 use Rattle.replay_model.specs.Records.{Bytes, record_of}
 use Rattle.replay_model.specs.Play.{Fetch, Replies, fetches, fetches_to_end}
-use Rattle.replay_model.specs.Replies.{HoldsDocument, Judgement, failed_events, source_replies}
+use Rattle.replay_model.specs.Replies.{GivesDocument, HoldsDocument, Judgement, failed_events, source_replies}
 use Rattle.replay_model.specs.ReplayState.{ReplayState, after_some, entered, fetches_due, following, following_to_end}
 use Rattle.replay_model.specs.Explained.{AgreeOnApplied, Explained, revision_wanted}
 use Rattle.replay_model.specs.Transcript.{Sections, ask_section, asks, said as answers_said, transcript}
@@ -83,13 +83,14 @@ pub record IsUnderWay (setting : Setting) (course : Course) (begun : Replies →
   pub steps : ℕ
   pub is : (others : Replies) → AgreeOnApplied now.world leads.explained.replies others → now.world ≡ after_some others steps (begun others)
 
--- the world is so many applications of due events after where a play begins them, the least first, with some replies, and
--- the output has what that play says; where it is known what the source has, with the replies of what is there and of the
--- events whose fetches failed. The counts rose by the play's fetches without those that due events have still to make, and perhaps by
--- the first of these
+-- the world is so many applications of due events after where a play begins them, the least first, with some replies, each a
+-- document of its entity or a reason, and the output has what that play says; where it is known what the source has, with the
+-- replies of what is there and of the events whose fetches failed. The counts rose by the play's fetches without those that due
+-- events have still to make, and perhaps by the first of these
 pub record IsWithin (setting : Setting) (course : Course) (begun : Replies → ReplayState) (start now : Stage) : Type 0 where
   pub steps : ℕ
   pub replies : Replies
+  pub fit : (e : Event) (r : ℕ) → GivesDocument judgement e.entity (replies e r)
   pub is : now.world ≡ after_some replies steps (begun replies)
   pub says : now.output.bytes ≡ course.bytes replies
   pub source : (contents : ℕ → Option Bytes) → setting.known ≡ Some contents → now.world ≡ after_some (replies_there contents now.world) steps (begun (replies_there contents now.world))

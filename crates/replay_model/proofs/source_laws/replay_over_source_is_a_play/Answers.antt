@@ -24,7 +24,7 @@ pub returns-clause-the_end : goal.returns-clause-the_end
 returns-clause-the_end c = Explained-end
 
 pub returns-clause-next : goal.returns-clause-next
-returns-clause-next c unfit told play_of fetches_of made w e reply x some honest = (Explained-next unfit told play_of fetches_of made w e reply x some honest).explained
+returns-clause-next c unfit told play_of fetches_of made w e reply x some honest fits = (Explained-next unfit told play_of fetches_of made w e reply x some honest fits).explained
 
 pub returns-clause-ask : goal.returns-clause-ask
 returns-clause-ask c = Explained-ask
