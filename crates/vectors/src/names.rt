@@ -1,8 +1,11 @@
-// The test suite of RFC 1321, and fields that are told apart.
+// The test suite of RFC 1321, fields that are told apart, and the names of a number's node.
 
+use entity_model::{QuantityParts, Value};
 use rdf_term::Piece;
 use rdf_vocabulary::{hashed_name, push_field, push_optional_field};
 use std::test::Fail;
+use triple_sink::{MappingVersion, Setting};
+use value_nodes::node_name;
 
 // Each message of RFC 1321, appendix A.5, and its digest.
 const DIGESTS: &str = " => d41d8cd98f00b204e9800998ecf8427e
@@ -31,5 +34,24 @@ fn fields_are_told_apart(rt: HostRuntime) -> Result<(), Fail> {
     let empty = Piece::borrowed("");
     push_optional_field(Some(&empty), &mut fields)?;
     assert_eq!(rt; fields.as_str(), "3:äb-0:");
+    Ok(())
+}
+
+// What md5sum says of `q2:+51:1--` and of `2q2:+535:http://www.wikidata.org/entity/Q199--`.
+#[test]
+fn a_number_is_named_by_the_version(rt: HostRuntime) -> Result<(), Fail> {
+    let alloc = rt.alloc();
+    let amount = Value::Quantity(QuantityParts {
+        amount: Piece::borrowed("+5"),
+        unit: Piece::borrowed("1"),
+        upper: None,
+        lower: None,
+    });
+    let version = MappingVersion::One;
+    let one = node_name(Setting { alloc, version }, &amount)?.ok_or("a name")?;
+    assert_eq!(rt; one.as_str(), "264596658257651e25b9a6e5508e8bad");
+    let version = MappingVersion::Two;
+    let two = node_name(Setting { alloc, version }, &amount)?.ok_or("a name")?;
+    assert_eq!(rt; two.as_str(), "b8574ffcd558908b664fb371373ee6bc");
     Ok(())
 }
