@@ -1,20 +1,20 @@
-// The test suite of RFC 1321, fields that are told apart, and the names of a number's node.
+// The test suite of RFC 1321, what md5sum says of the texts that name a number's node in both versions of the mapping, and fields
+// that are told apart.
 
-use entity_model::{QuantityParts, Value};
 use rdf_term::Piece;
 use rdf_vocabulary::{hashed_name, push_field, push_optional_field};
 use std::test::Fail;
-use triple_sink::{MappingVersion, Setting};
-use value_nodes::node_name;
 
-// Each message of RFC 1321, appendix A.5, and its digest.
+// Each message of RFC 1321, appendix A.5, and its digest, and then the two texts.
 const DIGESTS: &str = " => d41d8cd98f00b204e9800998ecf8427e
 a => 0cc175b9c0f1b6a831c399e269772661
 abc => 900150983cd24fb0d6963f7d28e17f72
 message digest => f96b697d7cb7938d525a2f31aaf161d0
 abcdefghijklmnopqrstuvwxyz => c3fcd3d76192e4007dfb496cca67e13b
 ABCDEFGHIJKLMNOPQRSTUVWXYZabcdefghijklmnopqrstuvwxyz0123456789 => d174ab98d277d9f5a5611c2c9f419d9f
-12345678901234567890123456789012345678901234567890123456789012345678901234567890 => 57edf4a22be3c955ac49da2e2107b67a";
+12345678901234567890123456789012345678901234567890123456789012345678901234567890 => 57edf4a22be3c955ac49da2e2107b67a
+q2:+51:1-- => 264596658257651e25b9a6e5508e8bad
+2q2:+535:http://www.wikidata.org/entity/Q199-- => b8574ffcd558908b664fb371373ee6bc";
 
 #[test]
 fn messages_are_hashed(rt: HostRuntime) -> Result<(), Fail> {
@@ -34,24 +34,5 @@ fn fields_are_told_apart(rt: HostRuntime) -> Result<(), Fail> {
     let empty = Piece::borrowed("");
     push_optional_field(Some(&empty), &mut fields)?;
     assert_eq!(rt; fields.as_str(), "3:äb-0:");
-    Ok(())
-}
-
-// What md5sum says of `q2:+51:1--` and of `2q2:+535:http://www.wikidata.org/entity/Q199--`.
-#[test]
-fn a_number_is_named_by_the_version(rt: HostRuntime) -> Result<(), Fail> {
-    let alloc = rt.alloc();
-    let amount = Value::Quantity(QuantityParts {
-        amount: Piece::borrowed("+5"),
-        unit: Piece::borrowed("1"),
-        upper: None,
-        lower: None,
-    });
-    let version = MappingVersion::One;
-    let one = node_name(Setting { alloc, version }, &amount)?.ok_or("a name")?;
-    assert_eq!(rt; one.as_str(), "264596658257651e25b9a6e5508e8bad");
-    let version = MappingVersion::Two;
-    let two = node_name(Setting { alloc, version }, &amount)?.ok_or("a name")?;
-    assert_eq!(rt; two.as_str(), "b8574ffcd558908b664fb371373ee6bc");
     Ok(())
 }
