@@ -11,7 +11,7 @@ use Rattle.rdf_term.proofs.Texts.{triple_cmp-IsAntisymmetric}
 use Rattle.entity_model.specs.declared.id.EntityId.{EntityId}
 use Rattle.entity_model.specs.declared.document.Document.{Document}
 use Rattle.entity_model.specs.Document.{IsSmall}
-use Rattle.triple_sink.specs.declared.setting.MappingVersion.{MappingVersion}
+use Rattle.entity_model.specs.declared.mapping.MappingVersion.{MappingVersion}
 use Rattle.munger.specs.Munging.{munge, munged}
 use Rattle.munger.proofs.Fit.{munge_fit}
 use Rattle.munger.proofs.MungedList.{munge_of_list}

@@ -30,7 +30,7 @@ use Rattle.rdf_vocabulary.specs.Prefix.{prefixed}
 use Rattle.rdf_vocabulary.proofs.Fit.{predicate_fit, resource_fit, prefixed_fit}
 use Rattle.value_nodes.specs.Nodes.{about}
 use Rattle.value_nodes.proofs.Fit.{literal_fit, plain_fit, simple_term_fit}
-use Rattle.triple_sink.specs.declared.setting.MappingVersion.{MappingVersion}
+use Rattle.entity_model.specs.declared.mapping.MappingVersion.{MappingVersion}
 use Rattle.statement_rdf.specs.Ranking.{is_best}
 use Rattle.statement_rdf.proofs.NamesFit.{id_term_fit, decimal_short}
 use Rattle.statement_rdf.proofs.Fit.{statement_triples_fit}

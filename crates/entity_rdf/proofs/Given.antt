@@ -10,7 +10,7 @@ use Rattle.entity_model.specs.declared.id.IdKind.TheVariants.{P, Q}
 use Rattle.entity_model.specs.declared.entity.Entity.{Entity}
 use Rattle.entity_model.specs.declared.document.Document.{Document}
 use Rattle.entity_model.specs.declared.document.Document.TheVariants.{Entity as AnEntity, Redirect}
-use Rattle.triple_sink.specs.declared.setting.MappingVersion.{MappingVersion}
+use Rattle.entity_model.specs.declared.mapping.MappingVersion.{MappingVersion}
 use Rattle.statement_rdf.specs.Ranking.{is_best}
 use Rattle.statement_rdf.proofs.Given.{statement_rules}
 use Rattle.statement_rdf.proofs.Members.{in_front, in_back, in_either, in_flat_map, flat_map_in}

@@ -8,7 +8,7 @@ use Rattle.rdf_term.specs.Order.{triple_cmp}
 use Rattle.rdf_term.proofs.Members.{member_triples}
 use Rattle.entity_model.specs.declared.id.EntityId.{EntityId}
 use Rattle.entity_model.specs.declared.document.Document.{Document}
-use Rattle.triple_sink.specs.declared.setting.MappingVersion.{MappingVersion}
+use Rattle.entity_model.specs.declared.mapping.MappingVersion.{MappingVersion}
 use Rattle.munger.specs.Munging.{munge, munged}
 use Rattle.statement_rdf.proofs.Members.{in_flat_map, flat_map_in}
 use Rattle.entity_rdf.specs.Dump.{dump}

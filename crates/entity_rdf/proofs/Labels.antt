@@ -50,7 +50,7 @@ use Rattle.sitelinks.specs.Site.{site_of}
 use Rattle.statement_rdf.specs.declared.role.Role.{Role}
 use Rattle.statement_rdf.specs.declared.role.Role.TheVariants as Roles
 use Rattle.statement_rdf.specs.Node.{id_term, reference_node, statement_node}
-use Rattle.triple_sink.specs.declared.setting.MappingVersion.{MappingVersion}
+use Rattle.entity_model.specs.declared.mapping.MappingVersion.{MappingVersion}
 use Rattle.statement_rdf.specs.Ranking.{is_best}
 use Rattle.statement_rdf.specs.Role.{node_prefix, value_prefix}
 use Rattle.statement_rdf.specs.Snak.{content_triples, link_triples, snak_triples}

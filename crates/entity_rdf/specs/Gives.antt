@@ -11,7 +11,7 @@ use Rattle.entity_model.specs.declared.entity.Entity.{Entity}
 use Rattle.entity_model.specs.declared.entity.Link.{Link}
 use Rattle.entity_model.specs.declared.document.Document.{Document}
 use Rattle.entity_model.specs.declared.document.Document.TheVariants.{Entity as AnEntity, Redirect}
-use Rattle.triple_sink.specs.declared.setting.MappingVersion.{MappingVersion}
+use Rattle.entity_model.specs.declared.mapping.MappingVersion.{MappingVersion}
 use Rattle.rdf_vocabulary.specs.declared.datatype.Datatype.TheVariants.{DateTime}
 use Rattle.rdf_vocabulary.specs.declared.predicate.Predicate.TheVariants as Say
 use Rattle.rdf_vocabulary.specs.declared.resource.Resource.TheVariants.{Dataset, PublicDomain}

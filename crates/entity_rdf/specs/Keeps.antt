@@ -4,7 +4,7 @@ use Rattle.rising.specs.Rising.{In}
 use Rattle.rdf_term.specs.declared.triple.Triple.{Triple}
 use Rattle.entity_model.specs.declared.id.EntityId.{EntityId}
 use Rattle.entity_model.specs.declared.document.Document.{Document}
-use Rattle.triple_sink.specs.declared.setting.MappingVersion.{MappingVersion}
+use Rattle.entity_model.specs.declared.mapping.MappingVersion.{MappingVersion}
 use Rattle.munger.specs.Munging.{munged}
 use Rattle.entity_rdf.specs.Gives.{Gives}
 

@@ -6,7 +6,7 @@ ghost use Rattle.rdf_term.specs.declared.triple.Triple.{Triple};
 ghost use Rattle.rdf_term.specs.Order.{triple_cmp};
 ghost use Rattle.entity_model.specs.declared.id.EntityId.{EntityId};
 ghost use Rattle.entity_model.specs.declared.document.Document.{Document};
-ghost use Rattle.triple_sink.specs.declared.setting.MappingVersion.{MappingVersion};
+ghost use Rattle.entity_model.specs.declared.mapping.MappingVersion.{MappingVersion};
 ghost use Rattle.entity_rdf.specs.Dump.{dump};
 ghost use Rattle.entity_rdf.specs.Gives.{Gives};
 ghost use Rattle.entity_rdf.specs.Keeps.{Keeps};

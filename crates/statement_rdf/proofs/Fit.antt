@@ -27,7 +27,7 @@ use Rattle.value_nodes.specs.Said.{triple, object_triples}
 use Rattle.value_nodes.specs.Terms.{simple_term}
 use Rattle.value_nodes.proofs.Fit.{simple_term_fit}
 use Rattle.value_nodes.proofs.NodesFit.{node_triples_fit}
-use Rattle.triple_sink.specs.declared.setting.MappingVersion.{MappingVersion}
+use Rattle.entity_model.specs.declared.mapping.MappingVersion.{MappingVersion}
 use Rattle.statement_rdf.specs.declared.role.Role.{Role}
 use Rattle.statement_rdf.specs.declared.role.Role.TheVariants as Roles
 use Rattle.statement_rdf.specs.Node.{id_term, statement_node, reference_node}

@@ -17,7 +17,7 @@ use Rattle.value_nodes.specs.Name.{node_name}
 use Rattle.value_nodes.specs.Nodes.{node_triples}
 use Rattle.value_nodes.specs.Said.{object_triples}
 use Rattle.value_nodes.specs.Terms.{simple_term}
-use Rattle.triple_sink.specs.declared.setting.MappingVersion.{MappingVersion}
+use Rattle.entity_model.specs.declared.mapping.MappingVersion.{MappingVersion}
 use Rattle.statement_rdf.specs.declared.role.Role.{Role}
 use Rattle.statement_rdf.specs.declared.role.Role.TheVariants as Roles
 use Rattle.statement_rdf.specs.Gives.{SnakGives, simple_value, value_node, node_part, no_value, unknown_value, DirectGives, direct_value, direct_no_value, direct_unknown, StatementGives, claim, statement_class, statement_rank, best_rank, main_snak, best_snak, qualifier_snak, derived, source_class, source_snak}

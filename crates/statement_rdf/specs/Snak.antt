@@ -18,7 +18,7 @@ use Rattle.value_nodes.specs.Name.{node_name}
 use Rattle.value_nodes.specs.Nodes.{node_triples}
 use Rattle.value_nodes.specs.Said.{triple, object_triples}
 use Rattle.value_nodes.specs.Terms.{simple_term}
-use Rattle.triple_sink.specs.declared.setting.MappingVersion.{MappingVersion}
+use Rattle.entity_model.specs.declared.mapping.MappingVersion.{MappingVersion}
 use Rattle.statement_rdf.specs.declared.role.Role.{Role}
 use Rattle.statement_rdf.specs.Node.{id_term}
 use Rattle.statement_rdf.specs.Role.{value_prefix, node_prefix, role_text}

@@ -18,7 +18,7 @@ use Rattle.rdf_vocabulary.specs.Predicate.{predicate_term}
 use Rattle.rdf_vocabulary.specs.Resource.{resource_term}
 use Rattle.value_nodes.specs.Said.{triple, object_triples}
 use Rattle.value_nodes.specs.Terms.{simple_term}
-use Rattle.triple_sink.specs.declared.setting.MappingVersion.{MappingVersion}
+use Rattle.entity_model.specs.declared.mapping.MappingVersion.{MappingVersion}
 use Rattle.statement_rdf.specs.declared.role.Role.TheVariants as Roles
 use Rattle.statement_rdf.specs.Node.{id_term, statement_node, reference_node}
 use Rattle.statement_rdf.specs.Snak.{unknown_node, no_value_triple, snak_triples}

@@ -8,7 +8,7 @@ ghost use Rattle.rdf_term.specs.declared.term.Term.{Term};
 ghost use Rattle.rdf_term.specs.declared.triple.Triple.{Triple};
 ghost use Rattle.rdf_term.specs.Fit.{HasFitAndShortTerms, IsFitAndShort};
 ghost use Rattle.entity_model.specs.Statement.{IsSmallStatement};
-ghost use Rattle.triple_sink.specs.declared.setting.MappingVersion.{MappingVersion};
+ghost use Rattle.entity_model.specs.declared.mapping.MappingVersion.{MappingVersion};
 ghost use Rattle.entity_model.specs.declared.statement.Statement.{Statement};
 ghost use Rattle.statement_rdf.specs.Gives.{StatementGives};
 ghost use Rattle.statement_rdf.specs.Node.{name_char, statement_name};

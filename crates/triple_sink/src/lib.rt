@@ -9,6 +9,6 @@ mod setting;
 mod sink;
 mod term_ref;
 
-pub use setting::{MappingVersion, Setting};
+pub use setting::Setting;
 pub use sink::{TripleSink, emit_all};
 pub use term_ref::TermRef;

@@ -18,7 +18,7 @@ use Rattle.rdf_vocabulary.specs.Fields.{hashed_name}
 use Rattle.rdf_vocabulary.specs.Datatype.{typed}
 use Rattle.rdf_vocabulary.specs.Prefix.{prefixed}
 use Rattle.rdf_vocabulary.specs.Resource.{resource_term}
-use Rattle.triple_sink.specs.declared.setting.MappingVersion.{MappingVersion}
+use Rattle.entity_model.specs.declared.mapping.MappingVersion.{MappingVersion}
 use Rattle.value_nodes.specs.Terms.{amount_term}
 use Rattle.rdf_vocabulary.proofs.Fit.{predicate_fit, resource_fit, prefixed_fit}
 use Rattle.rdf_vocabulary.proofs.NamesFit.{hashed_name_iri, length-hashed_name}

@@ -6,8 +6,8 @@ use Rattle.entity_model.specs.declared.value.Value.TheVariants.{Entity, Str, Tim
 use Rattle.entity_model.specs.declared.value.TimeParts.{TimeParts}
 use Rattle.entity_model.specs.declared.value.QuantityParts.{QuantityParts}
 use Rattle.entity_model.specs.declared.value.GlobeParts.{GlobeParts}
-use Rattle.triple_sink.specs.declared.setting.MappingVersion.{MappingVersion}
-use Rattle.triple_sink.specs.declared.setting.MappingVersion.TheVariants.{One, Two}
+use Rattle.entity_model.specs.declared.mapping.MappingVersion.{MappingVersion}
+use Rattle.entity_model.specs.declared.mapping.MappingVersion.TheVariants.{One, Two}
 use Rattle.rdf_vocabulary.specs.declared.prefix.Prefix.TheVariants.{Wd}
 use Rattle.rdf_vocabulary.specs.Fields.{field, optional_field, hashed_name}
 use Rattle.rdf_vocabulary.specs.Prefix.{prefix_text}

@@ -7,8 +7,8 @@ ghost use Rattle.entity_model.specs.declared.value.QuantityParts.{QuantityParts}
 ghost use Rattle.entity_model.specs.declared.value.Value.{Value};
 ghost use Rattle.entity_model.specs.declared.value.Value.TheVariants.{Quantity};
 ghost use Rattle.entity_model.specs.Value.{IsSmallValue};
-ghost use Rattle.triple_sink.specs.declared.setting.MappingVersion.{MappingVersion};
-ghost use Rattle.triple_sink.specs.declared.setting.MappingVersion.TheVariants.{Two};
+ghost use Rattle.entity_model.specs.declared.mapping.MappingVersion.{MappingVersion};
+ghost use Rattle.entity_model.specs.declared.mapping.MappingVersion.TheVariants.{Two};
 ghost use Rattle.value_nodes.specs.Name.{node_name, number_one_iri, one, with_unit};
 ghost use Rattle.value_nodes.specs.Nodes.{node_triples};
 ghost use Rattle.value_nodes.specs.Terms.{simple_term};

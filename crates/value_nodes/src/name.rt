@@ -3,11 +3,11 @@
 ghost use Rattle.std.specs.Prelude.{◌≡◌, ◌++◌, IfOk, OnOk, string_bytes, option_map};
 ghost use Rattle.value_nodes.specs.Name.{globe_fields, name_fields, named_unit, node_name, quantity_fields, time_fields, version_mark};
 
-use entity_model::{GlobeParts, QuantityParts, TimeParts, Value};
+use entity_model::{GlobeParts, MappingVersion, QuantityParts, TimeParts, Value};
 use rdf_term::{OutOfMemory, Text};
 use rdf_vocabulary::{hashed_name, push_field, push_optional_field};
 use std::alloc::Global;
-use triple_sink::{MappingVersion, Setting};
+use triple_sink::Setting;
 
 // How many bytes the parts of most values have at most.
 const USUAL_LENGTH: usize = 96;

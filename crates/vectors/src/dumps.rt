@@ -1,13 +1,13 @@
 // The dump of a small document, which no output shows. The crate `cases` tries whole pages.
 
-use entity_model::{Document, Entity, EntityId, Tagged};
+use entity_model::{Document, Entity, EntityId, MappingVersion, Tagged};
 use entity_rdf::dump_triples;
 use rdf_term::{List, Piece, write_triple};
 use std::alloc::Global;
 use std::process::Abort;
 use std::str;
 use std::test::Fail;
-use triple_sink::{MappingVersion, Setting};
+use triple_sink::Setting;
 
 // Checks the lines of the dump of Q1 at revision 5.
 fn check_dump(

@@ -16,7 +16,7 @@ use Rattle.entity_model.specs.declared.unfit.Unfit.TheVariants.{Large}
 use Rattle.entity_json.specs.Document.{document_of, outcome_of, page_limit, unfit_by, unfit_of}
 use Rattle.entity_json.proofs.Fitness.{document_small}
 use Rattle.entity_rdf.proofs.Direct.{direct_fit}
-use Rattle.triple_sink.specs.declared.setting.MappingVersion.TheVariants.{One}
+use Rattle.entity_model.specs.declared.mapping.MappingVersion.TheVariants.{One}
 use Rattle.entity_state.specs.declared.record.Held.{Held}
 use Rattle.entity_state.specs.declared.record.Record.{Record}
 use Rattle.munger.proofs.Fit.{flat_map_each, sorted_each}

@@ -6,7 +6,7 @@ use Rattle.rdf_term.specs.Order.{triple_cmp}
 use Rattle.entity_model.specs.declared.id.EntityId.{EntityId}
 use Rattle.entity_model.specs.declared.document.Document.{Document}
 use Rattle.entity_json.specs.Document.{document_of}
-use Rattle.triple_sink.specs.declared.setting.MappingVersion.TheVariants.{One}
+use Rattle.entity_model.specs.declared.mapping.MappingVersion.TheVariants.{One}
 use Rattle.entity_rdf.specs.Dump.{dump}
 use Rattle.munger.specs.Munging.{munge}
 

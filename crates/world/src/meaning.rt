@@ -8,11 +8,11 @@ ghost use Rattle.rdf_term.specs.Order.{triple_cmp};
 ghost use Rattle.entity_model.specs.Document.{IsSmall};
 ghost use Rattle.world.specs.Meaning.{document_triples};
 
-use entity_model::{Document, EntityId};
+use entity_model::{Document, EntityId, MappingVersion};
 use entity_rdf::direct_texts;
 use rdf_term::OutOfMemory;
 use std::alloc::Global;
-use triple_sink::{MappingVersion, Setting};
+use triple_sink::Setting;
 use triple_texts::TripleTexts;
 
 /// The triples of the document, by their texts. One may stand there more than once.
