@@ -11,7 +11,7 @@ use Rattle.entity_model.specs.declared.id.EntityId.{EntityId}
 use Rattle.entity_model.specs.EntityId.{IsId, id_text}
 use Rattle.entity_model.specs.IdOf.{id_of}
 use Rattle.entity_model.proofs.IdReading.{id_of-sound, id_of-text}
-use Rattle.entity_json.specs.Leaves.{◌>>=◌, text_of, text_at, id_at, optional, optional_text_at, kept, id_of_kind}
+use Rattle.entity_json.specs.Leaves.{◌>>=◌, text_of, text_at, id_at, optional, optional_text_at, of_same_kind, id_of_kind}
 use Rattle.entity_json.specs.Members.{HasId, HasOptionalText}
 
 -- texts that are found to be equal are
@@ -37,15 +37,15 @@ id_at-sound name t x e =
 pub id_at-complete : (name : List ℕ) (t : Tree) (x : EntityId) → HasId name t x → id_at name t ≡ Some x
 id_at-complete name t x h = ap (λ o. o >>= id_of) h.text ∙ id_of-text x h.is_id
 
-kept-sound : (k l : IdKind) (x y : EntityId) → kept k l x ≡ Some y → (l ≡ k) × (x ≡ y)
-kept-sound P P x y e = (refl, some_is e)
-kept-sound P Q x y e = absurd cc
-kept-sound Q P x y e = absurd cc
-kept-sound Q Q x y e = (refl, some_is e)
+of_same_kind-sound : (k l : IdKind) (x y : EntityId) → of_same_kind k l x ≡ Some y → (l ≡ k) × (x ≡ y)
+of_same_kind-sound P P x y e = (refl, some_is e)
+of_same_kind-sound P Q x y e = absurd cc
+of_same_kind-sound Q P x y e = absurd cc
+of_same_kind-sound Q Q x y e = (refl, some_is e)
 
-kept-complete : (k : IdKind) (x : EntityId) → kept k k x ≡ Some x
-kept-complete P x = refl
-kept-complete Q x = refl
+of_same_kind-complete : (k : IdKind) (x : EntityId) → of_same_kind k k x ≡ Some x
+of_same_kind-complete P x = refl
+of_same_kind-complete Q x = refl
 
 -- the text of an id of a kind
 pub record IsIdOf (kind : IdKind) (text : List ℕ) (x : EntityId) : Type 0 where
@@ -55,15 +55,15 @@ pub record IsIdOf (kind : IdKind) (text : List ℕ) (x : EntityId) : Type 0 wher
 
 pub id_of_kind-sound : (kind : IdKind) (text : List ℕ) (x : EntityId) → id_of_kind kind text ≡ Some x → IsIdOf kind text x
 id_of_kind-sound kind text x e =
-    let found = bind_some (id_of text) (λ id. kept kind id.kind id) e in
+    let found = bind_some (id_of text) (λ id. of_same_kind kind id.kind id) e in
     let id = id_of-sound text found.0 found.1.0 in
-    let keeps = kept-sound kind found.0.kind found.0 x found.1.1 in
+    let keeps = of_same_kind-sound kind found.0.kind found.0 x found.1.1 in
     rw (← keeps.1) (record { is_id = id.0; letter = keeps.0; is = sym id.1 })
 
 pub id_of_kind-complete : (kind : IdKind) (text : List ℕ) (x : EntityId) → IsIdOf kind text x → id_of_kind kind text ≡ Some x
 id_of_kind-complete kind text x h =
-    ap (id_of_kind kind) h.is ∙ ap (λ o. o >>= λ id. kept kind id.kind id) (id_of-text x h.is_id)
-    ∙ ap (λ k. kept k x.kind x) (sym h.letter) ∙ kept-complete x.kind x
+    ap (id_of_kind kind) h.is ∙ ap (λ o. o >>= λ id. of_same_kind kind id.kind id) (id_of-text x h.is_id)
+    ∙ ap (λ k. of_same_kind k x.kind x) (sym h.letter) ∙ of_same_kind-complete x.kind x
 
 -- a text that may be missing
 optional_text-sound : (name : List ℕ) (t : Tree) (m : Option Tree) → member_of name t ≡ m → (o : Option (List ℕ)) → optional text_of m ≡ Some o → HasOptionalText name t o

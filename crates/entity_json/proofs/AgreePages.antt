@@ -1,8 +1,9 @@
 -- Links, entities and pages: how they are read agrees with the rules, and so a tree is at most one page.
-use Rattle.std.proofs.Common.{◌≡◌, ℕ, List, Option, Some, None, option_map, refl, sym, ap, ◌∙◌}
+use Rattle.std.proofs.Common.{◌≡◌, ℕ, List, Option, Some, None, option_map, ⊎_elim, refl, sym, ap, ◌∙◌}
 use Rattle.std.specs.Prelude.{codes}
+use Rattle.std.specs.Str.{bytes_eq}
 use Rattle.json_spell.specs.Tree.{Tree, member_of}
-use Rattle.json_spell.proofs.Opened.{some_is, bind_some, map_some}
+use Rattle.json_spell.proofs.Opened.{some_is, bind_some, map_some, chosen, guarded}
 use Rattle.entity_model.specs.declared.id.IdKind.{IdKind}
 use Rattle.entity_model.specs.declared.id.IdKind.TheVariants.{P, Q}
 use Rattle.entity_model.specs.declared.id.EntityId.{EntityId}
@@ -15,18 +16,15 @@ use Rattle.entity_json.specs.declared.page.Page.{Page}
 use Rattle.entity_json.specs.Leaves.{◌>>=◌, text_of, text_at, id_at, id_of_kind, id_of_kind_at, optional_text_at}
 use Rattle.entity_json.specs.Members.{HasId}
 use Rattle.entity_json.specs.Joined.{One, InOptionalList}
-use Rattle.entity_json.specs.Values.{type_name}
 use Rattle.entity_json.specs.Links.{IsBadge, IsLink}
-use Rattle.entity_json.specs.Pages.{HasDatatype, HasLinks, IsEntity, IsDocument, StandsAt, IsPage}
+use Rattle.entity_json.specs.Pages.{page_type, HasDatatype, HasLinks, IsEntity, IsDocument, StandsAt, IsPage}
 use Rattle.entity_json.specs.Reading.Terms.{labels_at, aliases_at}
-use Rattle.entity_json.specs.Reading.Values.{kind_at}
 use Rattle.entity_json.specs.Reading.Statements.{statements_at}
 use Rattle.entity_json.specs.Reading.Links.{badge_of, badges_at, link_of, link_step, links_at}
-use Rattle.entity_json.specs.Reading.Pages.{datatype_by_kind, links_by_kind, entity_of, entity_page, redirect_page, page_by, page_at, place_by, place_of, page_of}
+use Rattle.entity_json.specs.Reading.Pages.{kind_of_type, page_kind, datatype_by_kind, links_by_kind, entity_of, entity_page, redirect_page, page_by, page_at, place_by, place_of, page_of}
 use Rattle.entity_json.proofs.Agree.{Agree, Walks, put_walks, optional_list-sound, optional_list-complete, map-sound, map-complete}
-use Rattle.entity_json.proofs.AgreeLeaves.{id_at-sound, id_at-complete, id_of_kind-sound, id_of_kind-complete, optional_text_at-sound, optional_text_at-complete}
+use Rattle.entity_json.proofs.AgreeLeaves.{same-from_test, id_at-sound, id_at-complete, id_of_kind-sound, id_of_kind-complete, optional_text_at-sound, optional_text_at-complete}
 use Rattle.entity_json.proofs.AgreeTagged.{labels-sound, labels-complete, aliases-sound, aliases-complete}
-use Rattle.entity_json.proofs.AgreeValues.{kind_at-sound, kind_at-complete}
 use Rattle.entity_json.proofs.AgreeStatements.{statements-sound, statements-complete}
 
 -- a badge
@@ -87,6 +85,28 @@ unfolding links_at
 links-complete P t xs h = ap Some (sym h)
 links-complete Q t xs h = map-complete link_step (One (λ member x. IsLink member.1 x)) link_walks (codes "sitelinks") t xs h
 
+-- the kind that a page's type stands for
+kind_of_type-sound : (type : List ℕ) (kind : IdKind) → kind_of_type type ≡ Some kind → type ≡ page_type kind
+kind_of_type-sound type kind e =
+    ⊎_elim
+    (λ h. same-from_test type (codes "item") h.0 ∙ ap page_type (some_is h.1))
+    (λ h. let other = guarded (bytes_eq type (codes "property")) h.1 in same-from_test type (codes "property") other.0 ∙ ap page_type (some_is other.1))
+    (chosen (bytes_eq type (codes "item")) e)
+
+kind_of_type-complete : (kind : IdKind) → kind_of_type (page_type kind) ≡ Some kind
+kind_of_type-complete P = refl
+kind_of_type-complete Q = refl
+
+page_kind-sound : (t : Tree) (kind : IdKind) → page_kind t ≡ Some kind → text_at (codes "type") t ≡ Some (page_type kind)
+unfolding page_kind
+page_kind-sound t kind e =
+    let found = bind_some (text_at (codes "type") t) kind_of_type e in
+    found.1.0 ∙ ap Some (kind_of_type-sound found.0 kind found.1.1)
+
+page_kind-complete : (t : Tree) (kind : IdKind) → text_at (codes "type") t ≡ Some (page_type kind) → page_kind t ≡ Some kind
+unfolding page_kind
+page_kind-complete t kind h = ap (λ o. o >>= kind_of_type) h ∙ kind_of_type-complete kind
+
 -- the datatype of a property
 datatype-sound : (kind : IdKind) (t : Tree) (o : Option (List ℕ)) → datatype_by_kind kind t ≡ Some o → HasDatatype kind t o
 datatype-sound P t None e = let found = map_some Some (text_at (codes "datatype") t) e in let no = found.1.1 in absurd cc
@@ -111,7 +131,7 @@ id-complete t x h = ap (λ o. o >>= id_of_kind x.kind) h.text ∙ id_of_kind-com
 entity-sound : (t : Tree) (x : Entity) → entity_of t ≡ Some x → IsEntity t x
 unfolding entity_of
 entity-sound t x e =
-    let kind = bind_some (kind_at (codes "type") t) _ e in
+    let kind = bind_some (page_kind t) _ e in
     let id = bind_some (id_of_kind_at kind.0 (codes "id") t) _ kind.1.1 in
     let datatype = bind_some (datatype_by_kind kind.0 t) _ id.1.1 in
     let modified = bind_some (optional_text_at (codes "modified") t) _ datatype.1.1 in
@@ -124,7 +144,7 @@ entity-sound t x e =
     let id_is = id-sound kind.0 t x.id (id.1.0 ∙ ap (λ (r : Entity). Some r.id) is) in
     let kind_is : kind.0 ≡ x.id.kind = sym id_is.1 in
     record {
-      type = kind_at-sound (codes "type") t kind.0 kind.1.0 ∙ ap (λ k. Some (type_name k)) kind_is;
+      type = page_kind-sound t kind.0 kind.1.0 ∙ ap (λ k. Some (page_type k)) kind_is;
       id = id_is.0;
       datatype = datatype-sound x.id.kind t x.datatype (ap (λ k. datatype_by_kind k t) (sym kind_is) ∙ datatype.1.0 ∙ ap (λ (r : Entity). Some r.datatype) is);
       modified = optional_text_at-sound (codes "modified") t x.modified (modified.1.0 ∙ ap (λ (r : Entity). Some r.modified) is);
@@ -138,7 +158,7 @@ entity-sound t x e =
 entity-complete : (t : Tree) (x : Entity) → IsEntity t x → entity_of t ≡ Some x
 unfolding entity_of
 entity-complete t x h =
-    let kind = kind_at-complete (codes "type") t x.id.kind h.type in
+    let kind = page_kind-complete t x.id.kind h.type in
     let id = id-complete t x.id h.id in
     let datatype = datatype-complete x.id.kind t x.datatype h.datatype in
     let modified = optional_text_at-complete (codes "modified") t x.modified h.modified in

@@ -17,7 +17,7 @@ use Rattle.entity_json.specs.Properties.{UnderProperty}
 use Rattle.entity_json.specs.Snaks.{HasValue, IsContent, IsDatatype, IsSnak, AreSnaks}
 use Rattle.entity_json.specs.Reading.Steps.{put, steps}
 use Rattle.entity_json.specs.Reading.Values.{value_of}
-use Rattle.entity_json.specs.Reading.Snaks.{value_type as type_read, text_or, datatype_of, content_named, content_of, snak_of, snaks_step, snaks_at}
+use Rattle.entity_json.specs.Reading.Snaks.{value_type as type_read, text_or, datatype_of, content_named, snak_content, snak_of, snaks_step, snaks_at}
 use Rattle.entity_json.proofs.Agree.{Agree, Grown, Walks, list-sound, list-complete, map-sound, map-complete}
 use Rattle.entity_json.proofs.AgreeLeaves.{same-from_test, test-from_same, id_of_kind-sound, id_of_kind-complete}
 use Rattle.entity_json.proofs.AgreeValues.{value-sound, value-complete}
@@ -53,8 +53,8 @@ content_value-sound t x named e =
 content_is : (t : Tree) (y x : Content) → IsContent t y → Some y ≡ Some x → IsContent t x
 content_is t y x h e = let is : y ≡ x = some_is e in rw (← is) h
 
-content-sound : (t : Tree) (x : Content) → content_of t ≡ Some x → IsContent t x
-unfolding content_of
+content-sound : (t : Tree) (x : Content) → snak_content t ≡ Some x → IsContent t x
+unfolding snak_content
 content-sound t x e =
     let type = bind_some (text_at (codes "snaktype") t) _ e in
     let named = λ (name : List ℕ) (h : bytes_eq type.0 name ≡ true). type.1.0 ∙ ap Some (same-from_test type.0 name h) in
@@ -64,8 +64,8 @@ content-sound t x e =
     (chosen (bytes_eq type.0 (codes "novalue")) n1.1))
     (chosen (bytes_eq type.0 (codes "value")) type.1.1)
 
-content-complete : (t : Tree) (x : Content) → IsContent t x → content_of t ≡ Some x
-unfolding content_of
+content-complete : (t : Tree) (x : Content) → IsContent t x → snak_content t ≡ Some x
+unfolding snak_content
 content-complete t (AValue x) h =
     ap (λ o. o >>= λ type. content_named type t) h.0
     ∙ ap (λ o. o >>= λ d. option_map AValue (value_of d)) h.1.is_datavalue ∙ ap (option_map AValue) (value_of-complete t x h.1)
@@ -98,7 +98,7 @@ snak-sound key p n t x key_is e =
     let named = bind_some (text_at (codes "property") t) _ e in
     let test = guarded (bytes_eq named.0 key) named.1.1 in
     let datatype = bind_some (datatype_of t) _ test.1 in
-    let content = bind_some (content_of t) _ datatype.1.1 in
+    let content = bind_some (snak_content t) _ datatype.1.1 in
     let is = some_is content.1.1 in
     record {
       under_key = named.1.0 ∙ ap Some (same-from_test named.0 key test.0 ∙ key_is);

@@ -7,24 +7,24 @@ use Rattle.entity_model.specs.declared.value.Tagged.{Tagged}
 use Rattle.entity_json.specs.Leaves.{text_at, list_of}
 use Rattle.entity_json.specs.Joined.{One, InList}
 use Rattle.entity_json.specs.Tagged.{IsTagged, AreLabels, AreAliases}
-use Rattle.entity_json.specs.Reading.Terms.{tagged_of, label_step, aliases_step, labels_at, aliases_at}
+use Rattle.entity_json.specs.Reading.Terms.{tagged_under, label_step, aliases_step, labels_at, aliases_at}
 use Rattle.entity_json.proofs.Agree.{Agree, Walks, put_walks, list-sound, list-complete, map-sound, map-complete}
 
-pub tagged-sound : (name : List ℕ) (t : Tree) (x : Tagged) → tagged_of name t ≡ Some x → IsTagged name t x
-unfolding tagged_of
+pub tagged-sound : (name : List ℕ) (t : Tree) (x : Tagged) → tagged_under name t ≡ Some x → IsTagged name t x
+unfolding tagged_under
 tagged-sound name t x e =
     let language = bind_some (text_at (codes "language") t) _ e in
     let text = bind_some (text_at name t) _ language.1.1 in
     let is = some_is text.1.1 in
     record { language = language.1.0 ∙ ap (λ (r : Tagged). Some r.language) is; text = text.1.0 ∙ ap (λ (r : Tagged). Some r.text) is }
 
-pub tagged-complete : (name : List ℕ) (t : Tree) (x : Tagged) → IsTagged name t x → tagged_of name t ≡ Some x
-unfolding tagged_of
+pub tagged-complete : (name : List ℕ) (t : Tree) (x : Tagged) → IsTagged name t x → tagged_under name t ≡ Some x
+unfolding tagged_under
 tagged-complete name t x h = rw (h.language, h.text) refl
 
 label_walks : Walks label_step (One (λ member x. IsTagged (codes "value") member.1 x))
 label_walks =
-    put_walks (λ member. tagged_of (codes "value") member.1) (λ member x. IsTagged (codes "value") member.1 x)
+    put_walks (λ member. tagged_under (codes "value") member.1) (λ member x. IsTagged (codes "value") member.1 x)
     (record { sound = λ m x. tagged-sound (codes "value") m.1 x; complete = λ m x. tagged-complete (codes "value") m.1 x })
 
 pub labels-sound : (name : List ℕ) (t : Tree) (xs : List Tagged) → labels_at name t ≡ Some xs → AreLabels name t xs
@@ -35,7 +35,7 @@ pub labels-complete : (name : List ℕ) (t : Tree) (xs : List Tagged) → AreLab
 unfolding labels_at
 labels-complete name t xs h = map-complete label_step (One (λ member x. IsTagged (codes "value") member.1 x)) label_walks name t xs h
 
-alias_agrees : Agree {X = ℕ × Tree} (λ item. tagged_of (codes "value") item.1) (λ item x. IsTagged (codes "value") item.1 x)
+alias_agrees : Agree {X = ℕ × Tree} (λ item. tagged_under (codes "value") item.1) (λ item x. IsTagged (codes "value") item.1 x)
 alias_agrees = record { sound = λ i x. tagged-sound (codes "value") i.1 x; complete = λ i x. tagged-complete (codes "value") i.1 x }
 
 abbrev AreAliasesUnder : List ℕ × Tree → List Tagged → Type 0
@@ -44,8 +44,8 @@ AreAliasesUnder member ys = InList (λ value x. IsTagged (codes "value") value.1
 aliases_walk : Walks aliases_step AreAliasesUnder
 unfolding aliases_step
 aliases_walk = record {
-  sound = λ m out new e. list-sound (λ item. tagged_of (codes "value") item.1) (λ item x. IsTagged (codes "value") item.1 x) alias_agrees (list_of m.1) out new e;
-  complete = λ m out more h. list-complete (λ item. tagged_of (codes "value") item.1) (λ item x. IsTagged (codes "value") item.1 x) alias_agrees (list_of m.1) out more h;
+  sound = λ m out new e. list-sound (λ item. tagged_under (codes "value") item.1) (λ item x. IsTagged (codes "value") item.1 x) alias_agrees (list_of m.1) out new e;
+  complete = λ m out more h. list-complete (λ item. tagged_under (codes "value") item.1) (λ item x. IsTagged (codes "value") item.1 x) alias_agrees (list_of m.1) out more h;
 }
 
 pub aliases-sound : (t : Tree) (xs : List Tagged) → aliases_at (codes "aliases") t ≡ Some xs → AreAliases t xs

@@ -1,5 +1,5 @@
 -- Data values: how they are read agrees with the rule.
-use Rattle.std.proofs.Common.{◌≡◌, ℕ, ◌<◌, ◌≤◌, true, false, ◌&&◌, nat_lt, List, ◌∷◌, Option, Some, None, option_map, inl, inr, ⊎_elim, refl, sym, ap, ◌∙◌, arith}
+use Rattle.std.proofs.Common.{◌≡◌, ℕ, ◌<◌, ◌≤◌, ◌^◌, true, false, ◌&&◌, nat_lt, List, ◌∷◌, Option, Some, None, option_map, inl, inr, ⊎_elim, refl, sym, ap, ◌∙◌, arith}
 use Rattle.std.specs.Prelude.{codes}
 use Rattle.std.specs.Str.{bytes_eq}
 use Rattle.std.specs.Str.Parse.{digits_value}
@@ -9,9 +9,8 @@ use Rattle.std.proofs.lemmas.Bool.Decides.{nat_tests}
 use Rattle.std.proofs.lemmas.Fmt.{decimal_is_IsNumeral}
 use Rattle.json_spell.specs.Tree.{Tree, null, boolean, number, string, array, object, member_of}
 use Rattle.json_spell.proofs.Opened.{some_is, bind_some, map_some, chosen, guarded}
-use Rattle.entity_model.specs.declared.id.IdKind.{IdKind}
 use Rattle.entity_model.specs.declared.id.IdKind.TheVariants.{P, Q}
-use Rattle.entity_model.specs.IdKind.{letter_of}
+use Rattle.entity_model.specs.declared.id.EntityId.{EntityId}
 use Rattle.entity_model.specs.IdOf.{id_of}
 use Rattle.entity_model.specs.Value.{is_entity_text}
 use Rattle.entity_model.proofs.IdReading.{id_of-sound, id_of-text}
@@ -20,65 +19,60 @@ use Rattle.entity_model.specs.declared.value.QuantityParts.{QuantityParts}
 use Rattle.entity_model.specs.declared.value.GlobeParts.{GlobeParts}
 use Rattle.entity_model.specs.declared.value.Value.{Value}
 use Rattle.entity_model.specs.declared.value.Value.TheVariants.{Entity, Str, Time, Quantity, Globe, Mono, Other}
+use Rattle.entity_json.specs.declared.values.NumberedType.{NumberedType}
+use Rattle.entity_json.specs.declared.values.NumberedType.TheVariants.{Property, Item}
 use Rattle.entity_json.specs.Leaves.{◌>>=◌, text_of, text_at, number_of, number_at, number_or_null, optional_text_at, nullable_number_at, is_whole, small_of}
-use Rattle.entity_json.specs.Values.{type_name, IsNumericId, IsEntityValue, IsTime, IsQuantity, HasPrecision, IsGlobe, IsValue}
-use Rattle.entity_json.specs.Reading.Terms.{tagged_of}
-use Rattle.entity_json.specs.Reading.Values.{kind_named, kind_at, numeric_id, numbered_entity, entity_by, entity_value, time_of, quantity_of, globe_of, value_of_type}
+use Rattle.entity_json.specs.Values.{numbered_word, numbered_letter, IsNumericId, IsEntityValue, IsTime, IsQuantity, HasPrecision, IsGlobe, IsValue}
+use Rattle.entity_json.specs.Reading.Terms.{tagged_under}
+use Rattle.entity_json.specs.Reading.Values.{numbered_type, numeric_id, numbered_entity, entity_by, entity_value, time_of, quantity_of, globe_of, value_of_type}
 use Rattle.entity_json.proofs.AgreeLeaves.{same-from_test, test-from_same, differ-from_test, test-from_differ, optional_text_at-sound, optional_text_at-complete}
 use Rattle.entity_json.proofs.AgreeTagged.{tagged-sound, tagged-complete}
 
--- the kind that a name stands for
-kind_named-sound : (name : List ℕ) (kind : IdKind) → kind_named name ≡ Some kind → name ≡ type_name kind
-kind_named-sound name kind e =
+-- the type that a word stands for
+numbered_type-sound : (word : List ℕ) (type : NumberedType) → numbered_type word ≡ Some type → word ≡ numbered_word type
+numbered_type-sound word type e =
     ⊎_elim
-    (λ h. same-from_test name (codes "item") h.0 ∙ ap type_name (some_is h.1))
-    (λ h. let other = guarded (bytes_eq name (codes "property")) h.1 in same-from_test name (codes "property") other.0 ∙ ap type_name (some_is other.1))
-    (chosen (bytes_eq name (codes "item")) e)
+    (λ h. same-from_test word (codes "item") h.0 ∙ ap numbered_word (some_is h.1))
+    (λ h. let other = guarded (bytes_eq word (codes "property")) h.1 in same-from_test word (codes "property") other.0 ∙ ap numbered_word (some_is other.1))
+    (chosen (bytes_eq word (codes "item")) e)
 
-kind_named-complete : (kind : IdKind) → kind_named (type_name kind) ≡ Some kind
-kind_named-complete P = refl
-kind_named-complete Q = refl
-
-pub kind_at-sound : (name : List ℕ) (t : Tree) (kind : IdKind) → kind_at name t ≡ Some kind → text_at name t ≡ Some (type_name kind)
-unfolding kind_at
-kind_at-sound name t kind e =
-    let found = bind_some (text_at name t) kind_named e in
-    found.1.0 ∙ ap Some (kind_named-sound found.0 kind found.1.1)
-
-pub kind_at-complete : (name : List ℕ) (t : Tree) (kind : IdKind) → text_at name t ≡ Some (type_name kind) → kind_at name t ≡ Some kind
-unfolding kind_at
-kind_at-complete name t kind h = ap (λ o. o >>= kind_named) h ∙ kind_named-complete kind
+numbered_type-complete : (type : NumberedType) → numbered_type (numbered_word type) ≡ Some type
+numbered_type-complete Property = refl
+numbered_type-complete Item = refl
 
 -- an entity by its type and number
-kind-from_letter : (k l : IdKind) → letter_of k ≡ letter_of l → k ≡ l
-kind-from_letter P P e = refl
-kind-from_letter P Q e = absurd (omega arith)
-kind-from_letter Q P e = absurd (omega arith)
-kind-from_letter Q Q e = refl
+numeric_id-complete : (type : NumberedType) (n : ℕ) → 0 < n → n < 2 ^ 32 → numeric_id type (decimal n) ≡ Some (numbered_letter type ∷ decimal n)
+unfolding numeric_id
+numeric_id-complete Property n low high =
+    let id : EntityId = record { kind = P; number = n } in
+    ap (λ o. o >>= λ x. Some (80 ∷ decimal n)) (id_of-text id (low, high))
+numeric_id-complete Item n low high =
+    let id : EntityId = record { kind = Q; number = n } in
+    ap (λ o. o >>= λ x. Some (81 ∷ decimal n)) (id_of-text id (low, high))
 
 numeric-sound : (t : Tree) (text : List ℕ) → numbered_entity t ≡ Some text → IsNumericId t text
 unfolding numbered_entity numeric_id
 numeric-sound t text e =
-    let kind = bind_some (kind_at (codes "entity-type") t) _ e in
-    let spelling = bind_some (number_at (codes "numeric-id") t) _ kind.1.1 in
-    let read = bind_some (id_of (letter_of kind.0 ∷ spelling.0)) _ spelling.1.1 in
-    let id = id_of-sound (letter_of kind.0 ∷ spelling.0) read.0 read.1.0 in
-    let letter : letter_of read.0.kind ≡ letter_of kind.0 = cc in
+    let word = bind_some (text_at (codes "entity-type") t) _ e in
+    let type = bind_some (numbered_type word.0) _ word.1.1 in
+    let spelling = bind_some (number_at (codes "numeric-id") t) _ type.1.1 in
+    let read = bind_some (id_of (numbered_letter type.0 ∷ spelling.0)) _ spelling.1.1 in
+    let id = id_of-sound (numbered_letter type.0 ∷ spelling.0) read.0 read.1.0 in
     let digits : decimal read.0.number ≡ spelling.0 = cc in
     record {
-      id = read.0;
-      is_id = id.0;
-      type = kind_at-sound (codes "entity-type") t kind.0 kind.1.0 ∙ ap (λ k. Some (type_name k)) (sym (kind-from_letter read.0.kind kind.0 letter));
-      number = spelling.1.0 ∙ ap Some (sym digits);
-      is = sym (some_is read.1.1) ∙ sym id.1;
+      type = type.0;
+      number = read.0.number;
+      positive = id.0.0;
+      small = id.0.1;
+      has_type = word.1.0 ∙ ap Some (numbered_type-sound word.0 type.0 type.1.0);
+      has_number = spelling.1.0 ∙ ap Some (sym digits);
+      is = sym (some_is read.1.1) ∙ ap (λ ds. numbered_letter type.0 ∷ ds) (sym digits);
     }
 
 numeric-complete : (t : Tree) (text : List ℕ) → IsNumericId t text → numbered_entity t ≡ Some text
-unfolding numbered_entity numeric_id
+unfolding numbered_entity
 numeric-complete t text h =
-    let kind = kind_at-complete (codes "entity-type") t h.id.kind h.type in
-    let read = id_of-text h.id h.is_id in
-    rw (kind, h.number, read) (ap Some (sym h.is))
+    rw (h.has_type, numbered_type-complete h.type, h.has_number, numeric_id-complete h.type h.number h.positive h.small) (ap Some (sym h.is))
 
 entity-sound : (o : Option Tree) (t : Tree) (text : List ℕ) → entity_by o t ≡ Some text → IsEntityValue o t text
 entity-sound None t text e = numeric-sound t text e
@@ -243,7 +237,7 @@ value-sound type t x e =
     (λ n2. ⊎_elim (λ h. of_type (codes "time") type Time (time_of t) t x (λ a f. (refl, time-sound t a f)) h.0 h.1)
     (λ n3. ⊎_elim (λ h. of_type (codes "quantity") type Quantity (quantity_of t) t x (λ a f. (refl, quantity-sound t a f)) h.0 h.1)
     (λ n4. ⊎_elim (λ h. of_type (codes "globecoordinate") type Globe (globe_of t) t x (λ a f. (refl, globe-sound t a f)) h.0 h.1)
-    (λ n5. ⊎_elim (λ h. of_type (codes "monolingualtext") type Mono (tagged_of (codes "text") t) t x (λ a f. (refl, tagged-sound (codes "text") t a f)) h.0 h.1)
+    (λ n5. ⊎_elim (λ h. of_type (codes "monolingualtext") type Mono (tagged_under (codes "text") t) t x (λ a f. (refl, tagged-sound (codes "text") t a f)) h.0 h.1)
     (λ n6. other n1.0 n2.0 n3.0 n4.0 n5.0 n6.0 (some_is n6.1))
     (chosen (bytes_eq type (codes "monolingualtext")) n5.1)) (chosen (bytes_eq type (codes "globecoordinate")) n4.1))
     (chosen (bytes_eq type (codes "quantity")) n3.1)) (chosen (bytes_eq type (codes "time")) n2.1))

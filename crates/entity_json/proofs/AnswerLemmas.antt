@@ -13,14 +13,15 @@ use Rattle.entity_json.specs.declared.fault.DocumentFault.TheVariants.{Unfit as 
 use Rattle.entity_json.specs.declared.part.PartFault.{PartFault}
 use Rattle.entity_json.specs.declared.part.PartFault.TheVariants.{Shape, OutOfMemory as Refused}
 use Rattle.entity_json.specs.declared.page.Page.{Page}
-use Rattle.entity_json.specs.Gives.{Refuses}
+use Rattle.entity_json.specs.Finds.{FindsNone}
 use Rattle.entity_json.specs.Faults.{of_json, of_part}
 use Rattle.entity_json.specs.Reading.Pages.{page_of}
 use Rattle.entity_json.specs.Document.{page_limit, own_document, document_by, unfit_by}
 use Rattle.entity_json.specs.Answers.{Tells, Answers}
-use Rattle.entity_model.specs.Document.{IsSmall}
+use Rattle.entity_model.specs.Document.{IsDocumentOf, IsSmall}
 use Rattle.entity_json.proofs.Outcomes.{outcome-deep, outcome-unread, outcome-read}
 use Rattle.entity_json.proofs.Fitness.{document_small}
+use Rattle.entity_json.proofs.Owned.{document_owned}
 
 -- a text that wasn't read
 pub text-refused : (x : EntityId) (bytes : List ℕ) (fault : JsonFault) → length bytes ≤ page_limit → Faults bytes fault → Answers x bytes (Err (of_json fault))
@@ -29,7 +30,7 @@ text-refused x bytes NotJson short is = ap unfit_by (outcome-unread x bytes shor
 text-refused x bytes NoMemory short is = tt
 
 -- a value that is no page
-pub page-refused : (x : EntityId) (bytes : List ℕ) (t : Tree) (fault : PartFault) → length bytes ≤ page_limit → ¬ (IsDeep bytes) → Reads bytes t → Refuses fault (page_of t) → Answers x bytes (Err (of_part fault))
+pub page-refused : (x : EntityId) (bytes : List ℕ) (t : Tree) (fault : PartFault) → length bytes ≤ page_limit → ¬ (IsDeep bytes) → Reads bytes t → FindsNone fault (page_of t) → Answers x bytes (Err (of_part fault))
 page-refused x bytes t Shape short low reads is = ap unfit_by (outcome-read x bytes t short low reads ∙ ap (own_document x) is)
 page-refused x bytes t Refused short low reads is = tt
 
@@ -44,3 +45,8 @@ page-told x bytes t page (Err OutOfMemory) short low reads is told = tt
 pub small-told : (x : EntityId) (bytes : List ℕ) (r : Result Document DocumentFault) → Answers x bytes r → IfOk r IsSmall
 small-told x bytes (Ok document) answer = document_small x bytes document answer
 small-told x bytes (Err fault) answer = tt
+
+-- and it is one of the entity
+pub owned-told : (x : EntityId) (bytes : List ℕ) (r : Result Document DocumentFault) → Answers x bytes r → IfOk r (IsDocumentOf x)
+owned-told x bytes (Ok document) answer = document_owned x bytes document answer
+owned-told x bytes (Err fault) answer = tt

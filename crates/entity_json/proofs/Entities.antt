@@ -8,12 +8,11 @@ use Rattle.entity_model.specs.declared.statement.Statement.{Statement}
 use Rattle.entity_model.specs.declared.entity.Link.{Link}
 use Rattle.entity_json.specs.Leaves.{id_of_kind_at, optional_text_at}
 use Rattle.entity_json.specs.Reading.Terms.{labels_at, aliases_at}
-use Rattle.entity_json.specs.Reading.Values.{kind_at}
 use Rattle.entity_json.specs.Reading.Statements.{statements_at}
-use Rattle.entity_json.specs.Reading.Pages.{datatype_by_kind, links_by_kind, entity_of}
+use Rattle.entity_json.specs.Reading.Pages.{page_kind, datatype_by_kind, links_by_kind, entity_of}
 
 pub entity-read : (t : Tree) (kind : IdKind) (id : EntityId) (datatype modified : Option (List ℕ)) (labels descriptions aliases : List Tagged) (statements : List Statement) (links : List Link)
-    → kind_at (codes "type") t ≡ Some kind → id_of_kind_at kind (codes "id") t ≡ Some id → datatype_by_kind kind t ≡ Some datatype
+    → page_kind t ≡ Some kind → id_of_kind_at kind (codes "id") t ≡ Some id → datatype_by_kind kind t ≡ Some datatype
     → optional_text_at (codes "modified") t ≡ Some modified → labels_at (codes "labels") t ≡ Some labels → labels_at (codes "descriptions") t ≡ Some descriptions
     → aliases_at (codes "aliases") t ≡ Some aliases → statements_at (codes "claims") t ≡ Some statements → links_by_kind kind t ≡ Some links
     → entity_of t ≡ Some (record { id = id; datatype = datatype; modified = modified; labels = labels; descriptions = descriptions; aliases = aliases; statements = statements; links = links })

@@ -15,3 +15,4 @@ pub mod SmallPages
 pub mod Outcomes
 pub mod AnswerLemmas
 pub mod Fitness
+pub mod Owned

@@ -10,21 +10,21 @@ use Rattle.json_spell.proofs.Complete.{text-sound, text-complete}
 use Rattle.entity_model.specs.declared.id.EntityId.{EntityId}
 use Rattle.entity_model.specs.declared.unfit.Unfit.TheVariants.{Large, Deep, NotJson}
 use Rattle.entity_json.specs.Leaves.{◌>>=◌}
-use Rattle.entity_json.specs.Document.{page_limit, whole, tree_of, document_in, outcome_of}
+use Rattle.entity_json.specs.Document.{page_limit, tree_alone, tree_of, document_in, outcome_of}
 
 -- the tree is the one that the grammar reads
 pub tree-read : (bytes : List ℕ) (t : Tree) → Reads bytes t → tree_of bytes ≡ Some t
 unfolding tree_of
-tree-read bytes t reads = ap (λ o. o >>= whole) (text-complete bytes t reads)
+tree-read bytes t reads = ap (λ o. o >>= tree_alone) (text-complete bytes t reads)
 
-whole-sound : (bytes : List ℕ) (o : Option (Tree × List ℕ)) (t : Tree) → spaced value_at bytes ≡ o → (o >>= whole) ≡ Some t → Reads bytes t
-whole-sound bytes None t e is = absurd cc
-whole-sound bytes (Some (u, [])) t e is = let same : u ≡ t = cc in text-sound bytes t (e ∙ ap (λ v. Some (v, [])) same)
-whole-sound bytes (Some (u, x ∷ rest)) t e is = absurd cc
+tree_alone-sound : (bytes : List ℕ) (o : Option (Tree × List ℕ)) (t : Tree) → spaced value_at bytes ≡ o → (o >>= tree_alone) ≡ Some t → Reads bytes t
+tree_alone-sound bytes None t e is = absurd cc
+tree_alone-sound bytes (Some (u, [])) t e is = let same : u ≡ t = cc in text-sound bytes t (e ∙ ap (λ v. Some (v, [])) same)
+tree_alone-sound bytes (Some (u, x ∷ rest)) t e is = absurd cc
 
 pub tree-sound : (bytes : List ℕ) (t : Tree) → tree_of bytes ≡ Some t → Reads bytes t
 unfolding tree_of
-tree-sound bytes t is = whole-sound bytes (spaced value_at bytes) t refl is
+tree-sound bytes t is = tree_alone-sound bytes (spaced value_at bytes) t refl is
 
 tree-none-by : (bytes : List ℕ) (o : Option Tree) → tree_of bytes ≡ o → ((t : Tree) → ¬ (Reads bytes t)) → o ≡ None
 tree-none-by bytes None e unread = refl

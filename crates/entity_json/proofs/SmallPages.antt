@@ -1,5 +1,5 @@
 -- A page of a light tree has a small document.
-use Rattle.std.proofs.Common.{◌≡◌, ℕ, ◌≤◌, Bool, true, false, ◌&&◌, ◌||◌, ◌==◌, nat_le, List, [], ◌∷◌, length, get_or, Option, Some, None, refl, ap, ◌∙◌, arith}
+use Rattle.std.proofs.Common.{◌≡◌, ℕ, ◌<◌, ◌≤◌, ◌^◌, Bool, true, false, ◌&&◌, ◌||◌, ◌==◌, nat_le, List, [], ◌∷◌, length, get_or, Option, Some, None, refl, ap, ◌∙◌, arith}
 use Rattle.std.specs.Option.{unwrap_or}
 use Rattle.std.specs.List.{All, list_all}
 use Rattle.std.specs.Char.{is_ascii_alphanumeric}
@@ -18,8 +18,6 @@ use Rattle.json_spell.proofs.Names.{names_weight}
 use Rattle.entity_model.specs.declared.id.IdKind.{IdKind}
 use Rattle.entity_model.specs.declared.id.IdKind.TheVariants.{P, Q}
 use Rattle.entity_model.specs.declared.id.EntityId.{EntityId}
-use Rattle.entity_model.specs.IdKind.{letter_of}
-use Rattle.entity_model.specs.EntityId.{IsId, id_text}
 use Rattle.entity_model.specs.declared.value.Tagged.{Tagged}
 use Rattle.entity_model.specs.declared.value.TimeParts.{TimeParts}
 use Rattle.entity_model.specs.declared.value.QuantityParts.{QuantityParts}
@@ -44,7 +42,9 @@ use Rattle.entity_json.specs.Leaves.{◌>>=◌, text_at, list_of}
 use Rattle.entity_json.specs.Joined.{One, InList}
 use Rattle.entity_json.specs.Properties.{UnderProperty}
 use Rattle.entity_json.specs.Tagged.{IsTagged, AreLabels, AreAliases}
-use Rattle.entity_json.specs.Values.{IsEntityValue, IsTime, IsQuantity, HasPrecision, IsGlobe, IsValue}
+use Rattle.entity_json.specs.declared.values.NumberedType.{NumberedType}
+use Rattle.entity_json.specs.declared.values.NumberedType.TheVariants.{Property, Item}
+use Rattle.entity_json.specs.Values.{numbered_letter, IsEntityValue, IsTime, IsQuantity, HasPrecision, IsGlobe, IsValue}
 use Rattle.entity_json.specs.Snaks.{HasValue, IsContent, IsDatatype, IsSnak, AreSnaks}
 use Rattle.entity_json.specs.Statements.{IsReference, HasMain, IsStatement, AreStatements}
 use Rattle.entity_json.specs.Links.{IsLink}
@@ -65,9 +65,9 @@ digits-in_text ds h = list_all-from_AllPass in_entity_text ds (All-from_get_or (
     at : (c : ℕ) → 48 ≤ c → c ≤ 57 → in_entity_text c ≡ true
     at c low high = grind (arith, nat_tests)
 
-letter-in_text : (kind : IdKind) → in_entity_text (letter_of kind) ≡ true
-letter-in_text P = refl
-letter-in_text Q = refl
+letter-in_text : (type : NumberedType) → in_entity_text (numbered_letter type) ≡ true
+letter-in_text Property = refl
+letter-in_text Item = refl
 
 entity_text-from : (text : List ℕ) → 1 ≤ length text → length text ≤ 64 → list_all in_entity_text text ≡ true → is_entity_text text ≡ true
 entity_text-from text some short letters =
@@ -75,17 +75,18 @@ entity_text-from text some short letters =
     let high : nat_le (length text) 64 ≡ true = grind (arith, nat_tests) in
     rw (low, high, letters) refl
 
--- the text of an id is that of an entity
-id_text-entity : (id : EntityId) → IsId id → is_entity_text (id_text id) ≡ true
-id_text-entity id h =
-    let short : length (decimal id.number) ≤ 10 = length-decimal-le 10 id.number (omega arith) (omega arith) (omega arith) in
-    let letters : list_all in_entity_text (id_text id) ≡ true =
-    and_from (in_entity_text (letter_of id.kind)) (list_all in_entity_text (decimal id.number)) (letter-in_text id.kind)
-    (digits-in_text (decimal id.number) (digits_decimal own id.number (omega arith))) in
-    entity_text-from (id_text id) (omega arith) (omega arith) letters
+-- the id of an entity that is named by its number
+numbered-entity : (type : NumberedType) (n : ℕ) → 0 < n → n < 2 ^ 32 → is_entity_text (numbered_letter type ∷ decimal n) ≡ true
+numbered-entity type n low high =
+    let text : List ℕ = numbered_letter type ∷ decimal n in
+    let short : length (decimal n) ≤ 10 = length-decimal-le 10 n (omega arith) (omega arith) (omega arith) in
+    let letters : list_all in_entity_text text ≡ true =
+    and_from (in_entity_text (numbered_letter type)) (list_all in_entity_text (decimal n)) (letter-in_text type)
+    (digits-in_text (decimal n) (digits_decimal own n (omega arith))) in
+    entity_text-from text (omega arith) (omega arith) letters
 
 entity_text : (o : Option Tree) (t : Tree) (text : List ℕ) → IsEntityValue o t text → is_entity_text text ≡ true
-entity_text None t text h = ap is_entity_text h.is ∙ id_text-entity h.id h.is_id
+entity_text None t text h = ap is_entity_text h.is ∙ numbered-entity h.type h.number h.positive h.small
 entity_text (Some id) t text h = h.1
 
 entity_text-short : (text : List ℕ) → is_entity_text text ≡ true → length text ≤ 64

@@ -18,13 +18,13 @@ abbrev pub page_limit : ℕ
 page_limit = 8388608
 
 -- a tree that has no bytes behind it
-abbrev pub whole : Tree × List ℕ → Option Tree
-whole (t, []) = Some t
-whole (t, x ∷ rest) = None
+abbrev pub tree_alone : Tree × List ℕ → Option Tree
+tree_alone (t, []) = Some t
+tree_alone (t, x ∷ rest) = None
 
 -- the JSON value of a text
 unfoldable pub tree_of : List ℕ → Option Tree
-tree_of bytes = spaced value_at bytes >>= whole
+tree_of bytes = spaced value_at bytes >>= tree_alone
 
 -- the document of a page, where it is that of the entity
 abbrev pub own_document : EntityId → Option Page → Result Document Unfit

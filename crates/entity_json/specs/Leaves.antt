@@ -95,15 +95,15 @@ optional_list_at name t = listed (member_of name t)
     listed (Some t) = list_of t
 
 -- an id of the kind, by the kind wanted and its own
-abbrev pub kept : IdKind → IdKind → EntityId → Option EntityId
-kept P P id = Some id
-kept P Q id = None
-kept Q P id = None
-kept Q Q id = Some id
+abbrev pub of_same_kind : IdKind → IdKind → EntityId → Option EntityId
+of_same_kind P P id = Some id
+of_same_kind P Q id = None
+of_same_kind Q P id = None
+of_same_kind Q Q id = Some id
 
 -- the id of the kind that a text is
 abbrev pub id_of_kind : IdKind → List ℕ → Option EntityId
-id_of_kind kind text = id_of text >>= λ id. kept kind id.kind id
+id_of_kind kind text = id_of text >>= λ id. of_same_kind kind id.kind id
 
 -- the member with the name that is the text of an id of the kind
 abbrev pub id_of_kind_at : IdKind → List ℕ → Tree → Option EntityId

@@ -1,7 +1,7 @@
 pub mod Leaves
 pub mod Maps
 pub mod Found
-pub mod Gives
+pub mod Finds
 pub mod Reading
 pub mod Document
 pub mod Faults

@@ -14,9 +14,13 @@ use Rattle.entity_json.specs.Leaves.{text_at}
 use Rattle.entity_json.specs.Maps.{only_of}
 use Rattle.entity_json.specs.Members.{HasId, HasOptionalText}
 use Rattle.entity_json.specs.Tagged.{AreLabels, AreAliases}
-use Rattle.entity_json.specs.Values.{type_name}
 use Rattle.entity_json.specs.Statements.{AreStatements}
 use Rattle.entity_json.specs.Links.{AreLinks}
+
+-- the type of the pages of a kind of entities
+abbrev pub page_type : IdKind → List ℕ
+page_type P = codes "property"
+page_type Q = codes "item"
 
 -- a property has the text `datatype`, and no other entity has one
 abbrev pub HasDatatype : IdKind → Tree → Option (List ℕ) → Type 0
@@ -31,7 +35,7 @@ HasLinks Q t xs = AreLinks t xs
 
 -- Rule 3: an item or a property
 pub record IsEntity (t : Tree) (x : Entity) : Type 0 where
-  pub type : text_at (codes "type") t ≡ Some (type_name x.id.kind)
+  pub type : text_at (codes "type") t ≡ Some (page_type x.id.kind)
   pub id : HasId (codes "id") t x.id
   pub datatype : HasDatatype x.id.kind t x.datatype
   pub modified : HasOptionalText (codes "modified") t x.modified

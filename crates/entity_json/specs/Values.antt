@@ -1,33 +1,38 @@
 -- Rule 9: data values.
-use Rattle.std.specs.Prelude.{◌≡◌, ◌≢◌, ◌⊎◌, ℕ, ◌≤◌, List, true, Option, None, Some, codes}
+use Rattle.std.specs.Prelude.{◌≡◌, ◌≢◌, ◌⊎◌, ℕ, ◌<◌, ◌≤◌, ◌^◌, List, ◌∷◌, true, Option, None, Some, codes}
 use Rattle.std.specs.Fmt.{decimal}
 use Rattle.json_spell.specs.Tree.{Tree, null, member_of}
-use Rattle.entity_model.specs.declared.id.IdKind.{IdKind}
-use Rattle.entity_model.specs.declared.id.IdKind.TheVariants.{P, Q}
-use Rattle.entity_model.specs.declared.id.EntityId.{EntityId}
-use Rattle.entity_model.specs.EntityId.{IsId, id_text}
 use Rattle.entity_model.specs.declared.value.Value.{Value}
 use Rattle.entity_model.specs.declared.value.Value.TheVariants.{Entity, Str, Time, Quantity, Globe, Mono, Other}
 use Rattle.entity_model.specs.declared.value.TimeParts.{TimeParts}
 use Rattle.entity_model.specs.declared.value.QuantityParts.{QuantityParts}
 use Rattle.entity_model.specs.declared.value.GlobeParts.{GlobeParts}
 use Rattle.entity_model.specs.Value.{is_entity_text}
+use Rattle.entity_json.specs.declared.values.NumberedType.{NumberedType}
+use Rattle.entity_json.specs.declared.values.NumberedType.TheVariants.{Property, Item}
 use Rattle.entity_json.specs.Leaves.{text_of, text_at, number_at, is_whole}
 use Rattle.entity_json.specs.Members.{HasOptionalText}
 use Rattle.entity_json.specs.Tagged.{IsTagged}
 
--- the name of a kind of entity
-abbrev pub type_name : IdKind → List ℕ
-type_name P = codes "property"
-type_name Q = codes "item"
+-- the word for a type of entities that a value may name by number; a page's type has words of its own
+abbrev pub numbered_word : NumberedType → List ℕ
+numbered_word Property = codes "property"
+numbered_word Item = codes "item"
 
--- an entity that is named by its type and its number
+-- the letter of their ids, in ASCII
+abbrev pub numbered_letter : NumberedType → ℕ
+numbered_letter Property = 80
+numbered_letter Item = 81
+
+-- an entity that is named by its type and its number, from 1 to 4,294,967,295
 pub record IsNumericId (t : Tree) (text : List ℕ) : Type 0 where
-  pub id : EntityId
-  pub is_id : IsId id
-  pub type : text_at (codes "entity-type") t ≡ Some (type_name id.kind)
-  pub number : number_at (codes "numeric-id") t ≡ Some (decimal id.number)
-  pub is : text ≡ id_text id
+  pub type : NumberedType
+  pub number : ℕ
+  pub positive : 0 < number
+  pub small : number < 2 ^ 32
+  pub has_type : text_at (codes "entity-type") t ≡ Some (numbered_word type)
+  pub has_number : number_at (codes "numeric-id") t ≡ Some (decimal number)
+  pub is : text ≡ numbered_letter type ∷ decimal number
 
 -- an entity: by its `id`, a text of 1 to 64 ASCII letters, digits and `-`, or where there is none by type and number
 abbrev pub IsEntityValue : Option Tree → Tree → List ℕ → Type 0

@@ -1,7 +1,7 @@
 // The documents of entities, by the bytes of their pages.
 
 ghost use Rattle.std.specs.Prelude.{Some, IfOk};
-ghost use Rattle.entity_model.specs.Document.{IsSmall};
+ghost use Rattle.entity_model.specs.Document.{IsDocumentOf, IsSmall};
 ghost use Rattle.entity_json.specs.Answers.{Answers, Tells};
 ghost use Rattle.entity_json.specs.Document.{own_document};
 
@@ -38,6 +38,7 @@ pub fn document<'a>(
 ) -> Result<Document<'a>, DocumentFault>
     ensures answer { Answers id bytes.now result }
     ensures small { IfOk result IsSmall }
+    ensures owned { IfOk result (IsDocumentOf id) }
 {
     if bytes.len() > PAGE_LIMIT {
         return Err(DocumentFault::Unfit(Unfit::Large));

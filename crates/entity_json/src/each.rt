@@ -4,7 +4,7 @@ ghost use Rattle.std.specs.Prelude.{ℕ, Option, List as Items, map};
 ghost use Rattle.json_spell.specs.Tree.{Tree};
 ghost use Rattle.json_spell.specs.View.{json_view, member_view, pairs_of};
 ghost use Rattle.entity_json.specs.Found.{found_items, found_entries};
-ghost use Rattle.entity_json.specs.Gives.{Makes};
+ghost use Rattle.entity_json.specs.Finds.{Makes};
 ghost use Rattle.entity_json.specs.Joined.{numbered};
 ghost use Rattle.entity_json.specs.Maps.{entries};
 ghost use Rattle.entity_json.specs.Reading.Steps.{steps};

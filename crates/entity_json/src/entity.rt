@@ -1,19 +1,40 @@
 // Items and properties.
 
+ghost use Rattle.std.specs.Prelude.{◌≡◌};
 ghost use Rattle.json_spell.specs.View.{json_view};
-ghost use Rattle.entity_json.specs.Gives.{Gives};
-ghost use Rattle.entity_json.specs.Reading.Pages.{datatype_by_kind, links_by_kind, entity_of};
+ghost use Rattle.entity_json.specs.Finds.{Finds};
+ghost use Rattle.entity_json.specs.Reading.Pages.{kind_of_type, page_kind, datatype_by_kind, links_by_kind, entity_of};
 
-use crate::leaf::{copy_text_at, id_of_kind_at, optional_text_at};
+use crate::leaf::{copy_text_at, id_of_kind_at, optional_text_at, text_at};
 use crate::links::links_at;
 use crate::part::PartFault;
 use crate::statements::statements_at;
 use crate::terms::{aliases_at, labels_at};
-use crate::values::kind_at;
 use entity_model::{Entity, IdKind, Link};
 use json_spell::Json;
 use rdf_term::{List, Piece};
 use std::alloc::Global;
+
+// The kind of the entities whose pages have the type.
+fn kind_of_type(name: &str) -> Option<IdKind>
+    ensures { result ≡ kind_of_type name.now }
+{
+    if name == "item" {
+        return Some(IdKind::Q);
+    }
+    (name == "property").then_some(IdKind::P)
+}
+
+// The kind of the entity whose page it is.
+#[tactic(auto, unfolding(crate::specs::Reading::Pages::page_kind))]
+fn page_kind(json: &Json<'_>) -> Result<IdKind, PartFault>
+    ensures { Finds result (page_kind (json_view json.now)) }
+{
+    match kind_of_type(text_at(json, "type")?.as_str()) {
+        Some(kind) => Ok(kind),
+        None => Err(PartFault::Shape),
+    }
+}
 
 // The datatype, which a property alone has.
 fn datatype_by_kind<'a>(
@@ -21,7 +42,7 @@ fn datatype_by_kind<'a>(
     kind: IdKind,
     json: &Json<'a>,
 ) -> Result<Option<Piece<'a>>, PartFault>
-    ensures { Gives result (datatype_by_kind kind (json_view json.now)) }
+    ensures { Finds result (datatype_by_kind kind (json_view json.now)) }
 {
     match kind {
         IdKind::P => Ok(Some(copy_text_at(alloc, json, "datatype")?)),
@@ -35,7 +56,7 @@ fn links_by_kind<'a>(
     kind: IdKind,
     json: &Json<'a>,
 ) -> Result<List<Link<'a>>, PartFault>
-    ensures { Gives result (links_by_kind kind (json_view json.now)) }
+    ensures { Finds result (links_by_kind kind (json_view json.now)) }
 {
     match kind {
         IdKind::P => Ok(List::new(alloc)),
@@ -46,9 +67,9 @@ fn links_by_kind<'a>(
 // An item or a property.
 #[tactic(auto, unfolding(crate::specs::Reading::Pages::entity_of))]
 pub fn entity_of<'a>(alloc: Global, json: &Json<'a>) -> Result<Entity<'a>, PartFault>
-    ensures { Gives result (entity_of (json_view json.now)) }
+    ensures { Finds result (entity_of (json_view json.now)) }
 {
-    let kind = kind_at(json, "type")?;
+    let kind = page_kind(json)?;
     let id = id_of_kind_at(kind, json, "id")?;
     let datatype = datatype_by_kind(alloc, kind, json)?;
     let modified = optional_text_at(alloc, json, "modified")?;

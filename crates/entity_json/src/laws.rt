@@ -5,7 +5,7 @@ ghost use Rattle.json_spell.specs.Tree.{Tree};
 ghost use Rattle.entity_model.specs.declared.id.EntityId.{EntityId};
 ghost use Rattle.entity_model.specs.declared.unfit.Unfit.{Unfit};
 ghost use Rattle.entity_model.specs.declared.document.Document.{Document};
-ghost use Rattle.entity_model.specs.Document.{IsSmall};
+ghost use Rattle.entity_model.specs.Document.{IsDocumentOf, IsSmall};
 ghost use Rattle.entity_json.specs.declared.page.Page.{Page};
 ghost use Rattle.entity_json.specs.Pages.{IsPage};
 ghost use Rattle.entity_json.specs.Unfit.{HasDocument, IsUnfit};
@@ -33,4 +33,11 @@ pub fn unfit_pages_have_causes()
 #[tactic(auto, using(crate::proofs::Fitness::document_small))]
 pub fn documents_are_small()
     ensures { (x : EntityId) (bytes : List ℕ) (document : Document) → document_of x bytes ≡ Some document → IsSmall document }
+{}
+
+/// A document of an entity is that of an entity with its id, and has the parts that the letter of this id wants and none of
+/// another kind. So the rules for the dump of one kind never meet a document of another.
+#[tactic(auto, using(crate::proofs::Owned::document_owned))]
+pub fn documents_are_of_their_entities()
+    ensures { (x : EntityId) (bytes : List ℕ) (document : Document) → document_of x bytes ≡ Some document → IsDocumentOf x document }
 {}

@@ -4,7 +4,7 @@ ghost use Rattle.std.specs.Prelude.{map};
 ghost use Rattle.json_spell.specs.Tree.{member_of};
 ghost use Rattle.json_spell.specs.View.{json_view};
 ghost use Rattle.entity_json.specs.Found.{found_items};
-ghost use Rattle.entity_json.specs.Gives.{Gives, GivesBy};
+ghost use Rattle.entity_json.specs.Finds.{Finds, FindsBy};
 ghost use Rattle.entity_json.specs.Leaves.{text_of, number_of, list_of, text_at, number_at, id_at, optional_text_at, nullable_number_at, optional_list_at, id_of_kind, id_of_kind_at};
 
 use crate::part::PartFault;
@@ -15,7 +15,7 @@ use std::alloc::Global;
 
 // The member with the name.
 pub fn member_at<'m, 'a>(json: &'m Json<'a>, name: &str) -> Result<&'m Json<'a>, PartFault>
-    ensures { GivesBy (λ value. json_view value.now) result (member_of name.now (json_view json.now)) }
+    ensures { FindsBy (λ value. json_view value.now) result (member_of name.now (json_view json.now)) }
 {
     match json.get(name) {
         Some(value) => Ok(value),
@@ -25,7 +25,7 @@ pub fn member_at<'m, 'a>(json: &'m Json<'a>, name: &str) -> Result<&'m Json<'a>,
 
 // A text.
 pub fn text_of<'m, 'a>(json: &'m Json<'a>) -> Result<&'m Piece<'a>, PartFault>
-    ensures { GivesBy (λ text. text.now) result (text_of (json_view json.now)) }
+    ensures { FindsBy (λ text. text.now) result (text_of (json_view json.now)) }
 {
     match json {
         Json::Str(text) => Ok(text),
@@ -35,7 +35,7 @@ pub fn text_of<'m, 'a>(json: &'m Json<'a>) -> Result<&'m Piece<'a>, PartFault>
 
 // The values of an array.
 pub fn list_of<'m, 'a>(json: &'m Json<'a>) -> Result<&'m [Json<'a>], PartFault>
-    ensures { GivesBy (λ items. map json_view items.now) result (list_of (json_view json.now)) }
+    ensures { FindsBy (λ items. map json_view items.now) result (list_of (json_view json.now)) }
 {
     match json {
         Json::Items(items) => Ok(items.as_slice()),
@@ -45,21 +45,21 @@ pub fn list_of<'m, 'a>(json: &'m Json<'a>) -> Result<&'m [Json<'a>], PartFault>
 
 // The member with the name that is a text.
 pub fn text_at<'m, 'a>(json: &'m Json<'a>, name: &str) -> Result<&'m Piece<'a>, PartFault>
-    ensures { GivesBy (λ text. text.now) result (text_at name.now (json_view json.now)) }
+    ensures { FindsBy (λ text. text.now) result (text_at name.now (json_view json.now)) }
 {
     text_of(member_at(json, name)?)
 }
 
 // A copy of the member with the name that is a text.
 pub fn copy_text_at<'a>(alloc: Global, json: &Json<'a>, name: &str) -> Result<Piece<'a>, PartFault>
-    ensures { Gives result (text_at name.now (json_view json.now)) }
+    ensures { Finds result (text_at name.now (json_view json.now)) }
 {
     Ok(text_at(json, name)?.copy(alloc)?)
 }
 
 // A number, as it is spelled.
 pub fn number_of<'m, 'a>(json: &'m Json<'a>) -> Result<&'m Piece<'a>, PartFault>
-    ensures { GivesBy (λ text. text.now) result (number_of (json_view json.now)) }
+    ensures { FindsBy (λ text. text.now) result (number_of (json_view json.now)) }
 {
     match json {
         Json::Number(spelling) => Ok(spelling),
@@ -69,7 +69,7 @@ pub fn number_of<'m, 'a>(json: &'m Json<'a>) -> Result<&'m Piece<'a>, PartFault>
 
 // The member with the name that is a number.
 pub fn number_at<'m, 'a>(json: &'m Json<'a>, name: &str) -> Result<&'m Piece<'a>, PartFault>
-    ensures { GivesBy (λ text. text.now) result (number_at name.now (json_view json.now)) }
+    ensures { FindsBy (λ text. text.now) result (number_at name.now (json_view json.now)) }
 {
     number_of(member_at(json, name)?)
 }
@@ -80,7 +80,7 @@ pub fn copy_number_at<'a>(
     json: &Json<'a>,
     name: &str,
 ) -> Result<Piece<'a>, PartFault>
-    ensures { Gives result (number_at name.now (json_view json.now)) }
+    ensures { Finds result (number_at name.now (json_view json.now)) }
 {
     Ok(number_at(json, name)?.copy(alloc)?)
 }
@@ -91,7 +91,7 @@ pub fn optional_text_at<'a>(
     json: &Json<'a>,
     name: &str,
 ) -> Result<Option<Piece<'a>>, PartFault>
-    ensures { Gives result (optional_text_at name.now (json_view json.now)) }
+    ensures { Finds result (optional_text_at name.now (json_view json.now)) }
 {
     match json.get(name) {
         None => Ok(None),
@@ -105,7 +105,7 @@ pub fn nullable_number_at<'a>(
     json: &Json<'a>,
     name: &str,
 ) -> Result<Option<Piece<'a>>, PartFault>
-    ensures { Gives result (nullable_number_at name.now (json_view json.now)) }
+    ensures { Finds result (nullable_number_at name.now (json_view json.now)) }
 {
     match json.get(name) {
         None | Some(Json::Null) => Ok(None),
@@ -118,7 +118,7 @@ pub fn optional_list_at<'m, 'a>(
     json: &'m Json<'a>,
     name: &str,
 ) -> Result<Option<&'m [Json<'a>]>, PartFault>
-    ensures { GivesBy found_items result (optional_list_at name.now (json_view json.now)) }
+    ensures { FindsBy found_items result (optional_list_at name.now (json_view json.now)) }
 {
     match json.get(name) {
         None => Ok(None),
@@ -128,7 +128,7 @@ pub fn optional_list_at<'m, 'a>(
 
 // The member with the name that is the text of an id.
 pub fn id_at(json: &Json<'_>, name: &str) -> Result<EntityId, PartFault>
-    ensures { Gives result (id_at name.now (json_view json.now)) }
+    ensures { Finds result (id_at name.now (json_view json.now)) }
 {
     match EntityId::read(text_at(json, name)?.as_str()) {
         Some(id) => Ok(id),
@@ -138,7 +138,7 @@ pub fn id_at(json: &Json<'_>, name: &str) -> Result<EntityId, PartFault>
 
 // The id of the kind that the text is.
 pub fn id_of_kind(kind: IdKind, text: &str) -> Result<EntityId, PartFault>
-    ensures { Gives result (id_of_kind kind text.now) }
+    ensures { Finds result (id_of_kind kind text.now) }
 {
     let Some(id) = EntityId::read(text) else {
         return Err(PartFault::Shape);
@@ -151,7 +151,7 @@ pub fn id_of_kind(kind: IdKind, text: &str) -> Result<EntityId, PartFault>
 
 // The member with the name that is the text of an id of the kind.
 pub fn id_of_kind_at(kind: IdKind, json: &Json<'_>, name: &str) -> Result<EntityId, PartFault>
-    ensures { Gives result (id_of_kind_at kind name.now (json_view json.now)) }
+    ensures { Finds result (id_of_kind_at kind name.now (json_view json.now)) }
 {
     id_of_kind(kind, text_at(json, name)?.as_str())
 }

@@ -24,5 +24,6 @@ mod values;
 pub use documents::document;
 pub use fault::DocumentFault;
 pub use laws::{
-    a_tree_has_one_page, documents_are_pages, documents_are_small, unfit_pages_have_causes,
+    a_tree_has_one_page, documents_are_of_their_entities, documents_are_pages, documents_are_small,
+    unfit_pages_have_causes,
 };

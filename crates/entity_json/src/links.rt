@@ -1,7 +1,7 @@
 // Links to articles.
 
 ghost use Rattle.json_spell.specs.View.{json_view, member_view};
-ghost use Rattle.entity_json.specs.Gives.{Gives, Makes};
+ghost use Rattle.entity_json.specs.Finds.{Finds, Makes};
 ghost use Rattle.entity_json.specs.Reading.Links.{badge_of, badge_step, badges_at, link_of, link_step, links_at};
 
 use crate::each::{EntryReader, ItemReader, each_found_entry, each_found_item};
@@ -15,7 +15,7 @@ use std::alloc::Global;
 
 // A badge: the id of an item.
 fn badge_of(json: &Json<'_>) -> Result<EntityId, PartFault>
-    ensures { Gives result (badge_of (json_view json.now)) }
+    ensures { Finds result (badge_of (json_view json.now)) }
 {
     id_of_kind(IdKind::Q, text_of(json)?.as_str())
 }
@@ -40,7 +40,7 @@ impl<'a> ItemReader<'a, EntityId> for BadgeReader {
 // The badges under the name, which may be missing.
 #[tactic(auto, unfolding(crate::specs::Reading::Links::badges_at))]
 fn badges_at(alloc: Global, json: &Json<'_>, name: &str) -> Result<List<EntityId>, PartFault>
-    ensures { Gives result (badges_at name.now (json_view json.now)) }
+    ensures { Finds result (badges_at name.now (json_view json.now)) }
 {
     let items = optional_list_at(json, name)?;
     let mut badges = List::new(alloc);
@@ -51,7 +51,7 @@ fn badges_at(alloc: Global, json: &Json<'_>, name: &str) -> Result<List<EntityId
 // A link.
 #[tactic(auto, unfolding(crate::specs::Reading::Links::link_of))]
 fn link_of<'a>(alloc: Global, json: &Json<'a>) -> Result<Link<'a>, PartFault>
-    ensures { Gives result (link_of (json_view json.now)) }
+    ensures { Finds result (link_of (json_view json.now)) }
 {
     let site = copy_text_at(alloc, json, "site")?;
     let title = copy_text_at(alloc, json, "title")?;
@@ -82,7 +82,7 @@ impl<'a> EntryReader<'a, Link<'a>> for LinkReader {
 // The links of the map under the name.
 #[tactic(auto, unfolding(crate::specs::Reading::Links::links_at))]
 pub fn links_at<'a>(alloc: Global, json: &Json<'a>, name: &str) -> Result<List<Link<'a>>, PartFault>
-    ensures { Gives result (links_at name.now (json_view json.now)) }
+    ensures { Finds result (links_at name.now (json_view json.now)) }
 {
     let entries = map_at(json, name)?;
     let mut links = List::new(alloc);

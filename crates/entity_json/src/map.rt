@@ -3,7 +3,7 @@
 ghost use Rattle.std.specs.Prelude.{◌≡◌, map, IfOk, reverse};
 ghost use Rattle.json_spell.specs.View.{json_view, member_view, pairs_of};
 ghost use Rattle.entity_json.specs.Found.{found_entries};
-ghost use Rattle.entity_json.specs.Gives.{GivesBy};
+ghost use Rattle.entity_json.specs.Finds.{FindsBy};
 ghost use Rattle.entity_json.specs.Maps.{has_key, has_other_key, lasts, map_of, map_at, only_of};
 
 use crate::part::PartFault;
@@ -56,7 +56,7 @@ pub fn last_flags(alloc: Global, members: &[Member<'_>]) -> Result<Vec<bool>, Ou
 
 // The members of a map; an empty array is the empty map.
 fn map_of<'m, 'a>(json: &'m Json<'a>) -> Result<Option<&'m [Member<'a>]>, PartFault>
-    ensures { GivesBy found_entries result (map_of (Some (json_view json.now))) }
+    ensures { FindsBy found_entries result (map_of (Some (json_view json.now))) }
 {
     match json {
         Json::Members(members) => Ok(Some(members.as_slice())),
@@ -70,7 +70,7 @@ fn map_of<'m, 'a>(json: &'m Json<'a>) -> Result<Option<&'m [Member<'a>]>, PartFa
 
 // The members of the map with the name, which may be missing.
 pub fn map_at<'m, 'a>(json: &'m Json<'a>, name: &str) -> Result<Option<&'m [Member<'a>]>, PartFault>
-    ensures { GivesBy found_entries result (map_at name.now (json_view json.now)) }
+    ensures { FindsBy found_entries result (map_at name.now (json_view json.now)) }
 {
     match json.get(name) {
         None => Ok(None),
@@ -80,7 +80,7 @@ pub fn map_at<'m, 'a>(json: &'m Json<'a>, name: &str) -> Result<Option<&'m [Memb
 
 // The value of an object's only key.
 pub fn only_of<'m, 'a>(json: &'m Json<'a>) -> Result<&'m Json<'a>, PartFault>
-    ensures { GivesBy (λ value. json_view value.now) result (only_of (json_view json.now)) }
+    ensures { FindsBy (λ value. json_view value.now) result (only_of (json_view json.now)) }
 {
     let Json::Members(members) = json else {
         return Err(PartFault::Shape);

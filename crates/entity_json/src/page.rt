@@ -1,7 +1,7 @@
 // Pages: which value of a JSON text is the page, and whether it is a redirect or an entity.
 
 ghost use Rattle.json_spell.specs.View.{json_view};
-ghost use Rattle.entity_json.specs.Gives.{Gives, GivesBy};
+ghost use Rattle.entity_json.specs.Finds.{Finds, FindsBy};
 ghost use Rattle.entity_json.specs.Reading.Pages.{entity_page, redirect_page, page_at, place_of, page_of};
 
 use crate::entity::entity_of;
@@ -24,7 +24,7 @@ pub struct Page<'a> {
 // The page of an item or a property.
 #[tactic(auto, unfolding(crate::specs::Reading::Pages::entity_page))]
 fn entity_page<'a>(alloc: Global, json: &Json<'a>) -> Result<Page<'a>, PartFault>
-    ensures { Gives result (entity_page (json_view json.now)) }
+    ensures { Finds result (entity_page (json_view json.now)) }
 {
     let entity = entity_of(alloc, json)?;
     Ok(Page {
@@ -36,7 +36,7 @@ fn entity_page<'a>(alloc: Global, json: &Json<'a>) -> Result<Page<'a>, PartFault
 // The page of a redirect.
 #[tactic(auto, unfolding(crate::specs::Reading::Pages::redirect_page))]
 fn redirect_page<'a>(json: &Json<'a>) -> Result<Page<'a>, PartFault>
-    ensures { Gives result (redirect_page (json_view json.now)) }
+    ensures { Finds result (redirect_page (json_view json.now)) }
 {
     let id = id_at(json, "entity")?;
     let target = id_at(json, "redirect")?;
@@ -49,7 +49,7 @@ fn redirect_page<'a>(json: &Json<'a>) -> Result<Page<'a>, PartFault>
 // The page that a value is: a redirect, where it has a member of that name.
 #[tactic(auto, unfolding(crate::specs::Reading::Pages::page_at))]
 fn page_at<'a>(alloc: Global, json: &Json<'a>) -> Result<Page<'a>, PartFault>
-    ensures { Gives result (page_at (json_view json.now)) }
+    ensures { Finds result (page_at (json_view json.now)) }
 {
     match json.get("redirect") {
         Some(_) => redirect_page(json),
@@ -60,7 +60,7 @@ fn page_at<'a>(alloc: Global, json: &Json<'a>) -> Result<Page<'a>, PartFault>
 // Where the page stands: the only entity, where entities are there.
 #[tactic(auto, unfolding(crate::specs::Reading::Pages::place_of))]
 fn place_of<'m, 'a>(json: &'m Json<'a>) -> Result<&'m Json<'a>, PartFault>
-    ensures { GivesBy (λ value. json_view value.now) result (place_of (json_view json.now)) }
+    ensures { FindsBy (λ value. json_view value.now) result (place_of (json_view json.now)) }
 {
     match json.get("entities") {
         Some(entities) => only_of(entities),
@@ -71,7 +71,7 @@ fn place_of<'m, 'a>(json: &'m Json<'a>) -> Result<&'m Json<'a>, PartFault>
 // The page of a text's value.
 #[tactic(auto, unfolding(crate::specs::Reading::Pages::page_of))]
 pub fn page_of<'a>(alloc: Global, json: &Json<'a>) -> Result<Page<'a>, PartFault>
-    ensures { Gives result (page_of (json_view json.now)) }
+    ensures { Finds result (page_of (json_view json.now)) }
 {
     page_at(alloc, place_of(json)?)
 }

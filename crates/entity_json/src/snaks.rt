@@ -2,8 +2,8 @@
 
 ghost use Rattle.std.specs.Prelude.{◌≡◌, Some};
 ghost use Rattle.json_spell.specs.View.{json_view, member_view};
-ghost use Rattle.entity_json.specs.Gives.{Gives, Makes};
-ghost use Rattle.entity_json.specs.Reading.Snaks.{value_type, datatype_of, content_named, content_of, snak_of, snak_step, snaks_step, snaks_at};
+ghost use Rattle.entity_json.specs.Finds.{Finds, Makes};
+ghost use Rattle.entity_json.specs.Reading.Snaks.{value_type, datatype_of, content_named, snak_content, snak_of, snak_step, snaks_step, snaks_at};
 
 use crate::each::{EntryReader, ItemReader, each_found_entry, each_item};
 use crate::leaf::{id_of_kind, list_of, member_at, text_at, text_of};
@@ -32,7 +32,7 @@ fn value_type<'m>(json: &'m Json<'_>) -> &'m str
 // The datatype, which may be missing.
 #[tactic(auto, unfolding(crate::specs::Reading::Snaks::datatype_of))]
 fn datatype_of<'a>(alloc: Global, json: &Json<'a>) -> Result<Piece<'a>, PartFault>
-    ensures { Gives result (datatype_of (json_view json.now)) }
+    ensures { Finds result (datatype_of (json_view json.now)) }
 {
     match json.get("datatype") {
         Some(datatype) => Ok(text_of(datatype)?.copy(alloc)?),
@@ -41,9 +41,9 @@ fn datatype_of<'a>(alloc: Global, json: &Json<'a>) -> Result<Piece<'a>, PartFaul
 }
 
 // What is said of the value.
-#[tactic(auto, unfolding(crate::specs::Reading::Snaks::content_of))]
-fn content_of<'a>(alloc: Global, json: &Json<'a>) -> Result<Content<'a>, PartFault>
-    ensures { Gives result (content_of (json_view json.now)) }
+#[tactic(auto, unfolding(crate::specs::Reading::Snaks::snak_content))]
+fn snak_content<'a>(alloc: Global, json: &Json<'a>) -> Result<Content<'a>, PartFault>
+    ensures { Finds result (snak_content (json_view json.now)) }
 {
     let named = text_at(json, "snaktype")?.as_str();
     if named == "value" {
@@ -60,7 +60,7 @@ fn content_of<'a>(alloc: Global, json: &Json<'a>) -> Result<Content<'a>, PartFau
 
 // A place as a snak has it. Where it doesn't fit there, no memory would have held the list.
 fn small_place(place: usize) -> Result<u32, PartFault>
-    ensures { Gives result (Some place) }
+    ensures { Finds result (Some place) }
 {
     if place > u32::MAX as usize {
         return Err(PartFault::OutOfMemory);
@@ -77,14 +77,14 @@ pub fn snak_of<'a>(
     place: usize,
     json: &Json<'a>,
 ) -> Result<Snak<'a>, PartFault>
-    ensures { Gives result (snak_of key.now property place (json_view json.now)) }
+    ensures { Finds result (snak_of key.now property place (json_view json.now)) }
 {
     if text_at(json, "property")?.as_str() != key {
         return Err(PartFault::Shape);
     }
     let place = small_place(place)?;
     let datatype = datatype_of(alloc, json)?;
-    let content = content_of(alloc, json)?;
+    let content = snak_content(alloc, json)?;
     Ok(Snak {
         property,
         place,
@@ -137,7 +137,7 @@ impl<'a> EntryReader<'a, Snak<'a>> for SnaksReader {
 // The snaks of the map under the name.
 #[tactic(auto, unfolding(crate::specs::Reading::Snaks::snaks_at))]
 pub fn snaks_at<'a>(alloc: Global, json: &Json<'a>, name: &str) -> Result<List<Snak<'a>>, PartFault>
-    ensures { Gives result (snaks_at name.now (json_view json.now)) }
+    ensures { Finds result (snaks_at name.now (json_view json.now)) }
 {
     let entries = map_at(json, name)?;
     let mut snaks = List::new(alloc);

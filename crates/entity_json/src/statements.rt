@@ -5,7 +5,7 @@ ghost use Rattle.std.specs.Char.{is_ascii_alphanumeric};
 ghost use Rattle.std.specs.List.{list_all};
 ghost use Rattle.json_spell.specs.View.{json_view, member_view};
 ghost use Rattle.entity_model.specs.Reference.{is_hash};
-ghost use Rattle.entity_json.specs.Gives.{Gives, GivesBy, Makes};
+ghost use Rattle.entity_json.specs.Finds.{Finds, FindsBy, Makes};
 ghost use Rattle.entity_json.specs.Reading.Statements.{rank_named, reference_of, reference_step, references_at, rank_of, statement_id, main_of, statement_of, statement_step, statements_step, statements_at};
 
 use crate::each::{EntryReader, ItemReader, each_found_entry, each_found_item, each_item};
@@ -48,7 +48,7 @@ fn is_hash(text: &str) -> bool
 // A reference.
 #[tactic(auto, unfolding(crate::specs::Reading::Statements::reference_of))]
 fn reference_of<'a>(alloc: Global, json: &Json<'a>) -> Result<Reference<'a>, PartFault>
-    ensures { Gives result (reference_of (json_view json.now)) }
+    ensures { Finds result (reference_of (json_view json.now)) }
 {
     let hash = text_at(json, "hash")?;
     if !is_hash(hash.as_str()) {
@@ -83,7 +83,7 @@ fn references_at<'a>(
     json: &Json<'a>,
     name: &str,
 ) -> Result<List<Reference<'a>>, PartFault>
-    ensures { Gives result (references_at name.now (json_view json.now)) }
+    ensures { Finds result (references_at name.now (json_view json.now)) }
 {
     let items = optional_list_at(json, name)?;
     let mut references = List::new(alloc);
@@ -94,7 +94,7 @@ fn references_at<'a>(
 // The rank of a statement.
 #[tactic(auto, unfolding(crate::specs::Reading::Statements::rank_of))]
 fn rank_of(json: &Json<'_>) -> Result<Rank, PartFault>
-    ensures { Gives result (rank_of (json_view json.now)) }
+    ensures { Finds result (rank_of (json_view json.now)) }
 {
     match rank_named(text_at(json, "rank")?.as_str()) {
         Some(rank) => Ok(rank),
@@ -105,7 +105,7 @@ fn rank_of(json: &Json<'_>) -> Result<Rank, PartFault>
 // The id of a statement, which isn't empty.
 #[tactic(auto, unfolding(crate::specs::Reading::Statements::statement_id))]
 fn statement_id<'m, 'a>(json: &'m Json<'a>) -> Result<&'m Piece<'a>, PartFault>
-    ensures { GivesBy (λ text. text.now) result (statement_id (json_view json.now)) }
+    ensures { FindsBy (λ text. text.now) result (statement_id (json_view json.now)) }
 {
     let id = text_at(json, "id")?;
     if id.as_bytes().is_empty() {
@@ -122,7 +122,7 @@ fn main_of<'a>(
     property: EntityId,
     json: &Json<'a>,
 ) -> Result<Snak<'a>, PartFault>
-    ensures { Gives result (main_of key.now property (json_view json.now)) }
+    ensures { Finds result (main_of key.now property (json_view json.now)) }
 {
     snak_of(alloc, key, property, 0, member_at(json, "mainsnak")?)
 }
@@ -135,7 +135,7 @@ fn statement_of<'a>(
     property: EntityId,
     json: &Json<'a>,
 ) -> Result<Statement<'a>, PartFault>
-    ensures { Gives result (statement_of key.now property (json_view json.now)) }
+    ensures { Finds result (statement_of key.now property (json_view json.now)) }
 {
     let rank = rank_of(json)?;
     let id = statement_id(json)?;
@@ -201,7 +201,7 @@ pub fn statements_at<'a>(
     json: &Json<'a>,
     name: &str,
 ) -> Result<List<Statement<'a>>, PartFault>
-    ensures { Gives result (statements_at name.now (json_view json.now)) }
+    ensures { Finds result (statements_at name.now (json_view json.now)) }
 {
     let entries = map_at(json, name)?;
     let mut statements = List::new(alloc);

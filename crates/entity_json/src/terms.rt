@@ -1,8 +1,8 @@
 // Texts in languages: labels, descriptions and aliases.
 
 ghost use Rattle.json_spell.specs.View.{json_view, member_view};
-ghost use Rattle.entity_json.specs.Gives.{Gives, Makes};
-ghost use Rattle.entity_json.specs.Reading.Terms.{tagged_of, label_step, alias_step, aliases_step, labels_at, aliases_at};
+ghost use Rattle.entity_json.specs.Finds.{Finds, Makes};
+ghost use Rattle.entity_json.specs.Reading.Terms.{tagged_under, label_step, alias_step, aliases_step, labels_at, aliases_at};
 
 use crate::each::{EntryReader, ItemReader, each_found_entry, each_item};
 use crate::leaf::{copy_text_at, list_of};
@@ -14,9 +14,9 @@ use rdf_term::List;
 use std::alloc::Global;
 
 // A text and its language, with the text under the name.
-#[tactic(auto, unfolding(crate::specs::Reading::Terms::tagged_of))]
-pub fn read_tagged<'a>(alloc: Global, json: &Json<'a>, name: &str) -> Result<Tagged<'a>, PartFault>
-    ensures { Gives result (tagged_of name.now (json_view json.now)) }
+#[tactic(auto, unfolding(crate::specs::Reading::Terms::tagged_under))]
+pub fn tagged_under<'a>(alloc: Global, json: &Json<'a>, name: &str) -> Result<Tagged<'a>, PartFault>
+    ensures { Finds result (tagged_under name.now (json_view json.now)) }
 {
     let language = copy_text_at(alloc, json, "language")?;
     let text = copy_text_at(alloc, json, name)?;
@@ -34,7 +34,7 @@ impl<'a> EntryReader<'a, Tagged<'a>> for LabelReader {
         entry: &Member<'a>,
         out: &mut List<Tagged<'a>>,
     ) -> Result<(), PartFault> {
-        out.push(read_tagged(alloc, &entry.value, "value")?)?;
+        out.push(tagged_under(alloc, &entry.value, "value")?)?;
         Ok(())
     }
 }
@@ -51,7 +51,7 @@ impl<'a> ItemReader<'a, Tagged<'a>> for AliasReader {
         json: &Json<'a>,
         out: &mut List<Tagged<'a>>,
     ) -> Result<(), PartFault> {
-        out.push(read_tagged(alloc, json, "value")?)?;
+        out.push(tagged_under(alloc, json, "value")?)?;
         Ok(())
     }
 }
@@ -79,7 +79,7 @@ pub fn labels_at<'a>(
     json: &Json<'a>,
     name: &str,
 ) -> Result<List<Tagged<'a>>, PartFault>
-    ensures { Gives result (labels_at name.now (json_view json.now)) }
+    ensures { Finds result (labels_at name.now (json_view json.now)) }
 {
     let entries = map_at(json, name)?;
     let mut labels = List::new(alloc);
@@ -94,7 +94,7 @@ pub fn aliases_at<'a>(
     json: &Json<'a>,
     name: &str,
 ) -> Result<List<Tagged<'a>>, PartFault>
-    ensures { Gives result (aliases_at name.now (json_view json.now)) }
+    ensures { Finds result (aliases_at name.now (json_view json.now)) }
 {
     let entries = map_at(json, name)?;
     let mut aliases = List::new(alloc);

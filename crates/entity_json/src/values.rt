@@ -5,8 +5,8 @@ ghost use Rattle.std.specs.Char.{is_ascii_alphanumeric};
 ghost use Rattle.std.specs.List.{list_all};
 ghost use Rattle.json_spell.specs.View.{json_view};
 ghost use Rattle.entity_model.specs.Value.{is_entity_text};
-ghost use Rattle.entity_json.specs.Gives.{Gives};
-ghost use Rattle.entity_json.specs.Reading.Values.{kind_named, kind_at, numeric_id, numbered_entity, entity_value, time_of, quantity_of, globe_of, value_of_type, value_of};
+ghost use Rattle.entity_json.specs.Finds.{Finds};
+ghost use Rattle.entity_json.specs.Reading.Values.{numbered_type, numeric_id, numbered_entity, entity_value, time_of, quantity_of, globe_of, value_of_type, value_of};
 
 use crate::leaf::{
     copy_number_at, copy_text_at, member_at, nullable_number_at, number_at, optional_text_at,
@@ -14,31 +14,29 @@ use crate::leaf::{
 };
 use crate::number::{is_whole, small_of};
 use crate::part::PartFault;
-use crate::terms::read_tagged;
-use entity_model::{EntityId, GlobeParts, IdKind, QuantityParts, TimeParts, Value};
+use crate::terms::tagged_under;
+use entity_model::{EntityId, GlobeParts, QuantityParts, TimeParts, Value};
 use json_spell::Json;
 use rdf_term::{Piece, Text};
 use std::alloc::Global;
 
-// The kind of an entity that is named in full.
-fn kind_named(name: &str) -> Option<IdKind>
-    ensures { result ≡ kind_named name.now }
-{
-    if name == "item" {
-        return Some(IdKind::Q);
-    }
-    (name == "property").then_some(IdKind::P)
+// A type of entities that a value may name by number.
+#[derive(Clone, Copy, Debug)]
+pub enum NumberedType {
+    // Properties, as P31.
+    Property,
+    // Items, as Q42.
+    Item,
 }
 
-// The kind that a member names.
-#[tactic(auto, unfolding(crate::specs::Reading::Values::kind_at))]
-pub fn kind_at(json: &Json<'_>, name: &str) -> Result<IdKind, PartFault>
-    ensures { Gives result (kind_at name.now (json_view json.now)) }
+// The type with the word.
+fn numbered_type(word: &str) -> Option<NumberedType>
+    ensures { result ≡ numbered_type word.now }
 {
-    match kind_named(text_at(json, name)?.as_str()) {
-        Some(kind) => Ok(kind),
-        None => Err(PartFault::Shape),
+    if word == "item" {
+        return Some(NumberedType::Item);
     }
+    (word == "property").then_some(NumberedType::Property)
 }
 
 // Whether the bytes are ASCII letters, digits and dashes.
@@ -57,14 +55,14 @@ fn is_entity_text(text: &str) -> bool
     1 <= text.len() && text.len() <= 64 && are_entity_bytes(text.as_bytes())
 }
 
-// The id with the kind's letter and a number as it is spelled.
+// The id with the type's letter and a number as it is spelled.
 #[tactic(auto, unfolding(crate::specs::Reading::Values::numeric_id))]
-fn numeric_id(alloc: Global, kind: IdKind, spelling: &str) -> Result<Text, PartFault>
-    ensures { Gives result (numeric_id kind spelling.now) }
+fn numeric_id(alloc: Global, numbered: NumberedType, spelling: &str) -> Result<Text, PartFault>
+    ensures { Finds result (numeric_id numbered spelling.now) }
 {
-    let text = match kind {
-        IdKind::P => format!(in alloc; "P{spelling}")?,
-        IdKind::Q => format!(in alloc; "Q{spelling}")?,
+    let text = match numbered {
+        NumberedType::Property => format!(in alloc; "P{spelling}")?,
+        NumberedType::Item => format!(in alloc; "Q{spelling}")?,
     };
     match EntityId::read(text.as_str()) {
         Some(_) => Ok(Text::from_string(text)),
@@ -75,17 +73,20 @@ fn numeric_id(alloc: Global, kind: IdKind, spelling: &str) -> Result<Text, PartF
 // The id of an entity that is given by its type and number.
 #[tactic(auto, unfolding(crate::specs::Reading::Values::numbered_entity))]
 fn numbered_entity(alloc: Global, json: &Json<'_>) -> Result<Text, PartFault>
-    ensures { Gives result (numbered_entity (json_view json.now)) }
+    ensures { Finds result (numbered_entity (json_view json.now)) }
 {
-    let kind = kind_at(json, "entity-type")?;
+    let word = text_at(json, "entity-type")?;
+    let Some(numbered) = numbered_type(word.as_str()) else {
+        return Err(PartFault::Shape);
+    };
     let spelling = number_at(json, "numeric-id")?;
-    numeric_id(alloc, kind, spelling.as_str())
+    numeric_id(alloc, numbered, spelling.as_str())
 }
 
 // The id of an entity, by its text where that is there.
 #[tactic(auto, unfolding(crate::specs::Reading::Values::entity_value))]
 fn entity_value<'a>(alloc: Global, json: &Json<'a>) -> Result<Piece<'a>, PartFault>
-    ensures { Gives result (entity_value (json_view json.now)) }
+    ensures { Finds result (entity_value (json_view json.now)) }
 {
     let Some(id) = json.get("id") else {
         return Ok(Piece::owned(numbered_entity(alloc, json)?));
@@ -100,7 +101,7 @@ fn entity_value<'a>(alloc: Global, json: &Json<'a>) -> Result<Piece<'a>, PartFau
 // A point in time.
 #[tactic(auto, unfolding(crate::specs::Reading::Values::time_of))]
 fn time_of<'a>(alloc: Global, json: &Json<'a>) -> Result<TimeParts<'a>, PartFault>
-    ensures { Gives result (time_of (json_view json.now)) }
+    ensures { Finds result (time_of (json_view json.now)) }
 {
     let time = copy_text_at(alloc, json, "time")?;
     let calendar = copy_text_at(alloc, json, "calendarmodel")?;
@@ -124,7 +125,7 @@ fn time_of<'a>(alloc: Global, json: &Json<'a>) -> Result<TimeParts<'a>, PartFaul
 // A number with its unit and bounds.
 #[tactic(auto, unfolding(crate::specs::Reading::Values::quantity_of))]
 fn quantity_of<'a>(alloc: Global, json: &Json<'a>) -> Result<QuantityParts<'a>, PartFault>
-    ensures { Gives result (quantity_of (json_view json.now)) }
+    ensures { Finds result (quantity_of (json_view json.now)) }
 {
     let amount = copy_text_at(alloc, json, "amount")?;
     let unit = copy_text_at(alloc, json, "unit")?;
@@ -141,7 +142,7 @@ fn quantity_of<'a>(alloc: Global, json: &Json<'a>) -> Result<QuantityParts<'a>, 
 // A point on a globe.
 #[tactic(auto, unfolding(crate::specs::Reading::Values::globe_of))]
 fn globe_of<'a>(alloc: Global, json: &Json<'a>) -> Result<GlobeParts<'a>, PartFault>
-    ensures { Gives result (globe_of (json_view json.now)) }
+    ensures { Finds result (globe_of (json_view json.now)) }
 {
     let latitude = copy_number_at(alloc, json, "latitude")?;
     let longitude = copy_number_at(alloc, json, "longitude")?;
@@ -158,7 +159,7 @@ fn globe_of<'a>(alloc: Global, json: &Json<'a>) -> Result<GlobeParts<'a>, PartFa
 // A value of the type; one of a type that isn't named here may be anything.
 #[tactic(auto, unfolding(crate::specs::Reading::Values::value_of_type))]
 fn value_of_type<'a>(alloc: Global, kind: &str, json: &Json<'a>) -> Result<Value<'a>, PartFault>
-    ensures { Gives result (value_of_type kind.now (json_view json.now)) }
+    ensures { Finds result (value_of_type kind.now (json_view json.now)) }
 {
     if kind == "string" {
         return Ok(Value::Str(text_of(json)?.copy(alloc)?));
@@ -176,7 +177,7 @@ fn value_of_type<'a>(alloc: Global, kind: &str, json: &Json<'a>) -> Result<Value
         return Ok(Value::Globe(globe_of(alloc, json)?));
     }
     if kind == "monolingualtext" {
-        return Ok(Value::Mono(read_tagged(alloc, json, "text")?));
+        return Ok(Value::Mono(tagged_under(alloc, json, "text")?));
     }
     Ok(Value::Other)
 }
@@ -184,7 +185,7 @@ fn value_of_type<'a>(alloc: Global, kind: &str, json: &Json<'a>) -> Result<Value
 // A data value.
 #[tactic(auto, unfolding(crate::specs::Reading::Values::value_of))]
 pub fn value_of<'a>(alloc: Global, json: &Json<'a>) -> Result<Value<'a>, PartFault>
-    ensures { Gives result (value_of (json_view json.now)) }
+    ensures { Finds result (value_of (json_view json.now)) }
 {
     let kind = text_at(json, "type")?;
     let value = member_at(json, "value")?;

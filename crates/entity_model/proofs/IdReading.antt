@@ -12,7 +12,7 @@ use Rattle.entity_model.specs.declared.id.IdKind.TheVariants.{P, Q}
 use Rattle.entity_model.specs.declared.id.EntityId.{EntityId}
 use Rattle.entity_model.specs.IdKind.{letter_of}
 use Rattle.entity_model.specs.EntityId.{IsId, id_text}
-use Rattle.entity_model.specs.IdOf.{id_of, numbered}
+use Rattle.entity_model.specs.IdOf.{id_of, id_with_number}
 
 -- a choice that gives something was made
 chosen : (b : Bool) (x y : EntityId) → cond b (Some x) None ≡ Some y → (b ≡ true) × (x ≡ y)
@@ -23,24 +23,24 @@ chosen false x y is = cc
 value_of : (n : ℕ) → n < 2 ^ 32 → digits_value 10 (decimal n) ≡ n
 value_of n small = (decimal_is_IsNumeral n (omega arith)).1
 
-numbered-text : (kind : IdKind) (n : ℕ) → 0 < n → n < 2 ^ 32 → numbered kind n (decimal n) ≡ Some (record { kind = kind; number = n })
-numbered-text kind n low high =
+id_with_number-text : (kind : IdKind) (n : ℕ) → 0 < n → n < 2 ^ 32 → id_with_number kind n (decimal n) ≡ Some (record { kind = kind; number = n })
+id_with_number-text kind n low high =
     let positive : nat_lt 0 n ≡ true = grind (arith, nat_tests) in
     let small : nat_lt n (2 ^ 32) ≡ true = grind (arith, nat_tests) in
     let same : bytes_eq (decimal n) (decimal n) ≡ true = (bytes_eq-Decides (decimal n) (decimal n)).1 refl in
     rw (positive, small, same) refl
 
 text_by_kind : (kind : IdKind) (n : ℕ) → 0 < n → n < 2 ^ 32 → id_of (letter_of kind ∷ decimal n) ≡ Some (record { kind = kind; number = n })
-text_by_kind P n low high = rw (value_of n high) (numbered-text P n low high)
-text_by_kind Q n low high = rw (value_of n high) (numbered-text Q n low high)
+text_by_kind P n low high = rw (value_of n high) (id_with_number-text P n low high)
+text_by_kind Q n low high = rw (value_of n high) (id_with_number-text Q n low high)
 
 -- the text of an id is that id
 pub id_of-text : (id : EntityId) → IsId id → id_of (id_text id) ≡ Some id
 id_of-text id is = text_by_kind id.kind id.number is.0 is.1
 
-numbered-sound : (kind : IdKind) (n : ℕ) (digits : List ℕ) (id : EntityId) → numbered kind n digits ≡ Some id →
+id_with_number-sound : (kind : IdKind) (n : ℕ) (digits : List ℕ) (id : EntityId) → id_with_number kind n digits ≡ Some id →
     IsId id × (id_text id ≡ letter_of kind ∷ digits)
-numbered-sound kind n digits id is =
+id_with_number-sound kind n digits id is =
     let made : EntityId = record { kind = kind; number = n } in
     let choice = chosen (nat_lt 0 n && (nat_lt n (2 ^ 32) && bytes_eq (decimal n) digits)) made id is in
     let parts = and_parts (nat_lt 0 n) (nat_lt n (2 ^ 32) && bytes_eq (decimal n) digits) choice.0 in
@@ -51,14 +51,14 @@ numbered-sound kind n digits id is =
     rw (← choice.1) ((low, high), ap (λ ds. letter_of kind ∷ ds) same)
 
 letters : (letter : ℕ) (digits : List ℕ) (id : EntityId) (p q : Bool) → (letter == 80) ≡ p → (letter == 81) ≡ q →
-    cond p (numbered P (digits_value 10 digits) digits) (cond q (numbered Q (digits_value 10 digits) digits) None) ≡ Some id →
+    cond p (id_with_number P (digits_value 10 digits) digits) (cond q (id_with_number Q (digits_value 10 digits) digits) None) ≡ Some id →
     IsId id × (id_text id ≡ letter ∷ digits)
 letters letter digits id true q is_p is_q is =
     let same : letter ≡ 80 = grind (arith, nat_tests) in
-    rw same (numbered-sound P (digits_value 10 digits) digits id is)
+    rw same (id_with_number-sound P (digits_value 10 digits) digits id is)
 letters letter digits id false true is_p is_q is =
     let same : letter ≡ 81 = grind (arith, nat_tests) in
-    rw same (numbered-sound Q (digits_value 10 digits) digits id is)
+    rw same (id_with_number-sound Q (digits_value 10 digits) digits id is)
 letters letter digits id false false is_p is_q is = cc
 
 -- what is read has that text

@@ -1,6 +1,9 @@
--- Which documents are small: those that a page of the allowed size can have.
-use Rattle.std.specs.Prelude.{◌+◌, ◌≤◌, length}
+-- Which documents are small, as those that a page of the allowed size can have are, and which are of an entity.
+use Rattle.std.specs.Prelude.{◌≡◌, ◌+◌, ◌≤◌, true, [], None, is_some, length}
 use Rattle.std.specs.List.{All}
+use Rattle.entity_model.specs.declared.id.EntityId.{EntityId}
+use Rattle.entity_model.specs.declared.id.IdKind.{IdKind}
+use Rattle.entity_model.specs.declared.id.IdKind.TheVariants.{P, Q}
 use Rattle.entity_model.specs.declared.value.Tagged.{Tagged}
 use Rattle.entity_model.specs.declared.entity.Link.{Link}
 use Rattle.entity_model.specs.declared.entity.Entity.{Entity}
@@ -31,3 +34,18 @@ pub record IsSmallEntity (entity : Entity) : Type 0 where
 abbrev pub IsSmall : Document → Type 0
 IsSmall (AnEntity entity) = IsSmallEntity entity
 IsSmall (Redirect target) = Unit {0}
+
+-- the entity has what its kind has and no other does: a property a datatype, and an item perhaps links
+abbrev pub HasPartsOf : IdKind → Entity → Type 0
+HasPartsOf P entity = (is_some entity.datatype ≡ true) × (entity.links ≡ [])
+HasPartsOf Q entity = entity.datatype ≡ None
+
+-- the entity is x, with the parts that the letter of x wants
+pub record IsEntityOf (x : EntityId) (entity : Entity) : Type 0 where
+  pub id : entity.id ≡ x
+  pub parts : HasPartsOf x.kind entity
+
+-- the document is one of x; that of a redirect may name an entity of any kind
+abbrev pub IsDocumentOf : EntityId → Document → Type 0
+IsDocumentOf x (AnEntity entity) = IsEntityOf x entity
+IsDocumentOf x (Redirect target) = Unit {0}

@@ -34,7 +34,7 @@ use Rattle.entity_model.specs.declared.mapping.MappingVersion.{MappingVersion}
 use Rattle.statement_rdf.specs.Ranking.{is_best}
 use Rattle.statement_rdf.proofs.NamesFit.{id_term_fit, decimal_short}
 use Rattle.statement_rdf.proofs.Fit.{statement_triples_fit}
-use Rattle.entity_rdf.specs.About.{alias_triples, change_triples, class_of, class_triples, dataset_term, dataset_triples, description_triples, entity_term, format_version, identifiers, label_triples, link_count, number_term, number_triples, page_triples, text_term}
+use Rattle.entity_rdf.specs.About.{alias_triples, change_triples, class_of, class_triples, dataset_term, dataset_triples, description_triples, entity_term, format_version, identifiers, label_triples, link_count, number_term, number_triples, page_triples, tagged_term}
 use Rattle.entity_rdf.specs.Property.{datatype_triples, is_datatype_char, other_predicates, predicate_triple, property_triples, property_triples_of, type_name, value_predicates}
 use Rattle.entity_rdf.specs.Statements.{judged_triples, statements_triples}
 use Rattle.entity_rdf.specs.Dump.{dump, spoken_triples, text_triples}
@@ -64,7 +64,7 @@ entity_fit x = id_term_fit Wd x
 dataset_fit : (x : EntityId) → IsFitAndShort (dataset_term x)
 dataset_fit x = id_term_fit Data x
 
-text_fit : (t : Tagged) → IsSmallTagged t → IsFitAndShort (text_term t)
+text_fit : (t : Tagged) → IsSmallTagged t → IsFitAndShort (tagged_term t)
 text_fit t small = simple_term_fit [] (Mono t) (record { texts = small; id = tt })
 
 number_fit : (n : ℕ) → IsFitAndShort (number_term n)

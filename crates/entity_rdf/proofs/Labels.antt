@@ -41,7 +41,7 @@ use Rattle.wb_values.specs.declared.literal.TimeText.TheVariants.{DateTime, Plai
 use Rattle.wb_values.specs.Decimal.{is_decimal}
 use Rattle.wb_values.specs.Literal.{time_literal}
 use Rattle.value_nodes.specs.Name.{node_name, number_one, one}
-use Rattle.value_nodes.specs.Nodes.{about, bound_triples, named_triples, node_triples, part_triples, precision_triples, unit_term}
+use Rattle.value_nodes.specs.Nodes.{about, bound_triples, named_triples, node_triples, value_part_triples, precision_triples, unit_term}
 use Rattle.value_nodes.specs.Said.{object_triples, triple}
 use Rattle.value_nodes.specs.Terms.{amount_term, commons_media, julian_calendar, simple_term, text_term, time_term, time_text_term, url}
 use Rattle.sitelinks.specs.declared.sites.Site.{Site}
@@ -133,7 +133,7 @@ precision_short : (node : Term) (precision : Option (List ℕ)) → IsShort node
 precision_short node None n = tt
 precision_short node (Some precision) n = (about_short node Say.GeoPrecision (typed precision Double) n refl, tt)
 
-parts_short : (node : Term) (value : Value) → IsShort node → AreShort (part_triples node value)
+parts_short : (node : Term) (value : Value) → IsShort node → AreShort (value_part_triples node value)
 parts_short node (Values.Time time) n = (
   about_short node Say.RdfType (resource_term Resources.TimeValue) n refl,
   (

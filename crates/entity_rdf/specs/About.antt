@@ -42,19 +42,19 @@ abbrev pub class_triples : EntityId → List Triple
 class_triples x = about (entity_term x) Say.RdfType (resource_term (class_of x.kind)) ∷ []
 
 -- a text in its language
-abbrev pub text_term : Tagged → Term
-text_term t = tagged_of t.text t.language
+abbrev pub tagged_term : Tagged → Term
+tagged_term t = tagged_of t.text t.language
 
 -- a label, a description and an alias
 abbrev pub label_triples : Term → Tagged → List Triple
 label_triples entity t =
-    about entity Say.Label (text_term t) ∷ about entity Say.PrefLabel (text_term t) ∷ about entity Say.Name (text_term t) ∷ []
+    about entity Say.Label (tagged_term t) ∷ about entity Say.PrefLabel (tagged_term t) ∷ about entity Say.Name (tagged_term t) ∷ []
 
 abbrev pub description_triples : Term → Tagged → List Triple
-description_triples entity t = about entity Say.Description (text_term t) ∷ []
+description_triples entity t = about entity Say.Description (tagged_term t) ∷ []
 
 abbrev pub alias_triples : Term → Tagged → List Triple
-alias_triples entity t = about entity Say.AltLabel (text_term t) ∷ []
+alias_triples entity t = about entity Say.AltLabel (tagged_term t) ∷ []
 
 -- the version of the dump's format
 unfoldable pub format_version : List ℕ

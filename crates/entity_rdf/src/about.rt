@@ -5,7 +5,7 @@ ghost use Rattle.std.specs.List.{flat_map};
 ghost use Rattle.value_nodes.specs.Nodes.{about};
 ghost use Rattle.triple_sink.specs.Gains.{Gains};
 ghost use Rattle.triple_sink.specs.TermRef.{meant};
-ghost use Rattle.entity_rdf.specs.About.{alias_triples, class_of, class_triples, description_triples, label_triples, text_term};
+ghost use Rattle.entity_rdf.specs.About.{alias_triples, class_of, class_triples, description_triples, label_triples, tagged_term};
 
 use entity_model::{EntityId, IdKind, Tagged};
 use rdf_term::OutOfMemory;
@@ -53,7 +53,7 @@ fn class_of(kind: IdKind) -> Resource
 
 // The text in its language.
 fn text_ref<'m>(text: &'m Tagged<'_>) -> TermRef<'m>
-    ensures { meant result ≡ text_term text.now }
+    ensures { meant result ≡ tagged_term text.now }
 {
     TermRef::tagged(text.text.as_str(), text.language.as_str())
 }

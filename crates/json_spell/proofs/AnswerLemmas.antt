@@ -4,7 +4,7 @@ use Rattle.json_spell.specs.declared.fault.JsonFault.{JsonFault}
 use Rattle.json_spell.specs.declared.fault.JsonFault.TheVariants.{Deep, NotJson, OutOfMemory}
 use Rattle.json_spell.specs.Tree.{Tree}
 use Rattle.json_spell.specs.Reading.{spaced, value_at}
-use Rattle.json_spell.specs.Gives.{Refuses}
+use Rattle.json_spell.specs.Parses.{Refuses}
 use Rattle.json_spell.specs.Tells.{Excuses}
 use Rattle.json_spell.proofs.Opened.{some_is}
 use Rattle.json_spell.proofs.Complete.{text-complete}

@@ -8,7 +8,7 @@ pub mod Lists
 pub mod Values
 pub mod ValueSteps
 pub mod Complete
-pub mod GivesLemmas
+pub mod ParsesLemmas
 pub mod ListSteps
 pub mod Depth
 pub mod Weights

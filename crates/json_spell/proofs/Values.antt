@@ -4,7 +4,7 @@ use Rattle.std.proofs.lemmas.Bool.Decides.{nat_tests}
 use Rattle.json_spell.specs.Tree.{Tree, null, boolean, number, string, array, object, Trees, no_trees, tree, Pairs, no_pairs, first_there}
 use Rattle.json_spell.specs.Text.{IsString}
 use Rattle.json_spell.specs.Grammar.{Spaced, IsMember, IsValue, AreValues, AreMoreValues, AreMembers, AreMoreMembers, null_name, true_name, false_name}
-use Rattle.json_spell.specs.Reading.{Parse, read_map, after_byte, content_at, after_word, named, literal_at, spaced, list_by, name_at, member_by, add_pair, values, members, number_at, scalar_at, value_by, value}
+use Rattle.json_spell.specs.Reading.{Parse, read_map, after_byte, content_at, after_word, literal_named, literal_at, spaced, list_by, name_at, member_by, add_pair, values, members, number_at, scalar_at, value_by, value}
 use Rattle.json_spell.proofs.Opened.{some_is, bind_some, map_some, chosen, Found}
 use Rattle.json_spell.proofs.Numbers.{number_at-sound}
 use Rattle.json_spell.proofs.Contents.{content_at-sound}
@@ -24,8 +24,8 @@ pub there : {A : Type 0} (a b : Option A) {y : A} → first_there a b ≡ Some y
 there None b e = inr e
 there (Some x) b e = inl e
 
-named-sound : (word : List ℕ) (t : Tree) → IsValue t word → (s : List ℕ) (u : Tree) (r : List ℕ) → named word t s ≡ Some (u, r) → Found (IsValue u) s r
-named-sound word t h s u r e =
+literal_named-sound : (word : List ℕ) (t : Tree) → IsValue t word → (s : List ℕ) (u : Tree) (r : List ℕ) → literal_named word t s ≡ Some (u, r) → Found (IsValue u) s r
+literal_named-sound word t h s u r e =
     let p = map_some _ (after_word word s) e in
     let t_is : t ≡ u = ap (λ q. q.0) p.1.1 in
     let r_is : p.0 ≡ r = ap (λ q. q.1) p.1.1 in
@@ -34,9 +34,9 @@ named-sound word t h s u r e =
 literal-sound : Sound literal_at IsValue
 unfolding literal_at
 literal-sound s t r e =
-    ⊎_elim (named-sound null_name null refl s t r)
-    (λ f. ⊎_elim (named-sound true_name (boolean true) refl s t r) (named-sound false_name (boolean false) refl s t r) (there (named true_name (boolean true) s) (named false_name (boolean false) s) f))
-    (there (named null_name null s) (first_there (named true_name (boolean true) s) (named false_name (boolean false) s)) e)
+    ⊎_elim (literal_named-sound null_name null refl s t r)
+    (λ f. ⊎_elim (literal_named-sound true_name (boolean true) refl s t r) (literal_named-sound false_name (boolean false) refl s t r) (there (literal_named true_name (boolean true) s) (literal_named false_name (boolean false) s) f))
+    (there (literal_named null_name null s) (first_there (literal_named true_name (boolean true) s) (literal_named false_name (boolean false) s)) e)
 
 scalar-sound : Sound scalar_at IsValue
 unfolding scalar_at

@@ -9,6 +9,6 @@ pub mod Nesting
 pub mod Tells
 pub mod Reading
 pub mod Weight
-pub mod Gives
+pub mod Parses
 pub mod Scan
 pub mod Runs

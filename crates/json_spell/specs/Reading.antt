@@ -112,12 +112,12 @@ after_word (c ∷ cs) [] = None
 after_word (c ∷ cs) (x ∷ s) = cond (x == c) (after_word cs s) None
 
 -- a value that a literal name stands for
-abbrev pub named : List ℕ → Tree → Parse Tree
-named name t s = option_map (λ rest. (t, rest)) (after_word name s)
+abbrev pub literal_named : List ℕ → Tree → Parse Tree
+literal_named name t s = option_map (λ rest. (t, rest)) (after_word name s)
 
 -- a literal name
 unfoldable pub literal_at : Parse Tree
-literal_at s = first_there (named null_name null s) (first_there (named true_name (boolean true) s) (named false_name (boolean false) s))
+literal_at s = first_there (literal_named null_name null s) (first_there (literal_named true_name (boolean true) s) (literal_named false_name (boolean false) s))
 
 -- what is read with white space around it
 abbrev pub spaced : {A : Type 0} → Parse A → Parse A

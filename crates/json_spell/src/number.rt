@@ -3,7 +3,7 @@
 ghost use Rattle.std.specs.Prelude.{◌≡◌, ◌≤◌, length, option_map, IfSome, IfOk};
 ghost use Rattle.json_spell.specs.Number.{is_minus, is_sign};
 ghost use Rattle.json_spell.specs.Reading.{skip_one, after_digits, after_int, after_frac, after_exp, after_number, number_at};
-ghost use Rattle.json_spell.specs.Gives.{Gives};
+ghost use Rattle.json_spell.specs.Parses.{Parses};
 
 use crate::bytes::{before, is_digit, skip_digits, utf8};
 use crate::fault::JsonFault;
@@ -83,7 +83,7 @@ fn after_number(bytes: &[u8]) -> Option<&[u8]>
 // The number at the front, as it is spelled, and what follows it.
 #[tactic(auto, unfolding(crate::specs::Reading::number_at))]
 pub(crate) fn read_number<'a>(bytes: &'a [u8]) -> Result<(Piece<'a>, &'a [u8]), JsonFault>
-    ensures read { Gives (λ p. (p.0, p.1.now)) result (number_at bytes.now) }
+    ensures read { Parses (λ p. (p.0, p.1.now)) result (number_at bytes.now) }
     ensures no_longer { IfOk result (λ p. length p.1.now ≤ length bytes.now) }
 {
     let Some(rest) = after_number(bytes) else {

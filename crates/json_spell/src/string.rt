@@ -4,7 +4,7 @@ ghost use Rattle.std.specs.Prelude.{◌≡◌, ◌≤◌, ◌<◌, ◌^◌, IsTr
 ghost use Rattle.std.specs.Char.{digit_value};
 ghost use Rattle.json_spell.specs.Text.{short_escape, code_unit, is_high_surrogate, is_low_surrogate};
 ghost use Rattle.json_spell.specs.Reading.{before, run_at, low_half, unicode_at, escape_at, content_at};
-ghost use Rattle.json_spell.specs.Gives.{Gives};
+ghost use Rattle.json_spell.specs.Parses.{Parses};
 
 use crate::bytes::{after_byte, before, next, skip_unescaped, text_of, utf8};
 use crate::fault::JsonFault;
@@ -96,7 +96,7 @@ fn read_escape(bytes: &[u8]) -> Option<(char, &[u8])>
 
 // Puts the bytes up to the next quotation mark, backslash or control character to the content, and gives what follows.
 fn push_run<'a>(content: &mut String, bytes: &'a [u8]) -> Result<&'a [u8], JsonFault>
-    ensures read { Gives (λ rest. rest.now) result (run_at bytes.now) }
+    ensures read { Parses (λ rest. rest.now) result (run_at bytes.now) }
     ensures pushed { IfOk result (λ rest. string_bytes content.new ≡ string_bytes content.old ++ before rest.now bytes.now) }
     ensures no_longer { IfOk result (λ rest. length rest.now ≤ length bytes.now) }
 {
@@ -111,7 +111,7 @@ fn push_run<'a>(content: &mut String, bytes: &'a [u8]) -> Result<&'a [u8], JsonF
 // The content of a string after its opening quotation mark, copied, and what follows the closing one.
 #[tactic(auto, using(crate::proofs::ContentSteps::content_steps))]
 fn read_content(alloc: Global, bytes: &[u8]) -> Result<(Text, &[u8]), JsonFault>
-    ensures read { Gives (λ p. (p.0, p.1.now)) result (content_at bytes.now) }
+    ensures read { Parses (λ p. (p.0, p.1.now)) result (content_at bytes.now) }
     ensures no_longer { IfOk result (λ p. length p.1.now ≤ length bytes.now) }
 {
     let mut content = String::new(alloc);
@@ -151,7 +151,7 @@ fn read_plain<'a>(bytes: &'a [u8]) -> Option<(&'a str, &'a [u8])>
 // the string has an escape.
 #[inline(never)]
 fn read_any_string<'a>(alloc: Global, bytes: &'a [u8]) -> Result<(Piece<'a>, &'a [u8]), JsonFault>
-    ensures read { Gives (λ p. (p.0, p.1.now)) result (content_at bytes.now) }
+    ensures read { Parses (λ p. (p.0, p.1.now)) result (content_at bytes.now) }
     ensures no_longer { IfOk result (λ p. length p.1.now ≤ length bytes.now) }
 {
     let end = skip_unescaped(bytes);
@@ -172,7 +172,7 @@ pub(crate) fn read_string<'a>(
     alloc: Global,
     bytes: &'a [u8],
 ) -> Result<(Piece<'a>, &'a [u8]), JsonFault>
-    ensures read { Gives (λ p. (p.0, p.1.now)) result (content_at bytes.now) }
+    ensures read { Parses (λ p. (p.0, p.1.now)) result (content_at bytes.now) }
     ensures no_longer { IfOk result (λ p. length p.1.now ≤ length bytes.now) }
 {
     match read_plain(bytes) {

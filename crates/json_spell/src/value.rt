@@ -4,7 +4,7 @@ ghost use Rattle.std.specs.Prelude.{◌≡◌, ◌≤◌, ◌<◌, length, map, 
 ghost use Rattle.json_spell.specs.Tree.{no_trees, no_pairs};
 ghost use Rattle.json_spell.specs.View.{json_view, member_view, trees_of, pairs_of};
 ghost use Rattle.json_spell.specs.Reading.{spaced, list_by, name_at, member_by, literal_at, scalar_at, value_at, values_at, members_at};
-ghost use Rattle.json_spell.specs.Gives.{Gives};
+ghost use Rattle.json_spell.specs.Parses.{Parses};
 ghost use Rattle.json_spell.specs.Nesting.{Nests, AllNest, MembersNest};
 
 use crate::bytes::{after_byte, after_word, next, skip_ws};
@@ -37,7 +37,7 @@ fn read_literal<'a>(bytes: &'a [u8]) -> Option<(Json<'a>, &'a [u8])>
 // A literal name or a number.
 #[tactic(auto, unfolding(crate::specs::Reading::scalar_at))]
 fn read_scalar<'a>(bytes: &'a [u8]) -> Result<(Json<'a>, &'a [u8]), JsonFault>
-    ensures read { Gives (λ p. (json_view p.0, p.1.now)) result (scalar_at bytes.now) }
+    ensures read { Parses (λ p. (json_view p.0, p.1.now)) result (scalar_at bytes.now) }
     ensures no_longer { IfOk result (λ p. length p.1.now ≤ length bytes.now) }
 {
     if let Some(literal) = read_literal(bytes) {
@@ -49,7 +49,7 @@ fn read_scalar<'a>(bytes: &'a [u8]) -> Result<(Json<'a>, &'a [u8]), JsonFault>
 
 // A name with white space around it.
 fn read_name<'a>(alloc: Global, bytes: &'a [u8]) -> Result<(Piece<'a>, &'a [u8]), JsonFault>
-    ensures read { Gives (λ p. (p.0, p.1.now)) result (spaced name_at bytes.now) }
+    ensures read { Parses (λ p. (p.0, p.1.now)) result (spaced name_at bytes.now) }
     ensures no_longer { IfOk result (λ p. length p.1.now ≤ length bytes.now) }
 {
     let Some(rest) = after_byte(skip_ws(bytes), b'"') else {
@@ -66,7 +66,7 @@ pub(crate) fn read_spaced<'a>(
     levels: usize,
     bytes: &'a [u8],
 ) -> Result<(Json<'a>, &'a [u8]), JsonFault>
-    ensures read { Gives (λ p. (json_view p.0, p.1.now)) result (spaced value_at bytes.now) }
+    ensures read { Parses (λ p. (json_view p.0, p.1.now)) result (spaced value_at bytes.now) }
     ensures no_longer { IfOk result (λ p. length p.1.now ≤ length bytes.now) }
     ensures nests { IfOk result (λ p. Nests levels (json_view p.0)) }
 {
@@ -81,7 +81,7 @@ fn read_value<'a>(
     levels: usize,
     bytes: &'a [u8],
 ) -> Result<(Json<'a>, &'a [u8]), JsonFault>
-    ensures read { Gives (λ p. (json_view p.0, p.1.now)) result (value_at bytes.now) }
+    ensures read { Parses (λ p. (json_view p.0, p.1.now)) result (value_at bytes.now) }
     ensures no_longer { IfOk result (λ p. length p.1.now ≤ length bytes.now) }
     ensures nests { IfOk result (λ p. Nests levels (json_view p.0)) }
 {
@@ -118,7 +118,7 @@ fn read_items<'a>(
     levels: usize,
     bytes: &'a [u8],
 ) -> Result<(Vec<Json<'a>>, &'a [u8]), JsonFault>
-    ensures read { Gives (λ p. (trees_of (map json_view p.0.items), p.1.now)) result
+    ensures read { Parses (λ p. (trees_of (map json_view p.0.items), p.1.now)) result
         (list_by no_trees 0x5D values_at bytes.now) }
     ensures no_longer { IfOk result (λ p. length p.1.now ≤ length bytes.now) }
     ensures nests { IfOk result (λ p. AllNest levels (trees_of (map json_view p.0.items))) }
@@ -151,7 +151,7 @@ fn read_member<'a>(
     levels: usize,
     bytes: &'a [u8],
 ) -> Result<(Member<'a>, &'a [u8]), JsonFault>
-    ensures read { Gives (λ p. (member_view p.0, p.1.now)) result (member_by value_at bytes.now) }
+    ensures read { Parses (λ p. (member_view p.0, p.1.now)) result (member_by value_at bytes.now) }
     ensures no_longer { IfOk result (λ p. length p.1.now ≤ length bytes.now) }
     ensures nests { IfOk result (λ p. Nests levels (member_view p.0).1) }
 {
@@ -170,7 +170,7 @@ fn read_members<'a>(
     levels: usize,
     bytes: &'a [u8],
 ) -> Result<(Vec<Member<'a>>, &'a [u8]), JsonFault>
-    ensures read { Gives (λ p. (pairs_of (map member_view p.0.items), p.1.now)) result
+    ensures read { Parses (λ p. (pairs_of (map member_view p.0.items), p.1.now)) result
         (list_by no_pairs 0x7D members_at bytes.now) }
     ensures no_longer { IfOk result (λ p. length p.1.now ≤ length bytes.now) }
     ensures nests { IfOk result (λ p. MembersNest levels (pairs_of (map member_view p.0.items))) }

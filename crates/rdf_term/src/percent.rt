@@ -11,7 +11,6 @@ use std::alloc::Global;
 
 /// The IRI of a text: each character that may not stand in an IRI is percent-encoded, with upper-case
 /// digits (RFC 3986, section 2.1). A `%` stays as it is.
-
 pub fn iri(alloc: Global, text: &str) -> Result<Term, OutOfMemory>
     ensures value { IfOk result (λ term. term ≡ iri_of text.now) }
     ensures fit { IfOk result (λ term. is_fit term ≡ true) }

@@ -33,7 +33,7 @@ use Rattle.sitelinks.specs.declared.project.Project.TheVariants as Projects
 use Rattle.sitelinks.specs.declared.sites.Site.{Site}
 use Rattle.sitelinks.specs.declared.special.SpecialSite.{SpecialSite}
 use Rattle.sitelinks.specs.declared.special.SpecialSite.TheVariants as Specials
-use Rattle.sitelinks.specs.Article.{article_iri, article_triples, badge_triple, entity_term, found_triples, group_triple, head_triples, said, triples_of}
+use Rattle.sitelinks.specs.Article.{article_iri, article_triples, badge_triple, entity_term, found_triples, group_triple, article_head_triples, said, triples_of}
 use Rattle.sitelinks.specs.Language.{is_language, is_lowercase_or_digit}
 use Rattle.sitelinks.specs.LanguageReader.{is_rest_of_language, place_after}
 use Rattle.sitelinks.specs.Project.{coded, coded_or, first_coded, project_group, project_suffix, projects}
@@ -188,7 +188,7 @@ badges_fit article (badge ∷ badges) a = (said_fit article Predicates.Badge (en
 triples_fit : (article : Term) (entity : EntityId) (link : Link) (site : Site) → IsFitAndShort article → IsSmallSite (length link.site) site → IsSmallLink link → AllByRecursion HasFitAndShortTerms (triples_of article entity link site)
 triples_fit article entity link site a s h =
     let base = iri_fit site.base s.iri (omega (arith, s.base)) in
-    let head : AllByRecursion HasFitAndShortTerms (head_triples article entity site) = (
+    let head : AllByRecursion HasFitAndShortTerms (article_head_triples article entity site) = (
       said_fit article Predicates.RdfType (resource_term Article) a (resource_fit Article),
       (
         said_fit article Predicates.About (entity_term entity) a (id_term_fit Wd entity),
@@ -204,9 +204,9 @@ triples_fit article entity link site a s h =
     let group : AllByRecursion HasFitAndShortTerms (group_triple site ∷ []) =
     (said_fit (Iri site.base) Predicates.WikiGroup (Plain site.group) base (plain_fit site.group (omega (arith, s.group))), tt) in
     let badges = map (badge_triple article) link.badges in
-    let front = head_triples article entity site ++ name ∷ [] in
+    let front = article_head_triples article entity site ++ name ∷ [] in
     join HasFitAndShortTerms (front ++ badges) (group_triple site ∷ [])
-    (join HasFitAndShortTerms front badges (join HasFitAndShortTerms (head_triples article entity site) (name ∷ []) head named) (badges_fit article link.badges a)) group
+    (join HasFitAndShortTerms front badges (join HasFitAndShortTerms (article_head_triples article entity site) (name ∷ []) head named) (badges_fit article link.badges a)) group
 
 found_fit : (entity : EntityId) (link : Link) (found : Option Site) → IfSome found (IsSmallSite (length link.site)) → IsSmallLink link → AllByRecursion HasFitAndShortTerms (found_triples entity link found)
 found_fit entity link None s h = tt

@@ -32,8 +32,8 @@ abbrev pub said : Term → Predicate → Term → Triple
 said subject predicate object = record { subject = subject; predicate = predicate_term predicate; object = object }
 
 -- what the article is, and where
-abbrev pub head_triples : Term → EntityId → Site → List Triple
-head_triples article entity site =
+abbrev pub article_head_triples : Term → EntityId → Site → List Triple
+article_head_triples article entity site =
     said article RdfType (resource_term Article)
     ∷ said article About (entity_term entity)
     ∷ said article InLanguage (Plain site.language)
@@ -50,7 +50,7 @@ group_triple site = said (Iri site.base) WikiGroup (Plain site.group)
 -- the triples of an article of a site
 abbrev pub triples_of : Term → EntityId → Link → Site → List Triple
 triples_of article entity link site =
-    head_triples article entity site
+    article_head_triples article entity site
     ++ said article Name (tagged_of link.title site.language) ∷ []
     ++ map (badge_triple article) link.badges
     ++ group_triple site ∷ []

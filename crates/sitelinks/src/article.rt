@@ -6,7 +6,7 @@ ghost use Rattle.rdf_term.specs.Fit.{HasFitAndShortTerms};
 ghost use Rattle.entity_model.specs.Document.{IsSmallLink};
 ghost use Rattle.triple_sink.specs.Gains.{Gains};
 ghost use Rattle.triple_sink.specs.TermRef.{meant};
-ghost use Rattle.sitelinks.specs.Article.{article_iri, article_triples, badge_triple, group_triple, head_triples, said, site_triples};
+ghost use Rattle.sitelinks.specs.Article.{article_iri, article_triples, badge_triple, group_triple, article_head_triples, said, site_triples};
 ghost use Rattle.rdf_term.specs.Grammar.{tagged_of};
 
 use crate::lookup::site;
@@ -78,7 +78,7 @@ fn emit_head<S: TripleSink>(
     site: &Site,
     out: &mut S,
 ) -> Result<(), OutOfMemory>
-    ensures gains { OnOk result (Gains S.items S.keeps out.old out.new (head_triples (meant article.now) entity site.now)) }
+    ensures gains { OnOk result (Gains S.items S.keeps out.old out.new (article_head_triples (meant article.now) entity site.now)) }
     ensures stays { S.rest out.new ≡ S.rest out.old }
 {
     let class = TermRef::Iri(Resource::Article.text());

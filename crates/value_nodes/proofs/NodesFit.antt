@@ -23,7 +23,7 @@ use Rattle.value_nodes.specs.Terms.{amount_term}
 use Rattle.rdf_vocabulary.proofs.Fit.{predicate_fit, resource_fit, prefixed_fit}
 use Rattle.rdf_vocabulary.proofs.NamesFit.{hashed_name_iri, length-hashed_name}
 use Rattle.value_nodes.specs.Name.{one, number_one, name_fields}
-use Rattle.value_nodes.specs.Nodes.{about, unit_term, bound_triples, precision_triples, part_triples, named_triples, node_triples}
+use Rattle.value_nodes.specs.Nodes.{about, unit_term, bound_triples, precision_triples, value_part_triples, named_triples, node_triples}
 use Rattle.value_nodes.proofs.Fit.{iri_fit, literal_fit, amount_term_fit, time_term_fit}
 
 about_fit : (node : Term) (predicate : Predicate) (object : Term) → IsFitAndShort node → IsFitAndShort object → HasFitAndShortTerms (about node predicate object)
@@ -49,7 +49,7 @@ precision_fit : (node : Term) (precision : Option (List ℕ)) → IsFitAndShort 
 precision_fit node None n h = tt
 precision_fit node (Some precision) n h = (about_fit node P.GeoPrecision _ n (literal_fit precision Double (omega arith)), tt)
 
-parts_fit : (node : Term) (value : Value) → IsFitAndShort node → IsSmallValue value → AllByRecursion HasFitAndShortTerms (part_triples node value)
+parts_fit : (node : Term) (value : Value) → IsFitAndShort node → IsSmallValue value → AllByRecursion HasFitAndShortTerms (value_part_triples node value)
 parts_fit node (Time time) n s = (
   about_fit node P.RdfType _ n (resource_fit TimeValue),
   (

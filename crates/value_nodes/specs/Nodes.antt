@@ -68,19 +68,19 @@ globe_triples node globe =
     ++ (about node P.GeoGlobe (iri_of globe.globe) ∷ [])
 
 -- the class and the parts of a value, as they are said of a node
-abbrev pub part_triples : Term → Value → List Triple
-part_triples node (Time time) = (type_triple node TimeValue ∷ []) ++ time_triples node time
-part_triples node (Quantity quantity) = (type_triple node QuantityValue ∷ []) ++ quantity_triples node quantity
-part_triples node (Globe globe) = (type_triple node GlobecoordinateValue ∷ []) ++ globe_triples node globe
-part_triples node (Entity id) = []
-part_triples node (Str text) = []
-part_triples node (Mono tagged) = []
-part_triples node Other = []
+abbrev pub value_part_triples : Term → Value → List Triple
+value_part_triples node (Time time) = (type_triple node TimeValue ∷ []) ++ time_triples node time
+value_part_triples node (Quantity quantity) = (type_triple node QuantityValue ∷ []) ++ quantity_triples node quantity
+value_part_triples node (Globe globe) = (type_triple node GlobecoordinateValue ∷ []) ++ globe_triples node globe
+value_part_triples node (Entity id) = []
+value_part_triples node (Str text) = []
+value_part_triples node (Mono tagged) = []
+value_part_triples node Other = []
 
 -- the triples of a value's node, if it has one
 abbrev pub named_triples : Value → Option (List ℕ) → List Triple
 named_triples value None = []
-named_triples value (Some name) = part_triples (prefixed Wdv name) value
+named_triples value (Some name) = value_part_triples (prefixed Wdv name) value
 
 abbrev pub node_triples : MappingVersion → Value → List Triple
 node_triples version value = named_triples value (node_name version value)

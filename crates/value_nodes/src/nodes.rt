@@ -5,7 +5,7 @@ ghost use Rattle.std.specs.Option.{option_copied};
 ghost use Rattle.rdf_vocabulary.specs.Datatype.{typed};
 ghost use Rattle.triple_sink.specs.Gains.{Gains};
 ghost use Rattle.triple_sink.specs.TermRef.{meant};
-ghost use Rattle.value_nodes.specs.Nodes.{about, bound_triples, globe_triples, part_triples, precision_triples, quantity_triples, time_triples, type_triple, unit_term};
+ghost use Rattle.value_nodes.specs.Nodes.{about, bound_triples, globe_triples, value_part_triples, precision_triples, quantity_triples, time_triples, type_triple, unit_term};
 
 use crate::simple::{emit_amount, emit_iri, emit_time};
 use entity_model::{GlobeParts, QuantityParts, TimeParts, Value};
@@ -21,7 +21,7 @@ pub fn emit_parts<S: TripleSink>(
     value: &Value,
     out: &mut S,
 ) -> Result<(), OutOfMemory>
-    ensures gains { OnOk result (Gains S.items S.keeps out.old out.new (part_triples (meant node.now) value.now)) }
+    ensures gains { OnOk result (Gains S.items S.keeps out.old out.new (value_part_triples (meant node.now) value.now)) }
     ensures stays { S.rest out.new ≡ S.rest out.old }
 {
     match value {

@@ -51,5 +51,7 @@ pub record IsDated (written : CalendarDate) : Type 0 where
 -- a date that is converted is the same day in the Julian calendar; and every other date is a Gregorian one already
 pub data MeansDay (written : CalendarDate) (precision : ℕ) (julian : Bool) (day : CalendarDate) : Type 0 where
   long_year : IsDated written → 9999 < unsigned_abs written.year → day ≡ january_first written → MeansDay written precision julian day
-  converted : IsDated written → IsTrue (is_converted written precision julian) → IsDate Julian (first_of written) → IsDate Gregorian day → IsSameDay (first_of written) day → MeansDay written precision julian day
-  kept : IsDated written → unsigned_abs written.year ≤ 9999 → IsFalse (is_converted written precision julian) → IsDate Gregorian (first_of written) → day ≡ first_of written → MeansDay written precision julian day
+  converted : IsDated written → IsTrue (is_converted written precision julian) → IsDate Julian (first_of written)
+      → IsDate Gregorian day → IsSameDay (first_of written) day → MeansDay written precision julian day
+  kept : IsDated written → unsigned_abs written.year ≤ 9999 → IsFalse (is_converted written precision julian)
+      → IsDate Gregorian (first_of written) → day ≡ first_of written → MeansDay written precision julian day

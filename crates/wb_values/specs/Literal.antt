@@ -37,8 +37,10 @@ time_literal text precision julian = literal_of text (meant_time text precision 
 -- the literal of a time's text, by its parts: where the text writes a date that means a day, that day and the clock as
 -- they stand in xsd:dateTime; and else the text
 pub data IsLiteral (text : List ℕ) (precision : ℕ) (julian : Bool) (literal : TimeText) : Type 0 where
-  date_time : (written : CalendarDate) (clock : List ℕ) (day : CalendarDate) → IsWritten text written clock → MeansDay written precision julian day → literal ≡ DateTime (date_time_text day clock) → IsLiteral text precision julian literal
-  plain : ((written : CalendarDate) (clock : List ℕ) (day : CalendarDate) → IsWritten text written clock → ¬ (MeansDay written precision julian day)) → literal ≡ Plain text → IsLiteral text precision julian literal
+  date_time : (written : CalendarDate) (clock : List ℕ) (day : CalendarDate) → IsWritten text written clock → MeansDay written precision julian day
+      → literal ≡ DateTime (date_time_text day clock) → IsLiteral text precision julian literal
+  plain : ((written : CalendarDate) (clock : List ℕ) (day : CalendarDate) → IsWritten text written clock → ¬ (MeansDay written precision julian day))
+      → literal ≡ Plain text → IsLiteral text precision julian literal
 
 -- it is a literal of the text, and the text has no other
 pub record IsOnlyLiteral (text : List ℕ) (precision : ℕ) (julian : Bool) (literal : TimeText) : Type 0 where

@@ -1,5 +1,6 @@
 -- Entities, and pages.
-use Rattle.std.specs.Prelude.{ℕ, List, [], Option, None, Some, option_map, codes}
+use Rattle.std.specs.Prelude.{ℕ, cond, List, [], Option, None, Some, option_map, codes}
+use Rattle.std.specs.Str.{bytes_eq}
 use Rattle.json_spell.specs.Tree.{Tree, member_of}
 use Rattle.entity_model.specs.declared.id.IdKind.{IdKind}
 use Rattle.entity_model.specs.declared.id.IdKind.TheVariants.{P, Q}
@@ -10,9 +11,16 @@ use Rattle.entity_json.specs.declared.page.Page.{Page}
 use Rattle.entity_json.specs.Leaves.{◌>>=◌, text_at, id_at, id_of_kind_at, optional_text_at}
 use Rattle.entity_json.specs.Maps.{only_of}
 use Rattle.entity_json.specs.Reading.Terms.{labels_at, aliases_at}
-use Rattle.entity_json.specs.Reading.Values.{kind_at}
 use Rattle.entity_json.specs.Reading.Statements.{statements_at}
 use Rattle.entity_json.specs.Reading.Links.{links_at}
+
+-- the kind of the entities whose pages have the type
+abbrev pub kind_of_type : List ℕ → Option IdKind
+kind_of_type type = cond (bytes_eq type (codes "item")) (Some Q) (cond (bytes_eq type (codes "property")) (Some P) None)
+
+-- the kind of the entity whose page it is
+unfoldable pub page_kind : Tree → Option IdKind
+page_kind t = text_at (codes "type") t >>= kind_of_type
 
 -- the datatype, which a property alone has
 abbrev pub datatype_by_kind : IdKind → Tree → Option (Option (List ℕ))
@@ -27,7 +35,7 @@ links_by_kind Q t = links_at (codes "sitelinks") t
 -- an item or a property
 unfoldable pub entity_of : Tree → Option Entity
 entity_of t = do
-  kind ← kind_at (codes "type") t
+  kind ← page_kind t
   id ← id_of_kind_at kind (codes "id") t
   datatype ← datatype_by_kind kind t
   modified ← optional_text_at (codes "modified") t

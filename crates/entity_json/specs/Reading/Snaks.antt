@@ -33,8 +33,8 @@ content_named type t =
     (cond (bytes_eq type (codes "novalue")) (Some NoValue)
     (cond (bytes_eq type (codes "somevalue")) (Some SomeValue) None))
 
-unfoldable pub content_of : Tree → Option Content
-content_of t = text_at (codes "snaktype") t >>= λ type. content_named type t
+unfoldable pub snak_content : Tree → Option Content
+snak_content t = text_at (codes "snaktype") t >>= λ type. content_named type t
 
 -- the snak under a property, at its place
 unfoldable pub snak_of : List ℕ → EntityId → ℕ → Tree → Option Snak
@@ -42,7 +42,7 @@ snak_of key property place t = do
   named ← text_at (codes "property") t
   cond (bytes_eq named key) (do
     datatype ← datatype_of t
-    content ← content_of t
+    content ← snak_content t
     Some (record { property = property; place = place; datatype = datatype; content = content }))
       None
 

@@ -8,19 +8,19 @@ use Rattle.entity_json.specs.Joined.{numbered}
 use Rattle.entity_json.specs.Reading.Steps.{steps, put}
 
 -- a text and its language, with the text under the name
-unfoldable pub tagged_of : List ℕ → Tree → Option Tagged
-tagged_of name t = do
+unfoldable pub tagged_under : List ℕ → Tree → Option Tagged
+tagged_under name t = do
   language ← text_at (codes "language") t
   text ← text_at name t
   Some (record { text = text; language = language })
 
 -- one label, by its member of the map
 abbrev pub label_step : List ℕ × Tree → List Tagged → Option (List Tagged)
-label_step member out = put out (tagged_of (codes "value") member.1)
+label_step member out = put out (tagged_under (codes "value") member.1)
 
 -- one alias, by its place in the list
 abbrev pub alias_step : ℕ × Tree → List Tagged → Option (List Tagged)
-alias_step item out = put out (tagged_of (codes "value") item.1)
+alias_step item out = put out (tagged_under (codes "value") item.1)
 
 -- the aliases of one member of the map
 unfoldable pub aliases_step : List ℕ × Tree → List Tagged → Option (List Tagged)

@@ -2,37 +2,34 @@
 use Rattle.std.specs.Prelude.{ℕ, cond, List, ◌∷◌, Option, None, Some, option_map, codes}
 use Rattle.std.specs.Str.{bytes_eq}
 use Rattle.json_spell.specs.Tree.{Tree, member_of}
-use Rattle.entity_model.specs.declared.id.IdKind.TheVariants.{P, Q}
-use Rattle.entity_model.specs.declared.id.IdKind.{IdKind}
 use Rattle.entity_model.specs.declared.value.Value.{Value}
 use Rattle.entity_model.specs.declared.value.Value.TheVariants.{Entity, Str, Time, Quantity, Globe, Mono, Other}
 use Rattle.entity_model.specs.declared.value.TimeParts.{TimeParts}
 use Rattle.entity_model.specs.declared.value.QuantityParts.{QuantityParts}
 use Rattle.entity_model.specs.declared.value.GlobeParts.{GlobeParts}
-use Rattle.entity_model.specs.IdKind.{letter_of}
 use Rattle.entity_model.specs.IdOf.{id_of}
 use Rattle.entity_model.specs.Value.{is_entity_text}
 use Rattle.entity_json.specs.Leaves.{◌>>=◌, text_of, text_at, number_at, optional_text_at, nullable_number_at, is_whole, small_of}
-use Rattle.entity_json.specs.Reading.Terms.{tagged_of}
+use Rattle.entity_json.specs.declared.values.NumberedType.{NumberedType}
+use Rattle.entity_json.specs.declared.values.NumberedType.TheVariants.{Property, Item}
+use Rattle.entity_json.specs.Values.{numbered_letter}
+use Rattle.entity_json.specs.Reading.Terms.{tagged_under}
 
--- the kind of an entity that is named in full
-abbrev pub kind_named : List ℕ → Option IdKind
-kind_named name = cond (bytes_eq name (codes "item")) (Some Q) (cond (bytes_eq name (codes "property")) (Some P) None)
+-- the type with the word
+abbrev pub numbered_type : List ℕ → Option NumberedType
+numbered_type word = cond (bytes_eq word (codes "item")) (Some Item) (cond (bytes_eq word (codes "property")) (Some Property) None)
 
--- the kind that a member names
-unfoldable pub kind_at : List ℕ → Tree → Option IdKind
-kind_at name t = text_at name t >>= kind_named
-
--- the id with the kind's letter and a number as it is spelled
-unfoldable pub numeric_id : IdKind → List ℕ → Option (List ℕ)
-numeric_id kind spelling = id_of (letter_of kind ∷ spelling) >>= λ id. Some (letter_of kind ∷ spelling)
+-- the id with the type's letter and a number as it is spelled
+unfoldable pub numeric_id : NumberedType → List ℕ → Option (List ℕ)
+numeric_id type spelling = id_of (numbered_letter type ∷ spelling) >>= λ id. Some (numbered_letter type ∷ spelling)
 
 -- the id of an entity that is given by its type and number
 unfoldable pub numbered_entity : Tree → Option (List ℕ)
 numbered_entity t = do
-  kind ← kind_at (codes "entity-type") t
+  word ← text_at (codes "entity-type") t
+  type ← numbered_type word
   spelling ← number_at (codes "numeric-id") t
-  numeric_id kind spelling
+  numeric_id type spelling
 
 -- the id of an entity, by its text where that is there
 abbrev pub entity_by : Option Tree → Tree → Option (List ℕ)
@@ -80,7 +77,7 @@ value_of_type type t =
     (cond (bytes_eq type (codes "time")) (option_map Time (time_of t))
     (cond (bytes_eq type (codes "quantity")) (option_map Quantity (quantity_of t))
     (cond (bytes_eq type (codes "globecoordinate")) (option_map Globe (globe_of t))
-    (cond (bytes_eq type (codes "monolingualtext")) (option_map Mono (tagged_of (codes "text") t))
+    (cond (bytes_eq type (codes "monolingualtext")) (option_map Mono (tagged_under (codes "text") t))
     (Some Other))))))
 
 -- a data value

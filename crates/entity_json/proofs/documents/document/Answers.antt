@@ -4,7 +4,7 @@ use Rattle.std.proofs.lemmas.Result.{err_from_is_err_and}
 use Rattle.json_spell.specs.View.{json_view}
 use Rattle.entity_json.specs.Document.{page_limit, unfit_by}
 use Rattle.entity_json.proofs.Outcomes.{outcome-large}
-use Rattle.entity_json.proofs.AnswerLemmas.{text-refused, page-refused, page-told, small-told}
+use Rattle.entity_json.proofs.AnswerLemmas.{text-refused, page-refused, page-told, small-told, owned-told}
 use Rattle.entity_json.proofs.documents.document.Goals as goal
 
 pub returns-then-bytes-gt-PAGE_LIMIT-clause-answer : goal.returns-then-bytes-gt-PAGE_LIMIT-clause-answer
@@ -32,4 +32,10 @@ pub returns-clause-small : goal.returns-clause-small
 returns-clause-small c =
     let short : length c.args.bytes.now ≤ page_limit = omega arith in
     small-told c.args.id c.args.bytes.now c.own_document.result
+    (page-told c.args.id c.args.bytes.now (json_view c.in_ok-json.json) c.in_ok-page_of.field-0 c.own_document.result short c.in_ok-json.ensures.0 c.in_ok-json.ensures.1 c.in_ok-page_of.ensures c.own_document.ensures)
+
+pub returns-clause-owned : goal.returns-clause-owned
+returns-clause-owned c =
+    let short : length c.args.bytes.now ≤ page_limit = omega arith in
+    owned-told c.args.id c.args.bytes.now c.own_document.result
     (page-told c.args.id c.args.bytes.now (json_view c.in_ok-json.json) c.in_ok-page_of.field-0 c.own_document.result short c.in_ok-json.ensures.0 c.in_ok-json.ensures.1 c.in_ok-page_of.ensures c.own_document.ensures)

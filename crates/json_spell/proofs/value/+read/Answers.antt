@@ -9,7 +9,7 @@ use Rattle.json_spell.specs.View.{json_view, member_view, trees_of, pairs_of}
 use Rattle.json_spell.specs.Reading.{read_map, content_at, list_by, add_pair, spaced, member_by, value_at, values_at, members_at}
 use Rattle.json_spell.specs.Nesting.{AllNest, MembersNest}
 use Rattle.json_spell.proofs.Nested.{all-push, members-push, scalar-nests}
-use Rattle.json_spell.proofs.GivesLemmas.{Refuses-passed}
+use Rattle.json_spell.proofs.ParsesLemmas.{Refuses-passed}
 use Rattle.json_spell.proofs.ListSteps.{onto, list_by-open, so-none, so-end, so-other, so-closed, so-more}
 use Rattle.json_spell.proofs.ValueSteps.{value_at-end, value_at-string, value_at-array, value_at-object, value_at-scalar, values_at-is, members_at-is}
 use Rattle.json_spell.proofs.value.+read.Goals as goal

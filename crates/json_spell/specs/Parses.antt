@@ -9,6 +9,6 @@ Refuses Deep there = Unit {0}
 Refuses NotJson there = there ≡ None
 Refuses OutOfMemory there = Unit {0}
 
-abbrev pub Gives : {A B : Type 0} → (A → B) → Result A JsonFault → Option B → Type 0
-Gives view (Ok a) there = there ≡ Some (view a)
-Gives view (Err fault) there = Refuses fault there
+abbrev pub Parses : {A B : Type 0} → (A → B) → Result A JsonFault → Option B → Type 0
+Parses view (Ok a) there = there ≡ Some (view a)
+Parses view (Err fault) there = Refuses fault there
