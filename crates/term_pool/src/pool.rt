@@ -37,6 +37,7 @@ pub struct Pool {
 
 impl Pool {
     ghost use Rattle.term_pool.specs.Pool.{LiesIn, IsCanonical, IsNowhere, Interned, KeepsForeign, Released, SameSlots, count_at, terms, text_at};
+    ghost use Rattle.term_pool.specs.Index.{hash_of};
     ghost use Rattle.term_pool.specs.Making.{HasRoom, HasSame};
 
     /// A pool without terms, which takes no memory. Its hashes are keyed by `keys`.
@@ -88,7 +89,16 @@ impl Pool {
         ensures found { IfSome result (λ slot. text_at self.now region.now slot.number ≡ Some text.now) }
         ensures nowhere { IfNone result (IsNowhere self.now region.now text.now) }
     {
-        let hash = text_hash(&self.keys, text);
+        self.find_hashed(region, text_hash(&self.keys, text), text)
+    }
+
+    // The slot of the term with this canonical text, whose hash is known.
+    fn find_hashed(&self, region: &Region, hash: u64, text: &[u8]) -> Option<Slot>
+        requires lies { LiesIn self.now region.now }
+        requires hash { hash ≡ hash_of self.now.keys text.now }
+        ensures found { IfSome result (λ slot. text_at self.now region.now slot.number ≡ Some text.now) }
+        ensures nowhere { IfNone result (IsNowhere self.now region.now text.now) }
+    {
         if let Some(number) = self.by_hash.get(&hash) {
             if self.has_text(region, *number, text) {
                 return Some(Slot { number: *number });
@@ -139,12 +149,13 @@ impl Pool {
         ensures foreign { KeepsForeign self.old region.old self.new region.new }
         ensures limit { self.new.limit ≡ self.old.limit }
     {
-        match self.find_text(region, text) {
+        let hash = text_hash(&self.keys, text);
+        match self.find_hashed(region, hash, text) {
             Some(slot) => {
                 raise(&mut self.slots, slot.number);
                 Ok(slot)
             }
-            None => self.add(region, text),
+            None => self.add(region, hash, text),
         }
     }
 
@@ -201,9 +212,10 @@ impl Pool {
         u32::try_from(self.slots.vacant_key()).map_err(|_| OutOfMemory)
     }
 
-    // Takes in a term that isn't there.
-    fn add(&mut self, region: &mut Region, text: &[u8]) -> Result<Slot, PoolFault>
+    // Takes in a term that isn't there, by the hash of its text.
+    fn add(&mut self, region: &mut Region, hash: u64, text: &[u8]) -> Result<Slot, PoolFault>
         requires lies { LiesIn self.old region.old }
+        requires hash { hash ≡ hash_of self.old.keys text.now }
         requires canonical { IsCanonical text.now }
         requires nowhere { IsNowhere self.old region.old text.now }
         ensures lies { LiesIn self.new region.new }
@@ -227,7 +239,6 @@ impl Pool {
             piece,
             count: Count::one(),
         });
-        let hash = text_hash(&self.keys, text);
         point(&mut self.by_hash, &mut self.more, hash, number);
         Ok(Slot { number })
     }

@@ -29,7 +29,7 @@ pub returns-clause-lies : goal.returns-clause-lies
 returns-clause-lies c =
     let same = c.make_room.ensures.same in
     let points : Points (map_get ◌==◌ c.make_room.new.self.by_hash) (map_get ◌==◌ c.point.new.by_hash) c.make_room.new.self.more.items c.point.new.more.items (hash_of c.make_room.new.self.keys c.args.text.now) c.in-Ok.number =
-    subst (λ h. Points (map_get ◌==◌ c.make_room.new.self.by_hash) (map_get ◌==◌ c.point.new.by_hash) c.make_room.new.self.more.items c.point.new.more.items h c.in-Ok.number) c.text_hash-hash.ensures c.point.ensures in
+    subst (λ h. Points (map_get ◌==◌ c.make_room.new.self.by_hash) (map_get ◌==◌ c.point.new.by_hash) c.make_room.new.self.more.items c.point.new.more.items h c.in-Ok.number) (c.requires.hash ∙ ap (λ k. hash_of k c.args.text.now) (sym same.keys)) c.point.ensures in
     lies_added c.make_room.new.self _ c.args.region.now c.place.new.self c.in-Ok.number (others c) (lies_same c.args.self.now c.make_room.new.self c.args.region.now c.requires.lies same)
     (record { piece = c.in-Ok-place.piece; count = c.one.result }) c.args.text.now c.in-Ok-place.ensures.updates.others c.in-Ok-place.ensures.was_vacant c.in-Ok.ensures.room.vacant (there c) c.in-Ok-place.ensures.updates.changed
     (omega (arith, c.one.ensures)) c.requires.canonical (nowhere_same c.args.self.now c.make_room.new.self c.args.region.now c.args.text.now same c.requires.nowhere) points refl
