@@ -1,6 +1,9 @@
 -- By which version of the mapping what is held is mapped, where a part of it may be mapped by another than the rest.
 use Rattle.std.specs.Prelude.{Bool, cond, List, [], filter, is_some}
+use Rattle.std.specs.BTreeSet.{insert_key}
 use Rattle.std.specs.FinMap as map
+use Rattle.std.specs.Ordering.{eq_by_cmp}
+use Rattle.std.specs.Set.{remove_key}
 use Rattle.rising.specs.Rising.{has}
 use Rattle.entity_model.specs.declared.id.EntityId.{EntityId}
 use Rattle.entity_model.specs.declared.mapping.MappingVersion.{MappingVersion}
@@ -29,3 +32,8 @@ holders records = filter (is_holder records) (map.keys records)
 abbrev pub all_by : MappingVersion → Records → List EntityId
 all_by One records = []
 all_by Two records = holders records
+
+-- the entities that hold by version Two once what x holds is mapped by this version
+abbrev pub with_version : MappingVersion → EntityId → List EntityId → List EntityId
+with_version One x second = remove_key (eq_by_cmp entity_cmp x) second
+with_version Two x second = insert_key entity_cmp second x

@@ -1,8 +1,5 @@
 -- What contracts see of a world, and what becomes of the versions by which its documents are mapped.
 use Rattle.std.specs.Prelude.{◌≡◌, ℕ, Bool, true, false, cond, List, [], ◌∷◌, Option, None, Some, filter}
-use Rattle.std.specs.Ordering.{eq_by_cmp}
-use Rattle.std.specs.BTreeSet.{insert_key}
-use Rattle.std.specs.Set.{remove_key}
 use Rattle.rising.specs.Rising.{has, IsRising}
 use Rattle.rdf_term.specs.declared.triple.Triple.{Triple}
 use Rattle.entity_model.specs.declared.id.EntityId.{EntityId}
@@ -13,7 +10,7 @@ use Rattle.replay_model.specs.Records.{Records, record_of}
 use Rattle.replay_model.specs.Play.{Played}
 use Rattle.replay_model.specs.ReplayState.{ReplayState}
 use Rattle.replay_model.specs.Union.{Meaning, triples_held}
-use Rattle.replay_model.specs.Versions.{holders, is_holder, version_at}
+use Rattle.replay_model.specs.Versions.{holders, is_holder, version_at, with_version}
 use Rattle.world.specs.declared.applied.Outcome.{Outcome}
 use Rattle.world.specs.declared.applied.Outcome.TheVariants.{Same, Stored, Dropped, Sided}
 
@@ -52,11 +49,6 @@ stale_by mapping second records = filter (λ x. differ mapping (version_at secon
 abbrev pub first_of : {A : Type 0} → List A → Option A
 first_of [] = None
 first_of (x ∷ xs) = Some x
-
--- the entities that hold by version Two once what x holds is mapped by this version
-abbrev pub with_version : MappingVersion → EntityId → List EntityId → List EntityId
-with_version One x second = remove_key (eq_by_cmp entity_cmp x) second
-with_version Two x second = insert_key entity_cmp second x
 
 -- the same for the entity that is there, if one is
 abbrev pub with_version_of : MappingVersion → Option EntityId → List EntityId → List EntityId
