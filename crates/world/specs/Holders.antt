@@ -15,6 +15,11 @@ pub record ByVersion : Type 0 where
   pub first : List EntityId
   pub second : List EntityId
 
+-- the version that isn't this one
+abbrev pub other_version : MappingVersion → MappingVersion
+other_version One = Two
+other_version Two = One
+
 -- those that hold by a version
 abbrev pub held_by : ByVersion → MappingVersion → List EntityId
 held_by ids One = ids.first

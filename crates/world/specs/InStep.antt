@@ -10,7 +10,10 @@ use Rattle.triple_store.specs.Counts.{Counts, count_of}
 use Rattle.triple_store.specs.Stored.{AreKeysOf, IsStored, beside, counts_in}
 use Rattle.replay_model.specs.Records.{Records}
 use Rattle.replay_model.specs.Union.{Meaning, owners, triples_held}
+use Rattle.replay_model.specs.Versions.{meaning_by}
+use Rattle.world.specs.Holders.{AreBy, ByVersion}
 use Rattle.world.specs.Keeping.{KeptRecords, PieceTexts, held_with, kept_of, keys_held, piece_at, seen}
+use Rattle.world.specs.Meaning.{meaning}
 
 -- the count of each triple is the number of the entities that hold it
 pub record IsCounted (m : Meaning Triple) (counts : Counts) (records : Records) : Type 0 where
@@ -33,3 +36,8 @@ pub record IsKept (m : Meaning Triple) (store : Store) (region : Texts) (kept : 
   pub counted : IsCounted m (counts_in store region) (seen store region kept)
   pub held : IsHeld (beside store region) (piece_at kept)
   pub keyed : (x : EntityId) → AreKeysOf store region (keys_held (kept_of kept x).held) (triples_kept m (beside store region) kept x)
+
+-- the same where each document means what it means by the version that its entity is named by
+pub record AreInStep (store : Store) (region : Texts) (ids : ByVersion) (kept : KeptRecords) : Type 0 where
+  pub kept : IsKept (meaning_by meaning ids.second) store region kept
+  pub by : AreBy ids kept

@@ -11,6 +11,7 @@ use Rattle.replay_model.specs.Play.{Played}
 use Rattle.replay_model.specs.ReplayState.{ReplayState}
 use Rattle.replay_model.specs.Union.{Meaning, triples_held}
 use Rattle.replay_model.specs.Versions.{holders, is_holder, version_at, with_version}
+use Rattle.world.specs.Meaning.{meaning}
 use Rattle.world.specs.declared.applied.Outcome.{Outcome}
 use Rattle.world.specs.declared.applied.Outcome.TheVariants.{Same, Stored, Dropped, Sided}
 
@@ -63,8 +64,11 @@ second_after Dropped mapping x second = with_version One x second
 second_after (Sided cause) mapping x second = second
 
 -- the version by which what x holds is mapped, if it holds a document
+abbrev pub version_in : List EntityId → Records → EntityId → Option MappingVersion
+version_in second records x = cond (is_holder records x) (Some (version_at second x)) None
+
 abbrev pub held_version : WorldState → EntityId → Option MappingVersion
-held_version w x = cond (is_holder w.replay.played.records x) (Some (version_at w.second x)) None
+held_version w x = version_in w.second w.replay.played.records x
 
 -- the entities whose held version isn't the one in force, in rising order
 abbrev pub stale : WorldState → List EntityId
@@ -75,10 +79,17 @@ abbrev pub next_stale : WorldState → Option EntityId
 next_stale w = first_of (stale w)
 
 -- the least of them, if there is one, holds by the version in force now
+abbrev pub remapped_pages : PagesState → PagesState
+remapped_pages p = record p { second = with_version_of p.mapping (first_of (stale_by p.mapping p.second p.played.records)) p.second }
+
 abbrev pub remapped : WorldState → WorldState
 remapped w = record w { second = with_version_of w.mapping (next_stale w) w.second }
 
--- what the document of this entity means by the version in force
-abbrev pub triples_anew : (MappingVersion → Meaning Triple) → WorldState → Option EntityId → List Triple
-triples_anew meaning w None = []
-triples_anew meaning w (Some x) = triples_held (meaning w.mapping) x (record_of w.replay.played.records x).held
+-- what the document of an entity means, if there is one
+abbrev pub triples_of : Meaning Triple → Records → Option EntityId → List Triple
+triples_of meaning records None = []
+triples_of meaning records (Some x) = triples_held meaning x (record_of records x).held
+
+-- what the document of the least stale entity means by the version in force
+abbrev pub triples_anew : WorldState → List Triple
+triples_anew w = triples_of (meaning w.mapping) w.replay.played.records (next_stale w)

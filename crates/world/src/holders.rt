@@ -1,9 +1,9 @@
 // The entities that hold a page, by the version of the mapping that it is mapped by.
 
-ghost use Rattle.std.specs.Prelude.{◌≡◌, [], not, length, IfOk, OnErr, OnOk};
+ghost use Rattle.std.specs.Prelude.{◌≡◌, [], not, length, if◌then◌else◌, IfOk, OnErr, OnOk};
 ghost use Rattle.rising.specs.Rising.{has};
 ghost use Rattle.entity_model.specs.EntityId.{entity_cmp};
-ghost use Rattle.world.specs.Holders.{held_by, with_holder, without_holder};
+ghost use Rattle.world.specs.Holders.{held_by, other_version, with_holder, without_holder};
 ghost use Rattle.world.specs.WorldState.{first_of};
 
 use entity_model::{EntityId, MappingVersion};
@@ -68,6 +68,15 @@ impl Holders {
         }
     }
 
+    /// Takes back what `add` did, which said whether the entity is new.
+    pub fn take_back(&mut self, id: EntityId, version: MappingVersion, added: bool)
+        ensures { self.new ≡ (if added then without_holder self.old id version else self.old) }
+    {
+        if added {
+            self.remove(id, version);
+        }
+    }
+
     /// Whether the entity is among those of a version.
     pub fn has(&self, id: EntityId, version: MappingVersion) -> bool
         ensures { result ≡ has entity_cmp id (held_by self.now version) }
@@ -103,5 +112,15 @@ impl Holders {
             MappingVersion::One => &self.first,
             MappingVersion::Two => &self.second,
         }
+    }
+}
+
+/// The version that isn't this one.
+pub fn other(version: MappingVersion) -> MappingVersion
+    ensures { result ≡ other_version version }
+{
+    match version {
+        MappingVersion::One => MappingVersion::Two,
+        MappingVersion::Two => MappingVersion::One,
     }
 }

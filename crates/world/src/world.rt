@@ -241,9 +241,9 @@ impl World {
         ensures entity { IfOk result (λ entity. entity ≡ next_stale self.old) }
         ensures fewer { IfOk result (λ entity. IfSome entity (λ _. length (stale self.new) + 1 ≡ length (stale self.old))) }
         ensures full { IsErrOf result Full → self.old.room
-            < room_with (meaning_by meaning self.old.second) self.old.replay.played.records (triples_anew meaning self.old (next_stale self.old)) }
+            < room_with (meaning_by meaning self.old.second) self.old.replay.played.records (triples_anew self.old) }
         ensures within { OnOk result (room_with (meaning_by meaning self.old.second) self.old.replay.played.records
-            (triples_anew meaning self.old (next_stale self.old)) ≤ self.old.room) }
+            (triples_anew self.old) ≤ self.old.room) }
         ensures held { HasRoom (meaning_by meaning self.new.second) self.new.room self.new.replay.played.records }
         ensures holders { AreHolders self.new.second self.new.replay.played.records }
         ensures err { OnErr result (self.new ≡ self.old) }
