@@ -1,5 +1,5 @@
 -- What a page means has fit and short terms.
-use Rattle.std.proofs.Common.{◌≡◌, ℕ, ◌≤◌, Bool, true, false, cond, nat_lt, List, [], ◌∷◌, Option, Some, None, Result, Err, is_some, length, refl, sym, ◌∙◌, ap, subst, true≢false, flat_map, arith}
+use Rattle.std.proofs.Common.{◌≡◌, ℕ, ◌≤◌, Bool, true, false, cond, nat_lt, List, [], ◌∷◌, Option, Some, None, Result, Ok, Err, is_some, length, refl, sym, ◌∙◌, ap, subst, true≢false, flat_map, arith}
 use Rattle.std.specs.FinMap as map
 use Rattle.std.specs.List.{AllByRecursion}
 use Rattle.std.proofs.lemmas.Bool.{ltb-false}
@@ -23,6 +23,10 @@ use Rattle.munger.proofs.Fit.{flat_map_each, sorted_each}
 use Rattle.replay_model.specs.Records.{Bytes, Records}
 use Rattle.replay_model.specs.Union.{triples_at, triples_held, union}
 use Rattle.replay_model.specs.Versions.{meaning_by, version_at}
+use Rattle.revisions.specs.Revisions.{Contents}
+use Rattle.side_output.specs.declared.entry.Cause.{Cause}
+use Rattle.replay_model.specs.Replies.{GivesDocument}
+use Rattle.world.specs.Applying.{IsReply}
 use Rattle.world.specs.Fetched.{IsPageOf}
 use Rattle.world.specs.Meaning.{document_triples, meaning, triples_if}
 
@@ -70,3 +74,8 @@ page_of v x rev bytes other ts is meant fit short = record {
   fit = fit;
   short = subst (λ (b : List ℕ). length b ≤ 33554432) (sym is) short;
 }
+
+-- a reply of a source that gives bytes gives a document
+pub reply_gives : (told : Option Contents) (place : List ℕ) (x : EntityId) (rev : ℕ) (reply : Result Bytes Cause) → IsReply told place x rev reply → GivesDocument unfit_of x reply
+reply_gives told place x rev (Ok bytes) is = is.0
+reply_gives told place x rev (Err cause) is = tt

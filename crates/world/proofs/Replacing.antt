@@ -179,7 +179,7 @@ kept_refused m st r st2 r2 kept h stored counts keeps texts = record {
 }
 
 -- a piece that was placed and freed again
-placed_freed : (f f1 f2 k : PieceTexts) (piece : Piece) (bytes : Bytes) → Changes f f1 piece None (Some bytes) → ((p : Piece) → f2 p ≡ f1 p) → Changes f2 k piece (f2 piece) None → (p : Piece) → k p ≡ f p
+pub placed_freed : (f f1 f2 k : PieceTexts) (piece : Piece) (bytes : Bytes) → Changes f f1 piece None (Some bytes) → ((p : Piece) → f2 p ≡ f1 p) → Changes f2 k piece (f2 piece) None → (p : Piece) → k p ≡ f p
 placed_freed f f1 f2 k piece bytes placed texts freed p = ⊎_elim
     (λ own. ap k own.1 ∙ freed.is ∙ sym placed.was ∙ ap f (sym own.1))
     (λ other. freed.others p other.1 ∙ texts p ∙ placed.others p other.1)

@@ -5,6 +5,7 @@ use Rattle.entity_model.specs.declared.id.EntityId.{EntityId}
 use Rattle.entity_model.specs.EntityId.{entity_cmp}
 use Rattle.entity_state.specs.declared.record.Record.{Record}
 use Rattle.entity_state.specs.Record.{blank}
+use Rattle.rdf_term.specs.declared.triple.Triple.{Triple}
 use Rattle.text_region.specs.declared.piece.Piece.{Piece}
 use Rattle.text_region.specs.Region.{Texts, blocks_of, bytes_of}
 use Rattle.text_region.specs.Blocks.{Blocks, block_at}
@@ -17,7 +18,9 @@ use Rattle.replay_model.specs.Play.{nothing_played}
 use Rattle.world.specs.Holders.{AreBy, ByVersion}
 use Rattle.world.specs.WorldState.{PagesState}
 use Rattle.entity_model.specs.declared.mapping.MappingVersion.TheVariants.{One}
-use Rattle.replay_model.specs.Records.{Records}
+use Rattle.entity_json.specs.Document.{unfit_of}
+use Rattle.replay_model.specs.Records.{Bytes, Records, record_of}
+use Rattle.replay_model.specs.Replies.{HoldsDocument}
 use Rattle.world.specs.declared.kept.Kept.{Kept}
 use Rattle.world.specs.InStep.{IsCounted, IsKept}
 use Rattle.world.specs.Keeping.{KeptRecords, held_with, kept_of, keys_held, piece_at, piece_held, record_with, seen}
@@ -75,3 +78,7 @@ none_by ids kept no_ids none =
       each = λ x. sym (ap (λ (was : Record Kept). is_some was.held) (none_kept x));
       once = λ x _. refl;
     }))
+
+-- and no document
+pub no_documents : (x : EntityId) → HoldsDocument unfit_of x (record_of map.empty x).held
+no_documents x = subst (λ (r : Record Bytes). HoldsDocument unfit_of x r.held) (sym (ap (λ o. unwrap_or o blank) (map.get-empty entity_cmp x))) tt

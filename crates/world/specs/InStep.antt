@@ -38,6 +38,6 @@ pub record IsKept (m : Meaning Triple) (store : Store) (region : Texts) (kept : 
   pub keyed : (x : EntityId) → AreKeysOf store region (keys_held (kept_of kept x).held) (triples_kept m (beside store region) kept x)
 
 -- the same where each document means what it means by the version that its entity is named by
-pub record AreInStep (store : Store) (region : Texts) (ids : ByVersion) (kept : KeptRecords) : Type 0 where
-  pub kept : IsKept (meaning_by meaning ids.second) store region kept
-  pub by : AreBy ids kept
+pub record AreInStep (store : Store) (region : Texts) (ids : ByVersion) (entities : KeptRecords) : Type 0 where
+  pub kept : IsKept (meaning_by meaning ids.second) store region entities
+  pub by : AreBy ids entities

@@ -1,7 +1,8 @@
 -- What is kept of each entity, and the records that this is with the texts of the region.
-use Rattle.std.specs.Prelude.{◌≡◌, List, [], Option, None, Some, unwrap_or, Vec}
+use Rattle.std.specs.Prelude.{◌≡◌, List, [], Option, None, Some, unwrap_or}
 use Rattle.std.specs.Prelude.{map as mapped}
 use Rattle.std.specs.FinMap as map
+use Rattle.std.specs.Global.{Vec}
 use Rattle.entity_model.specs.declared.id.EntityId.{EntityId}
 use Rattle.entity_model.specs.EntityId.{entity_cmp}
 use Rattle.entity_state.specs.declared.record.Held.{Held}

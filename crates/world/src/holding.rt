@@ -49,7 +49,8 @@ pub fn hold(
       reconciled = after.reconciled;
     })) }
     ensures second { OnOk result (holders.new.second ≡ with_version page.version id holders.old.second) }
-    ensures err { OnErr result ((seen store.new region.new table.new.records ≡ seen store.old region.old table.old.records) × (holders.new ≡ holders.old)) }
+    ensures err { OnErr result (seen store.new region.new table.new.records ≡ seen store.old region.old table.old.records) }
+    ensures err_holders { OnErr result (holders.new ≡ holders.old) }
     ensures full { result ≡ Err Full → limit_of store.old < room_with (meaning_by meaning holders.old.second) (seen store.old region.old table.old.records) (meaning page.version id after.state.rev page.bytes) }
     ensures within { OnOk result (room_with (meaning_by meaning holders.old.second) (seen store.old region.old table.old.records) (meaning page.version id after.state.rev page.bytes) ≤ limit_of store.old) }
     ensures limit { limit_of store.new ≡ limit_of store.old }

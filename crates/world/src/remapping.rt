@@ -1,6 +1,6 @@
 // What an entity holds is mapped anew.
 
-ghost use Rattle.std.specs.Prelude.{◌≡◌, ◌<◌, ◌≤◌, Some, None, Err, IfOk, IfSome, IsSome, MatchOption, OnErr, OnOk};
+ghost use Rattle.std.specs.Prelude.{◌≡◌, ◌<◌, ◌≤◌, true, Some, None, Err, is_some, IfOk, IfSome, IsSome, MatchOption, OnErr, OnOk};
 ghost use Rattle.std.specs.FinMap as map;
 ghost use Rattle.std.specs.List.{AllByRecursion};
 ghost use Rattle.rising.specs.Rising.{sorted};
@@ -41,11 +41,11 @@ pub fn remap(
     version: MappingVersion,
 ) -> Result<(), StoreFault>
     requires step { AreInStep store.old region.old holders.old table.old.records }
-    requires held { IsSome (kept_of table.old.records id).held }
+    requires held { is_some (kept_of table.old.records id).held ≡ true }
     ensures step { AreInStep store.new region.new holders.new table.new.records }
     ensures seen { seen store.new region.new table.new.records ≡ seen store.old region.old table.old.records }
     ensures second { OnOk result (holders.new.second ≡ with_version version id holders.old.second) }
-    ensures err { OnErr result (holders.new ≡ holders.old) }
+    ensures err_holders { OnErr result (holders.new ≡ holders.old) }
     ensures full { result ≡ Err Full → limit_of store.old < room_with (meaning_by meaning holders.old.second) (seen store.old region.old table.old.records)
         (triples_held (meaning version) id (record_of (seen store.old region.old table.old.records) id).held) }
     ensures within { OnOk result (room_with (meaning_by meaning holders.old.second) (seen store.old region.old table.old.records)
@@ -121,13 +121,18 @@ pub fn held_in<'a>(
 
 // Sets the keys of the triples of what an entity holds.
 fn set_keys(table: &mut Table<Kept>, id: EntityId, keys: Vec<Key>)
-    requires { IsSome (kept_of table.old.records id).held }
+    requires { is_some (kept_of table.old.records id).held ≡ true }
     ensures { table.new.records ≡ map.insert table.old.records id (with_keys (kept_of table.old.records id) keys) }
 {
     let Some(before) = table.put(id, Record::blank()) else {
         return;
     };
-    let Some(held) = before.held else {
+    let Record {
+        state,
+        held,
+        reconciled,
+    } = before;
+    let Some(held) = held else {
         return;
     };
     let content = Kept {
@@ -135,12 +140,12 @@ fn set_keys(table: &mut Table<Kept>, id: EntityId, keys: Vec<Key>)
         keys,
     };
     let anew = Record {
-        state: before.state,
+        state,
         held: Some(Held {
             revision: held.revision,
             content,
         }),
-        reconciled: before.reconciled,
+        reconciled,
     };
     let _ = table.put(id, anew);
 }
