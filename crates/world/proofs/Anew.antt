@@ -19,7 +19,7 @@ use Rattle.text_region.specs.declared.piece.Piece.{Piece}
 use Rattle.text_region.specs.Region.{Texts}
 use Rattle.slot_index.specs.declared.key.Key.{Key}
 use Rattle.triple_store.specs.declared.store.Store.{Store}
-use Rattle.triple_store.specs.Counts.{Counts, Exchanges}
+use Rattle.triple_store.specs.Counts.{Exchanges}
 use Rattle.triple_store.specs.Stored.{AreKeysOf, IsStored, KeepsKeys, beside, counts_in}
 use Rattle.replay_model.specs.Records.{Bytes, Records, record_of}
 use Rattle.replay_model.specs.Union.{Meaning, triples_held}

@@ -1,5 +1,5 @@
 -- The entities that hold a page are named by the versions of their pages.
-use Rattle.std.proofs.Common.{◌≡◌, ◌≢◌, ℕ, ◌+◌, Bool, true, false, not, cond, ◌&&◌, ◌||◌, List, [], ◌∷◌, Option, Some, None, is_some, length, unwrap_or, refl, sym, ◌∙◌, ap, true≢false, ⊎_elim, if◌then◌else◌, arith}
+use Rattle.std.proofs.Common.{◌≡◌, ◌≢◌, ℕ, ◌+◌, Bool, true, false, not, cond, ◌&&◌, ◌||◌, List, [], ◌∷◌, Option, Some, None, is_some, IfSome, length, unwrap_or, refl, sym, ◌∙◌, ap, true≢false, ⊎_elim, if◌then◌else◌, arith}
 use Rattle.std.specs.BTreeSet.{insert_key}
 use Rattle.std.specs.FinMap as map
 use Rattle.std.specs.Ordering.{eq_by_cmp}
@@ -23,7 +23,7 @@ use Rattle.rdf_term.specs.declared.triple.Triple.{Triple}
 use Rattle.world.specs.declared.kept.Kept.{Kept}
 use Rattle.world.specs.Holders.{AreBy, ByVersion, held_by, other_version, with_holder, without_holder}
 use Rattle.world.specs.Keeping.{KeptRecords, kept_of}
-use Rattle.world.specs.WorldState.{AreHolders, differ, first_of, stale_by, version_in}
+use Rattle.world.specs.WorldState.{AreHolders, differ, first_of, stale_by, version_in, with_version_of}
 use Rattle.world.proofs.Moving.{kept_here, kept_other}
 use Rattle.world.proofs.Pieced.{id_tells}
 
@@ -226,6 +226,7 @@ module _ (ids : ByVersion) (kept : KeptRecords) (records : Records) (h : AreBy i
       rises : (v : MappingVersion) → IsRising entity_cmp (held_by ids (other_version v))
       rises One = h.second_rises
       rises Two = h.first_rises
+
       by : (v : MappingVersion) (q : EntityId) (a b : Bool) → has entity_cmp q ids.first ≡ a → has entity_cmp q ids.second ≡ b → (differ v (cond b Two One) && (a || b)) ≡ has entity_cmp q (held_by ids (other_version v))
       by One q true true e f = sym f
       by One q false true e f = sym f
@@ -272,6 +273,17 @@ module _ (ids : ByVersion) (kept : KeptRecords) (records : Records) (h : AreBy i
       there : (xs : List EntityId) → first_of xs ≡ Some x → has entity_cmp x xs ≡ true
       there [] e = absurd (true≢false (sym (ap is_some e)))
       there (y ∷ ys) e = ap (λ z. has entity_cmp x (z ∷ ys)) (ap (λ o. unwrap_or o x) e) ∙ has_itself entity_cmp_total x ys
+
       by : (v : MappingVersion) → has entity_cmp x (held_by ids v) ≡ true → (has entity_cmp x ids.first || has entity_cmp x ids.second) ≡ true
       by One is = ap (λ b. b || has entity_cmp x ids.second) is
       by Two is = or_true (has entity_cmp x ids.first) (has entity_cmp x ids.second) is
+
+-- each entity that is mapped anew leaves one stale entity fewer
+pub fewer : (v : MappingVersion) (second second2 : List EntityId) (records : Records) (entity : Option EntityId) → IsRising entity_cmp second
+    → entity ≡ first_of (stale_by v second records) → second2 ≡ with_version_of v entity second
+    → IfSome entity (λ _. length (stale_by v second2 records) + 1 ≡ length (stale_by v second records))
+fewer v second second2 records None rising is two = tt
+fewer v second second2 records (Some x) rising is two =
+    ap (λ (ids : List EntityId). length (stale_by v ids records) + 1) two
+    ∙ ap (λ (xs : List EntityId). length xs + 1) (stale_remapped second rising x v records)
+    ∙ one_fewer x (stale_by v second records) (sym is)

@@ -1,5 +1,5 @@
 -- Pages, store and region stay in step with the entities that hold by each version.
-use Rattle.std.proofs.Common.{◌≡◌, ◌≢◌, ℕ, true, false, List, [], Option, Some, None, is_some, refl, sym, ◌∙◌, ap, subst}
+use Rattle.std.proofs.Common.{◌≡◌, ◌≢◌, ℕ, true, List, [], Option, Some, None, is_some, refl, sym, ◌∙◌, ap, subst}
 use Rattle.std.specs.FinMap as map
 use Rattle.std.specs.Global.{Vec}
 use Rattle.rising.specs.Rising.{has}
@@ -16,9 +16,9 @@ use Rattle.text_region.specs.declared.piece.Piece.{Piece}
 use Rattle.text_region.specs.Region.{Texts}
 use Rattle.slot_index.specs.declared.key.Key.{Key}
 use Rattle.triple_store.specs.declared.store.Store.{Store}
-use Rattle.triple_store.specs.Counts.{Counts, Exchanges}
+use Rattle.triple_store.specs.Counts.{Exchanges}
 use Rattle.triple_store.specs.Stored.{AreKeysOf, Changes, HasKey, IsStored, KeepsKeys, beside, counts_in}
-use Rattle.replay_model.specs.Records.{Bytes, Records, record_of}
+use Rattle.replay_model.specs.Records.{Bytes}
 use Rattle.replay_model.specs.Union.{Meaning, triples_held}
 use Rattle.replay_model.specs.Versions.{is_holder, meaning_by, version_at, with_version}
 use Rattle.world.specs.declared.kept.Kept.{Kept}

@@ -1,5 +1,5 @@
 -- The entities that hold a document, by the version that it is mapped by.
-use Rattle.std.specs.Prelude.{◌≡◌, Bool, true, false, ◌||◌, List, [], Option, is_some}
+use Rattle.std.specs.Prelude.{◌≡◌, true, false, ◌||◌, List, is_some}
 use Rattle.std.specs.Ordering.{eq_by_cmp}
 use Rattle.std.specs.BTreeSet.{insert_key}
 use Rattle.std.specs.Set.{remove_key}

@@ -1,6 +1,6 @@
 // What is kept of the entities, and the side output.
 
-ghost use Rattle.std.specs.Prelude.{◌≡◌, ◌+◌, ◌<◌, ◌≤◌, [], None, Some, Ok, Err, IsTrue, IfOk, IfSome, IsSome, OnErr, OnOk, MatchOption, is_some, length};
+ghost use Rattle.std.specs.Prelude.{◌≡◌, ◌<◌, ◌≤◌, [], None, Some, Ok, Err, IsTrue, IfOk, IfSome, IsSome, OnErr, OnOk, MatchOption, is_some, length};
 ghost use Rattle.std.specs.FinMap as map;
 ghost use Rattle.rdf_term.specs.Order.{triple_cmp};
 ghost use Rattle.rdf_term.specs.Pattern.{rows};
@@ -214,9 +214,8 @@ impl Pages {
     /// nothing has changed.
     pub fn remap_next(&mut self, alloc: Global) -> Result<Option<EntityId>, StoreFault>
         ensures ok { OnOk result (self.new ≡ remapped_pages self.old) }
+        ensures played { self.new.played ≡ self.old.played }
         ensures entity { IfOk result (λ entity. entity ≡ first_of (stale_by self.old.mapping self.old.second self.old.played.records)) }
-        ensures fewer { IfOk result (λ entity. IfSome entity (λ _. length (stale_by self.new.mapping self.new.second self.new.played.records) + 1
-            ≡ length (stale_by self.old.mapping self.old.second self.old.played.records))) }
         ensures full { result ≡ Err Full → self.old.room < room_with (meaning_by meaning self.old.second) self.old.played.records
             (triples_of (meaning self.old.mapping) self.old.played.records (first_of (stale_by self.old.mapping self.old.second self.old.played.records))) }
         ensures within { OnOk result (room_with (meaning_by meaning self.old.second) self.old.played.records

@@ -11,8 +11,8 @@ set_limit-requires c = no_keys (meaning_by meaning c.self.inside.holders.second)
 pub invariant_of-self : goal.invariant_of-self
 invariant_of-self c = record {
   kept = kept_refused (meaning_by meaning c.self.inside.holders.second) c.self.inside.store c.self.inside.region c.set_limit.new.self c.self.inside.region c.self.inside.table.records c.self.invariant.kept
-    (c.set_limit.ensures.stored c.self.inside.region c.self.invariant.kept.stored) (c.set_limit.ensures.counts c.self.inside.region)
-    (record { kept = λ key t is _. c.set_limit.ensures.kept c.self.inside.region key t is }) (c.set_limit.ensures.beside c.self.inside.region);
+      (c.set_limit.ensures.stored c.self.inside.region c.self.invariant.kept.stored) (c.set_limit.ensures.counts c.self.inside.region)
+      (record { kept = λ key t is _. c.set_limit.ensures.kept c.self.inside.region key t is }) (c.set_limit.ensures.beside c.self.inside.region);
   by = c.self.invariant.by;
 }
 

@@ -16,12 +16,13 @@ use Rattle.world.proofs.Rooming.{stored_page}
 use Rattle.world.proofs.world.World.apply_next.Goals as goal
 
 pub invariant_of-self : goal.invariant_of-self
-invariant_of-self g c =
-    (rw c.in-Ok.ensures.applied (holds-apply (λ _ _. reply_or_any c.in_ok-reply.reply) c.self.inside.pages.played c.in-Some.event c.self.invariant.0),
-    c.in-Ok.ensures.held,
-    c.in-Ok.ensures.holders,
-    rw c.in-Ok.ensures.applied (documents-apply unfit_of c.in-Some.event (reply_or_any c.in_ok-reply.reply) (reply_gives _ _ c.in-Some.event.entity _ (reply_or_any c.in_ok-reply.reply) c.in_ok-reply.ensures.reply)
-    c.self.inside.pages.played c.self.invariant.3))
+invariant_of-self g c = (
+  rw c.in-Ok.ensures.applied (holds-apply (λ _ _. reply_or_any c.in_ok-reply.reply) c.self.inside.pages.played c.in-Some.event c.self.invariant.0),
+  c.in-Ok.ensures.held,
+  c.in-Ok.ensures.holders,
+  rw c.in-Ok.ensures.applied (documents-apply unfit_of c.in-Some.event (reply_or_any c.in_ok-reply.reply) (reply_gives _ _ c.in-Some.event.entity _ (reply_or_any c.in_ok-reply.reply) c.in_ok-reply.ensures.reply)
+      c.self.inside.pages.played c.self.invariant.3),
+)
 
 pub returns-in-Ok-clause-within : goal.returns-in-Ok-clause-within
 returns-in-Ok-clause-within g c = rw (← c.self.view_is) (λ stored.

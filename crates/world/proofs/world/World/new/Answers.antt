@@ -1,6 +1,6 @@
 -- A world without records holds what it should.
 use Rattle.std.proofs.Common.{[], true≢false, sym}
-use Rattle.std.specs.FinMap.{empty, len-empty}
+use Rattle.std.specs.FinMap.{len-empty}
 use Rattle.replay_model.specs.Play.{nothing_played}
 use Rattle.replay_model.specs.Versions.{meaning_by}
 use Rattle.replay_model.proofs.Settled.{holds-nothing}
@@ -10,6 +10,9 @@ use Rattle.world.proofs.Starting.{no_documents}
 use Rattle.world.proofs.world.World.new.Goals as goal
 
 pub invariant_of-result : goal.invariant_of-result
-invariant_of-result c = rw c.in_ok-pages.ensures
-    (holds-nothing, nothing_held (meaning_by meaning []) nothing_played.records 20000000 (len-empty _ _),
-    record { rising = tt; holding = λ _ there. absurd (true≢false (sym there)) }, no_documents)
+invariant_of-result c = rw c.in_ok-pages.ensures (
+  holds-nothing,
+  nothing_held (meaning_by meaning []) nothing_played.records 20000000 (len-empty _ _),
+  record { rising = tt; holding = λ _ there. absurd (true≢false (sym there)) },
+  no_documents,
+)
