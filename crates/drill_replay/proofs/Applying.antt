@@ -105,9 +105,10 @@ goes-end size told start world now goes same none = same ∙ sym (after_due-none
 
 -- an application by version One leaves all of it by this version
 pub first_next : (old new : WorldState) (outcome : Outcome) (x : EntityId) → IsByFirst old → new.mapping ≡ old.mapping → new.second ≡ second_after outcome old.mapping x old.second → IsByFirst new
-first_next old new outcome x first mapping second =
-    (mapping ∙ first.0,
-    second ∙ ap (λ v. second_after outcome v x old.second) first.0 ∙ ap (second_after outcome One x) first.1 ∙ by outcome)
+first_next old new outcome x first mapping second = (
+  mapping ∙ first.0,
+  second ∙ ap (λ v. second_after outcome v x old.second) first.0 ∙ ap (second_after outcome One x) first.1 ∙ by outcome,
+)
   where
     by : (o : Outcome) → second_after o One x [] ≡ []
     by Same = refl

@@ -2,6 +2,10 @@
 
 ghost use Rattle.std.specs.Prelude.{◌≡◌, ◌++◌, IfOk, OnOk, map, string_bytes};
 ghost use Rattle.replay_model.specs.ReplayState.{nothing_delivered};
+ghost use Rattle.replay_model.specs.Union.{union};
+ghost use Rattle.rdf_term.specs.Order.{triple_cmp};
+ghost use Rattle.entity_model.specs.declared.mapping.MappingVersion.TheVariants.{One};
+ghost use Rattle.world.specs.Meaning.{meaning};
 ghost use Rattle.md5.specs.Md5.{md5};
 ghost use Rattle.drill.specs.Drill.{IsSize, drill};
 ghost use Rattle.drill_replay.specs.Playing.{Counted, HasBegun, IsByFirst};
@@ -10,7 +14,7 @@ ghost use Rattle.drill_replay.specs.Summary.{digest_line, drilled, kept_in, line
 use crate::playing::{Counts, play};
 use entity_state::Mode;
 use md5::{Digest, Md5};
-use rdf_term::{OutOfMemory, Triple, write_triple};
+use rdf_term::{OutOfMemory, Triple, TripleSet, write_triple};
 use std::alloc::Global;
 use world::World;
 
@@ -70,7 +74,7 @@ fn summarize(
     ensures { IfOk result (λ summary. summary ≡ summary_of size) }
 {
     let kept = kept(world)?;
-    let triples = world.export()?;
+    let triples = triples(world)?;
     Ok(Summary {
         size,
         deliveries: counts.deliveries,
@@ -80,6 +84,14 @@ fn summarize(
         triples: triples.items().len(),
         digest: digest(alloc, triples.items())?,
     })
+}
+
+// The triples of all that is held, by version One of the mapping.
+fn triples(world: &World) -> Result<TripleSet, OutOfMemory>
+    requires { IsByFirst world.now }
+    ensures { IfOk result (λ set. set ≡ union triple_cmp (meaning One) world.now.replay.played.records) }
+{
+    world.export()
 }
 
 // How many entities' pages are kept.

@@ -15,7 +15,7 @@ loop-init c = record {
 pub loop-preserved : goal.loop-preserved
 loop-preserved c = record {
   goes = goes-next _ _ _ _ _ _ _ _ _ _ c.loop.invariant.goes c.in-Ok.ensures.told c.in-Ok.ensures.applied c.in-Ok.ensures.shown;
-  first = first_next _ _ _ _ c.loop.invariant.first c.in-Ok.ensures.mapping c.in-Ok.ensures.second;
+  first = first_next c.loop.world c.apply_next.new.self c.in-Ok.field-0.outcome c.in-Ok.field-0.event.entity c.loop.invariant.first c.in-Ok.ensures.mapping c.in-Ok.ensures.second;
 }
 
 pub loop-smaller : goal.loop-smaller
