@@ -20,8 +20,11 @@ use Rattle.replay_model.proofs.Following.{after_due-next, after_due-none}
 use Rattle.world.specs.Applying.{Applies, IsReply, IsShown, outcome_of_reply}
 use Rattle.world.specs.declared.applied.Applied.{Applied}
 use Rattle.world.specs.declared.applied.Outcome.{Outcome}
-use Rattle.world.specs.declared.applied.Outcome.TheVariants.{Same, Dropped}
+use Rattle.world.specs.declared.applied.Outcome.TheVariants.{Same, Stored, Dropped, Sided}
+use Rattle.world.specs.WorldState.{WorldState, second_after}
+use Rattle.entity_model.specs.declared.mapping.MappingVersion.TheVariants.{One}
 use Rattle.drill.specs.Drill.{contents_of}
+use Rattle.drill_replay.specs.Playing.{IsByFirst}
 use Rattle.drill_replay.specs.Summary.{replies_of}
 
 -- what a source tells that has the pages of the drill of this size
@@ -99,3 +102,16 @@ goes-next size told told_next place start world next applied misses misses_now g
 pub goes-end : (size : ℕ) (told : Option Contents) (start world now : ReplayState) → Goes size told start world → now ≡ world → first_due world.buffer ≡ None
     → now ≡ after_due (replies_of size) start
 goes-end size told start world now goes same none = same ∙ sym (after_due-none (replies_of size) world none) ∙ goes.leads
+
+-- an application by version One leaves all of it by this version
+pub first_next : (old new : WorldState) (outcome : Outcome) (x : EntityId) → IsByFirst old → new.mapping ≡ old.mapping → new.second ≡ second_after outcome old.mapping x old.second → IsByFirst new
+first_next old new outcome x first mapping second = (
+  mapping ∙ first.0,
+  second ∙ ap (λ v. second_after outcome v x old.second) first.0 ∙ ap (second_after outcome One x) first.1 ∙ by outcome,
+)
+  where
+    by : (o : Outcome) → second_after o One x [] ≡ []
+    by Same = refl
+    by Stored = refl
+    by Dropped = refl
+    by (Sided cause) = refl

@@ -5,6 +5,7 @@ use Rattle.rdf_term.specs.declared.triple.Triple.{Triple}
 use Rattle.rdf_term.specs.Order.{triple_cmp}
 use Rattle.rdf_term.specs.Text.{triple_text}
 use Rattle.entity_model.specs.declared.id.EntityId.{EntityId}
+use Rattle.entity_model.specs.declared.mapping.MappingVersion.TheVariants.{One}
 use Rattle.entity_json.specs.Document.{unfit_of}
 use Rattle.entity_state.specs.State.{is_kept}
 use Rattle.replay_model.specs.Acceptance.{accepted, late}
@@ -39,9 +40,9 @@ kept_in records = count_by (is_kept_in records) (map.keys records)
 abbrev pub triple_lines : List Triple → List ℕ
 triple_lines triples = flat_map triple_text triples
 
--- the triples that a drill ends with, in order
+-- the triples that a drill ends with, in order, by version One of the mapping
 abbrev pub triples_of : ℕ → List Triple
-triples_of size = union triple_cmp meaning (drilled size).played.records
+triples_of size = union triple_cmp (meaning One) (drilled size).played.records
 
 -- what is told of a drill: its size, its deliveries, how many distinct events were accepted and were late, how many
 -- entities' pages are kept and how many triples there are at its end, and the MD5 of their lines
