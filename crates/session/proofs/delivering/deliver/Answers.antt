@@ -7,39 +7,39 @@ use Rattle.session.proofs.delivering.deliver.Goals as goal
 pub returns-in_ok-take_event-in-Event-clause-ok : goal.returns-in_ok-take_event-in-Event-clause-ok
 returns-in_ok-take_event-in-Event-clause-ok g c =
     let s : Setting = setting (g.R.Revisions.contents c.args.revisions.now) c.args.directory.now c.args.world.now.room in
-    let before : Stage = stage g.R.Revisions g.K.Sink c.args.revisions.now c.args.out.now c.args.world.now.replay in
+    let before : Stage = stage g.R.Revisions g.K.Sink c.args.revisions.now c.args.out.now c.args.world.now in
     rw (c.in-Event.is, c.in_ok-take_event-in-Event.ensures.ok) (λ ds start counted at_rest. event_taken s ds start before c.in-Event.event at_rest)
 
 pub returns-in_err-take_event-in-Event-clause-err : goal.returns-in_err-take_event-in-Event-clause-err
 returns-in_err-take_event-in-Event-clause-err g c =
     let s : Setting = setting (g.R.Revisions.contents c.args.revisions.now) c.args.directory.now c.args.world.now.room in
-    let before : Stage = stage g.R.Revisions g.K.Sink c.args.revisions.now c.args.out.now c.args.world.now.replay in
+    let before : Stage = stage g.R.Revisions g.K.Sink c.args.revisions.now c.args.out.now c.args.world.now in
     let p = err_from_is_err_and c.from_residual.result c.from_residual.ensures.1 in
     rw (p.1, p.2, c.in-Event.is) (event_cut_off s c.in-Event.event c.args.asked before c.take_event.new.world.replay c.in_err-take_event-in-Event.ensures.err)
 
 pub returns-in_ok-take_mark-in-Watermark-clause-ok : goal.returns-in_ok-take_mark-in-Watermark-clause-ok
 returns-in_ok-take_mark-in-Watermark-clause-ok g c =
     let s : Setting = setting (g.R.Revisions.contents c.args.revisions.now) c.args.directory.now c.args.world.now.room in
-    let before : Stage = stage g.R.Revisions g.K.Sink c.args.revisions.now c.args.out.now c.args.world.now.replay in
+    let before : Stage = stage g.R.Revisions g.K.Sink c.args.revisions.now c.args.out.now c.args.world.now in
     rw c.in-Watermark.is (λ ds start counted at_rest. mark_taken s ds start before _ c.take_mark.new.world.replay c.in-Watermark.mark c.in_ok-take_mark-in-Watermark.ensures.ok at_rest)
 
 pub returns-in_err-take_mark-in-Watermark-clause-err : goal.returns-in_err-take_mark-in-Watermark-clause-err
 returns-in_err-take_mark-in-Watermark-clause-err g c =
     let s : Setting = setting (g.R.Revisions.contents c.args.revisions.now) c.args.directory.now c.args.world.now.room in
-    let before : Stage = stage g.R.Revisions g.K.Sink c.args.revisions.now c.args.out.now c.args.world.now.replay in
+    let before : Stage = stage g.R.Revisions g.K.Sink c.args.revisions.now c.args.out.now c.args.world.now in
     let p = err_from_is_err_and c.from_residual-in_err-take_mark-in-Watermark.result c.from_residual-in_err-take_mark-in-Watermark.ensures.1 in
     rw (p.1, p.2, c.in-Watermark.is) (mark_cut_off _ s c.in-Watermark.mark c.args.asked before _ c.take_mark.new.world.replay c.in_err-take_mark-in-Watermark.ensures.held_up c.in_err-take_mark-in-Watermark.ensures.err)
 
 pub returns-in_ok-print_answer-in-Ask-clause-ok : goal.returns-in_ok-print_answer-in-Ask-clause-ok
 returns-in_ok-print_answer-in-Ask-clause-ok g c =
     let s : Setting = setting (g.R.Revisions.contents c.args.revisions.now) c.args.directory.now c.args.world.now.room in
-    let before : Stage = stage g.R.Revisions g.K.Sink c.args.revisions.now c.args.out.now c.args.world.now.replay in
+    let before : Stage = stage g.R.Revisions g.K.Sink c.args.revisions.now c.args.out.now c.args.world.now in
     rw c.in-Ask.is (λ ds start counted at_rest. ask_taken s ds start before c.in-Ask.pattern c.args.asked _ counted c.in_ok-print_answer-in-Ask.ensures at_rest)
 
 pub returns-in_err-print_answer-in-Ask-clause-err : goal.returns-in_err-print_answer-in-Ask-clause-err
 returns-in_err-print_answer-in-Ask-clause-err g c =
     let s : Setting = setting (g.R.Revisions.contents c.args.revisions.now) c.args.directory.now c.args.world.now.room in
-    let before : Stage = stage g.R.Revisions g.K.Sink c.args.revisions.now c.args.out.now c.args.world.now.replay in
+    let before : Stage = stage g.R.Revisions g.K.Sink c.args.revisions.now c.args.out.now c.args.world.now in
     let p = err_from_is_err_and c.from_residual-in_err-print_answer-in-Ask.result c.from_residual-in_err-print_answer-in-Ask.ensures.1 in
     rw (p.1, p.2, c.in-Ask.is) (ask_cut_off _ s c.in-Ask.pattern c.args.asked before _ c.in_err-print_answer-in-Ask.ensures)
 

@@ -24,15 +24,15 @@ returns-in_err-take_all-clause-err g c =
 pub returns-clause-ok : goal.returns-clause-ok
 returns-clause-ok g c =
     let run : Run = run_of (g.R.Revisions.contents c.args.revisions.now) c.args.options.now in
-    let before : Moment = moment g.S.Source g.R.Revisions g.K.Sink c.args.events.now c.args.revisions.now c.args.out.now c.args.world.now.replay in
-    let between : Moment = moment g.S.Source g.R.Revisions g.K.Sink c.take_all.new.events c.take_all.new.revisions c.take_all.new.out c.take_all.new.world.replay in
+    let before : Moment = moment g.S.Source g.R.Revisions g.K.Sink c.args.events.now c.args.revisions.now c.args.out.now c.args.world.now in
+    let between : Moment = moment g.S.Source g.R.Revisions g.K.Sink c.take_all.new.events c.take_all.new.revisions c.take_all.new.out c.take_all.new.world in
     ending run before between _ (rw (c.in_ok-arguments.ensures, c.set_room.ensures) at c.in_ok-take_all.ensures.ok) (prints_asked _ _ _ _ _ _ (rw c.in_ok-arguments.ensures at c.sections.ensures) c.in_ok-print_closing.ensures)
 
 pub returns-in_err-print_closing-clause-err : goal.returns-in_err-print_closing-clause-err
 returns-in_err-print_closing-clause-err g c =
     let run : Run = run_of (g.R.Revisions.contents c.args.revisions.now) c.args.options.now in
-    let before : Moment = moment g.S.Source g.R.Revisions g.K.Sink c.args.events.now c.args.revisions.now c.args.out.now c.args.world.now.replay in
-    let between : Moment = moment g.S.Source g.R.Revisions g.K.Sink c.take_all.new.events c.take_all.new.revisions c.take_all.new.out c.take_all.new.world.replay in
+    let before : Moment = moment g.S.Source g.R.Revisions g.K.Sink c.args.events.now c.args.revisions.now c.args.out.now c.args.world.now in
+    let between : Moment = moment g.S.Source g.R.Revisions g.K.Sink c.take_all.new.events c.take_all.new.revisions c.take_all.new.out c.take_all.new.world in
     let p = err_from_is_err_and c.from_residual-in_err-print_closing.result c.from_residual-in_err-print_closing.ensures.1 in
     rw (p.1, p.2) (broken_off _ run before between _ (rw (c.in_ok-arguments.ensures, c.set_room.ensures) at c.in_ok-take_all.ensures.ok) c.in_ok-take_all.ensures.later (prints_asked _ _ _ _ _ _ (rw c.in_ok-arguments.ensures at c.sections.ensures) c.in_err-print_closing.ensures))
 

@@ -10,8 +10,8 @@ use Rattle.session.proofs.replaying.take_all.Goals as goal
 pub returns-clause-ok : goal.returns-clause-ok
 returns-clause-ok g c =
     let run : Run = run_of (g.R.Revisions.contents c.args.revisions.now) c.args.plan.now in
-    let before : Moment = moment g.S.Source g.R.Revisions g.K.Sink c.args.events.now c.args.revisions.now c.args.out.now c.args.world.now.replay in
-    let between : Moment = moment g.S.Source g.R.Revisions g.K.Sink c.take_lines.new.events c.take_lines.new.revisions c.take_lines.new.out c.take_lines.new.world.replay in
+    let before : Moment = moment g.S.Source g.R.Revisions g.K.Sink c.args.events.now c.args.revisions.now c.args.out.now c.args.world.now in
+    let between : Moment = moment g.S.Source g.R.Revisions g.K.Sink c.take_lines.new.events c.take_lines.new.revisions c.take_lines.new.out c.take_lines.new.world in
     let taken = c.in_ok-take_lines.ensures.ok in
     let applies = rw (c.in_ok-take_lines.ensures.source.known, c.place.ensures, c.in_ok-take_lines.ensures.room ∙ c.requires.room) at c.in_ok-take_end.ensures.ok in
     replayed run before _ taken.deliveries taken.read taken.are (end_taken run.setting taken.deliveries before.stage between.stage _ _ applies taken.at_rest)
@@ -28,8 +28,8 @@ returns-in_err-take_end-clause-source g c = gone-on g.R.Revisions _ _ _ c.in_ok-
 pub returns-in_err-take_end-clause-err : goal.returns-in_err-take_end-clause-err
 returns-in_err-take_end-clause-err g c =
     let run : Run = run_of (g.R.Revisions.contents c.args.revisions.now) c.args.plan.now in
-    let before : Moment = moment g.S.Source g.R.Revisions g.K.Sink c.args.events.now c.args.revisions.now c.args.out.now c.args.world.now.replay in
-    let between : Moment = moment g.S.Source g.R.Revisions g.K.Sink c.take_lines.new.events c.take_lines.new.revisions c.take_lines.new.out c.take_lines.new.world.replay in
+    let before : Moment = moment g.S.Source g.R.Revisions g.K.Sink c.args.events.now c.args.revisions.now c.args.out.now c.args.world.now in
+    let between : Moment = moment g.S.Source g.R.Revisions g.K.Sink c.take_lines.new.events c.take_lines.new.revisions c.take_lines.new.out c.take_lines.new.world in
     let taken = c.in_ok-take_lines.ensures.ok in
     let stays = rw (c.in_ok-take_lines.ensures.source.known, c.place.ensures, c.in_ok-take_lines.ensures.room ∙ c.requires.room) at c.in_err-take_end.ensures.err in
     let held_up = rw (c.in_ok-take_lines.ensures.source.known, c.place.ensures, c.in_ok-take_lines.ensures.room ∙ c.requires.room) at c.in_err-take_end.ensures.held_up in
