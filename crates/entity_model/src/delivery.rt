@@ -1,6 +1,7 @@
 // What one line of an event file delivers.
 
 use crate::event::Event;
+use crate::mapping::MappingVersion;
 use rdf_term::Pattern;
 
 /// What one line of an event file delivers.
@@ -13,4 +14,6 @@ pub enum Delivery {
     Watermark(i64),
     /// A question: which of the triples at this point agree with the pattern?
     Ask(Pattern),
+    /// From here on, every page is mapped by this version of the rules, those that are held already too.
+    Mapping(MappingVersion),
 }
