@@ -1,5 +1,5 @@
 -- What one line of an event file delivers, or the first cause for which it delivers nothing.
-use Rattle.std.specs.Prelude.{◌≡◌, ℕ, nat_lt, if◌then◌else◌, List, codes, Option, Some, None, option_map, option_and_then, Result, Ok, Err, ℤ}
+use Rattle.std.specs.Prelude.{◌≡◌, ℕ, nat_eq, nat_lt, if◌then◌else◌, List, codes, Option, Some, None, option_map, option_and_then, Result, Ok, Err, ℤ}
 use Rattle.std.specs.Str.{is_utf8, bytes_eq}
 use Rattle.serde_json.specs.Data.{Data, Items, no_items, item}
 use Rattle.serde_json.specs.Find.{get, as_str, as_number, as_u64, as_array}
@@ -13,9 +13,11 @@ use Rattle.entity_model.specs.declared.event.Kind.{Kind}
 use Rattle.entity_model.specs.declared.event.Kind.TheVariants.{Edit, Delete, Undelete, ReconcileDeleted, ReconcileKept}
 use Rattle.entity_model.specs.IdOf.{id_of}
 use Rattle.entity_model.specs.declared.delivery.Delivery.{Delivery}
-use Rattle.entity_model.specs.declared.delivery.Delivery.TheVariants.{Event as Told, Watermark, Ask}
+use Rattle.entity_model.specs.declared.delivery.Delivery.TheVariants.{Event as Told, Watermark, Ask, Mapping}
+use Rattle.entity_model.specs.declared.mapping.MappingVersion.{MappingVersion}
+use Rattle.entity_model.specs.declared.mapping.MappingVersion.TheVariants.{One, Two}
 use Rattle.event_line.specs.declared.faults.LineCause.{LineCause}
-use Rattle.event_line.specs.declared.faults.LineCause.TheVariants.{NotJson, NoForm, Kind as BadKind, Entity, Rev, Time, Mode, Pattern as BadPattern}
+use Rattle.event_line.specs.declared.faults.LineCause.TheVariants.{NotJson, NoForm, Kind as BadKind, Entity, Rev, Time, Mode, Pattern as BadPattern, Mapping as BadMapping}
 use Rattle.event_line.specs.declared.faults.DeliveryFault.{DeliveryFault}
 use Rattle.event_line.specs.declared.faults.DeliveryFault.TheVariants.{Bad, OutOfMemory}
 use Rattle.event_line.specs.declared.line.KindName.{KindName}
@@ -126,16 +128,29 @@ pattern_of ask = option_and_then pattern_in (as_array ask)
 abbrev pub ask_of : Data → Result Delivery LineCause
 ask_of ask = else_cause BadPattern (pattern_of ask) (λ pattern. Ok (Ask pattern))
 
--- what an object delivers by the values of its keys `kind`, `watermark` and `ask`, of which it has exactly one
-abbrev pub by_form : Data → Option Data → Option Data → Option Data → Result Delivery LineCause
-by_form json (Some kind) None None = told (event_of json)
-by_form json None (Some watermark) None = watermark_of json
-by_form json None None (Some ask) = ask_of ask
-by_form json _ _ _ = Err NoForm
+-- the version with that number
+abbrev pub version_numbered : ℕ → Option MappingVersion
+version_numbered n = if nat_eq n 1 then Some One else (if nat_eq n 2 then Some Two else None)
+
+-- the version that the value of `mapping` names: only a number in digits alone names one
+abbrev pub version_of : Data → Option MappingVersion
+version_of mapping = option_and_then version_numbered (option_and_then as_u64 (as_number mapping))
+
+-- the change to the version that the value of `mapping` names, or the cause
+abbrev pub mapping_of : Data → Result Delivery LineCause
+mapping_of mapping = else_cause BadMapping (version_of mapping) (λ version. Ok (Mapping version))
+
+-- what an object delivers by the values of its keys `kind`, `watermark`, `ask` and `mapping`, of which it has exactly one
+abbrev pub by_form : Data → Option Data → Option Data → Option Data → Option Data → Result Delivery LineCause
+by_form json (Some kind) None None None = told (event_of json)
+by_form json None (Some watermark) None None = watermark_of json
+by_form json None None (Some ask) None = ask_of ask
+by_form json None None None (Some mapping) = mapping_of mapping
+by_form json _ _ _ _ = Err NoForm
 
 -- what a JSON value delivers; only an object has keys
 abbrev pub delivery_in : Data → Result Delivery LineCause
-delivery_in json = by_form json (get (codes "kind") json) (get (codes "watermark") json) (get (codes "ask") json)
+delivery_in json = by_form json (get (codes "kind") json) (get (codes "watermark") json) (get (codes "ask") json) (get (codes "mapping") json)
 
 -- what a line delivers, or the first cause for which it delivers nothing
 abbrev pub delivery_of : List ℕ → Result Delivery LineCause

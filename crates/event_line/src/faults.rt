@@ -14,7 +14,7 @@ pub enum LineCause {
     /// The line isn't UTF-8, or it isn't one JSON text (RFC 8259) whose arrays and objects are nested at
     /// most 127 deep and whose numbers are finite in double precision.
     NotJson,
-    /// The JSON isn't an object with exactly one of the keys `kind`, `watermark` and `ask`.
+    /// The JSON isn't an object with exactly one of the keys `kind`, `watermark`, `ask` and `mapping`.
     NoForm,
     /// `kind` isn't `edit`, `delete`, `undelete` or `reconcile`.
     Kind,
@@ -28,6 +28,8 @@ pub enum LineCause {
     Mode,
     /// `ask` isn't a list of exactly three texts of which each is `?` or a term's by the grammar of N-Triples.
     Pattern,
+    /// `mapping` isn't the whole number 1 or 2, written in digits alone.
+    Mapping,
 }
 
 /// Why a line gave no delivery.

@@ -1,7 +1,7 @@
 //! The lines of an event file: read one by one.
 //!
-//! `line` reads one line, which is a JSON object (RFC 8259): an event of an entity's page, a watermark or a
-//! question. `faults` has the causes for which a line is refused, and `time` reads the times of events and
+//! `line` reads one line, which is a JSON object (RFC 8259): an event of an entity's page, a watermark, a
+//! question or a change of the mapping's version. `faults` has the causes for which a line is refused, and `time` reads the times of events and
 //! watermarks.
 #![tactic(auto)]
 

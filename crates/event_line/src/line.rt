@@ -3,13 +3,13 @@
 ghost use Rattle.std.specs.Prelude.{◌≡◌, ◌⊎◌, None, Some, MatchResult, IfOk};
 ghost use Rattle.serde_json.specs.View.{view};
 ghost use Rattle.rdf_term.specs.Reader.{read as term_of};
-ghost use Rattle.event_line.specs.Line.{Answers, AnswersPart, data_of, delivery_in, else_cause, event_of, watermark_of, ask_of, pattern_of, pattern_with, place_in, kind_named, kind_name, entity_of, rev_of, time_at, whole_kind};
+ghost use Rattle.event_line.specs.Line.{Answers, AnswersPart, data_of, delivery_in, else_cause, event_of, watermark_of, ask_of, mapping_of, version_of, pattern_of, pattern_with, place_in, kind_named, kind_name, entity_of, rev_of, time_at, whole_kind};
 ghost use Rattle.event_line.specs.declared.faults.DeliveryFault.TheVariants.{Bad as Refused, OutOfMemory as NoMemory};
 ghost use Rattle.event_line.specs.declared.faults.LineCause.TheVariants.{NotJson as NoJson};
 
 use crate::faults::{DeliveryFault, LineCause};
 use crate::time;
-use entity_model::{Delivery, EntityId, Event, Kind};
+use entity_model::{Delivery, EntityId, Event, Kind, MappingVersion};
 use rdf_term::{OutOfMemory, Pattern, Term, read_term};
 use serde_json::Value;
 use std::alloc::Global;
@@ -23,14 +23,15 @@ enum KindName {
     Reconcile,
 }
 
-/// Reads one line, without its line feed: a JSON object with exactly one of the keys `kind`, `watermark`
-/// and `ask`.
+/// Reads one line, without its line feed: a JSON object with exactly one of the keys `kind`, `watermark`,
+/// `ask` and `mapping`.
 ///
 /// With `kind` it is an event of the page of `entity`, at `time`, with the revision `rev`; a reconciliation
 /// also has `mode`. With `watermark`, whose value is a time, it is a watermark. With `ask` it is a question:
 /// the value is a list of three texts, for subject, predicate and object, each `?` where any term is wanted
-/// or else the term that is wanted, by the grammar of N-Triples. Other keys are passed over, and of a key
-/// that is repeated the last value counts.
+/// or else the term that is wanted, by the grammar of N-Triples. With `mapping`, whose value is the number 1
+/// or 2, it changes the version of the mapping. Other keys are passed over, and of a key that is repeated the
+/// last value counts.
 pub fn delivery(alloc: Global, line: &[u8]) -> Result<Delivery, DeliveryFault>
     ensures { Answers line.now result }
 {
@@ -59,10 +60,16 @@ fn read_value(alloc: Global, line: &[u8]) -> Result<Value, DeliveryFault>
 fn delivery_in(alloc: Global, value: &Value) -> Result<Delivery, DeliveryFault>
     ensures { AnswersPart (delivery_in (view value.now)) result }
 {
-    match (value.get("kind"), value.get("watermark"), value.get("ask")) {
-        (Some(_), None, None) => Ok(Delivery::Event(event(value)?)),
-        (None, Some(_), None) => Ok(watermark(value)?),
-        (None, None, Some(wanted)) => ask(alloc, wanted),
+    match (
+        value.get("kind"),
+        value.get("watermark"),
+        value.get("ask"),
+        value.get("mapping"),
+    ) {
+        (Some(_), None, None, None) => Ok(Delivery::Event(event(value)?)),
+        (None, Some(_), None, None) => Ok(watermark(value)?),
+        (None, None, Some(wanted), None) => ask(alloc, wanted),
+        (None, None, None, Some(number)) => Ok(mapping(number)?),
         _ => Err(DeliveryFault::Bad(LineCause::NoForm)),
     }
 }
@@ -97,6 +104,25 @@ fn ask(alloc: Global, value: &Value) -> Result<Delivery, DeliveryFault>
     ensures { AnswersPart (ask_of (view value.now)) result }
 {
     Ok(Delivery::Ask(pattern(alloc, value)?))
+}
+
+/// The change to the version with that value of `mapping`.
+fn mapping(value: &Value) -> Result<Delivery, LineCause>
+    ensures { result ≡ mapping_of (view value.now) }
+{
+    let version = version(value).ok_or(LineCause::Mapping)?;
+    Ok(Delivery::Mapping(version))
+}
+
+/// The version whose number a value is, in digits alone.
+fn version(value: &Value) -> Option<MappingVersion>
+    ensures { result ≡ version_of (view value.now) }
+{
+    match value.as_u64()? {
+        1 => Some(MappingVersion::One),
+        2 => Some(MappingVersion::Two),
+        _ => None,
+    }
 }
 
 /// The pattern that a value is: a list of exactly three values.

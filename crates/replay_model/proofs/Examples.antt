@@ -14,8 +14,9 @@ use Rattle.entity_state.specs.Record.{blank}
 use Rattle.side_output.specs.declared.entry.Cause.TheVariants.{Missing, Failed, Unfit as NoDocument}
 use Rattle.side_output.specs.declared.entry.Entry.TheVariants.{Late, Revision}
 use Rattle.entity_model.specs.declared.delivery.Delivery.{Delivery}
-use Rattle.entity_model.specs.declared.delivery.Delivery.TheVariants.{Event as Told, Watermark}
-use Rattle.replay_model.specs.Acceptance.{mark, accepted, late, due, known}
+use Rattle.entity_model.specs.declared.delivery.Delivery.TheVariants.{Event as Told, Watermark, Mapping}
+use Rattle.entity_model.specs.declared.mapping.MappingVersion.TheVariants.{One, Two}
+use Rattle.replay_model.specs.Acceptance.{mark, version_in_force, accepted, late, due, known}
 use Rattle.replay_model.specs.Fate.{fate, events_of, in_order}
 use Rattle.replay_model.specs.Records.{Bytes, is_settled}
 use Rattle.replay_model.specs.Play.{Replies, newly_due, record_after, entries_after, fetches_of}
@@ -85,6 +86,14 @@ forgotten-never = refl
 -- a watermark that falls leaves the mark
 falling : mark (Watermark (pos 5) ∷ Watermark (pos 3) ∷ []) ≡ Some (pos 5)
 falling = refl
+
+-- ---- versions of the mapping: the last one counts, and it isn't the greatest
+
+back_to_one : version_in_force (Mapping Two ∷ Told (edit 1 1 1) ∷ Mapping One ∷ Watermark (pos 2) ∷ []) ≡ One
+back_to_one = refl
+
+still_two : version_in_force (Mapping One ∷ Mapping Two ∷ Watermark (pos 2) ∷ []) ≡ Two
+still_two = refl
 
 -- ---- an undeletion, with the deletion delivered again and again
 

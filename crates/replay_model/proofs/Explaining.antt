@@ -10,7 +10,8 @@ use Rattle.side_output.specs.declared.entry.Cause.{Cause}
 use Rattle.side_output.specs.declared.entry.Cause.TheVariants.{Failed}
 use Rattle.rdf_term.specs.declared.pattern.Pattern.{Pattern}
 use Rattle.entity_model.specs.declared.delivery.Delivery.{Delivery}
-use Rattle.entity_model.specs.declared.delivery.Delivery.TheVariants.{Event as Told, Watermark, Ask}
+use Rattle.entity_model.specs.declared.delivery.Delivery.TheVariants.{Event as Told, Watermark, Ask, Mapping}
+use Rattle.entity_model.specs.declared.mapping.MappingVersion.{MappingVersion}
 use Rattle.reorder_buffer.specs.Watermarks.{is_due}
 use Rattle.reorder_buffer.specs.Buffered.{answer_to, first_due}
 use Rattle.rising.specs.Rising.{has, IsRising}
@@ -174,6 +175,25 @@ module _ (unfit : Judgement) (told : Option (ℕ → Option Bytes)) where
     pub ask_replies : (q : Pattern) → (Explained-ask q).replies ≡ x.replies
     unfolding Explained-ask
     ask_replies q = refl
+
+    -- another version of the mapping comes into force, which changes nothing of what is played
+    pub Explained-mapping : (v : MappingVersion) → ExplainedAfter hz unfit told (ds ++ Mapping v ∷ []) made w
+    Explained-mapping v = record {
+      replies = x.replies;
+      rises = x.rises;
+      leads = λ others agree. x.leads others agree ∙ sym (following-delivered hz others ds (Mapping v));
+      counts = λ others agree.
+          let all : length (fetches hz others (ds ++ Mapping v ∷ [])) ≡ length (fetches hz others ds) = ap length (fetches-delivered hz others ds (Mapping v) ∙ append-nil (fetches hz others ds)) in
+          omega (arith, x.counts others agree);
+      honest = x.honest;
+      fit = x.fit;
+      failed_applied = x.failed_applied;
+    }
+
+    -- the replies stay
+    pub mapping_replies : (v : MappingVersion) → (Explained-mapping v).replies ≡ x.replies
+    unfolding Explained-mapping
+    mapping_replies v = refl
 
     -- the end is taken
     pub Explained-end : ExplainedToEnd hz unfit told ds made (after_end w)

@@ -6,7 +6,7 @@ use Rattle.entity_model.specs.declared.event.Event.{Event}
 use Rattle.entity_model.specs.Event.{event_cmp, event_cmp_total, event_cmp_same}
 use Rattle.side_output.specs.declared.entry.Entry.TheVariants.{Late as LateEntry}
 use Rattle.entity_model.specs.declared.delivery.Delivery.{Delivery}
-use Rattle.entity_model.specs.declared.delivery.Delivery.TheVariants.{Event as Told, Watermark, Ask}
+use Rattle.entity_model.specs.declared.delivery.Delivery.TheVariants.{Event as Told, Watermark, Ask, Mapping}
 use Rattle.reorder_buffer.specs.declared.taken.Taken.{Taken}
 use Rattle.reorder_buffer.specs.declared.taken.Taken.TheVariants.{New, Repeat, Late}
 use Rattle.reorder_buffer.specs.Watermarks.{greater, reached, is_due, floor}
@@ -145,6 +145,12 @@ following-delivered hz replies ds (Ask q) =
     (λ i. in_order (filter (waits (mark-kept ds (Ask q) refl i)) (events_passing-kept (is_accepted hz) ds (Ask q) refl i)))
     (mark-kept ds (Ask q) refl)
     (play-push hz replies ds (Ask q))
+following-delivered hz replies ds (Mapping v) =
+    same_parts hz false
+    (λ i. unforgotten (floor hz (mark-kept ds (Mapping v) refl i)) (in_order (events-kept ds (Mapping v) refl i)))
+    (λ i. in_order (filter (waits (mark-kept ds (Mapping v) refl i)) (events_passing-kept (is_accepted hz) ds (Mapping v) refl i)))
+    (mark-kept ds (Mapping v) refl)
+    (play-push hz replies ds (Mapping v))
 
 -- ---- one due event after the other
 

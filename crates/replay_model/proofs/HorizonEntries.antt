@@ -5,7 +5,7 @@ use Rattle.entity_model.specs.declared.event.Event.{Event}
 use Rattle.side_output.specs.declared.entry.Entry.{Entry}
 use Rattle.side_output.specs.declared.entry.Entry.TheVariants.{Late}
 use Rattle.entity_model.specs.declared.delivery.Delivery.{Delivery}
-use Rattle.entity_model.specs.declared.delivery.Delivery.TheVariants.{Event as Told, Watermark, Ask}
+use Rattle.entity_model.specs.declared.delivery.Delivery.TheVariants.{Event as Told, Watermark, Ask, Mapping}
 use Rattle.reorder_buffer.specs.Watermarks.{is_due}
 use Rattle.rising.proofs.Pushes.{by_pushes}
 use Rattle.replay_model.specs.Acceptance.{mark, is_late}
@@ -55,6 +55,7 @@ newly_due-alike hz before closed after = ap (λ es. in_order (filter (λ e. not 
 others-happens : (hz : Option ℕ) (replies : Replies) (ds : List Delivery) (d : Delivery) (p p' : Played) → p.records ≡ p'.records → others p.side ≡ others p'.side → others (happens hz replies ds d p).side ≡ others (happens None replies ds d p').side
 others-happens hz replies ds (Told e) p p' records same = others-late p.side e (is_late hz ds e) ∙ same ∙ sym (others-late p'.side e (is_late None ds e))
 others-happens hz replies ds (Ask q) p p' records same = same
+others-happens hz replies ds (Mapping v) p p' records same = same
 others-happens hz replies ds (Watermark w) p p' records same =
     ap (λ es. others (apply_all replies p es).side) (newly_due-alike hz ds false (ds ++ Watermark w ∷ []))
     ∙ others-apply_all replies (newly_due None ds false (ds ++ Watermark w ∷ [])) p p' records same
@@ -82,6 +83,7 @@ fetches-newly_due hz replies before closed after =
 fetches_at-alike : (hz : Option ℕ) (replies : Replies) (ds : List Delivery) (d : Delivery) → fetches_at hz replies (record { before = ds; delivery = d }) ≡ fetches_at None replies (record { before = ds; delivery = d })
 fetches_at-alike hz replies ds (Told e) = refl
 fetches_at-alike hz replies ds (Ask q) = refl
+fetches_at-alike hz replies ds (Mapping v) = refl
 fetches_at-alike hz replies ds (Watermark w) = fetches-newly_due hz replies ds false (ds ++ Watermark w ∷ [])
 
 pub fetches-alike : (hz : Option ℕ) (replies : Replies) (ds : List Delivery) → fetches hz replies ds ≡ fetches None replies ds

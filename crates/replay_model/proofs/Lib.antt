@@ -12,6 +12,7 @@ pub mod Floors
 pub mod Following
 pub mod HorizonEntries
 pub mod Horizons
+pub mod InForce
 pub mod Known
 pub mod LateEntries
 pub mod OpenLate

@@ -1,11 +1,14 @@
 -- Which events of a list of deliveries are accepted, late, due and known, where all are remembered that aren't further behind the
--- mark than a horizon; without a horizon, all are.
-use Rattle.std.specs.Prelude.{ℕ, ℤ, Bool, not, ◌&&◌, cond, List, [], ◌∷◌, ◌++◌, Option, None, Some, fold, filter, filter_map, option_and_then}
+-- mark than a horizon; without a horizon, all are. And which version of the mapping is in force after the deliveries.
+use Rattle.std.specs.Prelude.{ℕ, ℤ, Bool, not, ◌&&◌, cond, List, [], ◌∷◌, ◌++◌, Option, None, Some, fold, filter, filter_map, option_and_then, unwrap_or}
+use Rattle.std.specs.List.{last_or}
 use Rattle.rising.specs.Rising.{has}
 use Rattle.entity_model.specs.declared.event.Event.{Event}
 use Rattle.entity_model.specs.Event.{event_cmp}
 use Rattle.entity_model.specs.declared.delivery.Delivery.{Delivery}
-use Rattle.entity_model.specs.declared.delivery.Delivery.TheVariants.{Event as Told, Watermark}
+use Rattle.entity_model.specs.declared.delivery.Delivery.TheVariants.{Event as Told, Watermark, Mapping}
+use Rattle.entity_model.specs.declared.mapping.MappingVersion.{MappingVersion}
+use Rattle.entity_model.specs.declared.mapping.MappingVersion.TheVariants.{One}
 use Rattle.reorder_buffer.specs.Watermarks.{greater, reached, is_due, floor, is_below}
 
 -- a delivery and the deliveries before it
@@ -32,6 +35,11 @@ abbrev pub watermark_of : Delivery → Option ℤ
 watermark_of (Watermark w) = Some w
 watermark_of _ = None
 
+-- the version of the mapping that a delivery brings
+abbrev pub mapping_of : Delivery → Option MappingVersion
+mapping_of (Mapping v) = Some v
+mapping_of _ = None
+
 -- the events that were delivered, with their repeats
 abbrev pub events : List Delivery → List Event
 events ds = filter_map event_of ds
@@ -39,6 +47,10 @@ events ds = filter_map event_of ds
 -- the mark: the greatest watermark so far
 abbrev pub mark : List Delivery → Option ℤ
 mark ds = fold greater None (filter_map watermark_of ds)
+
+-- the version of the mapping in force: the last that a delivery brought, and the first version where none did
+abbrev pub version_in_force : List Delivery → MappingVersion
+version_in_force ds = unwrap_or (last_or None (filter_map mapping_of ds)) One
 
 -- whether the event was delivered before, and isn't below the floor
 abbrev pub is_repeat : Option ℕ → List Delivery → Event → Bool

@@ -13,7 +13,7 @@ use Rattle.side_output.specs.declared.entry.Cause.{Cause}
 use Rattle.side_output.specs.declared.entry.Entry.{Entry}
 use Rattle.side_output.specs.declared.entry.Entry.TheVariants.{Late, Revision}
 use Rattle.entity_model.specs.declared.delivery.Delivery.{Delivery}
-use Rattle.entity_model.specs.declared.delivery.Delivery.TheVariants.{Event as Told, Watermark, Ask}
+use Rattle.entity_model.specs.declared.delivery.Delivery.TheVariants.{Event as Told, Watermark, Ask, Mapping}
 use Rattle.reorder_buffer.specs.Watermarks.{is_due}
 use Rattle.replay_model.specs.Acceptance.{Arrival, arrivals, mark, is_late, due}
 use Rattle.replay_model.specs.Fate.{in_order}
@@ -77,11 +77,13 @@ apply_all replies p es = fold (apply replies) p es
 abbrev pub newly_due : Option ℕ → List Delivery → Bool → List Delivery → List Event
 newly_due h before closed after = in_order (filter (λ e. not (is_due false (mark before) e)) (due h closed after))
 
--- what a delivery does: an event that is late is named in the side output, and a watermark applies what is due now
+-- what a delivery does: an event that is late is named in the side output, and a watermark applies what is due now; a question and
+-- another version of the mapping do nothing, since all that is held is mapped by the version in force
 abbrev pub happens : Option ℕ → Replies → List Delivery → Delivery → Played → Played
 happens h replies before (Told e) p = record { records = p.records; side = p.side ++ cond (is_late h before e) (Late e ∷ []) [] }
 happens h replies before (Watermark w) p = apply_all replies p (newly_due h before false (before ++ Watermark w ∷ []))
 happens h replies before (Ask q) p = p
+happens h replies before (Mapping v) p = p
 
 -- the replay of the deliveries
 abbrev pub play : Option ℕ → Replies → List Delivery → Played

@@ -6,7 +6,7 @@ use Rattle.entity_model.specs.Event.{event_cmp}
 use Rattle.side_output.specs.declared.entry.Entry.{Entry}
 use Rattle.side_output.specs.declared.entry.Entry.TheVariants.{Late as LateEntry}
 use Rattle.entity_model.specs.declared.delivery.Delivery.{Delivery}
-use Rattle.entity_model.specs.declared.delivery.Delivery.TheVariants.{Event as Told, Watermark, Ask}
+use Rattle.entity_model.specs.declared.delivery.Delivery.TheVariants.{Event as Told, Watermark, Ask, Mapping}
 use Rattle.reorder_buffer.specs.declared.taken.Taken.{Taken}
 use Rattle.reorder_buffer.specs.declared.taken.Taken.TheVariants.{New, Repeat, Late}
 use Rattle.reorder_buffer.specs.Watermarks.{is_due, floor, is_below}
@@ -81,12 +81,14 @@ abbrev pub entered : ReplayState → Delivery → ReplayState
 entered w (Told e) = after_event w e
 entered w (Watermark m) = after_mark w m
 entered w (Ask q) = w
+entered w (Mapping v) = w
 
 -- after a delivery: an event is taken, and after a watermark what is due is applied
 abbrev pub delivered : Replies → ReplayState → Delivery → ReplayState
 delivered replies w (Told e) = after_event w e
 delivered replies w (Watermark m) = after_due replies (after_mark w m)
 delivered replies w (Ask q) = w
+delivered replies w (Mapping v) = w
 
 -- after the end of the input, which makes every event due
 abbrev pub ended : Replies → ReplayState → ReplayState
@@ -130,6 +132,7 @@ abbrev pub fetches_delivered : Replies → ReplayState → Delivery → List Fet
 fetches_delivered replies w (Told e) = []
 fetches_delivered replies w (Watermark m) = fetches_due replies (after_mark w m)
 fetches_delivered replies w (Ask q) = []
+fetches_delivered replies w (Mapping v) = []
 
 -- a buffer that has taken these deliveries with this horizon, whatever was dropped, closed or not
 pub record HasTakenIn (h : Option ℕ) (ds : List Delivery) (b : Buffered) : Type 0 where

@@ -1,4 +1,5 @@
--- What a replay, with a horizon or none, prints: an answer at each delivery that asks, and the closing sections.
+-- What a replay, with a horizon or none, prints: an answer at each delivery that asks, and the closing sections. What is held then
+-- means what it means by the version of the mapping in force.
 use Rattle.std.specs.Prelude.{ℕ, ◌+◌, Bool, true, false, cond, List, [], ◌++◌, Option, None, Some, filter_map, flat_map, length, decimal, codes}
 use Rattle.std.specs.FinMap as map
 use Rattle.std.specs.Fmt.{signed_decimal}
@@ -23,7 +24,8 @@ use Rattle.side_output.specs.declared.entry.Entry.{Entry}
 use Rattle.side_output.specs.declared.entry.Entry.TheVariants.{Late, Revision}
 use Rattle.entity_model.specs.declared.delivery.Delivery.{Delivery}
 use Rattle.entity_model.specs.declared.delivery.Delivery.TheVariants.{Ask}
-use Rattle.replay_model.specs.Acceptance.{Arrival, arrivals}
+use Rattle.entity_model.specs.declared.mapping.MappingVersion.{MappingVersion}
+use Rattle.replay_model.specs.Acceptance.{Arrival, arrivals, version_in_force}
 use Rattle.replay_model.specs.Entries.{is_open_in}
 use Rattle.side_output.specs.Entry.{entity_of}
 use Rattle.replay_model.specs.Play.{Replies, Played, play, play_to_end}
@@ -132,11 +134,11 @@ entry_line stands entry = side_line (entry_word entry) (open_word stands) (id_te
 abbrev pub side_section : Records → List Entry → List ℕ
 side_section records side = flat_map (λ entry. entry_line (is_open_in records entry) entry) side
 
-module _ (meaning : Meaning Triple) where
+module _ (meaning : MappingVersion → Meaning Triple) where
   -- the answer to an ask, after the deliveries before it
   abbrev pub answer_said : Option ℕ → Replies → List Delivery → Option Pattern → List ℕ
   answer_said h replies before None = []
-  answer_said h replies before (Some pattern) = ask_section (asks before + 1) (rows (union triple_cmp meaning (play h replies before).records) pattern)
+  answer_said h replies before (Some pattern) = ask_section (asks before + 1) (rows (union triple_cmp (meaning (version_in_force before)) (play h replies before).records) pattern)
 
   -- what is printed at a delivery: the answer, if it asks
   abbrev pub said_at : Option ℕ → Replies → Arrival → List ℕ
@@ -146,13 +148,13 @@ module _ (meaning : Meaning Triple) where
   abbrev pub said : Option ℕ → Replies → List Delivery → List ℕ
   said h replies ds = flat_map (said_at h replies) (arrivals ds)
 
-  -- what is printed after the end
-  abbrev pub closing : Sections → Played → List ℕ
-  closing sections p =
-      cond sections.export (export_section (union triple_cmp meaning p.records)) []
+  -- what is printed after the end, where this version is in force
+  abbrev pub closing : MappingVersion → Sections → Played → List ℕ
+  closing version sections p =
+      cond sections.export (export_section (union triple_cmp (meaning version) p.records)) []
       ++ cond sections.state (state_section p.records) []
       ++ cond sections.side (side_section p.records p.side) []
 
   -- all that is printed
   abbrev pub transcript : Option ℕ → Sections → Replies → List Delivery → List ℕ
-  transcript h sections replies ds = said h replies ds ++ closing sections (play_to_end h replies ds)
+  transcript h sections replies ds = said h replies ds ++ closing (version_in_force ds) sections (play_to_end h replies ds)

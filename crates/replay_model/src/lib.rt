@@ -20,6 +20,8 @@ pub use laws::{
 pub use source_laws::{replay_over_source_is_a_play, told_contents_are_held_and_named};
 pub use step_laws::{
     due_events_one_by_one, fetches_one_by_one, output_grows_by_deliveries,
-    replay_follows_deliveries,
+    replay_follows_deliveries, version_follows_deliveries,
 };
-pub use union_laws::{owners_change_by_one, union_is_what_has_owners};
+pub use union_laws::{
+    owners_change_by_one, same_events_and_version_give_same_union, union_is_what_has_owners,
+};

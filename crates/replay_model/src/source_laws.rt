@@ -7,6 +7,7 @@ ghost use Rattle.entity_model.specs.declared.id.EntityId.{EntityId};
 ghost use Rattle.side_output.specs.declared.entry.Cause.{Cause};
 ghost use Rattle.rdf_term.specs.declared.pattern.Pattern.{Pattern};
 ghost use Rattle.entity_model.specs.declared.delivery.Delivery.{Delivery};
+ghost use Rattle.entity_model.specs.declared.mapping.MappingVersion.{MappingVersion};
 ghost use Rattle.reorder_buffer.specs.Buffered.{first_due};
 ghost use Rattle.replay_model.specs.Records.{Bytes, record_of};
 ghost use Rattle.replay_model.specs.Play.{Replies, Fetch, played};
@@ -48,6 +49,9 @@ pub fn replay_over_source_is_a_play()
     ensures ask { (unfit : Judgement) (told : Option (ℕ → Option Bytes)) (h : Option ℕ) (ds : List Delivery) (made : ℕ) (w : ReplayState) →
         ExplainedAfter h unfit told ds made w → first_due w.buffer ≡ None →
         (q : Pattern) → ExplainedAfter h unfit told (ds ++ Delivery.Ask q ∷ []) made w }
+    ensures mapping { (unfit : Judgement) (told : Option (ℕ → Option Bytes)) (h : Option ℕ) (ds : List Delivery) (made : ℕ) (w : ReplayState) →
+        ExplainedAfter h unfit told ds made w → first_due w.buffer ≡ None →
+        (v : MappingVersion) → ExplainedAfter h unfit told (ds ++ Delivery.Mapping v ∷ []) made w }
     ensures the_end { (unfit : Judgement) (told : Option (ℕ → Option Bytes)) (h : Option ℕ) (ds : List Delivery) (made : ℕ) (w : ReplayState) →
         ExplainedAfter h unfit told ds made w → first_due w.buffer ≡ None → ExplainedToEnd h unfit told ds made (after_end w) }
 

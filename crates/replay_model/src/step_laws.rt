@@ -3,7 +3,9 @@
 ghost use Rattle.std.specs.Prelude.{◌≡◌, ℕ, ◌+◌, [], ◌∷◌, ◌++◌, List, Option, None};
 ghost use Rattle.rdf_term.specs.declared.triple.Triple.{Triple};
 ghost use Rattle.entity_model.specs.declared.delivery.Delivery.{Delivery};
+ghost use Rattle.entity_model.specs.declared.mapping.MappingVersion.{MappingVersion};
 ghost use Rattle.reorder_buffer.specs.Buffered.{first_due};
+ghost use Rattle.replay_model.specs.Acceptance.{mapping_of, version_in_force};
 ghost use Rattle.replay_model.specs.Play.{Replies, fetches, fetches_to_end, risen_by};
 ghost use Rattle.replay_model.specs.ReplayState.{ReplayState, nothing_delivered_within, after_end, after_next, after_due, delivered, ended, following, following_to_end, fetches_next, fetches_due, fetches_delivered};
 ghost use Rattle.replay_model.specs.Transcript.{said, said_at};
@@ -41,6 +43,14 @@ pub fn fetches_one_by_one()
 
 /// What is printed at a list of deliveries is what was printed before the last and what is printed at it.
 pub fn output_grows_by_deliveries()
-    ensures { (h : Option ℕ) (meaning : Meaning Triple) (replies : Replies) (ds : List Delivery) (d : Delivery) →
+    ensures { (h : Option ℕ) (meaning : MappingVersion → Meaning Triple) (replies : Replies) (ds : List Delivery) (d : Delivery) →
         said meaning h replies (ds ++ d ∷ []) ≡ said meaning h replies ds ++ said_at meaning h replies (record { before = ds; delivery = d }) }
+{}
+
+/// The first version of the mapping is in force before the first delivery, a delivery that brings a version puts it in force,
+/// and any other leaves the version in force as it is.
+pub fn version_follows_deliveries()
+    ensures start { version_in_force [] ≡ MappingVersion.One }
+    ensures mapping { (ds : List Delivery) (v : MappingVersion) → version_in_force (ds ++ Delivery.Mapping v ∷ []) ≡ v }
+    ensures others { (ds : List Delivery) (d : Delivery) → mapping_of d ≡ None → version_in_force (ds ++ d ∷ []) ≡ version_in_force ds }
 {}

@@ -1,12 +1,18 @@
 // The laws of the union and its owners.
 
-ghost use Rattle.std.specs.Prelude.{◌≡◌, ◌+◌, true, false, nat_lt};
+ghost use Rattle.std.specs.Prelude.{◌≡◌, ◌+◌, ℕ, List, Option, true, false, nat_lt};
 ghost use Rattle.std.specs.Cmp.{IsTotalOrder};
 ghost use Rattle.std.specs.declared.cmp.Ordering.{Ordering};
 ghost use Rattle.std.specs.FinMap.{insert};
 ghost use Rattle.rising.specs.Rising.{has, difference, IsRising};
+ghost use Rattle.entity_model.specs.declared.delivery.Delivery.{Delivery};
+ghost use Rattle.entity_model.specs.declared.event.Event.{Event};
 ghost use Rattle.entity_model.specs.declared.id.EntityId.{EntityId};
+ghost use Rattle.entity_model.specs.declared.mapping.MappingVersion.{MappingVersion};
+ghost use Rattle.entity_model.specs.Event.{event_cmp};
 ghost use Rattle.entity_state.specs.declared.record.Record.{Record};
+ghost use Rattle.replay_model.specs.Acceptance.{accepted, version_in_force};
+ghost use Rattle.replay_model.specs.Play.{Replies, play_to_end};
 ghost use Rattle.replay_model.specs.Records.{Bytes, Records, record_of};
 ghost use Rattle.replay_model.specs.Union.{Meaning, triples_held, union, owners};
 
@@ -35,4 +41,20 @@ pub fn union_is_what_has_owners<Triple>()
         has order t (union order meaning records) ≡ nat_lt 0 (owners order meaning records t) }
     ensures rising { (order : Triple → Triple → Ordering) (meaning : Meaning Triple) → IsTotalOrder order →
         (records : Records) → IsRising order (union order meaning records) }
+{}
+
+/// Two closed lists of deliveries with the same accepted events and the same version of the mapping in force at their end
+/// give the same union and the same owners, wherever their watermarks and changes of the version stand.
+pub fn same_events_and_version_give_same_union<Triple>()
+    ensures union { (order : Triple → Triple → Ordering) (meaning : MappingVersion → Meaning Triple) (h : Option ℕ) (replies : Replies) (ds es : List Delivery) →
+        ((e : Event) → has event_cmp e (accepted h ds) ≡ has event_cmp e (accepted h es)) →
+        version_in_force ds ≡ version_in_force es →
+        union order (meaning (version_in_force ds)) (play_to_end h replies ds).records
+        ≡ union order (meaning (version_in_force es)) (play_to_end h replies es).records }
+    ensures owners { (order : Triple → Triple → Ordering) (meaning : MappingVersion → Meaning Triple) (h : Option ℕ) (replies : Replies) (ds es : List Delivery) →
+        ((e : Event) → has event_cmp e (accepted h ds) ≡ has event_cmp e (accepted h es)) →
+        version_in_force ds ≡ version_in_force es →
+        (t : Triple) →
+        owners order (meaning (version_in_force ds)) (play_to_end h replies ds).records t
+        ≡ owners order (meaning (version_in_force es)) (play_to_end h replies es).records t }
 {}

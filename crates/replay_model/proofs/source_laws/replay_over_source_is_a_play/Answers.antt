@@ -1,5 +1,5 @@
 -- The steps that keep a replay explained.
-use Rattle.replay_model.proofs.Explaining.{Explained-is, Explained-fetches, Explained-source, Explained-source_fetches, Explained-start, Explained-event, Explained-event_rests, Explained-mark, Explained-ask, Explained-end, Explained-next, Explained-ask}
+use Rattle.replay_model.proofs.Explaining.{Explained-is, Explained-fetches, Explained-source, Explained-source_fetches, Explained-start, Explained-event, Explained-event_rests, Explained-mark, Explained-ask, Explained-end, Explained-next, Explained-ask, Explained-mapping}
 use Rattle.replay_model.proofs.source_laws.replay_over_source_is_a_play.Goals as goal
 
 pub returns-clause-some_replies : goal.returns-clause-some_replies
@@ -28,3 +28,6 @@ returns-clause-next c unfit told play_of fetches_of made w e reply x some honest
 
 pub returns-clause-ask : goal.returns-clause-ask
 returns-clause-ask c = Explained-ask
+
+pub returns-clause-mapping : goal.returns-clause-mapping
+returns-clause-mapping c = Explained-mapping
