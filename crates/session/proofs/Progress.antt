@@ -104,6 +104,11 @@ module _ (run : Run) (before now : Moment) (reader : Reading) (asked : ℕ) (so_
   taken_on next left_next reads =
       takes_on (limit_of run.choices) reader now.input.left so_far.deliveries so_far.max so_far.sound before.input.left next left_next so_far.read reads so_far.taken
 
+  -- the lines so far, and none more
+  first_still : (next : Reading) (left_next : Option (List ℕ)) → ReadsAsNeeded reader next now.input.left left_next → AreFirst (limit_of run.choices) before.input.left left_next (so_far.deliveries ++ [])
+  first_still next left_next reads =
+      rw (append-nil so_far.deliveries) (first_lines (limit_of run.choices) reader now.input.left so_far.deliveries so_far.max so_far.sound before.input.left next left_next reads so_far.read)
+
   -- memory was refused: the world is as it was after the lines so far
   pub stands : (next : Reading) (input : Input) → ReadsAsNeeded reader next now.input.left input.left → StopsWithin run before (record now { input = input })
   stands next input reads = record {
@@ -111,8 +116,7 @@ module _ (run : Run) (before now : Moment) (reader : Reading) (asked : ℕ) (so_
     last = None;
     within = rest_within run.setting so_far.deliveries before.stage now.stage so_far.at_rest;
     mapped = so_far.at_rest.mapped;
-    first = rw (append-nil so_far.deliveries)
-        (first_lines (limit_of run.choices) reader now.input.left so_far.deliveries so_far.max so_far.sound before.input.left next input.left reads so_far.read);
+    first = first_still next input.left reads;
   }
 
   -- the number of the next line
@@ -197,7 +201,7 @@ module _ (run : Run) (before now : Moment) (reader : Reading) (asked : ℕ) (so_
             last = None;
             within = still same.0 same.1;
             mapped = mapped;
-            first = (stands next after.input is.reads).first;
+            first = first_still next after.input.left is.reads;
           })
           (λ begun. record { deliveries = so_far.deliveries; last = Some d; within = begun; mapped = mapped; first = first })
           (in_part.world so_far.deliveries before.stage so_far.at_rest)

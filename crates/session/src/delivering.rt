@@ -114,7 +114,7 @@ fn take_event(event: Event, world: &mut World) -> Result<(), OutOfMemory>
     ensures ok { OnOk result (world.new.replay ≡ after_event world.old.replay event) }
     ensures room { world.new.room ≡ world.old.room }
     ensures versions { mapped_in world.new ≡ mapped_in world.old }
-    ensures err { OnErr result (world.new.replay ≡ world.old.replay) }
+    ensures err { OnErr result (world.new ≡ world.old) }
 {
     world.take(event)?;
     Ok(())
