@@ -225,12 +225,16 @@ module _ (setting : Setting) (ds : List Delivery) (start : Stage) where
 -- an event wasn't taken
 pub event_cut_off : (setting : Setting) (e : Event) (asked : ℕ) (now : Stage) (new : ReplayState) (mapped : Mapped) → new ≡ now.world → mapped ≡ now.mapped →
     CutsOff OutOfMemory setting (turn asked (Told e)) now (onward (with_mapped now mapped) now.counts new)
-event_cut_off setting e asked now new mapped same same_mapped = inr (inl (Starved, refl, record {
-  held_up = tt;
-  output = refl;
-  mapped = λ version is. same_mapped ∙ is ∙ ap (λ (w : ReplayState). mapped_by version w.played.records) (sym same);
-  world = λ ds start at_rest. inl (same, refl);
-}))
+event_cut_off setting e asked now new mapped same same_mapped = inr (inl (
+  Starved,
+  refl,
+  record {
+    held_up = tt;
+    output = refl;
+    mapped = λ version is. same_mapped ∙ is ∙ ap (λ (w : ReplayState). mapped_by version w.played.records) (sym same);
+    world = λ ds start at_rest. inl (same, refl);
+  },
+))
 
 -- a watermark was taken, and some of what is due was applied
 pub mark_cut_off : (why : Unapplied) (setting : Setting) (m : ℤ) (asked : ℕ) (now : Stage) (counts : Counts) (new : ReplayState) (mapped : Mapped) → IsHeldUp why setting new mapped →
@@ -248,13 +252,17 @@ ask_cut_off why setting q asked now out prints = inl (why, refl, record { patter
 pub mapping_cut_off : (why : Unapplied) (setting : Setting) (v : MappingVersion) (asked : ℕ) (now : Stage) (new : ReplayState) (mapped : Mapped) → new ≡ now.world → IsLeftStale why setting.room now.world.played.records mapped →
     (steps : ℕ) × (mapped ≡ remapped_some steps now.world.played.records (record { version = v; second = now.mapped.second })) →
     CutsOff (stop_of_unapplied why) setting (turn asked (Mapping v)) now (onward (with_mapped now mapped) now.counts new)
-mapping_cut_off why setting v asked now new mapped same stale some = inr (inr (why, refl, record {
-  version = v;
-  is = refl;
-  left_stale = subst (λ (w : ReplayState). IsLeftStale why setting.room w.played.records mapped) (sym same) stale;
-  output = refl;
-  counts = refl;
-  world = same;
-  steps = some.0;
-  mapped = some.1;
-}))
+mapping_cut_off why setting v asked now new mapped same stale some = inr (inr (
+  why,
+  refl,
+  record {
+    version = v;
+    is = refl;
+    left_stale = subst (λ (w : ReplayState). IsLeftStale why setting.room w.played.records mapped) (sym same) stale;
+    output = refl;
+    counts = refl;
+    world = same;
+    steps = some.0;
+    mapped = some.1;
+  },
+))

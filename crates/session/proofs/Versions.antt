@@ -1,5 +1,5 @@
 -- By which versions all that is held is mapped, after each step.
-use Rattle.std.proofs.Common.{◌≡◌, ◌∙◌, refl, sym, ap, subst, ℕ, suc, ◌+◌, ◌<◌, Bool, true, false, cond, List, [], ◌∷◌, length, filter, Option, None, Some, IfSome, Result, Ok, Err, is_some, arith}
+use Rattle.std.proofs.Common.{◌≡◌, ◌∙◌, refl, sym, ap, subst, ℕ, suc, ◌<◌, Bool, true, false, cond, List, [], ◌∷◌, length, filter, Option, None, Some, IfSome, Result, Ok, Err, is_some, arith}
 use Rattle.std.specs.FinMap as map
 use Rattle.rdf_term.specs.Order.{triple_cmp}
 use Rattle.entity_model.specs.declared.id.EntityId.{EntityId}

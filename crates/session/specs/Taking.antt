@@ -1,5 +1,5 @@
 -- How far a world has come in a play while deliveries are taken, and what the taking of one delivery leaves.
-use Rattle.std.specs.Prelude.{◌≡◌, ◌⊎◌, ⊤, ℕ, ◌<◌, ◌≤◌, ◌+◌, List, [], ◌∷◌, ◌++◌, length, Option, None, Some}
+use Rattle.std.specs.Prelude.{◌≡◌, ◌⊎◌, ⊤, ℕ, ◌≤◌, ◌+◌, List, [], ◌∷◌, ◌++◌, length, Option, None, Some}
 use Rattle.std.specs.Option.{option_to_list}
 use Rattle.wq_io.specs.Streams.{after_known}
 use Rattle.rdf_term.specs.declared.pattern.Pattern.{Pattern}

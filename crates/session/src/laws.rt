@@ -54,7 +54,7 @@ pub fn settled_pages_are_the_union()
         ((x : EntityId) → is_settled (record_of now.stage.world.played.records x) ≡ true) →
         held_triples now.stage.mapped now.stage.world.played.records
         ≡ sorted triple_cmp (flat_map (λ entry. triples_in (meaning (version_in_force ending.replayed.deliveries)) contents entry.0 entry.1.state)
-            (map.entries now.stage.world.played.records)) }
+        (map.entries now.stage.world.played.records)) }
 {}
 
 /// After a replay that ended well over told contents, and whose fetches didn't fail, the side output is empty where no delivery is late

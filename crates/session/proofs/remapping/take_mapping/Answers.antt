@@ -1,6 +1,5 @@
 -- No page yet, one more, and all of them.
-use Rattle.std.proofs.Common.{◌∙◌, ap, Err, sym}
-use Rattle.session.proofs.Versions.{first_there, remaps_all, remaps_full, remaps_next, remaps_none}
+use Rattle.session.proofs.Versions.{remaps_next, remaps_none}
 use Rattle.session.proofs.remapping.take_mapping.Goals as goal
 
 pub loop-world-init : goal.loop-world-init
