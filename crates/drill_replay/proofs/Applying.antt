@@ -20,7 +20,10 @@ use Rattle.replay_model.proofs.Following.{after_due-next, after_due-none}
 use Rattle.world.specs.Applying.{Applies, IsReply, IsShown, outcome_of_reply}
 use Rattle.world.specs.declared.applied.Applied.{Applied}
 use Rattle.world.specs.declared.applied.Outcome.{Outcome}
-use Rattle.world.specs.declared.applied.Outcome.TheVariants.{Same, Dropped}
+use Rattle.world.specs.declared.applied.Outcome.TheVariants.{Same, Stored, Dropped, Sided}
+use Rattle.world.specs.WorldState.{WorldState, second_after}
+use Rattle.drill_replay.specs.Playing.{IsByFirst}
+use Rattle.entity_model.specs.declared.mapping.MappingVersion.TheVariants.{One}
 use Rattle.drill.specs.Drill.{contents_of}
 use Rattle.drill_replay.specs.Summary.{replies_of}
 
@@ -99,3 +102,16 @@ goes-next size told told_next place start world next applied misses misses_now g
 pub goes-end : (size : ℕ) (told : Option Contents) (start world now : ReplayState) → Goes size told start world → now ≡ world → first_due world.buffer ≡ None
     → now ≡ after_due (replies_of size) start
 goes-end size told start world now goes same none = same ∙ sym (after_due-none (replies_of size) world none) ∙ goes.leads
+
+-- an application by the first version maps no page by another
+second_one : (o : Outcome) (x : EntityId) → second_after o One x [] ≡ []
+second_one Same x = refl
+second_one Stored x = refl
+second_one Dropped x = refl
+second_one (Sided cause) x = refl
+
+pub stays_first : (old new : WorldState) (applied : Applied) → new.mapping ≡ old.mapping → new.second ≡ second_after applied.outcome old.mapping applied.event.entity old.second → IsByFirst old → IsByFirst new
+stays_first old new applied same second first = (
+  same ∙ first.0,
+  second ∙ ap (λ v. second_after applied.outcome v applied.event.entity old.second) first.0 ∙ ap (second_after applied.outcome One applied.event.entity) first.1 ∙ second_one applied.outcome applied.event.entity,
+)

@@ -1,7 +1,8 @@
 -- How far a drill has come.
-use Rattle.std.specs.Prelude.{◌≡◌, ◌⊎◌, ℕ, ◌+◌, ◌≤◌, List, ◌∷◌, ◌++◌, Option, None, Some, length}
+use Rattle.std.specs.Prelude.{◌≡◌, ◌⊎◌, ℕ, ◌+◌, ◌≤◌, List, [], ◌∷◌, ◌++◌, Option, None, Some, length}
 use Rattle.entity_model.specs.declared.delivery.Delivery.{Delivery}
 use Rattle.entity_model.specs.declared.delivery.Delivery.TheVariants.{Event as Told, Watermark, Ask, Mapping}
+use Rattle.entity_model.specs.declared.mapping.MappingVersion.TheVariants.{One}
 use Rattle.reorder_buffer.specs.Buffered.{Buffered, answer_to}
 use Rattle.reorder_buffer.specs.declared.taken.Taken.{Taken}
 use Rattle.reorder_buffer.specs.declared.taken.Taken.TheVariants.{New, Repeat, Late}
@@ -9,7 +10,12 @@ use Rattle.replay_model.specs.Acceptance.{accepted, late}
 use Rattle.replay_model.specs.ReplayState.{ReplayState, after_end, after_some, entered, following}
 use Rattle.drill.specs.Drill.{drill}
 use Rattle.drill_replay.specs.declared.playing.Counts.{Counts}
+use Rattle.world.specs.WorldState.{WorldState}
 use Rattle.drill_replay.specs.Summary.{replies_of}
+
+-- the first version of the mapping is in force, and no page is mapped by another
+abbrev pub IsByFirst : WorldState → Type 0
+IsByFirst world = (world.mapping ≡ One) × (world.second ≡ [])
 
 -- these deliveries were counted
 pub record Counted (ds : List Delivery) (counts : Counts) : Type 0 where

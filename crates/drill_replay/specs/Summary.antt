@@ -13,6 +13,7 @@ use Rattle.replay_model.specs.Records.{Records, record_of}
 use Rattle.replay_model.specs.Replies.{source_replies}
 use Rattle.replay_model.specs.ReplayState.{ReplayState, following_to_end}
 use Rattle.replay_model.specs.Union.{union}
+use Rattle.entity_model.specs.declared.mapping.MappingVersion.TheVariants.{One}
 use Rattle.world.specs.Meaning.{meaning}
 use Rattle.hex.specs.Hex.{encode_lower}
 use Rattle.md5.specs.Md5.{md5}
@@ -41,7 +42,7 @@ triple_lines triples = flat_map triple_text triples
 
 -- the triples that a drill ends with, in order
 abbrev pub triples_of : ℕ → List Triple
-triples_of size = union triple_cmp meaning (drilled size).played.records
+triples_of size = union triple_cmp (meaning One) (drilled size).played.records
 
 -- what is told of a drill: its size, its deliveries, how many distinct events were accepted and were late, how many
 -- entities' pages are kept and how many triples there are at its end, and the MD5 of their lines

@@ -4,7 +4,7 @@ ghost use Rattle.std.specs.Prelude.{◌≡◌, ◌⊎◌, ℕ, ◌+◌, ◌*◌,
 ghost use Rattle.entity_model.specs.declared.delivery.Delivery.{Delivery};
 ghost use Rattle.replay_model.specs.ReplayState.{after_due, after_mark, after_some, entered, following, nothing_delivered};
 ghost use Rattle.drill.specs.Drill.{IsSize, drill};
-ghost use Rattle.drill_replay.specs.Playing.{Counted, HasBegun, HasFew, IsAfter, IsPartOf, answer_of, with_answer};
+ghost use Rattle.drill_replay.specs.Playing.{Counted, HasBegun, HasFew, IsAfter, IsByFirst, IsPartOf, answer_of, with_answer};
 ghost use Rattle.drill_replay.specs.Summary.{drilled, replies_of};
 
 use drill::{DrillRevisions, deliveries};
@@ -52,9 +52,11 @@ impl Counts {
 pub fn play(alloc: Global, size: u32, world: &mut World) -> Result<Counts, OutOfMemory>
     requires size { IsSize size }
     requires world { world.old.replay ≡ nothing_delivered }
+    requires versions { IsByFirst world.old }
     ensures counts { IfOk result (λ counts. Counted (drill size) counts) }
     ensures ok { OnOk result (world.new.replay ≡ drilled size) }
     ensures begun { HasBegun size world.new.replay }
+    ensures versions { IsByFirst world.new }
 {
     let mut counts = Counts::new();
     for done in 0..size {
@@ -82,6 +84,7 @@ fn take_item(
     ensures counted { OnOk result (Counted (drill (done + 1)) counts.new) }
     ensures few { OnOk result (HasFew counts.new (6 * (done + 1))) }
     ensures err { OnErr result (IsPartOf size (drill (done + 1)) world.new.replay) }
+    ensures versions { IsByFirst world.old → IsByFirst world.new }
 {
     let list = deliveries(alloc, done + 1)?;
     for delivery in list.as_slice() {
@@ -99,6 +102,7 @@ fn take(size: u32, delivery: &Delivery, world: &mut World) -> Result<Option<Take
     ensures answer { IfOk result (λ answer. answer ≡ answer_of world.old.replay.buffer delivery.now) }
     ensures err { OnErr result ((ds : List Delivery) → IsAfter size ds world.old.replay → (world.new.replay ≡ world.old.replay)
         ⊎ ((steps : ℕ) × (world.new.replay ≡ after_some (replies_of size) steps (entered (following None (replies_of size) ds) delivery.now)))) }
+    ensures versions { IsByFirst world.old → IsByFirst world.new }
 {
     match delivery {
         Delivery::Event(event) => Ok(Some(world.take(*event)?)),
@@ -114,7 +118,8 @@ fn take(size: u32, delivery: &Delivery, world: &mut World) -> Result<Option<Take
 
 // Takes a watermark.
 fn raise(mark: &i64, world: &mut World)
-    ensures { world.new.replay ≡ after_mark world.old.replay mark.now }
+    ensures mark { world.new.replay ≡ after_mark world.old.replay mark.now }
+    ensures versions { IsByFirst world.old → IsByFirst world.new }
 {
     world.raise(*mark);
 }
@@ -124,6 +129,7 @@ fn apply_due(size: u32, world: &mut World) -> Result<(), OutOfMemory>
     requires { IsSize size }
     ensures ok { OnOk result (world.new.replay ≡ after_due (replies_of size) world.old.replay) }
     ensures steps { (steps : ℕ) × (world.new.replay ≡ after_some (replies_of size) steps world.old.replay) }
+    ensures versions { IsByFirst world.old → IsByFirst world.new }
 {
     let mut pages = DrillRevisions::new(size);
     loop {

@@ -4,7 +4,7 @@ ghost use Rattle.std.specs.Prelude.{◌≡◌, ◌++◌, IfOk, OnOk, map, string
 ghost use Rattle.replay_model.specs.ReplayState.{nothing_delivered};
 ghost use Rattle.md5.specs.Md5.{md5};
 ghost use Rattle.drill.specs.Drill.{IsSize, drill};
-ghost use Rattle.drill_replay.specs.Playing.{Counted, HasBegun};
+ghost use Rattle.drill_replay.specs.Playing.{Counted, HasBegun, IsByFirst};
 ghost use Rattle.drill_replay.specs.Summary.{digest_line, drilled, kept_in, lines_of, number_line, summary_of, triple_lines};
 
 use crate::playing::{Counts, play};
@@ -27,14 +27,16 @@ pub struct Summary {
     pub digest: [u8; 16],
 }
 
-/// Runs the drill of this size in an empty world. For each answer the world is that of a first part of the drill, and for a
+/// Runs the drill of this size in an empty world, by the first version of the mapping. For each answer the world is that of a first part of the drill, and for a
 /// summary that of all of it.
 pub fn run_drill(alloc: Global, size: u32, world: &mut World) -> Result<Summary, OutOfMemory>
     requires size { IsSize size }
     requires world { world.old.replay ≡ nothing_delivered }
+    requires versions { IsByFirst world.old }
     ensures summary { IfOk result (λ summary. summary ≡ summary_of size) }
     ensures ok { OnOk result (world.new.replay ≡ drilled size) }
     ensures begun { HasBegun size world.new.replay }
+    ensures versions { IsByFirst world.new }
 {
     let counts = play(alloc, size, world)?;
     summarize(alloc, size, counts, world)
@@ -64,6 +66,7 @@ fn summarize(
 ) -> Result<Summary, OutOfMemory>
     requires counted { Counted (drill size) counts }
     requires world { world.now.replay ≡ drilled size }
+    requires versions { IsByFirst world.now }
     ensures { IfOk result (λ summary. summary ≡ summary_of size) }
 {
     let kept = kept(world)?;

@@ -1,6 +1,6 @@
 -- The items are taken one after the other, and then the end.
 use Rattle.std.proofs.Common.{◌+◌, inl, ap, arith}
-use Rattle.world.specs.Roomed.{ReplayInRoom}
+use Rattle.world.specs.WorldState.{WorldState}
 use Rattle.drill_replay.proofs.Drills.{part_in}
 use Rattle.drill_replay.proofs.Taking.{drill_begun, drill_ended}
 use Rattle.drill_replay.proofs.playing.play.Goals as goal
@@ -11,12 +11,12 @@ returns-in_err-take_item-clause-begun c =
 
 pub returns-in_err-apply_due-clause-begun : goal.returns-in_err-apply_due-clause-begun
 returns-in_err-apply_due-clause-begun c =
-    drill_begun c.args.size c.loop-done.done c.loop-done.world.replay c.close.new.self.replay c.apply_due.new.world.replay c.loop-done.invariant.after c.loop-done-test.false c.loop-done.auto.done-end (ap (λ (w : ReplayInRoom). w.replay) c.close.ensures) c.apply_due.ensures.steps
+    drill_begun c.args.size c.loop-done.done c.loop-done.world.replay c.close.new.self.replay c.apply_due.new.world.replay c.loop-done.invariant.after c.loop-done-test.false c.loop-done.auto.done-end (ap (λ (w : WorldState). w.replay) c.close.ensures) c.apply_due.ensures.steps
 
 pub returns-clause-begun : goal.returns-clause-begun
 returns-clause-begun c =
-    drill_begun c.args.size c.loop-done.done c.loop-done.world.replay c.close.new.self.replay c.apply_due.new.world.replay c.loop-done.invariant.after c.loop-done-test.false c.loop-done.auto.done-end (ap (λ (w : ReplayInRoom). w.replay) c.close.ensures) c.apply_due.ensures.steps
+    drill_begun c.args.size c.loop-done.done c.loop-done.world.replay c.close.new.self.replay c.apply_due.new.world.replay c.loop-done.invariant.after c.loop-done-test.false c.loop-done.auto.done-end (ap (λ (w : WorldState). w.replay) c.close.ensures) c.apply_due.ensures.steps
 
 pub returns-clause-ok : goal.returns-clause-ok
 returns-clause-ok c =
-    drill_ended c.args.size c.loop-done.done c.loop-done.world.replay c.close.new.self.replay c.apply_due.new.world.replay c.loop-done.invariant.after c.loop-done-test.false c.loop-done.auto.done-end (ap (λ (w : ReplayInRoom). w.replay) c.close.ensures) c.in_ok-apply_due.ensures.ok
+    drill_ended c.args.size c.loop-done.done c.loop-done.world.replay c.close.new.self.replay c.apply_due.new.world.replay c.loop-done.invariant.after c.loop-done-test.false c.loop-done.auto.done-end (ap (λ (w : WorldState). w.replay) c.close.ensures) c.in_ok-apply_due.ensures.ok

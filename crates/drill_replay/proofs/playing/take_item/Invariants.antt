@@ -1,12 +1,13 @@
 -- The deliveries so far were taken and counted.
 use Rattle.std.proofs.Common.{◌+◌, ◌*◌, ◌++◌, take}
 use Rattle.drill.specs.Drill.{drill}
-use Rattle.drill_replay.specs.Playing.{Counted, HasFew, IsAfter}
+use Rattle.drill_replay.specs.Playing.{Counted, HasFew, IsAfter, IsByFirst}
 use Rattle.drill_replay.proofs.playing.take_item.Given as goal
 
 abbrev pub invariant-loop-delivery : goal.invariant-loop-delivery
 invariant-loop-delivery l = record {
   after : IsAfter l.size (drill l.done ++ take l.delivery-index l.delivery-items) l.world.replay;
+  first : IsByFirst l.fn.world → IsByFirst l.world;
   counted : Counted (drill l.done ++ take l.delivery-index l.delivery-items) l.counts;
   few : HasFew l.counts (6 * l.done + l.delivery-index);
 }
