@@ -4,7 +4,6 @@ use Rattle.world.specs.WorldState.{WorldState}
 use Rattle.drill.specs.Drill.{contents_of}
 use Rattle.drill.specs.Source.{Source}
 use Rattle.drill_replay.proofs.Applying.{applies-fewer, goes-end, goes-next, stays_first}
-use Rattle.drill_replay.specs.Playing.{IsByFirst}
 use Rattle.drill_replay.proofs.playing.apply_due.Goals as goal
 
 pub loop-init : goal.loop-init
