@@ -24,3 +24,4 @@ pub mod Settled
 pub mod Taking
 pub mod Times
 pub mod ToldContents
+pub mod Versions

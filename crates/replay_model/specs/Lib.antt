@@ -5,6 +5,7 @@ pub mod Play
 pub mod Replies
 pub mod Entries
 pub mod Union
+pub mod Versions
 pub mod Transcript
 pub mod ReplayState
 pub mod Explained

@@ -9,6 +9,7 @@ mod laws;
 mod source_laws;
 mod step_laws;
 mod union_laws;
+mod version_laws;
 
 pub use horizon_laws::{
     buffer_answers_by_calls, buffer_answers_by_deliveries, horizon_leaves_records,
@@ -25,3 +26,4 @@ pub use step_laws::{
 pub use union_laws::{
     owners_change_by_one, same_events_and_version_give_same_union, union_is_what_has_owners,
 };
+pub use version_laws::{one_version_gives_its_union, what_is_held_decides_the_union};

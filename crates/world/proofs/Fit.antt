@@ -1,5 +1,5 @@
 -- What a page means has fit and short terms.
-use Rattle.std.proofs.Common.{◌≡◌, ℕ, ◌≤◌, Bool, true, false, cond, nat_lt, List, [], ◌∷◌, Option, Some, None, Result, Err, is_some, length, refl, sym, ◌∙◌, ap, subst, true≢false, flat_map, arith}
+use Rattle.std.proofs.Common.{◌≡◌, ℕ, ◌≤◌, Bool, true, false, cond, nat_lt, List, [], ◌∷◌, Option, Some, None, Result, Ok, Err, is_some, length, refl, sym, ◌∙◌, ap, subst, true≢false, flat_map, arith}
 use Rattle.std.specs.FinMap as map
 use Rattle.std.specs.List.{AllByRecursion}
 use Rattle.std.proofs.lemmas.Bool.{ltb-false}
@@ -16,41 +16,45 @@ use Rattle.entity_model.specs.declared.unfit.Unfit.TheVariants.{Large}
 use Rattle.entity_json.specs.Document.{document_of, outcome_of, page_limit, unfit_by, unfit_of}
 use Rattle.entity_json.proofs.Fitness.{document_small}
 use Rattle.entity_rdf.proofs.Direct.{direct_fit}
-use Rattle.entity_model.specs.declared.mapping.MappingVersion.TheVariants.{One}
+use Rattle.entity_model.specs.declared.mapping.MappingVersion.{MappingVersion}
 use Rattle.entity_state.specs.declared.record.Held.{Held}
 use Rattle.entity_state.specs.declared.record.Record.{Record}
 use Rattle.munger.proofs.Fit.{flat_map_each, sorted_each}
 use Rattle.replay_model.specs.Records.{Bytes, Records}
 use Rattle.replay_model.specs.Union.{triples_at, triples_held, union}
+use Rattle.replay_model.specs.Versions.{meaning_by, version_at}
+use Rattle.revisions.specs.Revisions.{Contents}
+use Rattle.side_output.specs.declared.entry.Cause.{Cause}
+use Rattle.replay_model.specs.Replies.{GivesDocument}
+use Rattle.world.specs.Applying.{IsReply}
 use Rattle.world.specs.Fetched.{IsPageOf}
 use Rattle.world.specs.Meaning.{document_triples, meaning, triples_if}
 
 -- the triples of a small document
-document_fit : (x : EntityId) (rev : ℕ) (document : Document) → IsSmall document → AllByRecursion HasFitAndShortTerms (document_triples x rev document)
-document_fit x rev document small =
-    direct_fit One x rev document small
+document_fit : (v : MappingVersion) (x : EntityId) (rev : ℕ) (document : Document) → IsSmall document → AllByRecursion HasFitAndShortTerms (document_triples v x rev document)
+document_fit v x rev document small = direct_fit v x rev document small
 
-found_fit : (x : EntityId) (rev : ℕ) (bytes : List ℕ) (found : Option Document) → document_of x bytes ≡ found → AllByRecursion HasFitAndShortTerms (triples_if x rev found)
-found_fit x rev bytes None is = tt
-found_fit x rev bytes (Some document) is = document_fit x rev document (document_small x bytes document is)
+found_fit : (v : MappingVersion) (x : EntityId) (rev : ℕ) (bytes : List ℕ) (found : Option Document) → document_of x bytes ≡ found → AllByRecursion HasFitAndShortTerms (triples_if v x rev found)
+found_fit v x rev bytes None is = tt
+found_fit v x rev bytes (Some document) is = document_fit v x rev document (document_small x bytes document is)
 
 -- the triples of any bytes, since a document is small
-pub meaning_fit : (x : EntityId) (rev : ℕ) (bytes : List ℕ) → AllByRecursion HasFitAndShortTerms (meaning x rev bytes)
-meaning_fit x rev bytes = found_fit x rev bytes (document_of x bytes) refl
+pub meaning_fit : (v : MappingVersion) (x : EntityId) (rev : ℕ) (bytes : List ℕ) → AllByRecursion HasFitAndShortTerms (meaning v x rev bytes)
+meaning_fit v x rev bytes = found_fit v x rev bytes (document_of x bytes) refl
 
-held_fit : (x : EntityId) (held : Option (Held Bytes)) → AllByRecursion HasFitAndShortTerms (triples_held meaning x held)
-held_fit x None = tt
-held_fit x (Some h) = meaning_fit x h.revision h.content
+held_fit : (second : List EntityId) (x : EntityId) (held : Option (Held Bytes)) → AllByRecursion HasFitAndShortTerms (triples_held (meaning_by meaning second) x held)
+held_fit second x None = tt
+held_fit second x (Some h) = meaning_fit (version_at second x) x h.revision h.content
 
 anything : {A : Type 0} (xs : List A) → AllByRecursion (λ (x : A). Unit {0}) xs
 anything [] = tt
 anything (x ∷ xs) = (tt, anything xs)
 
 -- the triples of all that is held
-pub union_fit : (records : Records) → AllByRecursion HasFitAndShortTerms (union triple_cmp meaning records)
-union_fit records =
-    sorted_each HasFitAndShortTerms triple_cmp (flat_map (triples_at meaning) (map.entries records))
-    (flat_map_each (λ (entry : EntityId × Record Bytes). Unit {0}) HasFitAndShortTerms (triples_at meaning) (λ entry _. held_fit entry.0 entry.1.held) (map.entries records) (anything (map.entries records)))
+pub union_fit : (second : List EntityId) (records : Records) → AllByRecursion HasFitAndShortTerms (union triple_cmp (meaning_by meaning second) records)
+union_fit second records =
+    sorted_each HasFitAndShortTerms triple_cmp (flat_map (triples_at (meaning_by meaning second)) (map.entries records))
+    (flat_map_each (λ (entry : EntityId × Record Bytes). Unit {0}) HasFitAndShortTerms (triples_at (meaning_by meaning second)) (λ entry _. held_fit second entry.0 entry.1.held) (map.entries records) (anything (map.entries records)))
 
 -- a page has few bytes
 pub page_short : (x : EntityId) (bytes : List ℕ) → unfit_of x bytes ≡ None → length bytes ≤ 33554432
@@ -62,10 +66,16 @@ page_short x bytes fit = by (nat_lt page_limit (length bytes)) refl _ fit
     by false small found e = let few : length bytes ≤ 8388608 = ltb-false page_limit (length bytes) small in omega arith
 
 -- texts of the triples that the bytes mean are those of a page
-pub page_of : (x : EntityId) (rev : ℕ) (bytes other : List ℕ) (ts : List Triple) → other ≡ bytes → sorted triple_cmp ts ≡ meaning x rev bytes → AllByRecursion HasFitAndShortTerms ts → length bytes ≤ 33554432
-    → IsPageOf x rev (record { bytes = other; triples = ts })
-page_of x rev bytes other ts is meant fit short = record {
-  meant = λ t. sym (has-sorted triple_cmp-total t ts) ∙ ap (has triple_cmp t) (meant ∙ ap (meaning x rev) (sym is));
+pub page_of : (v : MappingVersion) (x : EntityId) (rev : ℕ) (bytes other : List ℕ) (ts : List Triple) → other ≡ bytes → sorted triple_cmp ts ≡ meaning v x rev bytes → AllByRecursion HasFitAndShortTerms ts → length bytes ≤ 33554432
+    → IsPageOf v x rev (record { bytes = other; version = v; triples = ts })
+page_of v x rev bytes other ts is meant fit short = record {
+  version = refl;
+  meant = λ t. sym (has-sorted triple_cmp-total t ts) ∙ ap (has triple_cmp t) (meant ∙ ap (meaning v x rev) (sym is));
   fit = fit;
   short = subst (λ (b : List ℕ). length b ≤ 33554432) (sym is) short;
 }
+
+-- a reply of a source that gives bytes gives a document
+pub reply_gives : (told : Option Contents) (place : List ℕ) (x : EntityId) (rev : ℕ) (reply : Result Bytes Cause) → IsReply told place x rev reply → GivesDocument unfit_of x reply
+reply_gives told place x rev (Ok bytes) is = is.0
+reply_gives told place x rev (Err cause) is = tt

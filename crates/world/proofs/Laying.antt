@@ -32,12 +32,11 @@ use Rattle.triple_store.proofs.Rooming.{terms_among}
 use Rattle.triple_store.proofs.Standing.{key_stored}
 use Rattle.triple_store.proofs.Storing.{canonical_back, terms_stored}
 use Rattle.replay_model.specs.Records.{Bytes, record_of}
-use Rattle.replay_model.specs.Union.{union}
+use Rattle.replay_model.specs.Union.{Meaning, union}
 use Rattle.world.specs.declared.kept.Kept.{Kept}
 use Rattle.world.specs.InStep.{IsKept}
 use Rattle.world.specs.Keeping.{KeptRecords, held_with, kept_of, piece_at, piece_held, seen}
 use Rattle.world.specs.Laid.{IsLaid, terms_in}
-use Rattle.world.specs.Meaning.{meaning}
 use Rattle.world.proofs.Moving.{held_is}
 use Rattle.world.proofs.Rooming.{has_term, stored_union}
 
@@ -73,7 +72,7 @@ abbrev content_of : Option (Held Bytes) → Bytes
 content_of None = []
 content_of (Some h) = h.content
 
-module _ (st : Store) (r : Texts) (kept : KeptRecords) (h : IsKept st r kept) where
+module _ (m : Meaning Triple) (st : Store) (r : Texts) (kept : KeptRecords) (h : IsKept m st r kept) where
   abbrev slot_term : ℕ → Option Term
   slot_term slot = term_read (text_at st.pool r slot)
 
@@ -109,13 +108,13 @@ module _ (st : Store) (r : Texts) (kept : KeptRecords) (h : IsKept st r kept) wh
       (one_of (eq_by_cmp term_cmp t u.predicate) (eq_by_cmp term_cmp t u.object || false) rest))
       (one_of (eq_by_cmp term_cmp t u.subject) (eq_by_cmp term_cmp t u.predicate || (eq_by_cmp term_cmp t u.object || false)) there)
 
-  was_stored : (u : Triple) → has triple_cmp u (union triple_cmp meaning (seen st r kept)) ≡ true → has triple_cmp u (map.keys (counts_in st r)) ≡ true
-  was_stored u there = subst (λ (ts : List Triple). has triple_cmp u ts ≡ true) (sym (stored_union st r kept h)) there
+  was_stored : (u : Triple) → has triple_cmp u (union triple_cmp m (seen st r kept)) ≡ true → has triple_cmp u (map.keys (counts_in st r)) ≡ true
+  was_stored u there = subst (λ (ts : List Triple). has triple_cmp u ts ≡ true) (sym (stored_union m st r kept h)) there
 
-  term_stored : (t : Term) → has term_cmp t (terms_in (seen st r kept)) ≡ true → (slot : ℕ) × (slot_term slot ≡ Some t)
+  term_stored : (t : Term) → has term_cmp t (terms_in m (seen st r kept)) ≡ true → (slot : ℕ) × (slot_term slot ≡ Some t)
   term_stored t there =
-      let one : (u : Triple) × (has triple_cmp u (union triple_cmp meaning (seen st r kept)) ≡ true) × (has term_cmp t (terms_of u) ≡ true) =
-      passing (λ u. has term_cmp t (terms_of u)) (union triple_cmp meaning (seen st r kept)) (sym (has_term t (union triple_cmp meaning (seen st r kept))) ∙ there) in
+      let one : (u : Triple) × (has triple_cmp u (union triple_cmp m (seen st r kept)) ≡ true) × (has term_cmp t (terms_of u) ≡ true) =
+      passing (λ u. has term_cmp t (terms_of u)) (union triple_cmp m (seen st r kept)) (sym (has_term t (union triple_cmp m (seen st r kept))) ∙ there) in
       let stored : map.contains_key (counts_in st r) one.0 ≡ true = map.contains_key-keys (counts_in st r) one.0 ∙ was_stored one.0 one.1 in
       let key : (k : Key) × HasKey st r k one.0 = key_stored st r h.stored one.0 stored in
       let slot : (slot : ℕ) × (text_at st.pool r slot ≡ Some (term_text t)) = in_place t one.0 key.0 key.1.has one.2 in
@@ -125,10 +124,10 @@ module _ (st : Store) (r : Texts) (kept : KeptRecords) (h : IsKept st r kept) wh
   all_terms = terms_stored st r (flat_map terms_of (map.keys (counts_in st r))) h.stored
       (record { each = λ u there. terms_among (map.keys (counts_in st r)) u (sym (map.contains_key-keys (counts_in st r) u) ∙ there) })
 
-  slot_stored : (slot : ℕ) (t : Term) → slot_term slot ≡ Some t → has term_cmp t (terms_in (seen st r kept)) ≡ true
+  slot_stored : (slot : ℕ) (t : Term) → slot_term slot ≡ Some t → has term_cmp t (terms_in m (seen st r kept)) ≡ true
   slot_stored slot t e =
-      subst (λ (u : Term). has term_cmp u (terms_in (seen st r kept)) ≡ true) (undo-term_text t)
-      (subst (λ (ts : List Triple). has term_cmp (undo (term_text t)) (flat_map terms_of ts) ≡ true) (stored_union st r kept h) (all_terms.each slot (term_text t) (slot_text slot t e)))
+      subst (λ (u : Term). has term_cmp u (terms_in m (seen st r kept)) ≡ true) (undo-term_text t)
+      (subst (λ (ts : List Triple). has term_cmp (undo (term_text t)) (flat_map terms_of ts) ≡ true) (stored_union m st r kept h) (all_terms.each slot (term_text t) (slot_text slot t e)))
 
   slot_place : (slot : ℕ) (t : Term) → slot_term slot ≡ Some t → (piece : Piece) × (slot_piece slot ≡ Some piece) × (bytes_of r piece ≡ Some (term_text t))
   slot_place slot t e =
@@ -172,7 +171,7 @@ module _ (st : Store) (r : Texts) (kept : KeptRecords) (h : IsKept st r kept) wh
       let page : (hb : Held Bytes) × ((record_of (seen st r kept) holder.0).held ≡ Some hb) = page_there holder.0 piece (kept_of kept holder.0).held refl holder.1 in
       inr (holder.0, page.0, page.1, holder.1)
 
-  pub laid : IsLaid r (seen st r kept)
+  pub laid : IsLaid m r (seen st r kept)
   laid = record {
     term = slot_term;
     text = slot_piece;

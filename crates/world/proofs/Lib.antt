@@ -1,3 +1,5 @@
+pub mod Anew
+pub mod ByVersion
 pub mod Entries
 pub mod Fit
 pub mod Laying
@@ -8,4 +10,5 @@ pub mod Replacing
 mod Room
 pub mod Rooming
 pub mod Starting
+pub mod Stepping
 pub mod Values

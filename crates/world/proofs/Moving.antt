@@ -22,12 +22,11 @@ use Rattle.triple_store.specs.declared.store.Store.{Store}
 use Rattle.triple_store.specs.Counts.{Counts, Exchanges, count_of}
 use Rattle.triple_store.specs.Stored.{AreKeysOf, HasKey, IsStored, KeepsKeys, beside, counts_in}
 use Rattle.replay_model.specs.Records.{Bytes, Records, record_of}
-use Rattle.replay_model.specs.Union.{owners, triples_held}
+use Rattle.replay_model.specs.Union.{Meaning, owners, triples_held}
 use Rattle.world.specs.declared.kept.Kept.{Kept}
 use Rattle.world.specs.InStep.{IsCounted, IsHeld, IsKept, triples_kept}
 use Rattle.world.specs.Keeping.{KeptRecords, PieceTexts, held_with, kept_of, keys_held, piece_at, piece_held, record_with, records_with, seen}
-use Rattle.world.specs.Meaning.{meaning}
-use Rattle.world.proofs.Owning.{counted_moved, has_owner}
+use Rattle.world.proofs.Owning.{counted_moved, has_owner, held_agrees}
 use Rattle.world.proofs.Pieced.{id_tells}
 use Rattle.world.proofs.Values.{changed, get-values, values-insert}
 
@@ -142,49 +141,51 @@ exchanged_same c d gone came other same h = record {
   counts = λ t. h.counts t ∙ ap (λ b. count_of c t + one_if b) (same t);
 }
 
-module _ (st : Store) (r : Texts) (st2 : Store) (r2 : Texts) (kept : KeptRecords) (x : EntityId) (n : Record Kept) (h : IsKept st r kept)
+module _ (m m2 : Meaning Triple) (x : EntityId) (agree : (y : EntityId) → y ≢ x → (rev : ℕ) (bytes : Bytes) → m2 y rev bytes ≡ m y rev bytes)
+    (st : Store) (r : Texts) (st2 : Store) (r2 : Texts) (kept : KeptRecords) (n : Record Kept) (h : IsKept m st r kept)
     (texts : (y : EntityId) (p : Piece) → y ≢ x → piece_at kept y ≡ Some p → beside st2 r2 p ≡ beside st r p) where
   -- what is seen after the record is put in
   pub seen_put : seen st2 r2 (map.insert kept x n) ≡ map.insert (seen st r kept) x (record_with (beside st2 r2) n)
   seen_put = seen_moved (beside st r) (beside st2 r2) kept x n texts
 
-  put_counted : Exchanges (counts_in st r) (counts_in st2 r2) (triples_kept (beside st r) kept x) (triples_held meaning x (held_with (beside st2 r2) n.held))
-      → IsCounted (counts_in st2 r2) (seen st2 r2 (map.insert kept x n))
+  put_counted : Exchanges (counts_in st r) (counts_in st2 r2) (triples_kept m (beside st r) kept x) (triples_held m2 x (held_with (beside st2 r2) n.held))
+      → IsCounted m2 (counts_in st2 r2) (seen st2 r2 (map.insert kept x n))
   put_counted moves =
-      subst (λ (records : Records). IsCounted (counts_in st2 r2) records) (sym seen_put)
-      (counted_moved (counts_in st r) (counts_in st2 r2) (seen st r kept) x (record_with (beside st2 r2) n) h.counted
-      (subst (λ (was : Record Bytes). Exchanges (counts_in st r) (counts_in st2 r2) (triples_held meaning x was.held) (triples_held meaning x (held_with (beside st2 r2) n.held)))
+      subst (λ (records : Records). IsCounted m2 (counts_in st2 r2) records) (sym seen_put)
+      (counted_moved m m2 x agree (counts_in st r) (counts_in st2 r2) (seen st r kept) (record_with (beside st2 r2) n) h.counted
+      (subst (λ (was : Record Bytes). Exchanges (counts_in st r) (counts_in st2 r2) (triples_held m x was.held) (triples_held m2 x (held_with (beside st2 r2) n.held)))
       (sym (seen_of (beside st r) kept x)) moves))
 
-  others_keyed : IsCounted (counts_in st2 r2) (seen st2 r2 (map.insert kept x n)) → KeepsKeys st r st2 r2 → (y : EntityId) → y ≢ x
-      → AreKeysOf st2 r2 (keys_held (kept_of (map.insert kept x n) y).held) (triples_kept (beside st2 r2) (map.insert kept x n) y)
+  others_keyed : IsCounted m2 (counts_in st2 r2) (seen st2 r2 (map.insert kept x n)) → KeepsKeys st r st2 r2 → (y : EntityId) → y ≢ x
+      → AreKeysOf st2 r2 (keys_held (kept_of (map.insert kept x n) y).held) (triples_kept m2 (beside st2 r2) (map.insert kept x n) y)
   others_keyed counted keeps y other =
-      let same : triples_kept (beside st2 r2) (map.insert kept x n) y ≡ triples_kept (beside st r) kept y =
-      ap (λ (was : Record Kept). triples_held meaning y (held_with (beside st2 r2) was.held)) (kept_other kept x n y other)
-      ∙ ap (triples_held meaning y) (held_same (beside st r) (beside st2 r2) (kept_of kept y).held (λ p. texts y p other)) in
-      let owned : (t : Triple) → has triple_cmp t (triples_kept (beside st r) kept y) ≡ true → 0 < count_of (counts_in st2 r2) t = λ t there.
-      let held : triples_held meaning y (record_of (seen st2 r2 (map.insert kept x n)) y).held ≡ triples_kept (beside st r) kept y =
-      ap (λ (was : Record Bytes). triples_held meaning y was.held) (seen_of (beside st2 r2) (map.insert kept x n) y) ∙ same in
-      let some : 0 < owners triple_cmp meaning (seen st2 r2 (map.insert kept x n)) t = has_owner meaning (seen st2 r2 (map.insert kept x n)) y t (ap (has triple_cmp t) held ∙ there) in
-      let count : count_of (counts_in st2 r2) t ≡ owners triple_cmp meaning (seen st2 r2 (map.insert kept x n)) t = counted.owned t in
+      let same : triples_kept m2 (beside st2 r2) (map.insert kept x n) y ≡ triples_kept m (beside st r) kept y =
+      ap (λ (was : Record Kept). triples_held m2 y (held_with (beside st2 r2) was.held)) (kept_other kept x n y other)
+      ∙ ap (triples_held m2 y) (held_same (beside st r) (beside st2 r2) (kept_of kept y).held (λ p. texts y p other))
+      ∙ held_agrees m m2 x agree y other (held_with (beside st r) (kept_of kept y).held) in
+      let owned : (t : Triple) → has triple_cmp t (triples_kept m (beside st r) kept y) ≡ true → 0 < count_of (counts_in st2 r2) t = λ t there.
+      let held : triples_held m2 y (record_of (seen st2 r2 (map.insert kept x n)) y).held ≡ triples_kept m (beside st r) kept y =
+      ap (λ (was : Record Bytes). triples_held m2 y was.held) (seen_of (beside st2 r2) (map.insert kept x n) y) ∙ same in
+      let some : 0 < owners triple_cmp m2 (seen st2 r2 (map.insert kept x n)) t = has_owner m2 (seen st2 r2 (map.insert kept x n)) y t (ap (has triple_cmp t) held ∙ there) in
+      let count : count_of (counts_in st2 r2) t ≡ owners triple_cmp m2 (seen st2 r2 (map.insert kept x n)) t = counted.owned t in
       omega arith in
       subst (λ (ts : List Triple). AreKeysOf st2 r2 (keys_held (kept_of (map.insert kept x n) y).held) ts) (sym same)
-      (subst (λ (was : Record Kept). AreKeysOf st2 r2 (keys_held was.held) (triples_kept (beside st r) kept y)) (sym (kept_other kept x n y other))
-      (keys_stay st r st2 r2 (keys_held (kept_of kept y).held) (triples_kept (beside st r) kept y) (h.keyed y) keeps owned))
+      (subst (λ (was : Record Kept). AreKeysOf st2 r2 (keys_held was.held) (triples_kept m (beside st r) kept y)) (sym (kept_other kept x n y other))
+      (keys_stay st r st2 r2 (keys_held (kept_of kept y).held) (triples_kept m (beside st r) kept y) (h.keyed y) keeps owned))
 
   -- a record is put in: what it holds is stored, and what was held there before is not
   pub kept_put : IsStored st2 r2 → IsHeld (beside st2 r2) (piece_at (map.insert kept x n))
-      → Exchanges (counts_in st r) (counts_in st2 r2) (triples_kept (beside st r) kept x) (triples_held meaning x (held_with (beside st2 r2) n.held))
+      → Exchanges (counts_in st r) (counts_in st2 r2) (triples_kept m (beside st r) kept x) (triples_held m2 x (held_with (beside st2 r2) n.held))
       → KeepsKeys st r st2 r2
-      → AreKeysOf st2 r2 (keys_held n.held) (triples_held meaning x (held_with (beside st2 r2) n.held))
-      → IsKept st2 r2 (map.insert kept x n)
+      → AreKeysOf st2 r2 (keys_held n.held) (triples_held m2 x (held_with (beside st2 r2) n.held))
+      → IsKept m2 st2 r2 (map.insert kept x n)
   kept_put stored held moves keeps keyed = record {
     stored = stored;
     counted = put_counted moves;
     held = held;
     keyed = λ y. ⊎_elim
-        (λ own. subst (λ (z : EntityId). AreKeysOf st2 r2 (keys_held (kept_of (map.insert kept x n) z).held) (triples_kept (beside st2 r2) (map.insert kept x n) z)) (sym own.1)
-        (subst (λ (was : Record Kept). AreKeysOf st2 r2 (keys_held was.held) (triples_held meaning x (held_with (beside st2 r2) was.held))) (sym (kept_here kept x n)) keyed))
+        (λ own. subst (λ (z : EntityId). AreKeysOf st2 r2 (keys_held (kept_of (map.insert kept x n) z).held) (triples_kept m2 (beside st2 r2) (map.insert kept x n) z)) (sym own.1)
+        (subst (λ (was : Record Kept). AreKeysOf st2 r2 (keys_held was.held) (triples_held m2 x (held_with (beside st2 r2) was.held))) (sym (kept_here kept x n)) keyed))
         (λ other. others_keyed (put_counted moves) keeps y other.1)
         (id_tells y x);
   }

@@ -1,13 +1,15 @@
 -- The owners of a triple after the record of an entity is put in.
-use Rattle.std.proofs.Common.{◌≡◌, ℕ, ◌+◌, ◌<◌, ◌≤◌, Bool, true, false, not, ◌&&◌, List, unwrap_or, refl, ◌∙◌, ap, arith}
+use Rattle.std.proofs.Common.{◌≡◌, ◌≢◌, ℕ, ◌+◌, ◌<◌, ◌≤◌, Bool, true, false, not, cond, ◌&&◌, List, Option, Some, None, is_some, unwrap_or, refl, ◌∙◌, ap, true≢false, ⊎_elim, arith}
 use Rattle.std.specs.FinMap as map
+use Rattle.std.specs.Ordering.{eq_by_cmp}
 use Rattle.std.proofs.lemmas.List.Sums.{count_by-le-length}
 use Rattle.rising.specs.Rising.{has, difference}
 use Rattle.rising.proofs.Filtering.{has-difference}
 use Rattle.rdf_term.specs.declared.triple.Triple.{Triple}
 use Rattle.rdf_term.specs.Order.{triple_cmp, triple_cmp-total}
 use Rattle.entity_model.specs.declared.id.EntityId.{EntityId}
-use Rattle.entity_model.specs.EntityId.{entity_cmp}
+use Rattle.entity_model.specs.EntityId.{entity_cmp, entity_cmp_total}
+use Rattle.entity_state.specs.declared.record.Held.{Held}
 use Rattle.entity_state.specs.declared.record.Record.{Record}
 use Rattle.entity_state.specs.Record.{blank}
 use Rattle.term_pool.specs.Pool.{one_if}
@@ -15,8 +17,13 @@ use Rattle.triple_store.specs.Counts.{Counts, Exchanges, count_of}
 use Rattle.replay_model.specs.Records.{Bytes, Records, record_of}
 use Rattle.replay_model.specs.Union.{Meaning, triples_at, triples_held, owners}
 use Rattle.replay_model.proofs.Owners.{owners-change}
+use Rattle.replay_model.proofs.Versions.{owners-agree}
 use Rattle.world.specs.InStep.{IsCounted}
-use Rattle.world.specs.Meaning.{meaning}
+use Rattle.world.proofs.Pieced.{id_tells}
+
+record_here : (records : Records) (x : EntityId) (r : Record Bytes) (y : EntityId) → eq_by_cmp entity_cmp y x ≡ true → record_of (map.insert records x r) y ≡ r
+record_here records x r y is =
+    ap (λ o. unwrap_or o blank) (map.get-insert entity_cmp_total records x r y) ∙ ap (λ b. unwrap_or (cond b (Some r) (map.get records y)) blank) is
 
 shift : (a b : Bool) (n k : ℕ) → ((not a && b) ≡ true → n ≡ k + 1) → ((not b && a) ≡ true → n + 1 ≡ k) → ((not a && b) ≡ false → (not b && a) ≡ false → n ≡ k) → n + one_if a ≡ k + one_if b
 shift true true n k more fewer same = ap (λ v. v + 1) (same refl refl)
@@ -49,29 +56,55 @@ module _ (m : Meaning Triple) where
   pub few_owners : (records : Records) (t : Triple) → owners triple_cmp m records t ≤ map.len records
   few_owners records t = omega (arith, count_by-le-length (λ entry. has triple_cmp t (triples_at m entry)) (map.entries records), map.len-entries records)
 
--- the counts follow the record of an entity
-pub counted_moved : (c d : Counts) (records : Records) (x : EntityId) (n : Record Bytes) → IsCounted c records
-    → Exchanges c d (triples_held meaning x (record_of records x).held) (triples_held meaning x n.held) → IsCounted d (map.insert records x n)
-counted_moved c d records x n h moves = record {
-  owned = λ t.
-      let was : count_of c t ≡ owners triple_cmp meaning records t = h.owned t in
-      let counts : count_of d t + one_if (has triple_cmp t (triples_held meaning x (record_of records x).held)) ≡ count_of c t + one_if (has triple_cmp t (triples_held meaning x n.held)) = moves.counts t in
-      let owned : owners triple_cmp meaning (map.insert records x n) t + one_if (has triple_cmp t (triples_held meaning x (record_of records x).held)) ≡ owners triple_cmp meaning records t + one_if (has triple_cmp t (triples_held meaning x n.held)) = owners_moved meaning records x n t in
-      omega arith;
-}
+-- what differs at one entity alone
+module _ (m n : Meaning Triple) (x : EntityId) (agree : (y : EntityId) → y ≢ x → (rev : ℕ) (bytes : Bytes) → n y rev bytes ≡ m y rev bytes) where
+  -- what another entity holds means the same
+  pub held_agrees : (y : EntityId) → y ≢ x → (h : Option (Held Bytes)) → triples_held n y h ≡ triples_held m y h
+  held_agrees y other None = refl
+  held_agrees y other (Some h) = agree y other h.revision h.content
+
+  -- the owners with the entity's own share by the one and by the other
+  pub owners_but : (records : Records) (t : Triple)
+      → owners triple_cmp n records t + one_if (has triple_cmp t (triples_held m x (record_of records x).held))
+      ≡ owners triple_cmp m records t + one_if (has triple_cmp t (triples_held n x (record_of records x).held))
+  owners_but records t =
+      let same : owners triple_cmp n (map.insert records x blank) t ≡ owners triple_cmp m (map.insert records x blank) t =
+      owners-agree triple_cmp m n (map.insert records x blank) (λ y. ⊎_elim
+      (λ own. by y (record_of (map.insert records x blank) y).held (ap (λ (r : Record Bytes). r.held) (record_here records x blank y own.0)))
+      (λ other. held_agrees y other.1 (record_of (map.insert records x blank) y).held)
+      (id_tells y x)) t in
+      let one : owners triple_cmp m (map.insert records x blank) t + one_if (has triple_cmp t (triples_held m x (record_of records x).held)) ≡ owners triple_cmp m records t + 0 = owners_moved m records x blank t in
+      let two : owners triple_cmp n (map.insert records x blank) t + one_if (has triple_cmp t (triples_held n x (record_of records x).held)) ≡ owners triple_cmp n records t + 0 = owners_moved n records x blank t in
+      omega arith
+    where
+      by : (y : EntityId) (h : Option (Held Bytes)) → h ≡ None → triples_held n y h ≡ triples_held m y h
+      by y None e = refl
+      by y (Some h) e = absurd (true≢false (ap is_some e))
+
+  -- the counts follow the record of an entity
+  pub counted_moved : (c d : Counts) (records : Records) (r : Record Bytes) → IsCounted m c records
+      → Exchanges c d (triples_held m x (record_of records x).held) (triples_held n x r.held) → IsCounted n d (map.insert records x r)
+  counted_moved c d records r h moves = record {
+    owned = λ t.
+        let was : count_of c t ≡ owners triple_cmp m records t = h.owned t in
+        let counts : count_of d t + one_if (has triple_cmp t (triples_held m x (record_of records x).held)) ≡ count_of c t + one_if (has triple_cmp t (triples_held n x r.held)) = moves.counts t in
+        let between : owners triple_cmp n records t + one_if (has triple_cmp t (triples_held m x (record_of records x).held)) ≡ owners triple_cmp m records t + one_if (has triple_cmp t (triples_held n x (record_of records x).held)) = owners_but records t in
+        let owned : owners triple_cmp n (map.insert records x r) t + one_if (has triple_cmp t (triples_held n x (record_of records x).held)) ≡ owners triple_cmp n records t + one_if (has triple_cmp t (triples_held n x r.held)) = owners_moved n records x r t in
+        omega arith;
+  }
 
 -- a triple has no more owners than there are records
-pub countable : (counts : Counts) (records : Records) (n : ℕ) → IsCounted counts records → map.len records < n → (t : Triple) → count_of counts t < n
-countable counts records n h few t =
-    let owned : owners triple_cmp meaning records t ≤ map.len records = few_owners meaning records t in
-    let same : count_of counts t ≡ owners triple_cmp meaning records t = h.owned t in
+pub countable : (m : Meaning Triple) (counts : Counts) (records : Records) (n : ℕ) → IsCounted m counts records → map.len records < n → (t : Triple) → count_of counts t < n
+countable m counts records n h few t =
+    let owned : owners triple_cmp m records t ≤ map.len records = few_owners m records t in
+    let same : count_of counts t ≡ owners triple_cmp m records t = h.owned t in
     omega arith
 
 -- without records no triple has an owner
-pub none_counted : IsCounted map.empty map.empty
-none_counted = record {
+pub none_counted : (m : Meaning Triple) → IsCounted m map.empty map.empty
+none_counted m = record {
   owned = λ t.
-      let few : owners triple_cmp meaning map.empty t ≤ map.len map.empty = few_owners meaning map.empty t in
+      let few : owners triple_cmp m map.empty t ≤ map.len map.empty = few_owners m map.empty t in
       let none : map.len map.empty ≡ 0 = map.len-empty entity_cmp (Record Bytes) in
       let zero_count : count_of map.empty t ≡ 0 = ap (λ v. unwrap_or v 0) (map.get-empty triple_cmp t) in
       omega arith;

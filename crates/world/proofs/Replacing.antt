@@ -18,11 +18,10 @@ use Rattle.triple_store.specs.declared.store.Store.{Store}
 use Rattle.triple_store.specs.Counts.{Counts, Exchanges, count_of}
 use Rattle.triple_store.specs.Stored.{AreKeysOf, Changes, HasKey, IsStored, KeepsKeys, beside, counts_in}
 use Rattle.replay_model.specs.Records.{Bytes, Records, record_of}
-use Rattle.replay_model.specs.Union.{owners, triples_held}
+use Rattle.replay_model.specs.Union.{Meaning, owners, triples_held}
 use Rattle.world.specs.declared.kept.Kept.{Kept}
 use Rattle.world.specs.InStep.{IsCounted, IsHeld, IsKept, triples_kept}
 use Rattle.world.specs.Keeping.{Frees, KeptRecords, PieceTexts, held_with, kept_of, keys_held, piece_at, piece_held, record_with, seen}
-use Rattle.world.specs.Meaning.{meaning}
 use Rattle.world.proofs.Moving.{held_same, kept_here, kept_other, kept_put, keys_moved, keys_same, keys_stay, seen_again, seen_of, seen_put}
 use Rattle.world.proofs.Owning.{has_owner}
 use Rattle.world.proofs.Pieced.{beside as others_text, held_again, id_tells, moved_held}
@@ -55,7 +54,8 @@ keeps_through st r r1 st2 r2 r3 before keeps counts after = record {
   kept = λ key t is owned. after key t (keeps.kept key t (before key t is) (subst (λ (m : Counts). 0 < count_of m t) counts owned));
 }
 
-module _ (st : Store) (r : Texts) (st2 : Store) (r2 r3 : Texts) (kept : KeptRecords) (x : EntityId) (n : Record Kept) (h : IsKept st r kept)
+module _ (m m2 : Meaning Triple) (x : EntityId) (agree : (y : EntityId) → y ≢ x → (rev : ℕ) (bytes : Bytes) → m2 y rev bytes ≡ m y rev bytes)
+    (st : Store) (r : Texts) (st2 : Store) (r2 r3 : Texts) (kept : KeptRecords) (n : Record Kept) (h : IsKept m st r kept)
     (middle : (p : Piece) → piece_held n.held ≢ Some p → beside st2 r2 p ≡ beside st r p)
     (fresh : (p : Piece) → piece_held n.held ≡ Some p → (beside st r p ≡ None) × (is_some (beside st2 r2 p) ≡ true))
     (freed : Frees (piece_at kept x) (beside st2 r2) (beside st2 r3)) where
@@ -88,13 +88,13 @@ module _ (st : Store) (r : Texts) (st2 : Store) (r2 r3 : Texts) (kept : KeptReco
 
   -- what is held is replaced
   replaced : IsStored st2 r3 → KeepsKeys st r st2 r3
-      → Exchanges (counts_in st r) (counts_in st2 r3) (triples_kept (beside st r) kept x) (triples_held meaning x (held_with (beside st2 r3) n.held))
-      → AreKeysOf st2 r3 (keys_held n.held) (triples_held meaning x (held_with (beside st2 r3) n.held))
-      → IsKept st2 r3 (map.insert kept x n)
-  replaced stored keeps moves keyed = kept_put st r st2 r3 kept x n h others stored is_held moves keeps keyed
+      → Exchanges (counts_in st r) (counts_in st2 r3) (triples_kept m (beside st r) kept x) (triples_held m2 x (held_with (beside st2 r3) n.held))
+      → AreKeysOf st2 r3 (keys_held n.held) (triples_held m2 x (held_with (beside st2 r3) n.held))
+      → IsKept m2 st2 r3 (map.insert kept x n)
+  replaced stored keeps moves keyed = kept_put m m2 x agree st r st2 r3 kept n h others stored is_held moves keeps keyed
 
   replaced_seen : seen st2 r3 (map.insert kept x n) ≡ map.insert (seen st r kept) x (record_with (beside st2 r3) n)
-  replaced_seen = seen_put st r st2 r3 kept x n h others
+  replaced_seen = seen_put m m2 x agree st r st2 r3 kept n h others
 
 -- what an application leaves of a record that holds this
 abbrev pub with_page : State → Option Event → ℕ → Kept → Record Kept
@@ -103,9 +103,10 @@ with_page state reconciled rev content = record { state = state; held = Some (re
 abbrev pub with_bytes : State → Option Event → ℕ → Bytes → Record Bytes
 with_bytes state reconciled rev bytes = record { state = state; held = Some (record { revision = rev; content = bytes }); reconciled = reconciled }
 
-module _ (st : Store) (r r1 : Texts) (st2 : Store) (r2 r3 : Texts) (kept : KeptRecords) (x : EntityId)
+module _ (m m2 : Meaning Triple) (x : EntityId) (agree : (y : EntityId) → y ≢ x → (rev : ℕ) (bytes : Bytes) → m2 y rev bytes ≡ m y rev bytes)
+    (st : Store) (r r1 : Texts) (st2 : Store) (r2 r3 : Texts) (kept : KeptRecords)
     (state : State) (reconciled : Option Event) (rev : ℕ) (content : Kept) (bytes : Bytes) (ts : List Triple) (old : List Key)
-    (h : IsKept st r kept)
+    (h : IsKept m st r kept)
     (placed : Changes (beside st r) (beside st r1) content.piece None (Some bytes))
     (place_kept : (key : Key) (t : Triple) → HasKey st r key t → HasKey st r1 key t)
     (place_counts : counts_in st r1 ≡ counts_in st r)
@@ -123,7 +124,7 @@ module _ (st : Store) (r r1 : Texts) (st2 : Store) (r2 r3 : Texts) (kept : KeptR
       (ap (beside st r) (sym one) ∙ placed.was, ap is_some (texts p ∙ ap (beside st r1) (sym one) ∙ placed.is))
 
   page_text : beside st2 r3 content.piece ≡ Some bytes
-  page_text = new_text st r st2 r2 r3 kept x (with_page state reconciled rev content) h page_middle page_fresh freed content.piece refl ∙ texts content.piece ∙ placed.is
+  page_text = new_text m m2 x agree st r st2 r2 r3 kept (with_page state reconciled rev content) h page_middle page_fresh freed content.piece refl ∙ texts content.piece ∙ placed.is
 
   page_held : held_with (beside st2 r3) (Some (record { revision = rev; content = content })) ≡ Some (record { revision = rev; content = bytes })
   page_held = ap (λ (o : Option Bytes). Some (record { revision = rev; content = unwrap_or o [] })) page_text
@@ -131,7 +132,7 @@ module _ (st : Store) (r r1 : Texts) (st2 : Store) (r2 r3 : Texts) (kept : KeptR
   -- the records after a page came
   pub came_seen : seen st2 r3 (map.insert kept x (with_page state reconciled rev content)) ≡ map.insert (seen st r kept) x (with_bytes state reconciled rev bytes)
   came_seen =
-      replaced_seen st r st2 r2 r3 kept x (with_page state reconciled rev content) h page_middle page_fresh freed
+      replaced_seen m m2 x agree st r st2 r2 r3 kept (with_page state reconciled rev content) h page_middle page_fresh freed
       ∙ ap (λ (held : Option (Held Bytes)). map.insert (seen st r kept) x (record { state = state; held = held; reconciled = reconciled })) page_held
 
   -- a page came in the place of what was held
@@ -139,54 +140,54 @@ module _ (st : Store) (r r1 : Texts) (st2 : Store) (r2 r3 : Texts) (kept : KeptR
       → old ≡ keys_held (kept_of kept x).held
       → ((gone : List Triple) → AreKeysOf st r1 old gone → Exchanges (counts_in st r1) (counts_in st2 r2) gone ts)
       → AreKeysOf st2 r2 content.keys.items ts
-      → ((t : Triple) → has triple_cmp t ts ≡ has triple_cmp t (meaning x rev bytes))
-      → IsKept st2 r3 (map.insert kept x (with_page state reconciled rev content))
+      → ((t : Triple) → has triple_cmp t ts ≡ has triple_cmp t (m2 x rev bytes))
+      → IsKept m2 st2 r3 (map.insert kept x (with_page state reconciled rev content))
   came stored were exchanges keyed meant =
-      let keys : AreKeysOf st r1 old (triples_kept (beside st r) kept x) =
-      keys_moved st r st r1 old (triples_kept (beside st r) kept x) place_kept
-      (subst (λ (ks : List Key). AreKeysOf st r ks (triples_kept (beside st r) kept x)) (sym were) (h.keyed x)) in
-      let moves : Exchanges (counts_in st r) (counts_in st2 r3) (triples_kept (beside st r) kept x) (meaning x rev bytes) =
-      exchanged_through (counts_in st r) (counts_in st r1) (counts_in st2 r2) (counts_in st2 r3) (triples_kept (beside st r) kept x) ts (meaning x rev bytes)
-      place_counts counts meant (exchanges (triples_kept (beside st r) kept x) keys) in
-      let new : AreKeysOf st2 r3 content.keys.items (meaning x rev bytes) =
-      keys_moved st2 r2 st2 r3 content.keys.items (meaning x rev bytes) put_kept (keys_same st2 r2 content.keys.items ts (meaning x rev bytes) meant keyed) in
-      replaced st r st2 r2 r3 kept x (with_page state reconciled rev content) h page_middle page_fresh freed stored
+      let keys : AreKeysOf st r1 old (triples_kept m (beside st r) kept x) =
+      keys_moved st r st r1 old (triples_kept m (beside st r) kept x) place_kept
+      (subst (λ (ks : List Key). AreKeysOf st r ks (triples_kept m (beside st r) kept x)) (sym were) (h.keyed x)) in
+      let moves : Exchanges (counts_in st r) (counts_in st2 r3) (triples_kept m (beside st r) kept x) (m2 x rev bytes) =
+      exchanged_through (counts_in st r) (counts_in st r1) (counts_in st2 r2) (counts_in st2 r3) (triples_kept m (beside st r) kept x) ts (m2 x rev bytes)
+      place_counts counts meant (exchanges (triples_kept m (beside st r) kept x) keys) in
+      let new : AreKeysOf st2 r3 content.keys.items (m2 x rev bytes) =
+      keys_moved st2 r2 st2 r3 content.keys.items (m2 x rev bytes) put_kept (keys_same st2 r2 content.keys.items ts (m2 x rev bytes) meant keyed) in
+      replaced m m2 x agree st r st2 r2 r3 kept (with_page state reconciled rev content) h page_middle page_fresh freed stored
       (keeps_through st r r1 st2 r2 r3 place_kept keeps counts put_kept)
-      (subst (λ (held : Option (Held Bytes)). Exchanges (counts_in st r) (counts_in st2 r3) (triples_kept (beside st r) kept x) (triples_held meaning x held)) (sym page_held) moves)
-      (subst (λ (held : Option (Held Bytes)). AreKeysOf st2 r3 content.keys.items (triples_held meaning x held)) (sym page_held) new)
+      (subst (λ (held : Option (Held Bytes)). Exchanges (counts_in st r) (counts_in st2 r3) (triples_kept m (beside st r) kept x) (triples_held m2 x held)) (sym page_held) moves)
+      (subst (λ (held : Option (Held Bytes)). AreKeysOf st2 r3 content.keys.items (triples_held m2 x held)) (sym page_held) new)
 
 -- a page can't come: all is as it was
-pub kept_refused : (st : Store) (r : Texts) (st2 : Store) (r2 : Texts) (kept : KeptRecords) → IsKept st r kept → IsStored st2 r2 → counts_in st2 r2 ≡ counts_in st r
-    → KeepsKeys st r st2 r2 → ((p : Piece) → beside st2 r2 p ≡ beside st r p) → IsKept st2 r2 kept
-kept_refused st r st2 r2 kept h stored counts keeps texts = record {
+pub kept_refused : (m : Meaning Triple) (st : Store) (r : Texts) (st2 : Store) (r2 : Texts) (kept : KeptRecords) → IsKept m st r kept → IsStored st2 r2 → counts_in st2 r2 ≡ counts_in st r
+    → KeepsKeys st r st2 r2 → ((p : Piece) → beside st2 r2 p ≡ beside st r p) → IsKept m st2 r2 kept
+kept_refused m st r st2 r2 kept h stored counts keeps texts = record {
   stored = stored;
-  counted = subst (λ (m : Counts). IsCounted m (seen st2 r2 kept)) (sym counts)
-      (subst (λ (records : Records). IsCounted (counts_in st r) records) (sym (seen_again (beside st r) (beside st2 r2) kept texts)) h.counted);
+  counted = subst (λ (c : Counts). IsCounted m c (seen st2 r2 kept)) (sym counts)
+      (subst (λ (records : Records). IsCounted m (counts_in st r) records) (sym (seen_again (beside st r) (beside st2 r2) kept texts)) h.counted);
   held = held_again (beside st r) (beside st2 r2) (piece_at kept) (piece_at kept) h.held texts (λ _. refl);
   keyed = λ x.
-      let same : triples_kept (beside st2 r2) kept x ≡ triples_kept (beside st r) kept x =
-      ap (triples_held meaning x) (held_same (beside st r) (beside st2 r2) (kept_of kept x).held (λ p _. texts p)) in
-      let owned : (t : Triple) → has triple_cmp t (triples_kept (beside st r) kept x) ≡ true → 0 < count_of (counts_in st2 r2) t = λ t there.
-      let held : triples_held meaning x (record_of (seen st r kept) x).held ≡ triples_kept (beside st r) kept x =
-      ap (λ (was : Record Bytes). triples_held meaning x was.held) (seen_of (beside st r) kept x) in
-      let some : 0 < owners triple_cmp meaning (seen st r kept) t = has_owner meaning (seen st r kept) x t (ap (has triple_cmp t) held ∙ there) in
-      let count : count_of (counts_in st r) t ≡ owners triple_cmp meaning (seen st r kept) t = h.counted.owned t in
-      let now : count_of (counts_in st2 r2) t ≡ count_of (counts_in st r) t = ap (λ (m : Counts). count_of m t) counts in
+      let same : triples_kept m (beside st2 r2) kept x ≡ triples_kept m (beside st r) kept x =
+      ap (triples_held m x) (held_same (beside st r) (beside st2 r2) (kept_of kept x).held (λ p _. texts p)) in
+      let owned : (t : Triple) → has triple_cmp t (triples_kept m (beside st r) kept x) ≡ true → 0 < count_of (counts_in st2 r2) t = λ t there.
+      let held : triples_held m x (record_of (seen st r kept) x).held ≡ triples_kept m (beside st r) kept x =
+      ap (λ (was : Record Bytes). triples_held m x was.held) (seen_of (beside st r) kept x) in
+      let some : 0 < owners triple_cmp m (seen st r kept) t = has_owner m (seen st r kept) x t (ap (has triple_cmp t) held ∙ there) in
+      let count : count_of (counts_in st r) t ≡ owners triple_cmp m (seen st r kept) t = h.counted.owned t in
+      let now : count_of (counts_in st2 r2) t ≡ count_of (counts_in st r) t = ap (λ (c : Counts). count_of c t) counts in
       omega arith in
       subst (λ (ts : List Triple). AreKeysOf st2 r2 (keys_held (kept_of kept x).held) ts) (sym same)
-      (keys_stay st r st2 r2 (keys_held (kept_of kept x).held) (triples_kept (beside st r) kept x) (h.keyed x) keeps owned);
+      (keys_stay st r st2 r2 (keys_held (kept_of kept x).held) (triples_kept m (beside st r) kept x) (h.keyed x) keeps owned);
 }
 
 -- a piece that was placed and freed again
-placed_freed : (f f1 f2 k : PieceTexts) (piece : Piece) (bytes : Bytes) → Changes f f1 piece None (Some bytes) → ((p : Piece) → f2 p ≡ f1 p) → Changes f2 k piece (f2 piece) None → (p : Piece) → k p ≡ f p
+pub placed_freed : (f f1 f2 k : PieceTexts) (piece : Piece) (bytes : Bytes) → Changes f f1 piece None (Some bytes) → ((p : Piece) → f2 p ≡ f1 p) → Changes f2 k piece (f2 piece) None → (p : Piece) → k p ≡ f p
 placed_freed f f1 f2 k piece bytes placed texts freed p = ⊎_elim
     (λ own. ap k own.1 ∙ freed.is ∙ sym placed.was ∙ ap f (sym own.1))
     (λ other. freed.others p other.1 ∙ texts p ∙ placed.others p other.1)
     (piece_tells p piece)
 
 -- the piece that was placed for it is freed
-pub kept_undone : (st : Store) (r r1 : Texts) (st2 : Store) (r2 r3 : Texts) (kept : KeptRecords) (piece : Piece) (bytes : Bytes)
-    → IsKept st r kept
+pub kept_undone : (m : Meaning Triple) (st : Store) (r r1 : Texts) (st2 : Store) (r2 r3 : Texts) (kept : KeptRecords) (piece : Piece) (bytes : Bytes)
+    → IsKept m st r kept
     → Changes (beside st r) (beside st r1) piece None (Some bytes)
     → ((key : Key) (t : Triple) → HasKey st r key t → HasKey st r1 key t)
     → counts_in st r1 ≡ counts_in st r
@@ -197,14 +198,15 @@ pub kept_undone : (st : Store) (r r1 : Texts) (st2 : Store) (r2 r3 : Texts) (kep
     → counts_in st2 r3 ≡ counts_in st2 r2
     → ((key : Key) (t : Triple) → HasKey st2 r2 key t → HasKey st2 r3 key t)
     → Changes (beside st2 r2) (beside st2 r3) piece (beside st2 r2 piece) None
-    → IsKept st2 r3 kept
-kept_undone st r r1 st2 r2 r3 kept piece bytes h placed place_kept place_counts keeps texts err stored counts put_kept freed =
-    kept_refused st r st2 r3 kept h stored (counts ∙ err ∙ place_counts)
+    → IsKept m st2 r3 kept
+kept_undone m st r r1 st2 r2 r3 kept piece bytes h placed place_kept place_counts keeps texts err stored counts put_kept freed =
+    kept_refused m st r st2 r3 kept h stored (counts ∙ err ∙ place_counts)
     (keeps_through st r r1 st2 r2 r3 place_kept keeps counts put_kept)
     (placed_freed (beside st r) (beside st r1) (beside st2 r2) (beside st2 r3) piece bytes placed texts freed)
 
-module _ (st : Store) (r : Texts) (st2 : Store) (r2 r3 : Texts) (kept : KeptRecords) (x : EntityId) (state : State) (reconciled : Option Event)
-    (h : IsKept st r kept)
+module _ (m m2 : Meaning Triple) (x : EntityId) (agree : (y : EntityId) → y ≢ x → (rev : ℕ) (bytes : Bytes) → m2 y rev bytes ≡ m y rev bytes)
+    (st : Store) (r : Texts) (st2 : Store) (r2 r3 : Texts) (kept : KeptRecords) (state : State) (reconciled : Option Event)
+    (h : IsKept m st r kept)
     (texts : (p : Piece) → beside st2 r2 p ≡ beside st r p)
     (freed : Frees (piece_at kept x) (beside st2 r2) (beside st2 r3)) where
   abbrev empty_record : Record Kept
@@ -215,7 +217,7 @@ module _ (st : Store) (r : Texts) (st2 : Store) (r2 r3 : Texts) (kept : KeptReco
 
   -- the records after the page went
   pub went_seen : seen st2 r3 (map.insert kept x empty_record) ≡ map.insert (seen st r kept) x (record { state = state; held = None; reconciled = reconciled })
-  went_seen = replaced_seen st r st2 r2 r3 kept x empty_record h (λ p _. texts p) no_page freed
+  went_seen = replaced_seen m m2 x agree st r st2 r2 r3 kept empty_record h (λ p _. texts p) no_page freed
 
   -- the page that was held went
   pub went : (old : List Key)
@@ -225,18 +227,18 @@ module _ (st : Store) (r : Texts) (st2 : Store) (r2 r3 : Texts) (kept : KeptReco
       → KeepsKeys st r st2 r2
       → counts_in st2 r3 ≡ counts_in st2 r2
       → ((key : Key) (t : Triple) → HasKey st2 r2 key t → HasKey st2 r3 key t)
-      → IsKept st2 r3 (map.insert kept x empty_record)
+      → IsKept m2 st2 r3 (map.insert kept x empty_record)
   went old stored were exchanges keeps counts put_kept =
-      let keys : AreKeysOf st r old (triples_kept (beside st r) kept x) =
-      subst (λ (ks : List Key). AreKeysOf st r ks (triples_kept (beside st r) kept x)) (sym were) (h.keyed x) in
-      replaced st r st2 r2 r3 kept x empty_record h (λ p _. texts p) no_page freed stored
+      let keys : AreKeysOf st r old (triples_kept m (beside st r) kept x) =
+      subst (λ (ks : List Key). AreKeysOf st r ks (triples_kept m (beside st r) kept x)) (sym were) (h.keyed x) in
+      replaced m m2 x agree st r st2 r2 r3 kept empty_record h (λ p _. texts p) no_page freed stored
       (keeps_through st r r st2 r2 r3 (λ _ _ is. is) keeps counts put_kept)
-      (exchanged_through (counts_in st r) (counts_in st r) (counts_in st2 r2) (counts_in st2 r3) (triples_kept (beside st r) kept x) [] []
-      refl counts (λ _. refl) (exchanges (triples_kept (beside st r) kept x) keys))
+      (exchanged_through (counts_in st r) (counts_in st r) (counts_in st2 r2) (counts_in st2 r3) (triples_kept m (beside st r) kept x) [] []
+      refl counts (λ _. refl) (exchanges (triples_kept m (beside st r) kept x) keys))
       (record { rising = tt; each = λ _ there. absurd (true≢false (sym there)); all = λ _ there. absurd (true≢false (sym there)) })
 
 -- the page that is held stays
-module _ (st : Store) (r : Texts) (kept : KeptRecords) (x : EntityId) (state : State) (reconciled : Option Event) (h : IsKept st r kept) where
+module _ (m : Meaning Triple) (st : Store) (r : Texts) (kept : KeptRecords) (x : EntityId) (state : State) (reconciled : Option Event) (h : IsKept m st r kept) where
   abbrev kept_record : Record Kept
   kept_record = record { state = state; held = (kept_of kept x).held; reconciled = reconciled }
 
@@ -248,11 +250,11 @@ module _ (st : Store) (r : Texts) (kept : KeptRecords) (x : EntityId) (state : S
 
   pub stayed_seen : seen st r (map.insert kept x kept_record) ≡ map.insert (seen st r kept) x (record { state = state; held = (record_of (seen st r kept) x).held; reconciled = reconciled })
   stayed_seen =
-      seen_put st r st r kept x kept_record h (λ _ _ _ _. refl)
+      seen_put m m x (λ _ _ _ _. refl) st r st r kept kept_record h (λ _ _ _ _. refl)
       ∙ ap (λ (was : Record Bytes). map.insert (seen st r kept) x (record { state = state; held = was.held; reconciled = reconciled })) (sym (seen_of (beside st r) kept x))
 
-  pub stayed : IsKept st r (map.insert kept x kept_record)
-  stayed = kept_put st r st r kept x kept_record h (λ _ _ _ _. refl) h.stored
+  pub stayed : IsKept m st r (map.insert kept x kept_record)
+  stayed = kept_put m m x (λ _ _ _ _. refl) st r st r kept kept_record h (λ _ _ _ _. refl) h.stored
       (held_again (beside st r) (beside st r) (piece_at kept) (piece_at (map.insert kept x kept_record)) h.held (λ _. refl) pieces_stay)
       (record { counts = λ _. refl })
       (record { kept = λ _ _ is _. is })

@@ -19,6 +19,7 @@ use Rattle.triple_store.specs.Stored.{beside, counts_in, limit_of}
 use Rattle.std.specs.Cmp.{eq_by_cmp_equiv}
 use Rattle.entity_model.specs.declared.event.Event.{Event}
 use Rattle.entity_model.specs.EntityId.{entity_cmp_total}
+use Rattle.entity_model.specs.declared.mapping.MappingVersion.{MappingVersion}
 use Rattle.entity_state.specs.declared.record.Record.{Record}
 use Rattle.entity_state.specs.Record.{blank, held_revision, wants}
 use Rattle.entity_state.specs.State.{is_deleted, state_after}
@@ -31,7 +32,7 @@ use Rattle.replay_model.specs.Play.{held_after_fetch, record_after, records_afte
 use Rattle.world.specs.declared.applied.Outcome.{Outcome}
 use Rattle.world.specs.declared.applied.Outcome.TheVariants.{Dropped, Same, Stored}
 use Rattle.world.specs.Applying.{outcome_after, outcome_of_reply}
-use Rattle.replay_model.specs.Union.{triples_at, triples_held, union}
+use Rattle.replay_model.specs.Union.{Meaning, triples_at, triples_held, union}
 use Rattle.replay_model.proofs.Owners.{has-union, union-rises}
 use Rattle.world.specs.InStep.{IsCounted, IsKept}
 use Rattle.world.specs.Keeping.{KeptRecords, record_with, seen}
@@ -49,15 +50,15 @@ stored counts t h = by (map.get counts t) (h t)
     by (Some n) some = sym (lt-ltb 0 n (some refl))
 
 -- the stored triples are the union
-counted_union : (counts : Counts) (records : Records) → HaveOwners counts → IsCounted counts records → map.keys counts ≡ union triple_cmp meaning records
-counted_union counts records owned h =
-    same_rising triple_cmp-total triple_cmp-IsAntisymmetric (map.keys counts) (union triple_cmp meaning records)
+counted_union : (m : Meaning Triple) (counts : Counts) (records : Records) → HaveOwners counts → IsCounted m counts records → map.keys counts ≡ union triple_cmp m records
+counted_union m counts records owned h =
+    same_rising triple_cmp-total triple_cmp-IsAntisymmetric (map.keys counts) (union triple_cmp m records)
     (rising_keys triple_cmp (map.entries counts) (map.entries_sorted counts))
-    (union-rises triple_cmp-total meaning records)
-    (λ t. sym (map.contains_key-keys counts t) ∙ stored counts t owned ∙ ap (nat_lt 0) (h.owned t) ∙ sym (has-union triple_cmp-total meaning records t))
+    (union-rises triple_cmp-total m records)
+    (λ t. sym (map.contains_key-keys counts t) ∙ stored counts t owned ∙ ap (nat_lt 0) (h.owned t) ∙ sym (has-union triple_cmp-total m records t))
 
-pub stored_union : (st : Store) (r : Texts) (kept : KeptRecords) → IsKept st r kept → map.keys (counts_in st r) ≡ union triple_cmp meaning (seen st r kept)
-stored_union st r kept h = counted_union (counts_in st r) (seen st r kept) (owned st r h.stored) h.counted
+pub stored_union : (m : Meaning Triple) (st : Store) (r : Texts) (kept : KeptRecords) → IsKept m st r kept → map.keys (counts_in st r) ≡ union triple_cmp m (seen st r kept)
+stored_union m st r kept h = counted_union m (counts_in st r) (seen st r kept) (owned st r h.stored) h.counted
 
 pub has_term : (q : Term) (ts : List Triple) → has term_cmp q (flat_map terms_of ts) ≡ list_any (λ t. has term_cmp q (terms_of t)) ts
 has_term q [] = refl
@@ -75,30 +76,30 @@ distinct_same ts us same =
     ∙ sym (has_term q us)))
 
 -- the room that triples need beside the stored ones
-pub room_is : (st : Store) (r : Texts) (kept : KeptRecords) → IsKept st r kept → (c : Counts) → c ≡ counts_in st r → (ts us : List Triple)
-    → ((t : Triple) → has triple_cmp t ts ≡ has triple_cmp t us) → room_for c ts ≡ room_with (seen st r kept) us
-room_is st r kept h c is ts us same =
-    ap (λ (xs : List Triple). distinct (flat_map terms_of (xs ++ ts))) (ap (λ (m : Counts). map.keys m) is ∙ stored_union st r kept h)
-    ∙ distinct_same (union triple_cmp meaning (seen st r kept) ++ ts) (union triple_cmp meaning (seen st r kept) ++ us)
-    (λ t. has-append triple_cmp t (union triple_cmp meaning (seen st r kept)) ts
-    ∙ ap (λ b. has triple_cmp t (union triple_cmp meaning (seen st r kept)) || b) (same t)
-    ∙ sym (has-append triple_cmp t (union triple_cmp meaning (seen st r kept)) us))
+pub room_is : (m : Meaning Triple) (st : Store) (r : Texts) (kept : KeptRecords) → IsKept m st r kept → (c : Counts) → c ≡ counts_in st r → (ts us : List Triple)
+    → ((t : Triple) → has triple_cmp t ts ≡ has triple_cmp t us) → room_for c ts ≡ room_with m (seen st r kept) us
+room_is m st r kept h c is ts us same =
+    ap (λ (xs : List Triple). distinct (flat_map terms_of (xs ++ ts))) (ap (λ (counts : Counts). map.keys counts) is ∙ stored_union m st r kept h)
+    ∙ distinct_same (union triple_cmp m (seen st r kept) ++ ts) (union triple_cmp m (seen st r kept) ++ us)
+    (λ t. has-append triple_cmp t (union triple_cmp m (seen st r kept)) ts
+    ∙ ap (λ b. has triple_cmp t (union triple_cmp m (seen st r kept)) || b) (same t)
+    ∙ sym (has-append triple_cmp t (union triple_cmp m (seen st r kept)) us))
 
 -- what is held has room
-pub room_held : (st : Store) (r : Texts) (kept : KeptRecords) → IsKept st r kept → room_with (seen st r kept) [] ≤ limit_of st
-room_held st r kept h =
+pub room_held : (m : Meaning Triple) (st : Store) (r : Texts) (kept : KeptRecords) → IsKept m st r kept → room_with m (seen st r kept) [] ≤ limit_of st
+room_held m st r kept h =
     let few : terms st.pool ≤ st.pool.limit = h.stored.lies.few in
     let many : terms st.pool ≡ room_for (counts_in st r) [] = terms_counted st r h.stored in
-    let room : room_for (counts_in st r) [] ≡ room_with (seen st r kept) [] = room_is st r kept h (counts_in st r) refl [] [] (λ _. refl) in
+    let room : room_for (counts_in st r) [] ≡ room_with m (seen st r kept) [] = room_is m st r kept h (counts_in st r) refl [] [] (λ _. refl) in
     omega arith
 
 -- no count is at its last value
-pub countable_kept : (st : Store) (r : Texts) (kept : KeptRecords) → IsKept st r kept → (c : Counts) → c ≡ counts_in st r → (n : ℕ) → map.len kept < n → (t : Triple) → count_of c t < n
-countable_kept st r kept h c is n few t =
+pub countable_kept : (m : Meaning Triple) (st : Store) (r : Texts) (kept : KeptRecords) → IsKept m st r kept → (c : Counts) → c ≡ counts_in st r → (n : ℕ) → map.len kept < n → (t : Triple) → count_of c t < n
+countable_kept m st r kept h c is n few t =
     let records : map.len (seen st r kept) ≡ map.len kept = values_len (record_with (beside st r)) kept in
-    let same : count_of c t ≡ count_of (counts_in st r) t = ap (λ (m : Counts). count_of m t) is in
+    let same : count_of c t ≡ count_of (counts_in st r) t = ap (λ (counts : Counts). count_of counts t) is in
     let fewer : map.len (seen st r kept) < n = omega arith in
-    let counts : count_of (counts_in st r) t < n = countable (counts_in st r) (seen st r kept) n h.counted fewer t in
+    let counts : count_of (counts_in st r) t < n = countable m (counts_in st r) (seen st r kept) n h.counted fewer t in
     omega arith
 
 no_entries : {A : Type 0} (es : List A) → length es ≡ 0 → es ≡ []
@@ -106,32 +107,32 @@ no_entries [] e = refl
 no_entries (x ∷ es) e = absurd (omega arith)
 
 -- without records nothing is stored
-pub no_keys : (st : Store) (r : Texts) (kept : KeptRecords) → IsKept st r kept → map.len (seen st r kept) ≡ 0 → map.len st.index ≡ 0
-no_keys st r kept h none =
+pub no_keys : (m : Meaning Triple) (st : Store) (r : Texts) (kept : KeptRecords) → IsKept m st r kept → map.len (seen st r kept) ≡ 0 → map.len st.index ≡ 0
+no_keys m st r kept h none =
     let entries : map.entries (seen st r kept) ≡ [] = no_entries (map.entries (seen st r kept)) (sym (map.len-entries (seen st r kept)) ∙ none) in
-    let keys : map.keys (counts_in st r) ≡ [] = stored_union st r kept h ∙ ap (λ es. sorted triple_cmp (flat_map (triples_at meaning) es)) entries in
+    let keys : map.keys (counts_in st r) ≡ [] = stored_union m st r kept h ∙ ap (λ es. sorted triple_cmp (flat_map (triples_at m) es)) entries in
     sym (len_image st r h.stored) ∙ map.len-entries (counts_in st r) ∙ sym (length-map (map.entries (counts_in st r)) (λ e. e.0)) ∙ ap length keys
 
 -- without records nothing needs room
-pub nothing_held : (records : Records) (room : ℕ) → map.len records ≡ 0 → HasRoom room records
-nothing_held records room none =
+pub nothing_held : (m : Meaning Triple) (records : Records) (room : ℕ) → map.len records ≡ 0 → HasRoom m room records
+nothing_held m records room none =
     let entries : map.entries records ≡ [] = no_entries (map.entries records) (sym (map.len-entries records) ∙ none) in
-    let zero : room_with records [] ≡ 0 = ap (λ es. distinct (flat_map terms_of (sorted triple_cmp (flat_map (triples_at meaning) es) ++ []))) entries in
+    let zero : room_with m records [] ≡ 0 = ap (λ es. distinct (flat_map terms_of (sorted triple_cmp (flat_map (triples_at m) es) ++ []))) entries in
     omega arith
 
 -- what an application stores is the page that came
-pub stored_page : (records : Records) (e : Event) (reply : Result Bytes Cause) (outcome : Outcome) → outcome ≡ outcome_after (record_of records e.entity) e reply → outcome ≡ Stored
-    → triples_held meaning e.entity (record_of (records_after (λ _ _. reply) records e) e.entity).held
-    ≡ triples_of_reply e.entity (state_after (record_of records e.entity).state e).rev reply
-stored_page records e reply outcome is stored =
-    ap (λ (o : Option (Record Bytes)). triples_held meaning e.entity (unwrap_or o blank).held)
+pub stored_page : (v : MappingVersion) (records : Records) (e : Event) (reply : Result Bytes Cause) (outcome : Outcome) → outcome ≡ outcome_after (record_of records e.entity) e reply → outcome ≡ Stored
+    → triples_held (meaning v) e.entity (record_of (records_after (λ _ _. reply) records e) e.entity).held
+    ≡ triples_of_reply v e.entity (state_after (record_of records e.entity).state e).rev reply
+stored_page v records e reply outcome is stored =
+    ap (λ (o : Option (Record Bytes)). triples_held (meaning v) e.entity (unwrap_or o blank).held)
     (map.get-insert entity_cmp_total records e.entity (record_after (λ _ _. reply) e (record_of records e.entity)) e.entity
     ∙ ap (λ b. cond b (Some (record_after (λ _ _. reply) e (record_of records e.entity))) (map.get records e.entity)) ((eq_by_cmp_equiv entity_cmp_total).refl e.entity))
     ∙ by (wants (state_after (record_of records e.entity).state e) (held_revision (record_of records e.entity).held)) (is_deleted (state_after (record_of records e.entity).state e).mode) reply (sym is ∙ stored)
   where
     by : (b d : Bool) (reply : Result Bytes Cause) → cond b (outcome_of_reply reply) (cond d Dropped Same) ≡ Stored
-        → triples_held meaning e.entity (cond b (held_after_fetch (state_after (record_of records e.entity).state e).rev reply (record_of records e.entity).held) (cond d None (record_of records e.entity).held))
-        ≡ triples_of_reply e.entity (state_after (record_of records e.entity).state e).rev reply
+        → triples_held (meaning v) e.entity (cond b (held_after_fetch (state_after (record_of records e.entity).state e).rev reply (record_of records e.entity).held) (cond d None (record_of records e.entity).held))
+        ≡ triples_of_reply v e.entity (state_after (record_of records e.entity).state e).rev reply
     by true d (Ok bytes) h = refl
     by true d (Err cause) h = cc
     by false true reply h = cc

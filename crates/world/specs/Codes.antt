@@ -2,7 +2,10 @@
 use Rattle.std.specs.Prelude.{ℤ, ℕ, Bool, List, Option, refl}
 use Rattle.std.specs.Coded.{Coded, code_by, coded×, coded_ℕ, coded_ℤ, coded_bool, coded_list, coded_option}
 use Rattle.std.specs.FinMap as map
+use Rattle.entity_model.specs.declared.id.EntityId.{EntityId}
+use Rattle.entity_model.specs.declared.mapping.MappingVersion.{MappingVersion}
 use Rattle.entity_model.specs.contracts.id.EntityId as entity_id
+use Rattle.entity_model.specs.contracts.mapping.MappingVersion as mapping_version
 use Rattle.entity_state.specs.Tabled.{record_code}
 use Rattle.side_output.specs.declared.entry.Entry.{Entry}
 use Rattle.side_output.specs.contracts.entry.Entry as entry
@@ -10,7 +13,8 @@ use Rattle.replay_model.specs.Records.{Records}
 use Rattle.replay_model.specs.Play.{Played}
 use Rattle.replay_model.specs.ReplayState.{ReplayState}
 use Rattle.reorder_buffer.specs.Buffered.{Buffered}
-use Rattle.world.specs.Roomed.{PlayedInRoom, ReplayInRoom}
+use Rattle.world.specs.Holders.{ByVersion}
+use Rattle.world.specs.WorldState.{PagesState, WorldState}
 use Rattle.entity_model.specs.declared.event.Event.{Event}
 use Rattle.entity_model.specs.contracts.event.Event as event
 
@@ -31,9 +35,23 @@ buffered_code =
 abbrev pub state_code : Coded ReplayState
 state_code = code_by (Buffered × Played) (coded× buffered_code played_code) (λ s. (s.buffer, s.played)) (λ c. record { buffer = c.0; played = c.1 }) (λ _. refl)
 
--- with the number of terms that there may be
-abbrev pub played_in_room_code : Coded PlayedInRoom
-played_in_room_code = code_by (Played × ℕ) (coded× played_code coded_ℕ) (λ p. (p.played, p.room)) (λ c. record { played = c.0; room = c.1 }) (λ _. refl)
+-- how many terms there may be, and the versions of the mapping
+abbrev pub terms_code : Coded (ℕ × (MappingVersion × List EntityId))
+terms_code = coded× coded_ℕ (coded× (mapping_version.the_row).coded (coded_list (entity_id.the_row).coded))
 
-abbrev pub replay_in_room_code : Coded ReplayInRoom
-replay_in_room_code = code_by (ReplayState × ℕ) (coded× state_code coded_ℕ) (λ w. (w.replay, w.room)) (λ c. record { replay = c.0; room = c.1 }) (λ _. refl)
+-- with these
+abbrev pub pages_code : Coded PagesState
+pages_code =
+    code_by (Played × (ℕ × (MappingVersion × List EntityId))) (coded× played_code terms_code)
+    (λ p. (p.played, (p.room, (p.mapping, p.second)))) (λ c. record { played = c.0; room = c.1.0; mapping = c.1.1.0; second = c.1.1.1 }) (λ _. refl)
+
+abbrev pub world_code : Coded WorldState
+world_code =
+    code_by (ReplayState × (ℕ × (MappingVersion × List EntityId))) (coded× state_code terms_code)
+    (λ w. (w.replay, (w.room, (w.mapping, w.second)))) (λ c. record { replay = c.0; room = c.1.0; mapping = c.1.1.0; second = c.1.1.1 }) (λ _. refl)
+
+-- the entities that hold, by version
+abbrev pub holders_code : Coded ByVersion
+holders_code =
+    code_by (List EntityId × List EntityId) (coded× (coded_list (entity_id.the_row).coded) (coded_list (entity_id.the_row).coded))
+    (λ h. (h.first, h.second)) (λ c. record { first = c.0; second = c.1 }) (λ _. refl)

@@ -1,4 +1,4 @@
--- Store and region in step with what is kept of the entities.
+-- Store and region in step with what is kept of the entities, where each document means what a function says.
 use Rattle.std.specs.Prelude.{◌≡◌, true, List, Option, Some, is_some}
 use Rattle.rdf_term.specs.declared.triple.Triple.{Triple}
 use Rattle.rdf_term.specs.Order.{triple_cmp}
@@ -9,13 +9,15 @@ use Rattle.triple_store.specs.declared.store.Store.{Store}
 use Rattle.triple_store.specs.Counts.{Counts, count_of}
 use Rattle.triple_store.specs.Stored.{AreKeysOf, IsStored, beside, counts_in}
 use Rattle.replay_model.specs.Records.{Records}
-use Rattle.replay_model.specs.Union.{owners, triples_held}
+use Rattle.replay_model.specs.Union.{Meaning, owners, triples_held}
+use Rattle.replay_model.specs.Versions.{meaning_by}
+use Rattle.world.specs.Holders.{AreBy, ByVersion}
 use Rattle.world.specs.Keeping.{KeptRecords, PieceTexts, held_with, kept_of, keys_held, piece_at, seen}
 use Rattle.world.specs.Meaning.{meaning}
 
 -- the count of each triple is the number of the entities that hold it
-pub record IsCounted (counts : Counts) (records : Records) : Type 0 where
-  pub owned : (t : Triple) → count_of counts t ≡ owners triple_cmp meaning records t
+pub record IsCounted (m : Meaning Triple) (counts : Counts) (records : Records) : Type 0 where
+  pub owned : (t : Triple) → count_of counts t ≡ owners triple_cmp m records t
 
 -- what each entity holds has a piece of its own, and no other piece is live
 pub record IsHeld (text : PieceTexts) (at : EntityId → Option Piece) : Type 0 where
@@ -24,13 +26,18 @@ pub record IsHeld (text : PieceTexts) (at : EntityId → Option Piece) : Type 0 
   pub only : (piece : Piece) → is_some (text piece) ≡ true → (x : EntityId) × (at x ≡ Some piece)
 
 -- the triples of what an entity holds
-abbrev pub triples_kept : PieceTexts → KeptRecords → EntityId → List Triple
-triples_kept text kept x = triples_held meaning x (held_with text (kept_of kept x).held)
+abbrev pub triples_kept : Meaning Triple → PieceTexts → KeptRecords → EntityId → List Triple
+triples_kept m text kept x = triples_held m x (held_with text (kept_of kept x).held)
 
 -- the store counts the entities that hold each triple, the region has beside the store's texts a piece for each held page
 -- and no other, and the keys of each held page are those of its triples
-pub record IsKept (store : Store) (region : Texts) (kept : KeptRecords) : Type 0 where
+pub record IsKept (m : Meaning Triple) (store : Store) (region : Texts) (kept : KeptRecords) : Type 0 where
   pub stored : IsStored store region
-  pub counted : IsCounted (counts_in store region) (seen store region kept)
+  pub counted : IsCounted m (counts_in store region) (seen store region kept)
   pub held : IsHeld (beside store region) (piece_at kept)
-  pub keyed : (x : EntityId) → AreKeysOf store region (keys_held (kept_of kept x).held) (triples_kept (beside store region) kept x)
+  pub keyed : (x : EntityId) → AreKeysOf store region (keys_held (kept_of kept x).held) (triples_kept m (beside store region) kept x)
+
+-- the same where each document means what it means by the version that its entity is named by
+pub record AreInStep (store : Store) (region : Texts) (ids : ByVersion) (entities : KeptRecords) : Type 0 where
+  pub kept : IsKept (meaning_by meaning ids.second) store region entities
+  pub by : AreBy ids entities

@@ -2,6 +2,7 @@
 use Rattle.std.specs.Prelude.{◌≡◌, List, [], Option, None, Some, unwrap_or}
 use Rattle.std.specs.Prelude.{map as mapped}
 use Rattle.std.specs.FinMap as map
+use Rattle.std.specs.Global.{Vec}
 use Rattle.entity_model.specs.declared.id.EntityId.{EntityId}
 use Rattle.entity_model.specs.EntityId.{entity_cmp}
 use Rattle.entity_state.specs.declared.record.Held.{Held}
@@ -55,6 +56,14 @@ piece_held (Some h) = Some h.content.piece
 abbrev pub keys_held : Option (Held Kept) → List Key
 keys_held None = []
 keys_held (Some h) = h.content.keys.items
+
+-- what is held, with other keys
+abbrev pub held_keys : Option (Held Kept) → Vec Key → Option (Held Kept)
+held_keys None keys = None
+held_keys (Some h) keys = Some (record { revision = h.revision; content = record { piece = h.content.piece; keys = keys } })
+
+abbrev pub with_keys : Record Kept → Vec Key → Record Kept
+with_keys r keys = record { state = r.state; held = held_keys r.held keys; reconciled = r.reconciled }
 
 -- the piece of what an entity holds
 abbrev pub piece_at : KeptRecords → EntityId → Option Piece

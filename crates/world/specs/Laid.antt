@@ -3,6 +3,7 @@ use Rattle.std.specs.Prelude.{◌≡◌, ℕ, true, List, Option, Some, is_some,
 use Rattle.std.specs.List.{flat_map}
 use Rattle.rising.specs.Rising.{has}
 use Rattle.rdf_term.specs.declared.term.Term.{Term}
+use Rattle.rdf_term.specs.declared.triple.Triple.{Triple}
 use Rattle.rdf_term.specs.Order.{term_cmp, triple_cmp}
 use Rattle.rdf_term.specs.Text.{term_text}
 use Rattle.entity_model.specs.declared.id.EntityId.{EntityId}
@@ -11,21 +12,20 @@ use Rattle.text_region.specs.declared.piece.Piece.{Piece}
 use Rattle.text_region.specs.Region.{Texts, bytes_of}
 use Rattle.triple_store.specs.Room.{terms_of}
 use Rattle.replay_model.specs.Records.{Bytes, Records, record_of}
-use Rattle.replay_model.specs.Union.{union}
-use Rattle.world.specs.Meaning.{meaning}
+use Rattle.replay_model.specs.Union.{Meaning, union}
 
 -- the terms of the triples of all that is held
-abbrev pub terms_in : Records → List Term
-terms_in records = flat_map terms_of (union triple_cmp meaning records)
+abbrev pub terms_in : Meaning Triple → Records → List Term
+terms_in held records = flat_map terms_of (union triple_cmp held records)
 
 -- each of these terms has one slot, which has a piece of the region with its text; each held page has a piece with its
 -- bytes; no two have the same piece, and no other piece is live
-pub record IsLaid (region : Texts) (records : Records) : Type 0 where
+pub record IsLaid (held : Meaning Triple) (region : Texts) (records : Records) : Type 0 where
   pub term : ℕ → Option Term
   pub text : ℕ → Option Piece
   pub page : EntityId → Option Piece
-  pub stored : (slot : ℕ) (t : Term) → term slot ≡ Some t → has term_cmp t (terms_in records) ≡ true
-  pub each : (t : Term) → has term_cmp t (terms_in records) ≡ true → (slot : ℕ) × (term slot ≡ Some t)
+  pub stored : (slot : ℕ) (t : Term) → term slot ≡ Some t → has term_cmp t (terms_in held records) ≡ true
+  pub each : (t : Term) → has term_cmp t (terms_in held records) ≡ true → (slot : ℕ) × (term slot ≡ Some t)
   pub once : (a b : ℕ) (t : Term) → term a ≡ Some t → term b ≡ Some t → a ≡ b
   pub texts : (slot : ℕ) (t : Term) → term slot ≡ Some t → (piece : Piece) × (text slot ≡ Some piece) × (bytes_of region piece ≡ Some (term_text t))
   pub pages : (x : EntityId) (h : Held Bytes) → (record_of records x).held ≡ Some h → (piece : Piece) × (page x ≡ Some piece) × (bytes_of region piece ≡ Some h.content)

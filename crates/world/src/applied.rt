@@ -28,17 +28,17 @@ pub struct Applied {
     pub outcome: Outcome,
 }
 
-/// Why no event was applied.
+/// Why no event was applied, or no page mapped anew.
 #[derive(Clone, Copy, Debug, PartialEq, Eq, Error)]
 pub enum WorldFault {
     /// No event is due.
     #[error("no event is due")]
     Nothing,
-    /// The triples of all that is held and of the page that was fetched have more terms than there is room for; the event
-    /// stays due.
+    /// The triples of all that is held and of the page that was fetched, or mapped anew, have more terms than there is room
+    /// for; the event stays due, and the page mapped as it was.
     #[error("the store is full")]
     Full,
-    /// A request for memory was refused; the event stays due.
+    /// A request for memory was refused; the event stays due, and the page mapped as it was.
     #[error("out of memory")]
     OutOfMemory,
 }

@@ -13,17 +13,19 @@ ghost use Rattle.world.specs.Meaning.{meaning};
 
 use crate::meaning::document_texts;
 use entity_json::{DocumentFault, document};
-use entity_model::EntityId;
+use entity_model::{EntityId, MappingVersion};
 use rdf_term::{List, OutOfMemory};
 use revisions::{NoRevision, Revisions};
 use side_output::Cause;
 use std::alloc::Global;
 use triple_texts::TripleTexts;
 
-/// A document as it was fetched: its bytes, and the texts of the triples that they mean.
+/// A document as it was fetched: its bytes, the version of the mapping by which they are mapped, and the texts of the triples
+/// that they mean by it.
 #[derive(Drop)]
 pub struct Page {
     pub bytes: List<u8>,
+    pub version: MappingVersion,
     pub triples: TripleTexts,
 }
 
@@ -31,16 +33,17 @@ pub struct Page {
 pub type Reply = Result<Page, Cause>;
 
 /// Fetches the revision once, and says whether its bytes are a document of `id`. They are read once, for that and for
-/// their triples.
+/// their triples by the version.
 pub fn fetch<R: Revisions>(
     alloc: Global,
     revisions: &mut R,
     place: &str,
     id: EntityId,
     rev: u64,
+    version: MappingVersion,
 ) -> Result<Reply, OutOfMemory>
     ensures reply { IfOk result (λ reply. IsReply (R.contents revisions.old) place.now id rev (reply_of reply)) }
-    ensures meant { IfOk result (IsMeant id rev) }
+    ensures meant { IfOk result (IsMeant version id rev) }
     ensures shown { IfOk result (λ reply. IsShown (outcome_of_reply (reply_of reply))
         (R.misses revisions.old) (R.misses revisions.new) (R.faults revisions.old) (R.faults revisions.new)) }
     ensures told { R.contents revisions.new ≡ R.contents revisions.old }
@@ -50,7 +53,7 @@ pub fn fetch<R: Revisions>(
     ensures most { R.most_faults revisions.new ≡ R.most_faults revisions.old }
 {
     match revisions.fetch(alloc, place, rev) {
-        Ok(bytes) => judge(alloc, id, rev, bytes),
+        Ok(bytes) => judge(alloc, id, rev, bytes, version),
         Err(NoRevision::Missing) => Ok(Err(Cause::Missing)),
         Err(NoRevision::Failed) => Ok(Err(Cause::Failed)),
         Err(NoRevision::OutOfMemory) => Err(OutOfMemory),
@@ -58,13 +61,20 @@ pub fn fetch<R: Revisions>(
 }
 
 // Whether the bytes are a document of `id`, and its triples. The document borrows the bytes, so it goes before they are moved.
-fn judge(alloc: Global, id: EntityId, rev: u64, bytes: Vec<u8>) -> Result<Reply, OutOfMemory>
+fn judge(
+    alloc: Global,
+    id: EntityId,
+    rev: u64,
+    bytes: Vec<u8>,
+    version: MappingVersion,
+) -> Result<Reply, OutOfMemory>
     ensures judged { IfOk result (λ reply. IsJudged id bytes.items (reply_of reply)) }
-    ensures meant { IfOk result (IsMeant id rev) }
+    ensures meant { IfOk result (IsMeant version id rev) }
 {
-    match texts_in(alloc, id, rev, bytes.as_slice()) {
+    match texts_in(alloc, id, rev, bytes.as_slice(), version) {
         Ok(triples) => Ok(Ok(Page {
             bytes: List::from_vec(bytes),
+            version,
             triples,
         })),
         Err(DocumentFault::Unfit(unfit)) => Ok(Err(Cause::Unfit(unfit))),
@@ -72,21 +82,22 @@ fn judge(alloc: Global, id: EntityId, rev: u64, bytes: Vec<u8>) -> Result<Reply,
     }
 }
 
-// The triples of the document of `id` that the bytes are, or why they are none.
-fn texts_in(
+/// The triples of the document of `id` that the bytes are, or why they are none.
+pub fn texts_in(
     alloc: Global,
     id: EntityId,
     rev: u64,
     bytes: &[u8],
+    version: MappingVersion,
 ) -> Result<TripleTexts, DocumentFault>
     ensures document { IfOk result (λ _. unfit_of id bytes.now ≡ None) }
-    ensures meant { IfOk result (λ texts. sorted triple_cmp texts ≡ meaning id rev bytes.now) }
+    ensures meant { IfOk result (λ texts. sorted triple_cmp texts ≡ meaning version id rev bytes.now) }
     ensures fit { IfOk result (AllByRecursion HasFitAndShortTerms) }
     ensures short { IfOk result (λ _. length bytes.now ≤ 33554432) }
     ensures err { IfErr result (IsWhy id bytes.now) }
 {
     match document(alloc, id, bytes) {
-        Ok(document) => match document_texts(alloc, id, rev, &document) {
+        Ok(document) => match document_texts(alloc, id, rev, &document, version) {
             Ok(texts) => Ok(texts),
             Err(OutOfMemory) => Err(DocumentFault::OutOfMemory),
         },

@@ -7,50 +7,63 @@ ghost use Rattle.entity_state.specs.Table.{has_room};
 ghost use Rattle.slot_index.specs.declared.key.Key.{Key as TheKey};
 ghost use Rattle.triple_store.specs.Stored.{HasKey, IsStored, beside, counts_in, limit_of};
 ghost use Rattle.triple_store.specs.declared.fault.StoreFault.TheVariants.{Full};
+ghost use Rattle.entity_model.specs.declared.mapping.MappingVersion.TheVariants.{One};
 ghost use Rattle.replay_model.specs.Records.{record_of};
+ghost use Rattle.replay_model.specs.Versions.{meaning_by, with_version};
 ghost use Rattle.world.specs.Fetched.{IsPageOf};
-ghost use Rattle.world.specs.InStep.{IsKept};
+ghost use Rattle.world.specs.InStep.{AreInStep};
 ghost use Rattle.world.specs.Keeping.{Frees, kept_of, keys_held, piece_at, seen};
 ghost use Rattle.world.specs.Meaning.{meaning};
 ghost use Rattle.world.specs.Roomed.{room_with};
 ghost use Rattle.world.specs.Standing.{unfetched_outcome, unless_deleted};
+ghost use Rattle.world.specs.WorldState.{second_after};
 
 use crate::applied::Outcome;
 use crate::fetching::Page;
+use crate::holders::{Holders, other};
 use crate::kept::Kept;
-use entity_model::EntityId;
+use entity_model::{EntityId, MappingVersion};
 use entity_state::{Held, Mode, Record, Standing, Table};
 use slot_index::Key;
 use text_region::Region;
 use triple_store::{Store, StoreFault};
 
-/// Sets the record of an entity, which holds this page from now on. After a fault nothing has changed.
+/// Sets the record of an entity, which holds this page from now on, by the version that it is mapped by. After a fault
+/// nothing has changed.
 pub fn hold(
     store: &mut Store,
     region: &mut Region,
     table: &mut Table<Kept>,
+    holders: &mut Holders,
     id: EntityId,
     after: Standing,
     page: Page,
 ) -> Result<(), StoreFault>
-    requires kept { IsKept store.old region.old table.old.records }
+    requires step { AreInStep store.old region.old holders.old table.old.records }
     requires room { IsTrue (has_room table.old id) }
-    requires page { IsPageOf id after.state.rev page }
-    ensures kept { IsKept store.new region.new table.new.records }
+    requires page { IsPageOf page.version id after.state.rev page }
+    ensures step { AreInStep store.new region.new holders.new table.new.records }
     ensures ok { OnOk result (seen store.new region.new table.new.records ≡ map.insert (seen store.old region.old table.old.records) id (record {
       state = after.state;
       held = Some (record { revision = after.state.rev; content = page.bytes });
       reconciled = after.reconciled;
     })) }
+    ensures second { OnOk result (holders.new.second ≡ with_version page.version id holders.old.second) }
     ensures err { OnErr result (seen store.new region.new table.new.records ≡ seen store.old region.old table.old.records) }
-    ensures full { result ≡ Err Full → limit_of store.old < room_with (seen store.old region.old table.old.records) (meaning id after.state.rev page.bytes) }
-    ensures within { OnOk result (room_with (seen store.old region.old table.old.records) (meaning id after.state.rev page.bytes) ≤ limit_of store.old) }
+    ensures err_holders { OnErr result (holders.new ≡ holders.old) }
+    ensures full { result ≡ Err Full → limit_of store.old < room_with (meaning_by meaning holders.old.second) (seen store.old region.old table.old.records) (meaning page.version id after.state.rev page.bytes) }
+    ensures within { OnOk result (room_with (meaning_by meaning holders.old.second) (seen store.old region.old table.old.records) (meaning page.version id after.state.rev page.bytes) ≤ limit_of store.old) }
     ensures limit { limit_of store.new ≡ limit_of store.old }
 {
     // A triple has at most as many owners as there are records, so no count is at its last value.
     let entities = table.len();
     prove!(entities < usize::MAX);
+    let version = page.version;
+    let Ok(added) = holders.add(id, version) else {
+        return Err(StoreFault::OutOfMemory);
+    };
     let Ok(piece) = store.place(region, page.bytes.as_slice()) else {
+        holders.take_back(id, version, added);
         return Err(StoreFault::OutOfMemory);
     };
     match store.exchange(region, keys_of(table, id), &page.triples) {
@@ -60,10 +73,12 @@ pub fn hold(
                 content: Kept { piece, keys },
             };
             replace(store, region, table, id, after, Some(held));
+            holders.remove(id, other(version));
             Ok(())
         }
         Err(refused) => {
             store.free(region, piece);
+            holders.take_back(id, version, added);
             Err(refused)
         }
     }
@@ -74,12 +89,14 @@ pub fn settle_unfetched(
     store: &mut Store,
     region: &mut Region,
     table: &mut Table<Kept>,
+    holders: &mut Holders,
     id: EntityId,
     after: Standing,
 ) -> Outcome
-    requires kept { IsKept store.old region.old table.old.records }
+    requires step { AreInStep store.old region.old holders.old table.old.records }
     requires room { IsTrue (has_room table.old id) }
-    ensures kept { IsKept store.new region.new table.new.records }
+    ensures step { AreInStep store.new region.new holders.new table.new.records }
+    ensures second { (version : MappingVersion) → holders.new.second ≡ second_after (unfetched_outcome after.state.mode) version id holders.old.second }
     ensures records { seen store.new region.new table.new.records ≡ map.insert (seen store.old region.old table.old.records) id (record {
       state = after.state;
       held = unless_deleted after.state.mode (record_of (seen store.old region.old table.old.records) id).held;
@@ -90,21 +107,28 @@ pub fn settle_unfetched(
 {
     match after.state.mode {
         Mode::Deleted => {
-            drop_held(store, region, table, id, after);
+            drop_held(store, region, table, holders, id, after);
             Outcome::Dropped
         }
         Mode::Unknown | Mode::Kept => {
-            keep(store, region, table, id, after);
+            keep(store, region, table, holders, id, after);
             Outcome::Same
         }
     }
 }
 
 /// Sets the record of an entity, which holds what it held.
-pub fn keep(store: &Store, region: &Region, table: &mut Table<Kept>, id: EntityId, after: Standing)
-    requires kept { IsKept store.now region.now table.old.records }
+pub fn keep(
+    store: &Store,
+    region: &Region,
+    table: &mut Table<Kept>,
+    holders: &Holders,
+    id: EntityId,
+    after: Standing,
+)
+    requires step { AreInStep store.now region.now holders.now table.old.records }
     requires room { IsTrue (has_room table.old id) }
-    ensures kept { IsKept store.now region.now table.new.records }
+    ensures step { AreInStep store.now region.now holders.now table.new.records }
     ensures records { seen store.now region.now table.new.records ≡ map.insert (seen store.now region.now table.old.records) id (record {
       state = after.state;
       held = (record_of (seen store.now region.now table.old.records) id).held;
@@ -119,12 +143,14 @@ fn drop_held(
     store: &mut Store,
     region: &mut Region,
     table: &mut Table<Kept>,
+    holders: &mut Holders,
     id: EntityId,
     after: Standing,
 )
-    requires kept { IsKept store.old region.old table.old.records }
+    requires step { AreInStep store.old region.old holders.old table.old.records }
     requires room { IsTrue (has_room table.old id) }
-    ensures kept { IsKept store.new region.new table.new.records }
+    ensures step { AreInStep store.new region.new holders.new table.new.records }
+    ensures second { holders.new.second ≡ with_version One id holders.old.second }
     ensures records { seen store.new region.new table.new.records ≡ map.insert (seen store.old region.old table.old.records) id (record {
       state = after.state;
       held = None;
@@ -134,6 +160,8 @@ fn drop_held(
 {
     store.release(region, keys_of(table, id));
     replace(store, region, table, id, after, None);
+    holders.remove(id, MappingVersion::One);
+    holders.remove(id, MappingVersion::Two);
 }
 
 // Puts a record and frees the piece of the page that the one before held.
@@ -192,8 +220,8 @@ fn keep_record(table: &mut Table<Kept>, id: EntityId, after: Standing)
     }
 }
 
-// The keys of the triples of what an entity holds.
-fn keys_of(table: &Table<Kept>, id: EntityId) -> &[Key]
+/// The keys of the triples of what an entity holds.
+pub fn keys_of(table: &Table<Kept>, id: EntityId) -> &[Key]
     ensures { result.now ≡ keys_held (kept_of table.now.records id).held }
 {
     let Some(record) = table.get(id) else {

@@ -15,19 +15,17 @@ use std::alloc::Global;
 use triple_sink::Setting;
 use triple_texts::TripleTexts;
 
-/// The triples of the document, by their texts. One may stand there more than once.
+/// The triples of the document by a version of the mapping, by their texts. One may stand there more than once.
 pub fn document_texts(
     alloc: Global,
     id: EntityId,
     rev: u64,
     document: &Document,
+    version: MappingVersion,
 ) -> Result<TripleTexts, OutOfMemory>
-    ensures value { IfOk result (λ texts. sorted triple_cmp texts ≡ document_triples id rev document.now) }
+    ensures value { IfOk result (λ texts. sorted triple_cmp texts ≡ document_triples version id rev document.now) }
     ensures fit { IsSmall document.now → IfOk result (AllByRecursion HasFitAndShortTerms) }
 {
-    let setting = Setting {
-        alloc,
-        version: MappingVersion::One,
-    };
+    let setting = Setting { alloc, version };
     direct_texts(setting, id, rev, document)
 }

@@ -1,9 +1,10 @@
 // What is kept of the entities, and the side output.
 
-ghost use Rattle.std.specs.Prelude.{◌≡◌, ◌<◌, ◌≤◌, [], None, Some, Ok, Err, IsTrue, IfOk, IfSome, IsSome, OnErr, OnOk, MatchOption, is_some};
+ghost use Rattle.std.specs.Prelude.{◌≡◌, ◌<◌, ◌≤◌, [], None, Some, Ok, Err, IsTrue, IfOk, IfSome, IsSome, OnErr, OnOk, MatchOption, is_some, length};
 ghost use Rattle.std.specs.FinMap as map;
 ghost use Rattle.rdf_term.specs.Order.{triple_cmp};
 ghost use Rattle.rdf_term.specs.Pattern.{rows};
+ghost use Rattle.entity_model.specs.declared.mapping.MappingVersion.TheVariants.{One};
 ghost use Rattle.entity_state.specs.Standing.{standing_after, standing_of, standing_wants};
 ghost use Rattle.entity_state.specs.Table.{has_room};
 ghost use Rattle.triple_store.specs.Stored.{beside};
@@ -11,18 +12,22 @@ ghost use Rattle.triple_store.specs.declared.fault.StoreFault.TheVariants.{Full}
 ghost use Rattle.replay_model.specs.Play.{apply, nothing_played};
 ghost use Rattle.replay_model.specs.Records.{record_of};
 ghost use Rattle.replay_model.specs.Union.{owners, union};
+ghost use Rattle.replay_model.specs.Versions.{all_by, meaning_by};
 ghost use Rattle.world.specs.Applying.{outcome_after};
 ghost use Rattle.world.specs.Fetched.{AreMeant, reply_or_any};
 ghost use Rattle.world.specs.Keeping.{held_with, kept_of, piece_at};
 ghost use Rattle.world.specs.Laid.{IsLaid};
 ghost use Rattle.world.specs.Meaning.{meaning};
 ghost use Rattle.world.specs.Roomed.{HasRoom, Overfills, room_with, triples_of_reply};
+ghost use Rattle.world.specs.WorldState.{AreHolders, first_of, remapped_pages, second_after, stale_by, triples_of, version_in};
 
 use crate::applied::Outcome;
 use crate::fetching::Reply;
+use crate::holders::{Holders, other};
 use crate::holding::{hold, keep, settle_unfetched};
 use crate::kept::Kept;
-use entity_model::{EntityId, Event};
+use crate::remapping::{held_in, remap};
+use entity_model::{EntityId, Event, MappingVersion};
 use entity_state::{Record, Standing, Table};
 use rdf_term::{List, OutOfMemory, Pattern, Triple, TripleSet};
 use side_output::{Entry, Side};
@@ -34,44 +39,52 @@ use triple_store::{Store, StoreFault};
 
 /// The records of the entities, the side output, the store of the triples that all held pages mean, and the region with
 /// the texts of these pages and of the store. Contracts see the records, each with the bytes that its entity holds, the
-/// side output, and how many terms there may be.
+/// side output, how many terms there may be, the version of the mapping in force, and the entities whose pages are mapped by
+/// version Two.
 #[derive(Drop)]
 pub struct Pages {
+    mapping: MappingVersion,
     region: Region,
     table: Table<Kept>,
+    holders: Holders,
     pub side: Side,
     store: Store,
 }
 
 impl Model for Pages {
     ghost use Rattle.triple_store.specs.Stored.{limit_of};
-    ghost use Rattle.world.specs.Codes.{played_in_room_code};
-    ghost use Rattle.world.specs.InStep.{IsKept};
+    ghost use Rattle.world.specs.Codes.{pages_code};
+    ghost use Rattle.world.specs.InStep.{AreInStep};
     ghost use Rattle.world.specs.Keeping.{seen};
-    ghost use Rattle.world.specs.Roomed.{PlayedInRoom};
+    ghost use Rattle.world.specs.WorldState.{PagesState};
 
-    ghost Value = { PlayedInRoom };
+    ghost Value = { PagesState };
 
-    ghost coded = { played_in_room_code };
+    ghost coded = { pages_code };
 
     ghost view = { λ a. record {
       played = record { records = seen a.store a.region a.table.records; side = a.side.entries };
       room = limit_of a.store;
+      mapping = a.mapping;
+      second = a.holders.second;
     } };
 
-    ghost invariant = { λ a. IsKept a.store a.region a.table.records };
+    ghost invariant = { λ a. AreInStep a.store a.region a.holders a.table.records };
 }
 
 impl Pages {
-    /// No record and no entry, and room for so many terms. The store's hashes are keyed by `keys`.
+    /// No record and no entry, and room for so many terms. Version One of the mapping is in force. The store's hashes are keyed
+    /// by `keys`.
     pub fn new(alloc: Global, keys: RandomState, room: u32) -> Result<Pages, OutOfMemory>
-        ensures { IfOk result (λ pages. pages ≡ record { played = nothing_played; room = room }) }
+        ensures { IfOk result (λ pages. pages ≡ record { played = nothing_played; room = room; mapping = One; second = [] }) }
     {
         let region = Region::new(alloc)?;
         let table = Table::new(alloc)?;
         Ok(Pages {
+            mapping: MappingVersion::One,
             region,
             table,
+            holders: Holders::new(alloc),
             side: Side::new(alloc),
             store: Store::new(alloc, keys, room),
         })
@@ -80,8 +93,8 @@ impl Pages {
     /// Sets how many terms there may be. There is no record yet.
     pub fn set_room(&mut self, room: u32)
         requires { map.len self.old.played.records ≡ 0 }
-        ensures room { self.new ≡ record { played = self.old.played; room = room } }
-        ensures held { HasRoom self.new.room self.new.played.records }
+        ensures room { self.new ≡ record self.old { room = room } }
+        ensures held { HasRoom (meaning_by meaning self.new.second) self.new.room self.new.played.records }
     {
         self.store.set_limit(room);
     }
@@ -96,16 +109,19 @@ impl Pages {
     /// Applies an event, with the reply to its fetch where it wants one. After a fault nothing has changed.
     pub fn apply(&mut self, event: Event, reply: Option<Reply>) -> Result<Outcome, StoreFault>
         requires wanted { is_some reply ≡ standing_wants (standing_after (standing_of (record_of self.old.played.records event.entity)) event) }
-        requires meant { AreMeant event.entity (standing_after (standing_of (record_of self.old.played.records event.entity)) event).state.rev reply }
+        requires meant { AreMeant self.old.mapping event.entity (standing_after (standing_of (record_of self.old.played.records event.entity)) event).state.rev reply }
         ensures applied { OnOk result (self.new.played ≡ apply (λ _ _. reply_or_any reply) self.old.played event) }
         ensures room { self.new.room ≡ self.old.room }
+        ensures mapping { self.new.mapping ≡ self.old.mapping }
+        ensures second { IfOk result (λ outcome. self.new.second ≡ second_after outcome self.old.mapping event.entity self.old.second) }
         ensures outcome { IfOk result (λ outcome.
             outcome ≡ outcome_after (record_of self.old.played.records event.entity) event (reply_or_any reply)) }
-        ensures full { result ≡ Err Full → Overfills self.old.played.records self.old.room event.entity
+        ensures full { result ≡ Err Full → Overfills self.old event.entity
             (standing_after (standing_of (record_of self.old.played.records event.entity)) event).state.rev (reply_or_any reply) }
-        ensures within { OnOk result (room_with self.old.played.records
-            (triples_of_reply event.entity (standing_after (standing_of (record_of self.old.played.records event.entity)) event).state.rev (reply_or_any reply)) ≤ self.old.room) }
-        ensures held { HasRoom self.new.room self.new.played.records }
+        ensures within { OnOk result (room_with (meaning_by meaning self.old.second) self.old.played.records
+            (triples_of_reply self.old.mapping event.entity (standing_after (standing_of (record_of self.old.played.records event.entity)) event).state.rev (reply_or_any reply)) ≤ self.old.room) }
+        ensures held { HasRoom (meaning_by meaning self.new.second) self.new.room self.new.played.records }
+        ensures holders { AreHolders self.new.second self.new.played.records }
         ensures err { OnErr result (self.new ≡ self.old) }
     {
         let after = self.standing(event.entity).after(&event);
@@ -118,6 +134,7 @@ impl Pages {
                     &mut self.store,
                     &mut self.region,
                     &mut self.table,
+                    &mut self.holders,
                     event.entity,
                     after,
                     page,
@@ -131,6 +148,7 @@ impl Pages {
                     &self.store,
                     &self.region,
                     &mut self.table,
+                    &self.holders,
                     event.entity,
                     after,
                 );
@@ -143,9 +161,83 @@ impl Pages {
                 &mut self.store,
                 &mut self.region,
                 &mut self.table,
+                &mut self.holders,
                 event.entity,
                 after,
             )),
+        }
+    }
+
+    /// The version in force.
+    pub fn mapping(&self) -> MappingVersion
+        ensures { result ≡ self.now.mapping }
+    {
+        self.mapping
+    }
+
+    /// Sets the version in force. What is held stays mapped as it was.
+    pub fn set_mapping(&mut self, version: MappingVersion)
+        ensures { self.new ≡ record self.old { mapping = version } }
+    {
+        self.mapping = version;
+    }
+
+    /// The version by which the held page of an entity is mapped, if it holds one.
+    pub fn held_version(&self, id: EntityId) -> Option<MappingVersion>
+        ensures { result ≡ version_in self.now.second self.now.played.records id }
+    {
+        if self.holders.has(id, MappingVersion::Two) {
+            Some(MappingVersion::Two)
+        } else if self.holders.has(id, MappingVersion::One) {
+            Some(MappingVersion::One)
+        } else {
+            None
+        }
+    }
+
+    /// The least entity whose held page is mapped by another version than the one in force.
+    pub fn next_stale(&self) -> Option<EntityId>
+        ensures { result ≡ first_of (stale_by self.now.mapping self.now.second self.now.played.records) }
+    {
+        self.holders.least(other(self.mapping))
+    }
+
+    /// How many such entities there are.
+    pub fn stale(&self) -> usize
+        ensures count { result ≡ length (stale_by self.now.mapping self.now.second self.now.played.records) }
+        ensures none { result ≡ 0 → self.now.second ≡ all_by self.now.mapping self.now.played.records }
+    {
+        self.holders.len(other(self.mapping))
+    }
+
+    /// Maps the held page of the least such entity by the version in force, and says which entity that is. After a fault
+    /// nothing has changed.
+    pub fn remap_next(&mut self, alloc: Global) -> Result<Option<EntityId>, StoreFault>
+        ensures ok { OnOk result (self.new ≡ remapped_pages self.old) }
+        ensures played { self.new.played ≡ self.old.played }
+        ensures entity { IfOk result (λ entity. entity ≡ first_of (stale_by self.old.mapping self.old.second self.old.played.records)) }
+        ensures full { result ≡ Err Full → self.old.room < room_with (meaning_by meaning self.old.second) self.old.played.records
+            (triples_of (meaning self.old.mapping) self.old.played.records (first_of (stale_by self.old.mapping self.old.second self.old.played.records))) }
+        ensures within { OnOk result (room_with (meaning_by meaning self.old.second) self.old.played.records
+            (triples_of (meaning self.old.mapping) self.old.played.records (first_of (stale_by self.old.mapping self.old.second self.old.played.records))) ≤ self.old.room) }
+        ensures held { HasRoom (meaning_by meaning self.new.second) self.new.room self.new.played.records }
+        ensures holders { AreHolders self.new.second self.new.played.records }
+        ensures err { OnErr result (self.new ≡ self.old) }
+    {
+        let Some(id) = self.next_stale() else {
+            return Ok(None);
+        };
+        match remap(
+            alloc,
+            &mut self.store,
+            &mut self.region,
+            &mut self.table,
+            &mut self.holders,
+            id,
+            self.mapping,
+        ) {
+            Ok(()) => Ok(Some(id)),
+            Err(refused) => Err(refused),
         }
     }
 
@@ -166,58 +258,38 @@ impl Pages {
 
     /// The triples of all that is held, in memory of their own.
     pub fn triples(&self) -> Result<TripleSet, OutOfMemory>
-        ensures { IfOk result (λ set. set ≡ union triple_cmp meaning self.now.played.records) }
+        ensures { IfOk result (λ set. set ≡ union triple_cmp (meaning_by meaning self.now.second) self.now.played.records) }
     {
         self.store.all(&self.region)
     }
 
     /// Those of them that agree with the pattern, in memory of their own.
     pub fn matches(&self, pattern: &Pattern) -> Result<TripleSet, OutOfMemory>
-        ensures { IfOk result (λ set. set ≡ rows (union triple_cmp meaning self.now.played.records) pattern.now) }
+        ensures { IfOk result (λ set. set ≡ rows (union triple_cmp (meaning_by meaning self.now.second) self.now.played.records) pattern.now) }
     {
         self.store.matches(&self.region, pattern)
     }
 
     /// How many entities hold the triple.
     pub fn owners(&self, triple: &Triple) -> u64
-        ensures { result ≡ owners triple_cmp meaning self.now.played.records triple.now }
+        ensures { result ≡ owners triple_cmp (meaning_by meaning self.now.second) self.now.played.records triple.now }
     {
         self.store.count(&self.region, triple)
     }
 
     /// The region, which has the texts of the terms of all that is held, and the held pages, and nothing else.
     pub fn region(&self) -> &Region
-        ensures { IsLaid result.now self.now.played.records }
+        ensures { IsLaid (meaning_by meaning self.now.second) result.now self.now.played.records }
     {
         &self.region
     }
 
     /// How many different terms the triples of all that is held have.
     pub fn terms(&self) -> u32
-        ensures count { result ≡ room_with self.now.played.records [] }
+        ensures count { result ≡ room_with (meaning_by meaning self.now.second) self.now.played.records [] }
         ensures within { result ≤ self.now.room }
     {
         self.store.terms()
-    }
-}
-
-// The revision that an entity holds, and the text of its piece.
-fn held_in<'a>(
-    store: &Store,
-    region: &'a Region,
-    table: &Table<Kept>,
-    id: EntityId,
-) -> Option<(u64, &'a [u8])>
-    requires { IfSome (piece_at table.now.records id) (λ piece. IsSome (beside store.now region.now piece)) }
-    ensures { MatchOption result (held_with (beside store.now region.now) (kept_of table.now.records id).held ≡ None)
-        (λ h. held_with (beside store.now region.now) (kept_of table.now.records id).held ≡ Some (record { revision = h.0; content = h.1.now })) }
-{
-    let Some(record) = table.get(id) else {
-        return None;
-    };
-    match &record.held {
-        Some(held) => Some((held.revision, store.read(region, &held.content.piece))),
-        None => None,
     }
 }
 

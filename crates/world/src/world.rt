@@ -1,18 +1,22 @@
 // The state of a replay.
 
-ghost use Rattle.std.specs.Prelude.{◌≡◌, ◌≢◌, ◌↔◌, ◌⊎◌, ◌<◌, ◌≤◌, ◌++◌, [], ℕ, false, None, Some, length, slice_get, is_some, IfSome, MatchOption, if◌then◌else◌, IfOk, IfErr, OnErr, OnOk, IsErrOf};
+ghost use Rattle.std.specs.Prelude.{◌≡◌, ◌≢◌, ◌↔◌, ◌⊎◌, ◌<◌, ◌≤◌, ◌+◌, ◌++◌, [], ℕ, false, None, Some, length, slice_get, is_some, IfSome, MatchOption, if◌then◌else◌, IfOk, IfErr, OnErr, OnOk, IsErrOf};
 ghost use Rattle.std.specs.Option.{option_copied};
 ghost use Rattle.std.specs.FinMap as map;
 ghost use Rattle.std.specs.List.{AllByRecursion};
 ghost use Rattle.rdf_term.specs.Fit.{HasFitAndShortTerms};
 ghost use Rattle.rdf_term.specs.Order.{triple_cmp};
+ghost use Rattle.entity_json.specs.Document.{unfit_of};
+ghost use Rattle.entity_model.specs.declared.id.EntityId.{EntityId as AnEntity};
 ghost use Rattle.revisions.specs.Revisions.{counted};
 ghost use Rattle.reorder_buffer.specs.Buffered.{after_taking, answer_to, first_due};
 ghost use Rattle.replay_model.specs.Entries.{HoldsUnlessOpen, is_open_in};
 ghost use Rattle.replay_model.specs.Records.{record_of};
+ghost use Rattle.replay_model.specs.Replies.{HoldsDocument};
 ghost use Rattle.replay_model.specs.ReplayState.{after_end, after_event, after_mark, nothing_delivered, nothing_delivered_within, taken_entries};
 ghost use Rattle.rdf_term.specs.Pattern.{rows};
 ghost use Rattle.replay_model.specs.Union.{owners, triples_held, union};
+ghost use Rattle.replay_model.specs.Versions.{all_by, meaning_by};
 ghost use Rattle.world.specs.Applying.{Applies, IsReply, IsShown, calls_after, outcome_of_reply};
 ghost use Rattle.entity_state.specs.Standing.{standing_after, standing_of, standing_wants};
 ghost use Rattle.entity_state.specs.State.{state_after};
@@ -20,13 +24,15 @@ ghost use Rattle.world.specs.Fetched.{AreMeant, reply_of, reply_or_any};
 ghost use Rattle.world.specs.Laid.{IsLaid};
 ghost use Rattle.world.specs.Meaning.{meaning};
 ghost use Rattle.world.specs.Roomed.{HasRoom, IsOverfull, room_with};
+ghost use Rattle.world.specs.WorldState.{AreHolders, held_version, next_stale, remapped, second_after, stale, triples_anew};
+ghost use Rattle.entity_model.specs.declared.mapping.MappingVersion.TheVariants.{One};
 ghost use Rattle.world.specs.declared.applied.Outcome.TheVariants.{Stored};
 ghost use Rattle.world.specs.declared.applied.WorldFault.TheVariants.{Full, Nothing as NothingDue};
 
 use crate::applied::{Applied, WorldFault};
 use crate::fetching::{Reply, fetch};
 use crate::pages::Pages;
-use entity_model::{EntityId, Event};
+use entity_model::{EntityId, Event, MappingVersion};
 use entity_state::State;
 use rdf_term::{List, OutOfMemory, Pattern, Triple, TripleSet};
 use reorder_buffer::{Buffer, Taken};
@@ -42,8 +48,8 @@ use triple_store::StoreFault;
 const ROOM: u32 = 20_000_000;
 
 /// The events that wait, what is kept of each entity, the side output, and the triples that all held pages mean, each with
-/// the number of its owners. Contracts see the state of a replay, which the triples follow, and for how many terms there is
-/// room.
+/// the number of its owners. Contracts see the state of a replay, which the triples follow; for how many terms there is
+/// room; and the version of the mapping in force, with the entities whose pages are mapped by version Two.
 #[derive(Drop)]
 pub struct World {
     alloc: Global,
@@ -53,22 +59,36 @@ pub struct World {
 
 impl Model for World {
     ghost use Rattle.replay_model.specs.Entries.{HoldsUnlessOpen};
-    ghost use Rattle.world.specs.Codes.{replay_in_room_code};
-    ghost use Rattle.world.specs.Roomed.{HasRoom, ReplayInRoom};
+    ghost use Rattle.world.specs.Codes.{world_code};
+    ghost use Rattle.entity_json.specs.Document.{unfit_of};
+    ghost use Rattle.entity_model.specs.declared.id.EntityId.{EntityId};
+    ghost use Rattle.replay_model.specs.Records.{record_of};
+    ghost use Rattle.replay_model.specs.Replies.{HoldsDocument};
+    ghost use Rattle.replay_model.specs.Versions.{meaning_by};
+    ghost use Rattle.world.specs.Meaning.{meaning};
+    ghost use Rattle.world.specs.Roomed.{HasRoom};
+    ghost use Rattle.world.specs.WorldState.{AreHolders, WorldState};
 
-    ghost Value = { ReplayInRoom };
+    ghost Value = { WorldState };
 
-    ghost coded = { replay_in_room_code };
+    ghost coded = { world_code };
 
-    ghost view = { λ a. record { replay = record { buffer = a.buffer; played = a.pages.played }; room = a.pages.room } };
+    ghost view = { λ a. record {
+      replay = record { buffer = a.buffer; played = a.pages.played };
+      room = a.pages.room;
+      mapping = a.pages.mapping;
+      second = a.pages.second;
+    } };
 
-    ghost invariant = { λ a. HoldsUnlessOpen a.pages.played × HasRoom a.pages.room a.pages.played.records };
+    ghost invariant = { λ a. HoldsUnlessOpen a.pages.played × HasRoom (meaning_by meaning a.pages.second) a.pages.room a.pages.played.records
+        × AreHolders a.pages.second a.pages.played.records × ((x : EntityId) → HoldsDocument unfit_of x (record_of a.pages.played.records x).held) };
 }
 
 impl World {
-    /// The world before the first delivery, without a horizon and with room for 20,000,000 terms. The hashes of its terms are keyed by `keys`.
+    /// The world before the first delivery, without a horizon and with room for 20,000,000 terms. Version One of the mapping
+    /// is in force. The hashes of its terms are keyed by `keys`.
     pub fn new(alloc: Global, keys: RandomState) -> Result<World, OutOfMemory>
-        ensures { IfOk result (λ world. world ≡ record { replay = nothing_delivered; room = 20000000 }) }
+        ensures { IfOk result (λ world. world ≡ record { replay = nothing_delivered; room = 20000000; mapping = One; second = [] }) }
     {
         let buffer = Buffer::new(alloc)?;
         let pages = Pages::new(alloc, keys, ROOM)?;
@@ -82,7 +102,7 @@ impl World {
     /// Sets for how many terms there is room. No event was applied yet.
     pub fn set_room(&mut self, terms: u32)
         requires { map.len self.old.replay.played.records ≡ 0 }
-        ensures { self.new ≡ record { replay = self.old.replay; room = terms } }
+        ensures { self.new ≡ record self.old { room = terms } }
     {
         self.pages.set_room(terms);
     }
@@ -91,7 +111,7 @@ impl World {
     /// one that comes again is late again. No delivery was taken yet.
     pub fn set_horizon(&mut self, micros: u64)
         requires { self.old.replay ≡ nothing_delivered_within self.old.replay.buffer.horizon }
-        ensures { self.new ≡ record { replay = nothing_delivered_within (Some micros); room = self.old.room } }
+        ensures { self.new ≡ record self.old { replay = nothing_delivered_within (Some micros) } }
     {
         self.buffer.set_horizon(micros);
     }
@@ -102,7 +122,7 @@ impl World {
         requires { self.old.replay.buffer.closed ≡ false }
         ensures answer { IfOk result (λ taken. taken ≡ answer_to self.old.replay.buffer event) }
         ensures ok { OnOk result (self.new.replay ≡ after_event self.old.replay event) }
-        ensures room { self.new.room ≡ self.old.room }
+        ensures rest { self.new ≡ record self.old { replay = self.new.replay } }
         ensures err { OnErr result (self.new ≡ self.old) }
     {
         take_event(&mut self.buffer, &mut self.pages.side, event)
@@ -111,14 +131,14 @@ impl World {
     /// Takes a watermark, in microseconds since 1970-01-01T00:00:00Z: events up to its time are due from now on, and what is
     /// further behind it than the horizon is forgotten.
     pub fn raise(&mut self, mark: i64)
-        ensures { self.new ≡ record { replay = after_mark self.old.replay mark; room = self.old.room } }
+        ensures { self.new ≡ record self.old { replay = after_mark self.old.replay mark } }
     {
         self.buffer.raise(mark);
     }
 
     /// Takes the end of the input, which makes every waiting event due.
     pub fn close(&mut self)
-        ensures { self.new ≡ record { replay = after_end self.old.replay; room = self.old.room } }
+        ensures { self.new ≡ record self.old { replay = after_end self.old.replay } }
     {
         self.buffer.close();
     }
@@ -131,9 +151,9 @@ impl World {
     }
 
     /// Applies the least due event: its entity's state is set, and where the new state is of a page that is there at a
-    /// revision that isn't held, this revision is fetched once. After a fault nothing has changed, but that a fetch may
-    /// have been made. `Full` is said exactly where its triples, with those of all that is held, have more terms than there
-    /// is room for. What is held has room, before and after.
+    /// revision that isn't held, this revision is fetched once, and mapped by the version in force. After a fault nothing has
+    /// changed, but that a fetch may have been made. `Full` is said exactly where its triples, with those of all that is held,
+    /// have more terms than there is room for. What is held has room, before and after.
     pub fn apply_next<R: Revisions>(
         &mut self,
         revisions: &mut R,
@@ -141,9 +161,13 @@ impl World {
     ) -> Result<Applied, WorldFault>
         ensures applied { IfOk result (λ applied. Applies (R.contents revisions.old) place.now self.old.replay self.new.replay applied) }
         ensures room { self.new.room ≡ self.old.room }
-        ensures within { IfOk result (λ applied. applied.outcome ≡ Stored → room_with self.old.replay.played.records
-            (triples_held meaning applied.event.entity (record_of self.new.replay.played.records applied.event.entity).held) ≤ self.old.room) }
-        ensures held { HasRoom self.new.room self.new.replay.played.records }
+        ensures mapping { self.new.mapping ≡ self.old.mapping }
+        ensures second { IfOk result (λ applied.
+            self.new.second ≡ second_after applied.outcome self.old.mapping applied.event.entity self.old.second) }
+        ensures within { IfOk result (λ applied. applied.outcome ≡ Stored → room_with (meaning_by meaning self.old.second) self.old.replay.played.records
+            (triples_held (meaning self.old.mapping) applied.event.entity (record_of self.new.replay.played.records applied.event.entity).held) ≤ self.old.room) }
+        ensures held { HasRoom (meaning_by meaning self.new.second) self.new.room self.new.replay.played.records }
+        ensures holders { AreHolders self.new.second self.new.replay.played.records }
         ensures full { IsErrOf result Full → IsOverfull (R.contents revisions.old) place.now self.old }
         ensures err { OnErr result (self.new ≡ self.old) }
         ensures nothing { IsErrOf result NothingDue ↔ (first_due self.old.replay.buffer ≡ None) }
@@ -173,10 +197,69 @@ impl World {
         }
     }
 
+    /// The version of the mapping in force, by which the pages of later applications are mapped.
+    pub fn mapping(&self) -> MappingVersion
+        ensures { result ≡ self.now.mapping }
+    {
+        self.pages.mapping()
+    }
+
+    /// Sets the version in force. What is held stays mapped as it was.
+    pub fn set_mapping(&mut self, version: MappingVersion)
+        ensures { self.new ≡ record self.old { mapping = version } }
+    {
+        self.pages.set_mapping(version);
+    }
+
+    /// The version by which the held page of an entity is mapped, if it holds one. It takes no memory.
+    pub fn held_version(&self, id: EntityId) -> Option<MappingVersion>
+        ensures { result ≡ held_version self.now id }
+    {
+        self.pages.held_version(id)
+    }
+
+    /// The least entity whose held page is mapped by another version than the one in force. It takes no memory.
+    pub fn next_stale(&self) -> Option<EntityId>
+        ensures { result ≡ next_stale self.now }
+    {
+        self.pages.next_stale()
+    }
+
+    /// How many entities there are whose held pages are mapped by another version than the one in force. It takes no memory.
+    pub fn stale(&self) -> usize
+        ensures count { result ≡ length (stale self.now) }
+        ensures none { result ≡ 0 → self.now.second ≡ all_by self.now.mapping self.now.replay.played.records }
+    {
+        self.pages.stale()
+    }
+
+    /// Maps the held page of the least stale entity by the version in force, and says which entity that is; none where no
+    /// entity is stale, and then nothing changes. Nothing is fetched. After a fault nothing has changed. `Full` is said exactly
+    /// where the new triples, with those of all that is held, have more terms than there is room for.
+    pub fn remap_next(&mut self) -> Result<Option<EntityId>, WorldFault>
+        ensures ok { OnOk result (self.new ≡ remapped self.old) }
+        ensures entity { IfOk result (λ entity. entity ≡ next_stale self.old) }
+        ensures fewer { IfOk result (λ entity. IfSome entity (λ _. length (stale self.new) + 1 ≡ length (stale self.old))) }
+        ensures full { IsErrOf result Full → self.old.room
+            < room_with (meaning_by meaning self.old.second) self.old.replay.played.records (triples_anew self.old) }
+        ensures within { OnOk result (room_with (meaning_by meaning self.old.second) self.old.replay.played.records
+            (triples_anew self.old) ≤ self.old.room) }
+        ensures held { HasRoom (meaning_by meaning self.new.second) self.new.room self.new.replay.played.records }
+        ensures holders { AreHolders self.new.second self.new.replay.played.records }
+        ensures err { OnErr result (self.new ≡ self.old) }
+        ensures something { ¬ (IsErrOf result NothingDue) }
+    {
+        match self.pages.remap_next(self.alloc) {
+            Ok(entity) => Ok(entity),
+            Err(StoreFault::Full) => Err(WorldFault::Full),
+            Err(StoreFault::OutOfMemory) => Err(WorldFault::OutOfMemory),
+        }
+    }
+
     /// The triples of all that is held. Their terms are fit and short.
     #[tactic(auto, using(crate::proofs::Fit::union_fit))]
     pub fn export(&self) -> Result<TripleSet, OutOfMemory>
-        ensures value { IfOk result (λ set. set ≡ union triple_cmp meaning self.now.replay.played.records) }
+        ensures value { IfOk result (λ set. set ≡ union triple_cmp (meaning_by meaning self.now.second) self.now.replay.played.records) }
         ensures fit { IfOk result (AllByRecursion HasFitAndShortTerms) }
     {
         self.pages.triples()
@@ -184,28 +267,28 @@ impl World {
 
     /// The stored triples that agree with the pattern, in order, in memory of their own.
     pub fn matches(&self, pattern: &Pattern) -> Result<TripleSet, OutOfMemory>
-        ensures { IfOk result (λ set. set ≡ rows (union triple_cmp meaning self.now.replay.played.records) pattern.now) }
+        ensures { IfOk result (λ set. set ≡ rows (union triple_cmp (meaning_by meaning self.now.second) self.now.replay.played.records) pattern.now) }
     {
         self.pages.matches(pattern)
     }
 
     /// How many entities hold the triple, which takes no memory.
     pub fn owners(&self, triple: &Triple) -> u64
-        ensures { result ≡ owners triple_cmp meaning self.now.replay.played.records triple.now }
+        ensures { result ≡ owners triple_cmp (meaning_by meaning self.now.second) self.now.replay.played.records triple.now }
     {
         self.pages.owners(triple)
     }
 
     /// The region, which has the texts of the terms of all that is held, each once, and the held pages, and nothing else.
     pub fn region(&self) -> &Region
-        ensures { IsLaid result.now self.now.replay.played.records }
+        ensures { IsLaid (meaning_by meaning self.now.second) result.now self.now.replay.played.records }
     {
         self.pages.region()
     }
 
     /// How many different terms the triples of all that is held have.
     pub fn terms(&self) -> u32
-        ensures count { result ≡ room_with self.now.replay.played.records [] }
+        ensures count { result ≡ room_with (meaning_by meaning self.now.second) self.now.replay.played.records [] }
         ensures within { result ≤ self.now.room }
     {
         self.pages.terms()
@@ -226,9 +309,10 @@ impl World {
     }
 
     /// The revision that an entity holds, and its bytes. An entity holds what its state wants exactly where no revision entry
-    /// of it is open, and nothing of a page that isn't kept.
+    /// of it is open, and nothing of a page that isn't kept. Its bytes are a document of the entity.
     pub fn held(&self, id: EntityId) -> Option<(u64, &[u8])>
         ensures unless_open { HoldsUnlessOpen self.now.replay.played }
+        ensures documents { (x : AnEntity) → HoldsDocument unfit_of x (record_of self.now.replay.played.records x).held }
         ensures value { MatchOption result ((record_of self.now.replay.played.records id).held ≡ None)
             (λ h. (record_of self.now.replay.played.records id).held ≡ Some (record { revision = h.0; content = h.1.now })) }
     {
@@ -279,7 +363,7 @@ impl World {
             ≡ standing_wants (standing_after (standing_of (record_of self.now.replay.played.records event.now.entity)) event.now)) }
         ensures reply { IfOk result (λ reply. IsReply (R.contents revisions.old) place.now event.now.entity
             (state_after (record_of self.now.replay.played.records event.now.entity).state event.now).rev (reply_or_any reply)) }
-        ensures meant { IfOk result (AreMeant event.now.entity
+        ensures meant { IfOk result (AreMeant self.now.mapping event.now.entity
             (standing_after (standing_of (record_of self.now.replay.played.records event.now.entity)) event.now).state.rev) }
         ensures told { R.contents revisions.new ≡ R.contents revisions.old }
         ensures shown { IfOk result (λ reply. IfSome reply (λ r. IsShown (outcome_of_reply (reply_of r))
@@ -295,7 +379,15 @@ impl World {
         if !after.wants() {
             return Ok(None);
         }
-        let reply = fetch(self.alloc, revisions, place, event.entity, after.state.rev)?;
+        let version = self.pages.mapping();
+        let reply = fetch(
+            self.alloc,
+            revisions,
+            place,
+            event.entity,
+            after.state.rev,
+            version,
+        )?;
         Ok(Some(reply))
     }
 }

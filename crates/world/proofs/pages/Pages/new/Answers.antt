@@ -2,14 +2,19 @@
 use Rattle.std.proofs.Common.{ap}
 use Rattle.entity_state.specs.Tabled.{Tabled}
 use Rattle.world.specs.declared.kept.Kept.{Kept}
-use Rattle.world.proofs.Starting.{starts, started}
+use Rattle.world.specs.Holders.{ByVersion}
+use Rattle.world.proofs.Starting.{none_by, started, starts}
+use Rattle.replay_model.specs.Versions.{meaning_by}
+use Rattle.world.specs.Meaning.{meaning}
 use Rattle.world.proofs.pages.Pages.new.Goals as goal
 
 pub invariant_of-result : goal.invariant_of-result
-invariant_of-result c =
-    starts c.new-4.result c.in_ok-region.region c.in_ok-table.table.records (c.new-4.ensures.stored c.in_ok-region.region) (c.new-4.ensures.counts c.in_ok-region.region)
-    (c.new-4.ensures.beside c.in_ok-region.region) c.in_ok-region.ensures (ap (λ (t : Tabled Kept). t.records) c.in_ok-table.ensures)
+invariant_of-result c = record {
+  kept = starts (meaning_by meaning c.new-3.result.second) c.new-5.result c.in_ok-region.region c.in_ok-table.table.records (c.new-5.ensures.stored c.in_ok-region.region) (c.new-5.ensures.counts c.in_ok-region.region)
+      (c.new-5.ensures.beside c.in_ok-region.region) c.in_ok-region.ensures (ap (λ (t : Tabled Kept). t.records) c.in_ok-table.ensures);
+  by = none_by c.new-3.result c.in_ok-table.table.records c.new-3.ensures (ap (λ (t : Tabled Kept). t.records) c.in_ok-table.ensures);
+}
 
 pub returns : goal.returns
-returns c = started c.new-4.result c.in_ok-region.region c.in_ok-table.table.records c.new-3.result.entries c.args.room
-    (ap (λ (t : Tabled Kept). t.records) c.in_ok-table.ensures) c.new-3.ensures c.new-4.ensures.limit
+returns c = started c.new-5.result c.in_ok-region.region c.in_ok-table.table.records c.new-4.result.entries c.new-3.result.second c.args.room
+    (ap (λ (t : Tabled Kept). t.records) c.in_ok-table.ensures) c.new-4.ensures (ap (λ (i : ByVersion). i.second) c.new-3.ensures) c.new-5.ensures.limit

@@ -3,4 +3,4 @@ use Rattle.std.proofs.Common.{◌∙◌}
 use Rattle.world.proofs.pages.Pages.owners.Goals as goal
 
 pub returns : goal.returns
-returns c = rw (← c.self.view_is) (c.count.ensures ∙ c.self.invariant.counted.owned c.args.triple.now)
+returns c = rw (← c.self.view_is) (c.count.ensures ∙ c.self.invariant.kept.counted.owned c.args.triple.now)

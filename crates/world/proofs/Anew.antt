@@ -1,0 +1,139 @@
+-- A held page is mapped anew: what is kept stays in step with store and region.
+use Rattle.std.proofs.Common.{◌≡◌, ◌≢◌, ◌||◌, ℕ, Bool, true, false, cond, List, [], Option, Some, None, is_some, unwrap_or, refl, sym, ◌∙◌, ap, subst, true≢false, ⊎_elim}
+use Rattle.std.specs.FinMap as map
+use Rattle.std.specs.Global.{Vec}
+use Rattle.std.specs.Cmp.{eq_by_cmp_equiv}
+use Rattle.std.specs.List.{list_any}
+use Rattle.std.specs.Ordering.{eq_by_cmp}
+use Rattle.rising.specs.Rising.{has}
+use Rattle.rdf_term.specs.declared.triple.Triple.{Triple}
+use Rattle.rdf_term.specs.Order.{triple_cmp}
+use Rattle.entity_model.specs.declared.id.EntityId.{EntityId}
+use Rattle.entity_model.specs.EntityId.{entity_cmp, entity_cmp_same, entity_cmp_total}
+use Rattle.entity_state.specs.declared.record.Held.{Held}
+use Rattle.entity_state.specs.declared.record.Record.{Record}
+use Rattle.entity_state.specs.Record.{blank}
+use Rattle.entity_state.specs.Table.{after_putting, has_room}
+use Rattle.entity_state.specs.Tabled.{Tabled}
+use Rattle.text_region.specs.declared.piece.Piece.{Piece}
+use Rattle.text_region.specs.Region.{Texts}
+use Rattle.slot_index.specs.declared.key.Key.{Key}
+use Rattle.triple_store.specs.declared.store.Store.{Store}
+use Rattle.triple_store.specs.Counts.{Exchanges}
+use Rattle.triple_store.specs.Stored.{AreKeysOf, IsStored, KeepsKeys, beside, counts_in}
+use Rattle.replay_model.specs.Records.{Bytes, Records, record_of}
+use Rattle.replay_model.specs.Union.{Meaning, triples_held}
+use Rattle.world.specs.declared.kept.Kept.{Kept}
+use Rattle.world.specs.InStep.{IsKept, triples_kept}
+use Rattle.world.specs.Keeping.{KeptRecords, PieceTexts, held_keys, held_with, kept_of, keys_held, piece_at, piece_held, record_with, seen, with_keys}
+use Rattle.world.proofs.Moving.{exchanged_same, kept_here, kept_other, kept_put, keys_same, seen_of, seen_put}
+use Rattle.world.proofs.Pieced.{held_again, id_tells}
+
+piece_same : (h : Option (Held Kept)) (keys : Vec Key) → piece_held (held_keys h keys) ≡ piece_held h
+piece_same None keys = refl
+piece_same (Some h) keys = refl
+
+keys_are : (h : Option (Held Kept)) (keys : Vec Key) → is_some h ≡ true → keys_held (held_keys h keys) ≡ keys.items
+keys_are None keys is = absurd (true≢false (sym is))
+keys_are (Some h) keys is = refl
+
+text_same : (f k : PieceTexts) (h : Option (Held Kept)) (keys : Vec Key) → ((p : Piece) → k p ≡ f p) → held_with k (held_keys h keys) ≡ held_with f h
+text_same f k None keys texts = refl
+text_same f k (Some h) keys texts = ap (λ (o : Option Bytes). Some (record { revision = h.revision; content = unwrap_or o [] })) (texts h.content.piece)
+
+-- a record that is there is put in
+put_same : (records : Records) (x : EntityId) → is_some (record_of records x).held ≡ true → map.insert records x (record_of records x) ≡ records
+put_same records x there = by (map.get records x) refl
+  where
+    by : (found : Option (Record Bytes)) → map.get records x ≡ found → map.insert records x (record_of records x) ≡ records
+    by None e = absurd (true≢false (sym there ∙ ap (λ o. is_some (unwrap_or o blank).held) e))
+    by (Some r) e = map.same_map entity_cmp_total entity_cmp_same _ _ (λ y.
+        map.get-insert entity_cmp_total records x (record_of records x) y ∙ ⊎_elim
+        (λ own. ap (λ b. cond b (Some (record_of records x)) (map.get records y)) own.0 ∙ ap (λ o. Some (unwrap_or o blank)) e ∙ sym e ∙ ap (map.get records) (sym own.1))
+        (λ other. ap (λ b. cond b (Some (record_of records x)) (map.get records y)) other.0)
+        (id_tells y x))
+
+-- a record that is there gets other keys
+pub keys_set : (kept : KeptRecords) (x : EntityId) (b : Record Kept) (h : Held Kept) (keys : Vec Key) (gone n : Record Kept) (one two : KeptRecords)
+    → map.get kept x ≡ Some b → b.held ≡ Some h
+    → one ≡ map.insert kept x gone → two ≡ map.insert one x n
+    → n ≡ record { state = b.state; held = Some (record { revision = h.revision; content = record { piece = h.content.piece; keys = keys } }); reconciled = b.reconciled }
+    → two ≡ map.insert kept x (with_keys (kept_of kept x) keys)
+keys_set kept x b h keys gone n one two was held put_one put_two is =
+    let there : kept_of kept x ≡ b = ap (λ o. unwrap_or o blank) was in
+    let with_held : with_keys (kept_of kept x) keys ≡ n =
+    ap (λ (r : Record Kept). with_keys r keys) there
+    ∙ ap (λ (o : Option (Held Kept)). record { state = b.state; held = held_keys o keys; reconciled = b.reconciled }) held
+    ∙ sym is in
+    put_two ∙ ap (λ (records : KeptRecords). map.insert records x n) put_one ∙ put_twice ∙ ap (map.insert kept x) (sym with_held)
+  where
+    put_twice : map.insert (map.insert kept x gone) x n ≡ map.insert kept x n
+    put_twice = map.same_map entity_cmp_total entity_cmp_same _ _ (λ y.
+        map.get-insert entity_cmp_total (map.insert kept x gone) x n y
+        ∙ ap (cond (eq_by_cmp entity_cmp y x) (Some n)) (map.get-insert entity_cmp_total kept x gone y)
+        ∙ by (eq_by_cmp entity_cmp y x) (map.get kept y) ∙ sym (map.get-insert entity_cmp_total kept x n y))
+      where
+        by : (b : Bool) (o : Option (Record Kept)) → cond b (Some n) (cond b (Some gone) o) ≡ cond b (Some n) o
+        by true o = refl
+        by false o = refl
+
+-- an id that was put in has room
+pub room_after : (t t2 : Tabled Kept) (id : EntityId) (r : Record Kept) → t2 ≡ after_putting t id r → has_room t2 id ≡ true
+room_after t t2 id r is =
+    ap (λ (u : Tabled Kept). has_room u id) is
+    ∙ ap (λ (o : Option (Record Kept)). is_some o || list_any (eq_by_cmp entity_cmp id) (after_putting t id r).room)
+    (map.get-insert entity_cmp_total t.records id r id ∙ ap (λ b. cond b (Some r) (map.get t.records id)) ((eq_by_cmp_equiv entity_cmp_total).refl id))
+
+module _ (m m2 : Meaning Triple) (x : EntityId) (agree : (y : EntityId) → y ≢ x → (rev : ℕ) (bytes : Bytes) → m2 y rev bytes ≡ m y rev bytes)
+    (st : Store) (r : Texts) (st2 : Store) (r2 : Texts) (kept : KeptRecords) (keys : Vec Key) (h : IsKept m st r kept)
+    (there : is_some (kept_of kept x).held ≡ true)
+    (texts : (p : Piece) → beside st2 r2 p ≡ beside st r p) where
+  abbrev anew : Record Kept
+  anew = with_keys (kept_of kept x) keys
+
+  pieces_same : (y : EntityId) → piece_at (map.insert kept x anew) y ≡ piece_at kept y
+  pieces_same y = ⊎_elim
+      (λ own.
+      ap (λ z. piece_at (map.insert kept x anew) z) own.1 ∙ ap (λ (was : Record Kept). piece_held was.held) (kept_here kept x anew)
+      ∙ piece_same (kept_of kept x).held keys ∙ ap (piece_at kept) (sym own.1))
+      (λ other. ap (λ (was : Record Kept). piece_held was.held) (kept_other kept x anew y other.1))
+      (id_tells y x)
+
+  held_there : held_with (beside st2 r2) anew.held ≡ held_with (beside st r) (kept_of kept x).held
+  held_there = text_same (beside st r) (beside st2 r2) (kept_of kept x).held keys texts
+
+  seen_there : (held : Option (Held Kept)) → is_some held ≡ true → is_some (held_with (beside st r) held) ≡ true
+  seen_there None is = is
+  seen_there (Some held) is = refl
+
+  -- what is seen is as it was
+  pub anew_seen : seen st2 r2 (map.insert kept x anew) ≡ seen st r kept
+  anew_seen =
+      let same : record_with (beside st2 r2) anew ≡ record_of (seen st r kept) x =
+      ap (λ (held : Option (Held Bytes)). record { state = (kept_of kept x).state; held = held; reconciled = (kept_of kept x).reconciled }) held_there
+      ∙ sym (seen_of (beside st r) kept x) in
+      seen_put m m2 x agree st r st2 r2 kept anew h (λ _ p _ _. texts p)
+      ∙ ap (map.insert (seen st r kept) x) same
+      ∙ put_same (seen st r kept) x (ap (λ (was : Record Bytes). is_some was.held) (seen_of (beside st r) kept x) ∙ seen_there (kept_of kept x).held there)
+
+  -- and all is in step
+  pub anew_kept : (old : List Key) (ts : List Triple)
+      → IsStored st2 r2
+      → old ≡ keys_held (kept_of kept x).held
+      → ((gone : List Triple) → AreKeysOf st r old gone → Exchanges (counts_in st r) (counts_in st2 r2) gone ts)
+      → KeepsKeys st r st2 r2
+      → AreKeysOf st2 r2 keys.items ts
+      → ((t : Triple) → has triple_cmp t ts ≡ has triple_cmp t (triples_held m2 x (held_with (beside st r) (kept_of kept x).held)))
+      → IsKept m2 st2 r2 (map.insert kept x anew)
+  anew_kept old ts stored were exchanges keeps keyed meant =
+      let gone : AreKeysOf st r old (triples_kept m (beside st r) kept x) =
+      subst (λ (ks : List Key). AreKeysOf st r ks (triples_kept m (beside st r) kept x)) (sym were) (h.keyed x) in
+      let same : (t : Triple) → has triple_cmp t ts ≡ has triple_cmp t (triples_held m2 x (held_with (beside st2 r2) anew.held)) =
+      λ t. meant t ∙ ap (λ (held : Option (Held Bytes)). has triple_cmp t (triples_held m2 x held)) (sym held_there) in
+      kept_put m m2 x agree st r st2 r2 kept anew h (λ _ p _ _. texts p) stored
+      (held_again (beside st r) (beside st2 r2) (piece_at kept) (piece_at (map.insert kept x anew)) h.held texts pieces_same)
+      (exchanged_same (counts_in st r) (counts_in st2 r2) (triples_kept m (beside st r) kept x) ts (triples_held m2 x (held_with (beside st2 r2) anew.held)) same
+      (exchanges (triples_kept m (beside st r) kept x) gone))
+      keeps
+      (subst (λ (ks : List Key). AreKeysOf st2 r2 ks (triples_held m2 x (held_with (beside st2 r2) anew.held))) (sym (keys_are (kept_of kept x).held keys there))
+      (keys_same st2 r2 keys.items ts (triples_held m2 x (held_with (beside st2 r2) anew.held)) same keyed))

@@ -1,0 +1,43 @@
+-- The entities that hold a document, by the version that it is mapped by.
+use Rattle.std.specs.Prelude.{◌≡◌, true, false, ◌||◌, List, is_some}
+use Rattle.std.specs.Ordering.{eq_by_cmp}
+use Rattle.std.specs.BTreeSet.{insert_key}
+use Rattle.std.specs.Set.{remove_key}
+use Rattle.rising.specs.Rising.{has, IsRising}
+use Rattle.entity_model.specs.declared.id.EntityId.{EntityId}
+use Rattle.entity_model.specs.declared.mapping.MappingVersion.{MappingVersion}
+use Rattle.entity_model.specs.declared.mapping.MappingVersion.TheVariants.{One, Two}
+use Rattle.entity_model.specs.EntityId.{entity_cmp}
+use Rattle.world.specs.Keeping.{KeptRecords, kept_of}
+
+-- the entities that hold by version One, and those that hold by version Two
+pub record ByVersion : Type 0 where
+  pub first : List EntityId
+  pub second : List EntityId
+
+-- the version that isn't this one
+abbrev pub other_version : MappingVersion → MappingVersion
+other_version One = Two
+other_version Two = One
+
+-- those that hold by a version
+abbrev pub held_by : ByVersion → MappingVersion → List EntityId
+held_by ids One = ids.first
+held_by ids Two = ids.second
+
+-- with x among those that hold by a version
+abbrev pub with_holder : ByVersion → EntityId → MappingVersion → ByVersion
+with_holder ids x One = record ids { first = insert_key entity_cmp ids.first x }
+with_holder ids x Two = record ids { second = insert_key entity_cmp ids.second x }
+
+-- without x among those that hold by a version
+abbrev pub without_holder : ByVersion → EntityId → MappingVersion → ByVersion
+without_holder ids x One = record ids { first = remove_key (eq_by_cmp entity_cmp x) ids.first }
+without_holder ids x Two = record ids { second = remove_key (eq_by_cmp entity_cmp x) ids.second }
+
+-- each entity that holds a document is named once, by one version, and no other is
+pub record AreBy (ids : ByVersion) (kept : KeptRecords) : Type 0 where
+  pub first_rises : IsRising entity_cmp ids.first
+  pub second_rises : IsRising entity_cmp ids.second
+  pub each : (x : EntityId) → (has entity_cmp x ids.first || has entity_cmp x ids.second) ≡ is_some (kept_of kept x).held
+  pub once : (x : EntityId) → has entity_cmp x ids.second ≡ true → has entity_cmp x ids.first ≡ false

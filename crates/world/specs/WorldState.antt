@@ -1,0 +1,95 @@
+-- What contracts see of a world, and what becomes of the versions by which its documents are mapped.
+use Rattle.std.specs.Prelude.{◌≡◌, ℕ, Bool, true, false, cond, List, [], ◌∷◌, Option, None, Some, filter}
+use Rattle.rising.specs.Rising.{has, IsRising}
+use Rattle.rdf_term.specs.declared.triple.Triple.{Triple}
+use Rattle.entity_model.specs.declared.id.EntityId.{EntityId}
+use Rattle.entity_model.specs.declared.mapping.MappingVersion.{MappingVersion}
+use Rattle.entity_model.specs.declared.mapping.MappingVersion.TheVariants.{One, Two}
+use Rattle.entity_model.specs.EntityId.{entity_cmp}
+use Rattle.replay_model.specs.Records.{Records, record_of}
+use Rattle.replay_model.specs.Play.{Played}
+use Rattle.replay_model.specs.ReplayState.{ReplayState}
+use Rattle.replay_model.specs.Union.{Meaning, triples_held}
+use Rattle.replay_model.specs.Versions.{holders, is_holder, version_at, with_version}
+use Rattle.world.specs.Meaning.{meaning}
+use Rattle.world.specs.declared.applied.Outcome.{Outcome}
+use Rattle.world.specs.declared.applied.Outcome.TheVariants.{Same, Stored, Dropped, Sided}
+
+-- records and side output; how many terms there may be; the version of the mapping in force; and the entities whose
+-- documents are mapped by version Two
+pub record PagesState : Type 0 where
+  pub played : Played
+  pub room : ℕ
+  pub mapping : MappingVersion
+  pub second : List EntityId
+
+-- the same with the events that wait
+pub record WorldState : Type 0 where
+  pub replay : ReplayState
+  pub room : ℕ
+  pub mapping : MappingVersion
+  pub second : List EntityId
+
+-- these entities, in rising order, hold a document each
+pub record AreHolders (second : List EntityId) (records : Records) : Type 0 where
+  pub rising : IsRising entity_cmp second
+  pub holding : (x : EntityId) → has entity_cmp x second ≡ true → is_holder records x ≡ true
+
+-- whether two versions aren't the same
+abbrev pub differ : MappingVersion → MappingVersion → Bool
+differ One One = false
+differ One Two = true
+differ Two One = true
+differ Two Two = false
+
+-- the holders whose documents aren't mapped by the version in force
+abbrev pub stale_by : MappingVersion → List EntityId → Records → List EntityId
+stale_by mapping second records = filter (λ x. differ mapping (version_at second x)) (holders records)
+
+-- the first of a list
+abbrev pub first_of : {A : Type 0} → List A → Option A
+first_of [] = None
+first_of (x ∷ xs) = Some x
+
+-- the same for the entity that is there, if one is
+abbrev pub with_version_of : MappingVersion → Option EntityId → List EntityId → List EntityId
+with_version_of version None second = second
+with_version_of version (Some x) second = with_version version x second
+
+-- the entities that hold by version Two after an application of an event of x by the version in force
+abbrev pub second_after : Outcome → MappingVersion → EntityId → List EntityId → List EntityId
+second_after Same mapping x second = second
+second_after Stored mapping x second = with_version mapping x second
+second_after Dropped mapping x second = with_version One x second
+second_after (Sided cause) mapping x second = second
+
+-- the version by which what x holds is mapped, if it holds a document
+abbrev pub version_in : List EntityId → Records → EntityId → Option MappingVersion
+version_in second records x = cond (is_holder records x) (Some (version_at second x)) None
+
+abbrev pub held_version : WorldState → EntityId → Option MappingVersion
+held_version w x = version_in w.second w.replay.played.records x
+
+-- the entities whose held version isn't the one in force, in rising order
+abbrev pub stale : WorldState → List EntityId
+stale w = stale_by w.mapping w.second w.replay.played.records
+
+-- the least of them
+abbrev pub next_stale : WorldState → Option EntityId
+next_stale w = first_of (stale w)
+
+-- the least of them, if there is one, holds by the version in force now
+abbrev pub remapped_pages : PagesState → PagesState
+remapped_pages p = record p { second = with_version_of p.mapping (first_of (stale_by p.mapping p.second p.played.records)) p.second }
+
+abbrev pub remapped : WorldState → WorldState
+remapped w = record w { second = with_version_of w.mapping (next_stale w) w.second }
+
+-- what the document of an entity means, if there is one
+abbrev pub triples_of : Meaning Triple → Records → Option EntityId → List Triple
+triples_of meaning records None = []
+triples_of meaning records (Some x) = triples_held meaning x (record_of records x).held
+
+-- what the document of the least stale entity means by the version in force
+abbrev pub triples_anew : WorldState → List Triple
+triples_anew w = triples_of (meaning w.mapping) w.replay.played.records (next_stale w)
