@@ -27,16 +27,16 @@ pub struct Summary {
     pub digest: [u8; 16],
 }
 
-/// Runs the drill of this size in an empty world, by version One of the mapping. For each answer the world is that of a first part of the drill, and for a
+/// Runs the drill of this size in an empty world, by the first version of the mapping. For each answer the world is that of a first part of the drill, and for a
 /// summary that of all of it.
 pub fn run_drill(alloc: Global, size: u32, world: &mut World) -> Result<Summary, OutOfMemory>
     requires size { IsSize size }
     requires world { world.old.replay ≡ nothing_delivered }
-    requires first { IsByFirst world.old }
+    requires versions { IsByFirst world.old }
     ensures summary { IfOk result (λ summary. summary ≡ summary_of size) }
     ensures ok { OnOk result (world.new.replay ≡ drilled size) }
     ensures begun { HasBegun size world.new.replay }
-    ensures first { IsByFirst world.new }
+    ensures versions { IsByFirst world.new }
 {
     let counts = play(alloc, size, world)?;
     summarize(alloc, size, counts, world)
@@ -66,7 +66,7 @@ fn summarize(
 ) -> Result<Summary, OutOfMemory>
     requires counted { Counted (drill size) counts }
     requires world { world.now.replay ≡ drilled size }
-    requires first { IsByFirst world.now }
+    requires versions { IsByFirst world.now }
     ensures { IfOk result (λ summary. summary ≡ summary_of size) }
 {
     let kept = kept(world)?;
