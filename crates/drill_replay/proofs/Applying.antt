@@ -1,5 +1,5 @@
 -- Due events are applied over the pages of a drill: each reply is what is there.
-use Rattle.std.proofs.Common.{◌≡◌, ◌∙◌, refl, sym, ap, subst, ℕ, suc, ◌<◌, Bool, true, false, cond, List, [], ◌∷◌, length, Option, None, Some, Result, Ok, Err, arith}
+use Rattle.std.proofs.Common.{◌≡◌, ◌∙◌, refl, sym, ap, subst, ℕ, zero, suc, ◌<◌, Bool, true, false, cond, List, [], ◌∷◌, length, Option, None, Some, Result, Ok, Err, arith}
 use Rattle.std.specs.List.{find}
 use Rattle.std.specs.Set.{remove_key}
 use Rattle.revisions.specs.Revisions.{Contents}
@@ -22,9 +22,9 @@ use Rattle.world.specs.declared.applied.Applied.{Applied}
 use Rattle.world.specs.declared.applied.Outcome.{Outcome}
 use Rattle.world.specs.declared.applied.Outcome.TheVariants.{Same, Stored, Dropped, Sided}
 use Rattle.world.specs.WorldState.{WorldState, second_after}
-use Rattle.drill_replay.specs.Playing.{IsByFirst}
 use Rattle.entity_model.specs.declared.mapping.MappingVersion.TheVariants.{One}
 use Rattle.drill.specs.Drill.{contents_of}
+use Rattle.drill_replay.specs.Playing.{IsByFirst}
 use Rattle.drill_replay.specs.Summary.{replies_of}
 
 -- what a source tells that has the pages of the drill of this size
@@ -103,15 +103,15 @@ pub goes-end : (size : ℕ) (told : Option Contents) (start world now : ReplaySt
     → now ≡ after_due (replies_of size) start
 goes-end size told start world now goes same none = same ∙ sym (after_due-none (replies_of size) world none) ∙ goes.leads
 
--- an application by the first version maps no page by another
-second_one : (o : Outcome) (x : EntityId) → second_after o One x [] ≡ []
-second_one Same x = refl
-second_one Stored x = refl
-second_one Dropped x = refl
-second_one (Sided cause) x = refl
-
-pub stays_first : (old new : WorldState) (applied : Applied) → new.mapping ≡ old.mapping → new.second ≡ second_after applied.outcome old.mapping applied.event.entity old.second → IsByFirst old → IsByFirst new
-stays_first old new applied same second first = (
-  same ∙ first.0,
-  second ∙ ap (λ v. second_after applied.outcome v applied.event.entity old.second) first.0 ∙ ap (second_after applied.outcome One applied.event.entity) first.1 ∙ second_one applied.outcome applied.event.entity,
+-- an application by version One leaves all of it by this version
+pub first_next : (old new : WorldState) (outcome : Outcome) (x : EntityId) → IsByFirst old → new.mapping ≡ old.mapping → new.second ≡ second_after outcome old.mapping x old.second → IsByFirst new
+first_next old new outcome x first mapping second = (
+  mapping ∙ first.0,
+  second ∙ ap (λ v. second_after outcome v x old.second) first.0 ∙ ap (second_after outcome One x) first.1 ∙ by outcome,
 )
+  where
+    by : (o : Outcome) → second_after o One x [] ≡ []
+    by Same = refl
+    by Stored = refl
+    by Dropped = refl
+    by (Sided cause) = refl

@@ -1,21 +1,17 @@
 -- How far a drill has come.
 use Rattle.std.specs.Prelude.{◌≡◌, ◌⊎◌, ℕ, ◌+◌, ◌≤◌, List, [], ◌∷◌, ◌++◌, Option, None, Some, length}
+use Rattle.entity_model.specs.declared.mapping.MappingVersion.TheVariants.{One}
 use Rattle.entity_model.specs.declared.delivery.Delivery.{Delivery}
 use Rattle.entity_model.specs.declared.delivery.Delivery.TheVariants.{Event as Told, Watermark, Ask, Mapping}
-use Rattle.entity_model.specs.declared.mapping.MappingVersion.TheVariants.{One}
 use Rattle.reorder_buffer.specs.Buffered.{Buffered, answer_to}
 use Rattle.reorder_buffer.specs.declared.taken.Taken.{Taken}
 use Rattle.reorder_buffer.specs.declared.taken.Taken.TheVariants.{New, Repeat, Late}
 use Rattle.replay_model.specs.Acceptance.{accepted, late}
 use Rattle.replay_model.specs.ReplayState.{ReplayState, after_end, after_some, entered, following}
+use Rattle.world.specs.WorldState.{WorldState}
 use Rattle.drill.specs.Drill.{drill}
 use Rattle.drill_replay.specs.declared.playing.Counts.{Counts}
-use Rattle.world.specs.WorldState.{WorldState}
 use Rattle.drill_replay.specs.Summary.{replies_of}
-
--- the first version of the mapping is in force, and no page is mapped by another
-abbrev pub IsByFirst : WorldState → Type 0
-IsByFirst world = (world.mapping ≡ One) × (world.second ≡ [])
 
 -- these deliveries were counted
 pub record Counted (ds : List Delivery) (counts : Counts) : Type 0 where
@@ -73,3 +69,7 @@ pub record StandsAtEnd (size : ℕ) (world : ReplayState) : Type 0 where
 -- the world of a first part of the drill: each due event was applied whole or not at all
 abbrev pub HasBegun : ℕ → ReplayState → Type 0
 HasBegun size world = IsPartOf size (drill size) world ⊎ StandsAtEnd size world
+
+-- version One of the mapping is in force, and all that is held is mapped by it
+abbrev pub IsByFirst : WorldState → Type 0
+IsByFirst world = (world.mapping ≡ One) × (world.second ≡ [])

@@ -1,10 +1,11 @@
 -- What a drill leads to, and what is told of it.
-use Rattle.std.specs.Prelude.{ℕ, Bool, None, List, [], ◌∷◌, ◌++◌, count_by, codes, decimal, flat_map, length}
+use Rattle.std.specs.Prelude.{ℕ, Bool, Option, None, List, [], ◌∷◌, ◌++◌, count_by, codes, decimal, flat_map, length}
 use Rattle.std.specs.FinMap as map
 use Rattle.rdf_term.specs.declared.triple.Triple.{Triple}
 use Rattle.rdf_term.specs.Order.{triple_cmp}
 use Rattle.rdf_term.specs.Text.{triple_text}
 use Rattle.entity_model.specs.declared.id.EntityId.{EntityId}
+use Rattle.entity_model.specs.declared.mapping.MappingVersion.TheVariants.{One}
 use Rattle.entity_json.specs.Document.{unfit_of}
 use Rattle.entity_state.specs.State.{is_kept}
 use Rattle.replay_model.specs.Acceptance.{accepted, late}
@@ -13,7 +14,6 @@ use Rattle.replay_model.specs.Records.{Records, record_of}
 use Rattle.replay_model.specs.Replies.{source_replies}
 use Rattle.replay_model.specs.ReplayState.{ReplayState, following_to_end}
 use Rattle.replay_model.specs.Union.{union}
-use Rattle.entity_model.specs.declared.mapping.MappingVersion.TheVariants.{One}
 use Rattle.world.specs.Meaning.{meaning}
 use Rattle.hex.specs.Hex.{encode_lower}
 use Rattle.md5.specs.Md5.{md5}
@@ -40,7 +40,7 @@ kept_in records = count_by (is_kept_in records) (map.keys records)
 abbrev pub triple_lines : List Triple → List ℕ
 triple_lines triples = flat_map triple_text triples
 
--- the triples that a drill ends with, in order
+-- the triples that a drill ends with, in order, by version One of the mapping
 abbrev pub triples_of : ℕ → List Triple
 triples_of size = union triple_cmp (meaning One) (drilled size).played.records
 

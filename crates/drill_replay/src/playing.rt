@@ -52,11 +52,11 @@ impl Counts {
 pub fn play(alloc: Global, size: u32, world: &mut World) -> Result<Counts, OutOfMemory>
     requires size { IsSize size }
     requires world { world.old.replay ≡ nothing_delivered }
-    requires versions { IsByFirst world.old }
+    requires first { IsByFirst world.old }
     ensures counts { IfOk result (λ counts. Counted (drill size) counts) }
     ensures ok { OnOk result (world.new.replay ≡ drilled size) }
     ensures begun { HasBegun size world.new.replay }
-    ensures versions { IsByFirst world.new }
+    ensures first { IsByFirst world.new }
 {
     let mut counts = Counts::new();
     for done in 0..size {
@@ -80,11 +80,12 @@ fn take_item(
     requires after { IsAfter size (drill done) world.old.replay }
     requires counted { Counted (drill done) counts.old }
     requires few { HasFew counts.old (6 * done) }
+    requires first { IsByFirst world.old }
     ensures after { OnOk result (IsAfter size (drill (done + 1)) world.new.replay) }
     ensures counted { OnOk result (Counted (drill (done + 1)) counts.new) }
     ensures few { OnOk result (HasFew counts.new (6 * (done + 1))) }
     ensures err { OnErr result (IsPartOf size (drill (done + 1)) world.new.replay) }
-    ensures versions { IsByFirst world.old → IsByFirst world.new }
+    ensures first { IsByFirst world.new }
 {
     let list = deliveries(alloc, done + 1)?;
     for delivery in list.as_slice() {
@@ -98,11 +99,12 @@ fn take_item(
 fn take(size: u32, delivery: &Delivery, world: &mut World) -> Result<Option<Taken>, OutOfMemory>
     requires size { IsSize size }
     requires open { world.old.replay.buffer.closed ≡ false }
+    requires first { IsByFirst world.old }
     ensures ok { OnOk result ((ds : List Delivery) → IsAfter size ds world.old.replay → IsAfter size (ds ++ delivery.now ∷ []) world.new.replay) }
     ensures answer { IfOk result (λ answer. answer ≡ answer_of world.old.replay.buffer delivery.now) }
     ensures err { OnErr result ((ds : List Delivery) → IsAfter size ds world.old.replay → (world.new.replay ≡ world.old.replay)
         ⊎ ((steps : ℕ) × (world.new.replay ≡ after_some (replies_of size) steps (entered (following None (replies_of size) ds) delivery.now)))) }
-    ensures versions { IsByFirst world.old → IsByFirst world.new }
+    ensures first { IsByFirst world.new }
 {
     match delivery {
         Delivery::Event(event) => Ok(Some(world.take(*event)?)),
@@ -118,18 +120,18 @@ fn take(size: u32, delivery: &Delivery, world: &mut World) -> Result<Option<Take
 
 // Takes a watermark.
 fn raise(mark: &i64, world: &mut World)
-    ensures mark { world.new.replay ≡ after_mark world.old.replay mark.now }
-    ensures versions { IsByFirst world.old → IsByFirst world.new }
+    ensures { world.new ≡ record world.old { replay = after_mark world.old.replay mark.now } }
 {
     world.raise(*mark);
 }
 
 // Applies all due events, the least first, over the pages of the drill of this size.
 fn apply_due(size: u32, world: &mut World) -> Result<(), OutOfMemory>
-    requires { IsSize size }
+    requires size { IsSize size }
+    requires first { IsByFirst world.old }
     ensures ok { OnOk result (world.new.replay ≡ after_due (replies_of size) world.old.replay) }
     ensures steps { (steps : ℕ) × (world.new.replay ≡ after_some (replies_of size) steps world.old.replay) }
-    ensures versions { IsByFirst world.old → IsByFirst world.new }
+    ensures first { IsByFirst world.new }
 {
     let mut pages = DrillRevisions::new(size);
     loop {

@@ -2,6 +2,10 @@
 
 ghost use Rattle.std.specs.Prelude.{◌≡◌, ◌++◌, IfOk, OnOk, map, string_bytes};
 ghost use Rattle.replay_model.specs.ReplayState.{nothing_delivered};
+ghost use Rattle.replay_model.specs.Union.{union};
+ghost use Rattle.rdf_term.specs.Order.{triple_cmp};
+ghost use Rattle.entity_model.specs.declared.mapping.MappingVersion.TheVariants.{One};
+ghost use Rattle.world.specs.Meaning.{meaning};
 ghost use Rattle.md5.specs.Md5.{md5};
 ghost use Rattle.drill.specs.Drill.{IsSize, drill};
 ghost use Rattle.drill_replay.specs.Playing.{Counted, HasBegun, IsByFirst};
@@ -10,7 +14,7 @@ ghost use Rattle.drill_replay.specs.Summary.{digest_line, drilled, kept_in, line
 use crate::playing::{Counts, play};
 use entity_state::Mode;
 use md5::{Digest, Md5};
-use rdf_term::{OutOfMemory, Triple, write_triple};
+use rdf_term::{OutOfMemory, Triple, TripleSet, write_triple};
 use std::alloc::Global;
 use world::World;
 
@@ -27,16 +31,16 @@ pub struct Summary {
     pub digest: [u8; 16],
 }
 
-/// Runs the drill of this size in an empty world, by the first version of the mapping. For each answer the world is that of a first part of the drill, and for a
+/// Runs the drill of this size in an empty world, by version One of the mapping. For each answer the world is that of a first part of the drill, and for a
 /// summary that of all of it.
 pub fn run_drill(alloc: Global, size: u32, world: &mut World) -> Result<Summary, OutOfMemory>
     requires size { IsSize size }
     requires world { world.old.replay ≡ nothing_delivered }
-    requires versions { IsByFirst world.old }
+    requires first { IsByFirst world.old }
     ensures summary { IfOk result (λ summary. summary ≡ summary_of size) }
     ensures ok { OnOk result (world.new.replay ≡ drilled size) }
     ensures begun { HasBegun size world.new.replay }
-    ensures versions { IsByFirst world.new }
+    ensures first { IsByFirst world.new }
 {
     let counts = play(alloc, size, world)?;
     summarize(alloc, size, counts, world)
@@ -66,11 +70,11 @@ fn summarize(
 ) -> Result<Summary, OutOfMemory>
     requires counted { Counted (drill size) counts }
     requires world { world.now.replay ≡ drilled size }
-    requires versions { IsByFirst world.now }
+    requires first { IsByFirst world.now }
     ensures { IfOk result (λ summary. summary ≡ summary_of size) }
 {
     let kept = kept(world)?;
-    let triples = world.export()?;
+    let triples = triples(world)?;
     Ok(Summary {
         size,
         deliveries: counts.deliveries,
@@ -80,6 +84,14 @@ fn summarize(
         triples: triples.items().len(),
         digest: digest(alloc, triples.items())?,
     })
+}
+
+// The triples of all that is held, by version One of the mapping.
+fn triples(world: &World) -> Result<TripleSet, OutOfMemory>
+    requires { IsByFirst world.now }
+    ensures { IfOk result (λ set. set ≡ union triple_cmp (meaning One) world.now.replay.played.records) }
+{
+    world.export()
 }
 
 // How many entities' pages are kept.

@@ -3,19 +3,19 @@ use Rattle.std.proofs.Common.{◌∙◌, ap, refl, Err, Some}
 use Rattle.world.specs.WorldState.{WorldState}
 use Rattle.drill.specs.Drill.{contents_of}
 use Rattle.drill.specs.Source.{Source}
-use Rattle.drill_replay.proofs.Applying.{applies-fewer, goes-end, goes-next, stays_first}
+use Rattle.drill_replay.proofs.Applying.{applies-fewer, first_next, goes-end, goes-next}
 use Rattle.drill_replay.proofs.playing.apply_due.Goals as goal
 
 pub loop-init : goal.loop-init
 loop-init c = record {
   goes = record { tells = ap (λ (s : Source). Some (λ place. contents_of s.size)) c.new-pages.ensures; steps = 0; is = refl; leads = refl };
-  first = λ is. is;
+  first = c.requires.first;
 }
 
 pub loop-preserved : goal.loop-preserved
 loop-preserved c = record {
   goes = goes-next _ _ _ _ _ _ _ _ _ _ c.loop.invariant.goes c.in-Ok.ensures.told c.in-Ok.ensures.applied c.in-Ok.ensures.shown;
-  first = λ is. stays_first c.loop.world c.apply_next.new.self c.in-Ok.field-0 c.in-Ok.ensures.mapping c.in-Ok.ensures.second (c.loop.invariant.first is);
+  first = first_next c.loop.world c.apply_next.new.self c.in-Ok.field-0.outcome c.in-Ok.field-0.event.entity c.loop.invariant.first c.in-Ok.ensures.mapping c.in-Ok.ensures.second;
 }
 
 pub loop-smaller : goal.loop-smaller
@@ -34,12 +34,3 @@ returns-in-Err-Full-clause-steps c = (c.loop.invariant.goes.steps, ap (λ (w : W
 
 pub returns-in-Err-Nothing-clause-steps : goal.returns-in-Err-Nothing-clause-steps
 returns-in-Err-Nothing-clause-steps c = (c.loop.invariant.goes.steps, ap (λ (w : WorldState). w.replay) c.in-Err-Nothing.ensures.err ∙ c.loop.invariant.goes.is)
-
-pub returns-in-Err-Nothing-clause-versions : goal.returns-in-Err-Nothing-clause-versions
-returns-in-Err-Nothing-clause-versions c = λ is. rw c.in-Err-Nothing.ensures.err (c.loop.invariant.first is)
-
-pub returns-in-Err-OutOfMemory-clause-versions : goal.returns-in-Err-OutOfMemory-clause-versions
-returns-in-Err-OutOfMemory-clause-versions c = λ is. rw c.in-Err-OutOfMemory.ensures.err (c.loop.invariant.first is)
-
-pub returns-in-Err-Full-clause-versions : goal.returns-in-Err-Full-clause-versions
-returns-in-Err-Full-clause-versions c = λ is. rw c.in-Err-Full.ensures.err (c.loop.invariant.first is)

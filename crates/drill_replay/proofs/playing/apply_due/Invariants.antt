@@ -8,7 +8,7 @@ use Rattle.drill_replay.proofs.playing.apply_due.Given as goal
 abbrev pub invariant-loop : goal.invariant-loop
 invariant-loop l = record {
   goes : Goes l.size (Some (λ place. contents_of l.pages.size)) l.fn.world.replay l.world.replay;
-  first : IsByFirst l.fn.world → IsByFirst l.world;
+  first : IsByFirst l.world;
 }
 
 abbrev pub decreases-loop : goal.decreases-loop

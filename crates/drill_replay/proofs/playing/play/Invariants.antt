@@ -7,7 +7,7 @@ use Rattle.drill_replay.proofs.playing.play.Given as goal
 abbrev pub invariant-loop-done : goal.invariant-loop-done
 invariant-loop-done l = record {
   after : IsAfter l.size (drill l.done) l.world.replay;
-  first : IsByFirst l.fn.world → IsByFirst l.world;
   counted : Counted (drill l.done) l.counts;
   few : HasFew l.counts (6 * l.done);
+  first : IsByFirst l.world;
 }

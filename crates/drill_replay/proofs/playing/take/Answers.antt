@@ -1,4 +1,6 @@
 -- After each delivery the world is that of the replay.
+use Rattle.std.proofs.Common.{ap}
+use Rattle.world.specs.WorldState.{WorldState}
 use Rattle.drill_replay.proofs.Taking.{ask_after, event_after, mapping_after, mark_after}
 use Rattle.drill_replay.proofs.playing.take.Goals as goal
 
@@ -7,7 +9,7 @@ returns-in_ok-take-in-Event-clause-ok c = rw c.in-Event.is (λ ds after. event_a
 
 pub returns-in_ok-apply_due-in-Watermark-clause-ok : goal.returns-in_ok-apply_due-in-Watermark-clause-ok
 returns-in_ok-apply_due-in-Watermark-clause-ok c =
-    rw c.in-Watermark.is (λ ds after. mark_after c.args.size ds c.args.world.now.replay c.raise.new.world.replay c.apply_due.new.world.replay c.in-Watermark.mark c.raise.ensures.mark c.in_ok-apply_due-in-Watermark.ensures.ok after)
+    rw c.in-Watermark.is (λ ds after. mark_after c.args.size ds c.args.world.now.replay c.raise.new.world.replay c.apply_due.new.world.replay c.in-Watermark.mark (ap (λ (w : WorldState). w.replay) c.raise.ensures) c.in_ok-apply_due-in-Watermark.ensures.ok after)
 
 pub returns-in-Ask-clause-ok : goal.returns-in-Ask-clause-ok
 returns-in-Ask-clause-ok c = rw c.in-Ask.is (λ ds after. ask_after c.args.size ds c.args.world.now.replay c.in-Ask.field-0 after)

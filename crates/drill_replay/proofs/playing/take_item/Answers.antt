@@ -24,10 +24,10 @@ loop-delivery-preserved c =
     record {
       after = taken c.args.done c.as_slice-delivery-items.result.now c.loop-delivery.delivery-index c.args.size c.delivery-item.result c.take.new.world.replay c.loop-delivery-test.true c.delivery-item.is
           (c.in_ok-answer.ensures.ok (drill c.args.done ++ take c.loop-delivery.delivery-index c.as_slice-delivery-items.result.now) before.after);
-      first = λ is. c.take.ensures.versions (before.first is);
       counted = counted c.args.done c.as_slice-delivery-items.result.now c.loop-delivery.delivery-index c.args.size c.delivery-item.result c.loop-delivery.world.replay c.in_ok-answer.answer c.loop-delivery.counts c.add.new.self
           c.loop-delivery-test.true c.delivery-item.is before.after c.in_ok-answer.ensures.answer c.add.ensures before.counted;
       few = few_more c.in_ok-answer.answer c.loop-delivery.counts c.add.new.self (6 * c.args.done + c.loop-delivery.delivery-index) (6 * c.args.done + (c.loop-delivery.delivery-index + 1)) c.add.ensures (omega arith) before.few;
+      first = c.take.ensures.first;
     }
 
 pub returns-clause-after : goal.returns-clause-after

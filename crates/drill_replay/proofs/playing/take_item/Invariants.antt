@@ -7,7 +7,7 @@ use Rattle.drill_replay.proofs.playing.take_item.Given as goal
 abbrev pub invariant-loop-delivery : goal.invariant-loop-delivery
 invariant-loop-delivery l = record {
   after : IsAfter l.size (drill l.done ++ take l.delivery-index l.delivery-items) l.world.replay;
-  first : IsByFirst l.fn.world → IsByFirst l.world;
   counted : Counted (drill l.done ++ take l.delivery-index l.delivery-items) l.counts;
   few : HasFew l.counts (6 * l.done + l.delivery-index);
+  first : IsByFirst l.world;
 }
