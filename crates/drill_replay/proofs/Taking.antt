@@ -4,7 +4,8 @@ use Rattle.std.proofs.Math.Seq.{take-suc}
 use Rattle.std.proofs.lemmas.List.{take-append-drop, take_all}
 use Rattle.rdf_term.specs.declared.pattern.Pattern.{Pattern}
 use Rattle.entity_model.specs.declared.delivery.Delivery.{Delivery}
-use Rattle.entity_model.specs.declared.delivery.Delivery.TheVariants.{Event as Told, Watermark, Ask}
+use Rattle.entity_model.specs.declared.delivery.Delivery.TheVariants.{Event as Told, Watermark, Ask, Mapping}
+use Rattle.entity_model.specs.declared.mapping.MappingVersion.{MappingVersion}
 use Rattle.entity_model.specs.declared.event.Event.{Event}
 use Rattle.reorder_buffer.specs.declared.taken.Taken.{Taken}
 use Rattle.replay_model.specs.ReplayState.{ReplayState, after_due, after_end, after_event, after_mark, after_some, entered, following}
@@ -33,6 +34,9 @@ mark_after size ds old raised new m raises is after =
 
 pub ask_after : (size : ℕ) (ds : List Delivery) (old : ReplayState) (p : Pattern) → IsAfter size ds old → IsAfter size (ds ++ Ask p ∷ []) old
 ask_after size ds old p after = after ∙ sym (following-delivered None (replies_of size) ds (Ask p))
+
+pub mapping_after : (size : ℕ) (ds : List Delivery) (old : ReplayState) (v : MappingVersion) → IsAfter size ds old → IsAfter size (ds ++ Mapping v ∷ []) old
+mapping_after size ds old v after = after ∙ sym (following-delivered None (replies_of size) ds (Mapping v))
 
 -- ---- the deliveries of an item
 

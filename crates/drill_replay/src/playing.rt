@@ -114,6 +114,7 @@ fn take(size: u32, delivery: &Delivery, world: &mut World) -> Result<Option<Take
             Ok(None)
         }
         Delivery::Ask(_) => Ok(None),
+        Delivery::Mapping(_) => Ok(None), // no drill has one
     }
 }
 

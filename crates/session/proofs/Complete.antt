@@ -12,19 +12,20 @@ use Rattle.rdf_term.specs.Order.{triple_cmp}
 use Rattle.entity_model.specs.declared.delivery.Delivery.{Delivery}
 use Rattle.entity_model.specs.declared.event.Event.{Event}
 use Rattle.entity_model.specs.declared.id.EntityId.{EntityId}
+use Rattle.entity_model.specs.declared.mapping.MappingVersion.{MappingVersion}
 use Rattle.entity_model.specs.Event.{event_cmp}
 use Rattle.entity_state.specs.State.{is_kept}
 use Rattle.entity_state.specs.Record.{blank}
 use Rattle.event_line.specs.declared.faults.LineCause.{LineCause}
 use Rattle.event_line.specs.declared.faults.LineCause.TheVariants.{LineLong}
 use Rattle.event_line.specs.Line.{delivery_of}
-use Rattle.replay_model.specs.Acceptance.{accepted, late}
+use Rattle.replay_model.specs.Acceptance.{accepted, late, version_in_force}
 use Rattle.replay_model.specs.Entries.{has_open_revision}
 use Rattle.replay_model.specs.Play.{play_to_end}
 use Rattle.replay_model.specs.Records.{Bytes, Records, is_settled, record_of}
 use Rattle.replay_model.specs.Replies.{TellsWhatIsThere, failed_events, source_replies}
 use Rattle.replay_model.specs.ReplayState.{ReplayState}
-use Rattle.replay_model.specs.Union.{triples_held, union}
+use Rattle.replay_model.specs.Union.{triples_held}
 use Rattle.world.specs.Meaning.{meaning}
 use Rattle.world.proofs.Entries.{over_ids}
 use Rattle.words.specs.Options.{limit_of}
@@ -34,12 +35,14 @@ use Rattle.session.specs.Complete.{FindsDocument, IsStill, has_document, triples
 use Rattle.session.specs.Headline.{Ending, Stopped}
 use Rattle.session.specs.Moment.{Moment, Run, horizon_at}
 use Rattle.session.specs.Reading.{AreDeliveries, IsPastLimit, IsRefusedLine, deliveries_of, line_delivers, onto_deliveries}
+use Rattle.session.specs.Remapping.{IsFullOfStale, held_triples}
 use Rattle.session.specs.Stop.{stop_of}
 use Rattle.session.specs.Taking.{IsFull, judgement}
 use Rattle.session.proofs.Ends.{none_failed}
 use Rattle.session.proofs.Finding.{none_named}
 use Rattle.session.proofs.Opening.{any_opened, settled_triples}
 use Rattle.session.proofs.Reading.{at_known}
+use Rattle.session.proofs.Versions.{all_held_by}
 
 -- ---- the statuses
 
@@ -105,7 +108,8 @@ none_refused {G} limit bytes ds before number cause are refused = ⊎_elim
     clash none = let never : Some ds ≡ None = sym are.delivered ∙ none in cc
 
 module _ (run : Run) (before now : Moment) (bytes : List ℕ) (ds : List Delivery) (known : before.input.left ≡ Some bytes) (are : AreDeliveries (limit_of run.choices) bytes ds)
-    (reads : IsStill before.input.faults now.input.faults) (writes : IsStill before.stage.output.faults now.stage.output.faults) (room : IsFull run.setting now.stage.world → ⊥) where
+    (reads : IsStill before.input.faults now.input.faults) (writes : IsStill before.stage.output.faults now.stage.output.faults) (room : IsFull run.setting now.stage.world now.stage.mapped → ⊥)
+    (stale_room : IsFullOfStale run.setting.room now.stage.world.played.records now.stage.mapped → ⊥) where
   pub ends_well : (status : Status) → (status ≡ BadWords → ⊥) → IfSome (stop_of status) (λ stop. Stopped stop run before now) → (status ≡ Ended) ⊎ (status ≡ OutOfMemory)
   ends_well Ended understood stopped = inl refl
   ends_well BadWords understood stopped = absurd (understood refl)
@@ -121,7 +125,7 @@ module _ (run : Run) (before now : Moment) (bytes : List ℕ) (ds : List Deliver
       more : (left : Option (List ℕ)) → IfSome left (λ b. IsPastLimit (limit_of run.choices) b stopped.deliveries) → IfSome left (λ b. limit_of run.choices < length b)
       more None past = tt
       more (Some b) past = past.more
-  ends_well StoreFull understood stopped = absurd (room stopped.0)
+  ends_well StoreFull understood stopped = absurd (⊎_elim (λ due. room due.0) (λ stale. stale_room stale.0) stopped)
   ends_well OutOfMemory understood stopped = inr refl
 
 -- ---- the world
@@ -144,20 +148,26 @@ module _ (run : Run) (before now : Moment) (contents : ℕ → Option Bytes) (en
       opened false is = sym is
 
   pub settled_union : ((x : EntityId) → is_settled (record_of now.stage.world.played.records x) ≡ true) →
-      union triple_cmp meaning now.stage.world.played.records
-      ≡ sorted triple_cmp (flat_map (λ entry. triples_in meaning contents entry.0 entry.1.state) (map.entries now.stage.world.played.records))
+      held_triples now.stage.mapped now.stage.world.played.records
+      ≡ sorted triple_cmp (flat_map (λ entry. triples_in (meaning (version_in_force ending.replayed.deliveries)) contents entry.0 entry.1.state) (map.entries now.stage.world.played.records))
   settled_union all =
-      let records : Records = now.stage.world.played.records in
-      ap (sorted triple_cmp) (
-      sym (over_ids (λ x r. triples_held meaning x (unwrap_or r blank).held) records)
+      all_held_by version now.stage.mapped records ending.replayed.replay.played.mapped
+      ∙ ap (sorted triple_cmp) (
+      sym (over_ids (λ x r. triples_held (meaning version) x (unwrap_or r blank).held) records)
       ∙ alike (map.keys records)
-      ∙ over_ids (λ x r. triples_in meaning contents x (unwrap_or r blank).state) records
+      ∙ over_ids (λ x r. triples_in (meaning version) contents x (unwrap_or r blank).state) records
       )
     where
-      alike : (xs : List EntityId) → flat_map (λ x. triples_held meaning x (record_of now.stage.world.played.records x).held) xs ≡ flat_map (λ x. triples_in meaning contents x (record_of now.stage.world.played.records x).state) xs
+      version : MappingVersion
+      version = version_in_force ending.replayed.deliveries
+
+      records : Records
+      records = now.stage.world.played.records
+
+      alike : (xs : List EntityId) → flat_map (λ x. triples_held (meaning version) x (record_of records x).held) xs ≡ flat_map (λ x. triples_in (meaning version) contents x (record_of records x).state) xs
       alike [] = refl
       alike (x ∷ xs) =
-          rw (settled_triples judgement contents meaning x (record_of now.stage.world.played.records x) (ending.replayed.replay.holds.there contents known x) (all x), alike xs) refl
+          rw (settled_triples judgement contents (meaning version) x (record_of records x) (ending.replayed.replay.holds.there contents known x) (all x), alike xs) refl
 
   pub nothing_named : IsStill before.stage.counts.faults now.stage.counts.faults → late (horizon_at before.stage) ending.replayed.deliveries ≡ [] →
       ((e : Event) → has event_cmp e (accepted (horizon_at before.stage) ending.replayed.deliveries) ≡ true → FindsDocument judgement contents e) → now.stage.world.played.side ≡ []

@@ -7,19 +7,23 @@ use Rattle.rdf_term.specs.Order.{triple_cmp}
 use Rattle.wq_io.specs.Streams.{after_known}
 use Rattle.entity_model.specs.declared.event.Event.{Event}
 use Rattle.entity_model.specs.declared.delivery.Delivery.{Delivery}
-use Rattle.entity_model.specs.declared.delivery.Delivery.TheVariants.{Event as Told, Watermark, Ask}
+use Rattle.entity_model.specs.declared.delivery.Delivery.TheVariants.{Event as Told, Watermark, Ask, Mapping}
+use Rattle.entity_model.specs.declared.mapping.MappingVersion.{MappingVersion}
 use Rattle.side_output.specs.declared.entry.Entry.{Entry}
 use Rattle.reorder_buffer.specs.declared.taken.Taken.{Taken}
 use Rattle.reorder_buffer.specs.Buffered.{answer_to}
+use Rattle.replay_model.specs.Acceptance.{mapping_of, version_in_force}
 use Rattle.replay_model.specs.Explained.{AgreeOnApplied}
+use Rattle.replay_model.specs.Records.{Records}
 use Rattle.replay_model.specs.Play.{Replies}
 use Rattle.replay_model.specs.ReplayState.{ReplayState, after_end, after_event, after_mark, entered, following, taken_entries}
 use Rattle.replay_model.specs.Transcript.{ask_section, asks, pattern_of, said, said_at}
 use Rattle.rdf_term.specs.Pattern.{rows}
 use Rattle.replay_model.specs.Union.{union}
 use Rattle.replay_model.proofs.Applied.{applied-end, applied-event, applied-mark}
-use Rattle.replay_model.proofs.Explaining.{Explained-ask, Explained-end, Explained-event, Explained-event_rests, Explained-is, Explained-mark, Explained-rests, ask_replies, end_replies, event_replies, mark_replies}
+use Rattle.replay_model.proofs.Explaining.{Explained-ask, Explained-end, Explained-event, Explained-event_rests, Explained-is, Explained-mapping, Explained-mark, Explained-rests, ask_replies, end_replies, event_replies, mapping_replies, mark_replies}
 use Rattle.replay_model.proofs.Fetching.{failed-taken, missing-taken}
+use Rattle.replay_model.proofs.InForce.{version-kept, version-mapping}
 use Rattle.replay_model.proofs.Printing.{said-push}
 use Rattle.world.specs.Meaning.{meaning}
 use Rattle.session.specs.Counts.{Counts, HasCounted, RoseBy}
@@ -29,10 +33,12 @@ use Rattle.transcript.proofs.Parts.{after_twice}
 use Rattle.session.specs.declared.stop.Stop.TheVariants.{OutOfMemory}
 use Rattle.session.specs.declared.stop.Unapplied.{Unapplied}
 use Rattle.session.specs.declared.stop.Unapplied.TheVariants.{OutOfMemory as Starved}
-use Rattle.session.specs.Moment.{Setting, Stage, onward, with_output, horizon_at}
+use Rattle.session.specs.Moment.{Setting, Stage, onward, with_mapped, with_output, horizon_at}
+use Rattle.session.specs.Remapping.{IsLeftStale, KeepsVersion, Mapped, held_triples, mapped_by, remapped_some}
 use Rattle.session.specs.Stop.{stop_of_unapplied, stop_of_unwritten}
 use Rattle.session.specs.Taking.{AppliesDue, AtEnd, AtRest, Course, CutsOff, IsHeldUp, IsWithin, Leads, StaysWithin, course_after, course_begun, course_to_end, judgement, said_behind, turn}
 use Rattle.session.proofs.Due.{no_call, within}
+use Rattle.session.proofs.Versions.{all_held_by}
 
 -- one delivery more: how many questions were asked
 pub asks-push : (ds : List Delivery) (d : Delivery) → asks (ds ++ d ∷ []) ≡ asks ds + asks (d ∷ [])
@@ -60,6 +66,10 @@ module _ (setting : Setting) (ds : List Delivery) (start : Stage) where
   rest_is now at_rest =
       Explained-rests judgement setting.known (course_after ds start).state (course_after ds start).fetched at_rest.leads.made now.world at_rest.leads.explained at_rest.rests
 
+  -- where a delivery brings no version, every page is mapped by the version in force after it too
+  still_mapped : (before now : Records) (d : Delivery) → mapping_of d ≡ None → (old new : Mapped) → KeepsVersion old new before now → old ≡ mapped_by (version_in_force ds) before → new ≡ mapped_by (version_in_force (ds ++ d ∷ [])) now
+  still_mapped before now d none old new keeps is = keeps (version_in_force ds) is ∙ ap (λ v. mapped_by v now) (sym (version-kept ds d none))
+
   -- a world at rest isn't closed
   pub rest_open : (now : Stage) → AtRest setting ds start now → now.world.buffer.closed ≡ false
   rest_open now at_rest =
@@ -77,6 +87,7 @@ module _ (setting : Setting) (ds : List Delivery) (start : Stage) where
       says = λ others agree. silent now.output.bytes (Told e) others refl (at_rest.leads.says others
           (λ q r h. agree q r (applied-event now.world e q (rest_open now at_rest) ∙ h) ∙ ap (λ (replies : Replies). replies q r) (event_replies judgement setting.known (horizon_at start) ds at_rest.leads.made now.world at_rest.leads.explained at_rest.rests e)));
     };
+    mapped = still_mapped now.world.played.records now.world.played.records (Told e) refl now.mapped now.mapped (λ version is. is) at_rest.mapped;
     rests = Explained-event_rests judgement setting.known (horizon_at start) ds at_rest.leads.made now.world at_rest.leads.explained at_rest.rests e;
     later = at_rest.later;
   }
@@ -86,8 +97,8 @@ module _ (setting : Setting) (ds : List Delivery) (start : Stage) where
   course_of_mark m = course_begun ds (Some (Watermark m)) start
 
   -- a watermark is taken: the world leads to the play with it
-  abbrev mark_leads : (now : Stage) (m : ℤ) → AtRest setting ds start now → Leads setting (course_of_mark m) start (onward now now.counts (after_mark now.world m))
-  mark_leads now m at_rest = record {
+  abbrev mark_leads : (now : Stage) (mapped : Mapped) (m : ℤ) → AtRest setting ds start now → Leads setting (course_of_mark m) start (onward (with_mapped now mapped) now.counts (after_mark now.world m))
+  mark_leads now mapped m at_rest = record {
     made = at_rest.leads.made;
     explained = Explained-mark judgement setting.known (horizon_at start) ds at_rest.leads.made now.world at_rest.leads.explained at_rest.rests m;
     counted = at_rest.leads.counted;
@@ -97,8 +108,8 @@ module _ (setting : Setting) (ds : List Delivery) (start : Stage) where
   }
 
   -- the end is taken: the world leads to the play to the end
-  abbrev end_leads : (now : Stage) → AtRest setting ds start now → Leads setting (course_to_end ds start) start (onward now now.counts (after_end now.world))
-  end_leads now at_rest = record {
+  abbrev end_leads : (now : Stage) (mapped : Mapped) → AtRest setting ds start now → Leads setting (course_to_end ds start) start (onward (with_mapped now mapped) now.counts (after_end now.world))
+  end_leads now mapped at_rest = record {
     made = at_rest.leads.made;
     explained = Explained-end judgement setting.known (horizon_at start) ds at_rest.leads.made now.world at_rest.leads.explained at_rest.rests;
     counted = at_rest.leads.counted;
@@ -108,10 +119,10 @@ module _ (setting : Setting) (ds : List Delivery) (start : Stage) where
   }
 
   -- a watermark is taken, and what is due is applied
-  pub mark_taken : (now : Stage) (counts : Counts) (new : ReplayState) (m : ℤ) → AppliesDue setting now.counts counts (after_mark now.world m) new → AtRest setting ds start now →
-      AtRest setting (ds ++ Watermark m ∷ []) start (onward now counts new)
-  mark_taken now counts new m applies at_rest =
-      let there = applies.leads (course_of_mark m) start now (mark_leads now m at_rest) in
+  pub mark_taken : (now : Stage) (counts : Counts) (new : ReplayState) (mapped : Mapped) (m : ℤ) → AppliesDue setting now.counts counts (after_mark now.world m) new →
+      KeepsVersion now.mapped mapped now.world.played.records new.played.records → AtRest setting ds start now → AtRest setting (ds ++ Watermark m ∷ []) start (onward (with_mapped now mapped) counts new)
+  mark_taken now counts new mapped m applies keeps at_rest =
+      let there = applies.leads (course_of_mark m) start (with_mapped now mapped) (mark_leads now mapped m at_rest) in
       record {
         leads = record {
           made = there.made;
@@ -121,14 +132,17 @@ module _ (setting : Setting) (ds : List Delivery) (start : Stage) where
           says = λ others agree. silent now.output.bytes (Watermark m) others refl (there.says others agree);
         };
         rests = applies.rests;
+        mapped = still_mapped now.world.played.records new.played.records (Watermark m) refl now.mapped mapped keeps at_rest.mapped;
         later = at_rest.later;
       }
 
   -- the end is taken, and what waits is applied
-  pub end_taken : (now : Stage) (counts : Counts) (new : ReplayState) → AppliesDue setting now.counts counts (after_end now.world) new → AtRest setting ds start now → AtEnd setting ds start (onward now counts new)
-  end_taken now counts new applies at_rest = record {
-    leads = applies.leads (course_to_end ds start) start now (end_leads now at_rest);
+  pub end_taken : (now : Stage) (counts : Counts) (new : ReplayState) (mapped : Mapped) → AppliesDue setting now.counts counts (after_end now.world) new →
+      KeepsVersion now.mapped mapped now.world.played.records new.played.records → AtRest setting ds start now → AtEnd setting ds start (onward (with_mapped now mapped) counts new)
+  end_taken now counts new mapped applies keeps at_rest = record {
+    leads = applies.leads (course_to_end ds start) start (with_mapped now mapped) (end_leads now mapped at_rest);
     rests = applies.rests;
+    mapped = keeps (version_in_force ds) at_rest.mapped;
     later = at_rest.later;
   }
 
@@ -139,22 +153,22 @@ module _ (setting : Setting) (ds : List Delivery) (start : Stage) where
       subst There (sym (append-nil ds)) (within setting (course_after ds start) (λ replies. following (horizon_at start) replies ds) start now now.counts (no_call now.counts) (record { leads = at_rest.leads; steps = 0; is = rest_is now at_rest }))
 
   -- a watermark is taken, and some of what is due is applied
-  pub mark_begun : (now : Stage) (counts : Counts) (new : ReplayState) (m : ℤ) → StaysWithin setting now.counts counts (after_mark now.world m) new → AtRest setting ds start now →
-      IsWithin setting (course_of_mark m) (λ replies. entered (following (horizon_at start) replies ds) (Watermark m)) start (onward now counts new)
-  mark_begun now counts new m stays at_rest =
-      stays (course_of_mark m) (λ replies. entered (following (horizon_at start) replies ds) (Watermark m)) start now (record {
-        leads = mark_leads now m at_rest;
+  pub mark_begun : (now : Stage) (counts : Counts) (new : ReplayState) (mapped : Mapped) (m : ℤ) → StaysWithin setting now.counts counts (after_mark now.world m) new → AtRest setting ds start now →
+      IsWithin setting (course_of_mark m) (λ replies. entered (following (horizon_at start) replies ds) (Watermark m)) start (onward (with_mapped now mapped) counts new)
+  mark_begun now counts new mapped m stays at_rest =
+      stays (course_of_mark m) (λ replies. entered (following (horizon_at start) replies ds) (Watermark m)) start (with_mapped now mapped) (record {
+        leads = mark_leads now mapped m at_rest;
         steps = 0;
         is = λ others agree. ap (λ w. after_mark w m) (rest_is now at_rest others
             (λ q r h. agree q r (applied-mark now.world m q h) ∙ ap (λ (replies : Replies). replies q r) (mark_replies judgement setting.known (horizon_at start) ds at_rest.leads.made now.world at_rest.leads.explained at_rest.rests m)));
       })
 
   -- the end is taken, and some of what waits is applied
-  pub end_begun : (now : Stage) (counts : Counts) (new : ReplayState) → StaysWithin setting now.counts counts (after_end now.world) new → AtRest setting ds start now →
-      IsWithin setting (course_to_end ds start) (λ replies. after_end (following (horizon_at start) replies ds)) start (onward now counts new)
-  end_begun now counts new stays at_rest =
-      stays (course_to_end ds start) (λ replies. after_end (following (horizon_at start) replies ds)) start now (record {
-        leads = end_leads now at_rest;
+  pub end_begun : (now : Stage) (counts : Counts) (new : ReplayState) (mapped : Mapped) → StaysWithin setting now.counts counts (after_end now.world) new → AtRest setting ds start now →
+      IsWithin setting (course_to_end ds start) (λ replies. after_end (following (horizon_at start) replies ds)) start (onward (with_mapped now mapped) counts new)
+  end_begun now counts new mapped stays at_rest =
+      stays (course_to_end ds start) (λ replies. after_end (following (horizon_at start) replies ds)) start (with_mapped now mapped) (record {
+        leads = end_leads now mapped at_rest;
         steps = 0;
         is = λ others agree. ap after_end (rest_is now at_rest others
             (λ q r h. agree q r (applied-end now.world q h) ∙ ap (λ (replies : Replies). replies q r) (end_replies judgement setting.known (horizon_at start) ds at_rest.leads.made now.world at_rest.leads.explained at_rest.rests)));
@@ -162,13 +176,14 @@ module _ (setting : Setting) (ds : List Delivery) (start : Stage) where
 
   -- the answer of a world at rest is that of its play
   answer_is : (now : Stage) (q : Pattern) (asked : ℕ) (at_rest : AtRest setting ds start now) (others : Replies) → AgreeOnApplied now.world at_rest.leads.explained.replies others → asked ≡ asks (ds ++ Ask q ∷ []) →
-      ask_section asked (rows (union triple_cmp meaning now.world.played.records) q) ≡ said_at meaning (horizon_at start) others (record { before = ds; delivery = Ask q })
+      ask_section asked (rows (held_triples now.mapped now.world.played.records) q) ≡ said_at meaning (horizon_at start) others (record { before = ds; delivery = Ask q })
   answer_is now q asked at_rest others agree counts_it =
-      ap (λ n. ask_section n (rows (union triple_cmp meaning now.world.played.records) q)) (counts_it ∙ asks-push ds (Ask q))
-      ∙ ap (λ (w : ReplayState). ask_section (asks ds + 1) (rows (union triple_cmp meaning w.played.records) q)) (rest_is now at_rest others agree)
+      ap (λ n. ask_section n (rows (held_triples now.mapped now.world.played.records) q)) (counts_it ∙ asks-push ds (Ask q))
+      ∙ ap (λ triples. ask_section (asks ds + 1) (rows triples q)) (all_held_by (version_in_force ds) now.mapped now.world.played.records at_rest.mapped)
+      ∙ ap (λ (w : ReplayState). ask_section (asks ds + 1) (rows (union triple_cmp (meaning (version_in_force ds)) w.played.records) q)) (rest_is now at_rest others agree)
 
   -- a question is answered
-  pub ask_taken : (now : Stage) (q : Pattern) (asked : ℕ) (out : Output) → asked ≡ asks (ds ++ Ask q ∷ []) → Prints (ask_section asked (rows (union triple_cmp meaning now.world.played.records) q)) now.output out (Ok tt) →
+  pub ask_taken : (now : Stage) (q : Pattern) (asked : ℕ) (out : Output) → asked ≡ asks (ds ++ Ask q ∷ []) → Prints (ask_section asked (rows (held_triples now.mapped now.world.played.records) q)) now.output out (Ok tt) →
       AtRest setting ds start now → AtRest setting (ds ++ Ask q ∷ []) start (with_output now out)
   ask_taken now q asked out counts_it prints at_rest = record {
     leads = record {
@@ -179,7 +194,7 @@ module _ (setting : Setting) (ds : List Delivery) (start : Stage) where
       says = λ others agree.
           let before : AgreeOnApplied now.world at_rest.leads.explained.replies others =
           λ e r h. agree e r h ∙ ap (λ (replies : Replies). replies e r) (ask_replies judgement setting.known (horizon_at start) ds at_rest.leads.made now.world at_rest.leads.explained at_rest.rests q) in
-          let answer : List ℕ = ask_section asked (rows (union triple_cmp meaning now.world.played.records) q) in
+          let answer : List ℕ = ask_section asked (rows (held_triples now.mapped now.world.played.records) q) in
           prints.outcome
           ∙ ap (λ b. after_known b answer) (at_rest.leads.says others before)
           ∙ after_twice start.output.bytes (said meaning (horizon_at start) others ds) answer
@@ -187,19 +202,67 @@ module _ (setting : Setting) (ds : List Delivery) (start : Stage) where
           ∙ ap (after_known start.output.bytes) (sym (said-push (horizon_at start) meaning others ds (Ask q)));
     };
     rests = at_rest.rests;
+    mapped = still_mapped now.world.played.records now.world.played.records (Ask q) refl now.mapped now.mapped (λ version is. is) at_rest.mapped;
     later = omega (arith, at_rest.later, prints.later);
   }
 
+  -- another version of the mapping comes into force, and every page is mapped by it
+  pub mapping_taken : (now : Stage) (mapped : Mapped) (v : MappingVersion) → mapped ≡ mapped_by v now.world.played.records → AtRest setting ds start now → AtRest setting (ds ++ Mapping v ∷ []) start (with_mapped now mapped)
+  mapping_taken now mapped v is at_rest = record {
+    leads = record {
+      made = at_rest.leads.made;
+      explained = Explained-mapping judgement setting.known (horizon_at start) ds at_rest.leads.made now.world at_rest.leads.explained at_rest.rests v;
+      counted = at_rest.leads.counted;
+      documents = at_rest.leads.documents;
+      says = λ others agree. silent now.output.bytes (Mapping v) others refl (at_rest.leads.says others
+          (λ q r h. agree q r h ∙ ap (λ (replies : Replies). replies q r) (mapping_replies judgement setting.known (horizon_at start) ds at_rest.leads.made now.world at_rest.leads.explained at_rest.rests v)));
+    };
+    rests = at_rest.rests;
+    mapped = is ∙ ap (λ version. mapped_by version now.world.played.records) (sym (version-mapping ds v));
+    later = at_rest.later;
+  }
+
 -- an event wasn't taken
-pub event_cut_off : (setting : Setting) (e : Event) (asked : ℕ) (now : Stage) (new : ReplayState) → new ≡ now.world → CutsOff OutOfMemory setting (turn asked (Told e)) now (onward now now.counts new)
-event_cut_off setting e asked now new same = inr (Starved, refl, record { held_up = tt; output = refl; world = λ ds start at_rest. inl (same, refl) })
+pub event_cut_off : (setting : Setting) (e : Event) (asked : ℕ) (now : Stage) (new : ReplayState) (mapped : Mapped) → new ≡ now.world → mapped ≡ now.mapped →
+    CutsOff OutOfMemory setting (turn asked (Told e)) now (onward (with_mapped now mapped) now.counts new)
+event_cut_off setting e asked now new mapped same same_mapped = inr (inl (
+  Starved,
+  refl,
+  record {
+    held_up = tt;
+    output = refl;
+    mapped = λ version is. same_mapped ∙ is ∙ ap (λ (w : ReplayState). mapped_by version w.played.records) (sym same);
+    world = λ ds start at_rest. inl (same, refl);
+  },
+))
 
 -- a watermark was taken, and some of what is due was applied
-pub mark_cut_off : (why : Unapplied) (setting : Setting) (m : ℤ) (asked : ℕ) (now : Stage) (counts : Counts) (new : ReplayState) → IsHeldUp why setting new →
-    StaysWithin setting now.counts counts (after_mark now.world m) new → CutsOff (stop_of_unapplied why) setting (turn asked (Watermark m)) now (onward now counts new)
-mark_cut_off why setting m asked now counts new held_up stays = inr (why, refl, record { held_up = held_up; output = refl; world = λ ds start at_rest. inr (mark_begun setting ds start now counts new m stays at_rest) })
+pub mark_cut_off : (why : Unapplied) (setting : Setting) (m : ℤ) (asked : ℕ) (now : Stage) (counts : Counts) (new : ReplayState) (mapped : Mapped) → IsHeldUp why setting new mapped →
+    KeepsVersion now.mapped mapped now.world.played.records new.played.records → StaysWithin setting now.counts counts (after_mark now.world m) new →
+    CutsOff (stop_of_unapplied why) setting (turn asked (Watermark m)) now (onward (with_mapped now mapped) counts new)
+mark_cut_off why setting m asked now counts new mapped held_up keeps stays =
+    inr (inl (why, refl, record { held_up = held_up; output = refl; mapped = keeps; world = λ ds start at_rest. inr (mark_begun setting ds start now counts new mapped m stays at_rest) }))
 
 -- a question was answered in part
-pub ask_cut_off : (why : Unwritten) (setting : Setting) (q : Pattern) (asked : ℕ) (now : Stage) (out : Output) → Prints (ask_section asked (rows (union triple_cmp meaning now.world.played.records) q)) now.output out (Err why) →
+pub ask_cut_off : (why : Unwritten) (setting : Setting) (q : Pattern) (asked : ℕ) (now : Stage) (out : Output) → Prints (ask_section asked (rows (held_triples now.mapped now.world.played.records) q)) now.output out (Err why) →
     CutsOff (stop_of_unwritten why) setting (turn asked (Ask q)) now (with_output now out)
-ask_cut_off why setting q asked now out prints = inl (why, refl, record { pattern = q; is = refl; world = refl; counts = refl; cut_short = prints.outcome })
+ask_cut_off why setting q asked now out prints = inl (why, refl, record { pattern = q; is = refl; world = refl; mapped = refl; counts = refl; cut_short = prints.outcome })
+
+-- another version of the mapping came into force, and some of what is held was mapped anew
+pub mapping_cut_off : (why : Unapplied) (setting : Setting) (v : MappingVersion) (asked : ℕ) (now : Stage) (new : ReplayState) (mapped : Mapped) → new ≡ now.world → IsLeftStale why setting.room now.world.played.records mapped →
+    (steps : ℕ) × (mapped ≡ remapped_some steps now.world.played.records (record { version = v; second = now.mapped.second })) →
+    CutsOff (stop_of_unapplied why) setting (turn asked (Mapping v)) now (onward (with_mapped now mapped) now.counts new)
+mapping_cut_off why setting v asked now new mapped same stale some = inr (inr (
+  why,
+  refl,
+  record {
+    version = v;
+    is = refl;
+    left_stale = subst (λ (w : ReplayState). IsLeftStale why setting.room w.played.records mapped) (sym same) stale;
+    output = refl;
+    counts = refl;
+    world = same;
+    steps = some.0;
+    mapped = some.1;
+  },
+))

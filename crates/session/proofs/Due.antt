@@ -20,14 +20,15 @@ use Rattle.replay_model.proofs.Documents.{documents-apply}
 use Rattle.replay_model.proofs.Explaining.{Explained-next, Next, next_by}
 use Rattle.replay_model.proofs.Fetching.{failed-applying, failed_by, missing-applying, missing_of}
 use Rattle.world.specs.Applying.{Applies, IsReply, IsShown, calls_after, outcome_of_reply}
-use Rattle.world.specs.Meaning.{meaning}
-use Rattle.world.specs.Roomed.{IsOverfull, ReplayInRoom, room_with}
+use Rattle.world.specs.Roomed.{IsOverfull}
+use Rattle.world.specs.WorldState.{WorldState}
 use Rattle.world.specs.declared.applied.Applied.{Applied}
 use Rattle.world.specs.declared.applied.Outcome.{Outcome}
 use Rattle.world.specs.declared.applied.Outcome.TheVariants.{Same, Dropped}
 use Rattle.session.specs.Counts.{Counts, HasCounted, HasCountedWithin, HasGoneOn, RoseBy, risen_by}
 use Rattle.revisions.specs.declared.revisions.Revisions.{Ghosts as RevisionsOf}
-use Rattle.session.specs.Moment.{Setting, Stage, onward, setting}
+use Rattle.session.specs.Moment.{Setting, Stage, onward, setting, with_mapped}
+use Rattle.session.specs.Remapping.{HasNoRoom, Mapped, mapped_in}
 use Rattle.session.specs.Taking.{AppliesDue, Course, IsFull, IsUnderWay, IsWithin, Leads, StaysWithin, judgement, replies_there}
 
 -- events are applied: the world leads where it led
@@ -249,6 +250,23 @@ within setting course begun start now counts last under_way =
       counted = counted_last start.counts now.counts counts under_way.leads.made now.world.played.side last under_way.leads.counted;
     }
 
+-- it is so whatever the versions are by which the pages are mapped
+pub within_mapped : (setting : Setting) (course : Course) (begun : Replies → ReplayState) (start now : Stage) (mapped : Mapped) → IsWithin setting course begun start now → IsWithin setting course begun start (with_mapped now mapped)
+within_mapped setting course begun start now mapped x = record {
+  steps = x.steps;
+  replies = x.replies;
+  fit = x.fit;
+  is = x.is;
+  says = x.says;
+  source = x.source;
+  source_says = x.source_says;
+  documents = x.documents;
+  made = x.made;
+  fetched = x.fetched;
+  source_fetched = x.source_fetched;
+  counted = x.counted;
+}
+
 -- an event isn't applied: the world is that before
 pub starved : (setting : Setting) (before now last : Counts) (old world new : ReplayState) → Goes setting before now old world → Lasts now last → new ≡ world → StaysWithin setting before last old new
 starved setting before now last old world new goes lasts same = rw same (λ course begun start s under_way. within setting course begun start (onward s now world) last lasts (goes.leads course begun start s under_way))
@@ -261,9 +279,9 @@ full_there (Some c) directory room x r bytes is there known =
     let same : c directory ≡ there = cc in
     ap (λ (f : ℕ → Option Bytes). f r) (sym same) ∙ is.1
 
-pub is_full : (contents : Option Contents) (directory : List ℕ) (room : ℕ) (old new : ReplayInRoom) → old.room ≡ room → new ≡ old → IsOverfull contents directory old → IsFull (setting contents directory room) new.replay
+pub is_full : (contents : Option Contents) (directory : List ℕ) (room : ℕ) (old new : WorldState) → old.room ≡ room → new ≡ old → IsOverfull contents directory old → IsFull (setting contents directory room) new.replay (mapped_in new)
 is_full contents directory room old new same stays over =
-    let Over : ℕ → Type 0 = λ n. n < room_with old.replay.played.records (meaning over.event.entity (revision_wanted old.replay over.event) over.bytes) in
+    let Over : ℕ → Type 0 = λ n. HasNoRoom n old.replay.played.records (mapped_in old) over.event.entity (revision_wanted old.replay over.event) over.bytes in
     rw stays (record {
       event = over.event;
       due = over.due;

@@ -6,7 +6,7 @@ use Rattle.entity_model.specs.declared.event.Event.{Event}
 use Rattle.entity_state.specs.State.{is_kept}
 use Rattle.entity_model.specs.declared.delivery.Delivery.{Delivery}
 use Rattle.reorder_buffer.specs.Buffered.{first_due}
-use Rattle.replay_model.specs.Acceptance.{due, known, late}
+use Rattle.replay_model.specs.Acceptance.{due, known, late, version_in_force}
 use Rattle.replay_model.specs.Entries.{has_open_revision, late_events}
 use Rattle.replay_model.specs.Fate.{events_of, fate, in_order}
 use Rattle.replay_model.specs.Records.{Bytes, is_settled, record_of}
@@ -20,15 +20,21 @@ use Rattle.replay_model.proofs.Known.{fate-known}
 use Rattle.replay_model.proofs.LateEntries.{late-played}
 use Rattle.replay_model.proofs.Settled.{Tells-played, settled-played}
 use Rattle.replay_model.proofs.ToldContents.{entries-told, held-told}
+use Rattle.rdf_term.specs.declared.triple.Triple.{Triple}
+use Rattle.rdf_term.specs.Order.{triple_cmp}
+use Rattle.entity_model.specs.declared.mapping.MappingVersion.{MappingVersion}
+use Rattle.replay_model.specs.Union.{union}
 use Rattle.world.specs.Meaning.{meaning}
 use Rattle.transcript.specs.declared.write.Unwritten.{Unwritten}
 use Rattle.transcript.specs.declared.write.Unwritten.TheVariants.{WriteFault as NotWritten, OutOfMemory as Refused}
 use Rattle.transcript.specs.Printing.{Output, Prints}
+use Rattle.transcript.specs.Sections.{closing_of}
 use Rattle.transcript.proofs.Parts.{after_twice}
 use Rattle.session.specs.Counts.{RoseBy, HasCounted}
-use Rattle.session.specs.Headline.{BrokenOff, Ending, HasFates, HasReplayed, HoldsRightly, IsFunction, IsInterrupted, IsPlayed, IsReplayed, NamesRightly, Stopped}
+use Rattle.session.specs.Headline.{BrokenOff, Ending, HasFates, HasReplayed, HoldsRightly, IsFunction, IsInterrupted, IsPlayed, IsReplayed, NamesRightly, StandsAtMapping, Stopped}
 use Rattle.session.specs.Moment.{Moment, Run, Setting, Stage, with_output, horizon_at}
 use Rattle.session.specs.Reading.{AreDeliveries}
+use Rattle.session.specs.Remapping.{IsLeftStale, Mapped, held_triples, mapped_by}
 use Rattle.session.specs.Sections.{sections_of}
 use Rattle.session.specs.Stop.{stop_of_unapplied, stop_of_unwritten}
 use Rattle.session.specs.Stops.{IsStarved}
@@ -36,15 +42,18 @@ use Rattle.session.specs.declared.stop.Unapplied.{Unapplied}
 use Rattle.session.specs.declared.stop.Unapplied.TheVariants.{StoreFull as NoRoom, OutOfMemory as Starved}
 use Rattle.session.specs.Taking.{AtEnd, Course, HoldsDocuments, IsHeldUp, Leads, course_printed, course_to_end, judgement, replies_there, said_behind}
 use Rattle.words.specs.Options.{limit_of}
+use Rattle.session.proofs.Versions.{all_held_by}
 
 -- where no event is due, a world that leads to a play is played
-abbrev pub is_played : (setting : Setting) (course : Course) (start now : Stage) → Leads setting course start now → first_due now.world.buffer ≡ None → IsPlayed setting course start now
-is_played setting course start now x rests = record {
+abbrev pub is_played : (setting : Setting) (course : Course) (start now : Stage) → Leads setting course start now → first_due now.world.buffer ≡ None → now.mapped ≡ mapped_by course.version now.world.played.records →
+    IsPlayed setting course start now
+is_played setting course start now x rests mapped = record {
   replies = x.explained.replies;
   fit = x.explained.fit;
   is = Explained-is judgement setting.known course.state course.fetched x.made now.world x.explained rests;
   says = x.says x.explained.replies (λ q r h. refl);
   documents = x.documents;
+  mapped = mapped;
   counted = subst (λ (n : ℕ). HasCounted start.counts now.counts n now.world.played.side) (Explained-fetches judgement setting.known course.state course.fetched x.made now.world x.explained rests) x.counted;
   source = Explained-source judgement setting.known course.state course.fetched x.made now.world x.explained rests;
   source_says = λ contents is. x.says (replies_there contents now.world) (λ q r h. sym (x.explained.honest contents is q r));
@@ -85,7 +94,7 @@ module _ (setting : Setting) (hz : Option ℕ) (ds : List Delivery) (world : Rep
 -- at the end the world has the states, holds and names what it should
 is_replayed : (setting : Setting) (ds : List Delivery) (start now : Stage) → AtEnd setting ds start now → IsReplayed setting (course_to_end ds start) ds start now
 is_replayed setting ds start now at_end =
-    let play : IsPlayed setting (course_to_end ds start) start now = is_played setting (course_to_end ds start) start now at_end.leads at_end.rests in
+    let play : IsPlayed setting (course_to_end ds start) start now = is_played setting (course_to_end ds start) start now at_end.leads at_end.rests at_end.mapped in
     let whole : played (horizon_at start) true play.replies ds ≡ now.world.played = ap (λ (w : ReplayState). w.played) (sym play.is) in
     let source : (contents : ℕ → Option Bytes) → setting.known ≡ Some contents → played (horizon_at start) true (replies_there contents now.world) ds ≡ now.world.played =
     λ contents is. ap (λ (w : ReplayState). w.played) (sym (play.source contents is)) in
@@ -105,19 +114,22 @@ pub none_failed : (failed : List Event) (before now : ℕ) → RoseBy (length fa
 none_failed [] before now rose same below = refl
 none_failed (e ∷ es) before now rose same below = absurd (omega (arith, rose below))
 
--- the sections that were asked for were printed
-pub prints_asked : (sections wanted : Sections) (p : Played) (old new : Output) (result : Result (Unit {0}) Unwritten) → sections ≡ wanted → Prints (closing meaning sections p) old new result → Prints (closing meaning wanted p) old new result
-prints_asked sections wanted p old new result same prints = subst (λ s. Prints (closing meaning s p) old new result) same prints
+-- the sections that were asked for were printed, by the version of the mapping that is in force
+pub prints_asked : (version : MappingVersion) (sections wanted : Sections) (mapped : Mapped) (p : Played) (old new : Output) (result : Result (Unit {0}) Unwritten) → sections ≡ wanted → mapped ≡ mapped_by version p.records →
+    Prints (closing_of (held_triples mapped p.records) sections p) old new result → Prints (closing meaning version wanted p) old new result
+prints_asked version sections wanted mapped p old new result same by prints =
+    let Printed : Sections → List Triple → Type 0 = λ s triples. Prints (closing_of triples s p) old new result in
+    subst (λ s. Printed s (union triple_cmp (meaning version) p.records)) same (subst (Printed sections) (all_held_by version mapped p.records by) prints)
 
 -- the sections were printed behind the answers
 module _ (setting : Setting) (sections : Sections) (ds : List Delivery) (start now : Stage) (out : Output) (replay : IsReplayed setting (course_to_end ds start) ds start now)
-    (prints : Prints (closing meaning sections now.world.played) now.output out (Ok tt)) where
+    (prints : Prints (closing meaning (version_in_force ds) sections now.world.played) now.output out (Ok tt)) where
   -- the answers and the sections are the transcript
   transcribed : (replies : Replies) → now.world ≡ following_to_end (horizon_at start) replies ds → now.output.bytes ≡ said_behind ds start replies → out.bytes ≡ after_known start.output.bytes (transcript meaning (horizon_at start) sections replies ds)
   transcribed replies is says =
-      prints.outcome ∙ ap (λ b. after_known b (closing meaning sections now.world.played)) says
-      ∙ after_twice start.output.bytes (said meaning (horizon_at start) replies ds) (closing meaning sections now.world.played)
-      ∙ ap (λ (w : ReplayState). after_known start.output.bytes (said meaning (horizon_at start) replies ds ++ closing meaning sections w.played)) is
+      prints.outcome ∙ ap (λ b. after_known b (closing meaning (version_in_force ds) sections now.world.played)) says
+      ∙ after_twice start.output.bytes (said meaning (horizon_at start) replies ds) (closing meaning (version_in_force ds) sections now.world.played)
+      ∙ ap (λ (w : ReplayState). after_known start.output.bytes (said meaning (horizon_at start) replies ds ++ closing meaning (version_in_force ds) sections w.played)) is
 
   -- the same, with the replies of what is there
   transcribed_there : (contents : ℕ → Option Bytes) → setting.known ≡ Some contents → out.bytes ≡ after_known start.output.bytes (transcript meaning (horizon_at start) sections (replies_there contents now.world) ds)
@@ -141,6 +153,7 @@ module _ (setting : Setting) (sections : Sections) (ds : List Delivery) (start n
       is = replay.played.is;
       says = transcribed replay.played.replies replay.played.is replay.played.says;
       documents = replay.played.documents;
+      mapped = replay.played.mapped;
       counted = replay.played.counted;
       source = replay.played.source;
       source_says = transcribed_there;
@@ -152,7 +165,7 @@ module _ (setting : Setting) (sections : Sections) (ds : List Delivery) (start n
   }
 
 -- a run ended well
-pub ending : (run : Run) (before now : Moment) (out : Output) → HasReplayed run before now → Prints (closing meaning (sections_of run.choices) now.stage.world.played) now.stage.output out (Ok tt) →
+pub ending : (run : Run) (before now : Moment) (out : Output) (replayed : HasReplayed run before now) → Prints (closing meaning (version_in_force replayed.deliveries) (sections_of run.choices) now.stage.world.played) now.stage.output out (Ok tt) →
     Ending run before (record now { stage = with_output now.stage out })
 ending run before now out replayed prints =
     let sections : Sections = sections_of run.choices in
@@ -172,13 +185,18 @@ interrupted NotWritten run before now between earlier rose stands = (rose_since 
 interrupted Refused run before now between earlier rose stands = inr stands
 
 -- not all that was due was applied
-pub halted : (why : Unapplied) (run : Run) (before now : Moment) → IsHeldUp why run.setting now.stage.world → IsStarved run before now → Stopped (stop_of_unapplied why) run before now
-halted NoRoom run before now full stands = (full, stands)
-halted Starved run before now held_up stands = inl stands
+pub halted : (why : Unapplied) (run : Run) (before now : Moment) → IsHeldUp why run.setting now.stage.world now.stage.mapped → IsStarved run before now → Stopped (stop_of_unapplied why) run before now
+halted NoRoom run before now full stands = inl (full, stands)
+halted Starved run before now held_up stands = inl (inl stands)
+
+-- not all that is held was mapped anew
+pub left_stale : (why : Unapplied) (run : Run) (before now : Moment) → IsLeftStale why run.setting.room now.stage.world.played.records now.stage.mapped → StandsAtMapping run before now → Stopped (stop_of_unapplied why) run before now
+left_stale NoRoom run before now full stands = inr (full, stands)
+left_stale Starved run before now stale stands = inl (inr stands)
 
 -- the sections weren't all written
-pub broken_off : (why : Unwritten) (run : Run) (before now : Moment) (out : Output) → HasReplayed run before now → before.stage.output.faults ≤ now.stage.output.faults →
-    Prints (closing meaning (sections_of run.choices) now.stage.world.played) now.stage.output out (Err why) → Stopped (stop_of_unwritten why) run before (record now { stage = with_output now.stage out })
+pub broken_off : (why : Unwritten) (run : Run) (before now : Moment) (out : Output) (replayed : HasReplayed run before now) → before.stage.output.faults ≤ now.stage.output.faults →
+    Prints (closing meaning (version_in_force replayed.deliveries) (sections_of run.choices) now.stage.world.played) now.stage.output out (Err why) → Stopped (stop_of_unwritten why) run before (record now { stage = with_output now.stage out })
 broken_off why run before now out replayed earlier prints =
     let broken : BrokenOff why run before (record now { stage = with_output now.stage out }) = record { between = now.stage.output; replayed = replayed; cut_short = prints.outcome } in
     interrupted why run before (record now { stage = with_output now.stage out }) now.stage.output earlier (λ fault. (prints.outcome.failed fault).1) (inr broken)

@@ -7,7 +7,7 @@ use Rattle.entity_model.specs.declared.event.Kind.{Kind}
 use Rattle.entity_model.specs.declared.event.Kind.TheVariants.{Edit, Delete, Undelete, ReconcileDeleted, ReconcileKept}
 use Rattle.entity_model.specs.Event.{event_cmp, event_cmp_total, event_cmp_same}
 use Rattle.entity_model.specs.declared.delivery.Delivery.{Delivery}
-use Rattle.entity_model.specs.declared.delivery.Delivery.TheVariants.{Event as Told, Watermark, Ask}
+use Rattle.entity_model.specs.declared.delivery.Delivery.TheVariants.{Event as Told, Watermark, Ask, Mapping}
 use Rattle.entity_state.specs.declared.state.State.{State}
 use Rattle.entity_state.specs.State.{after_kind, deleted, is_deleted, is_kept, kept, state_after}
 use Rattle.entity_state.specs.Record.{held_revision, wants}
@@ -112,6 +112,7 @@ module _ (unfit : Judgement) (contents : ℕ → Option Bytes) where
   }
   found-happens hz ds (Watermark w) p none find all = found-apply_all p (newly_due hz ds false (ds ++ Watermark w ∷ [])) (find-due hz ds false (ds ++ Watermark w ∷ []) find) all
   found-happens hz ds (Ask q) p none find all = all
+  found-happens hz ds (Mapping v) p none find all = all
 
   found-nothing : AllFound nothing_played
   found-nothing = record {

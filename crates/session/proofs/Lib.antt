@@ -7,3 +7,4 @@ mod Finding
 mod Opening
 mod Progress
 mod Reading
+mod Versions

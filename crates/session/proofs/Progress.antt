@@ -4,7 +4,13 @@ use Rattle.wq_io.specs.Streams.{IsAtEnd}
 use Rattle.wq_io.specs.Lines.{HasCause, IsSound, Leaves, ReadsAsNeeded, Reading, fresh, unread}
 use Rattle.wq_io.specs.declared.lines.LineFault.{LineFault}
 use Rattle.wq_io.specs.declared.lines.LineFault.TheVariants.{ReadFault as NotRead, TooLong as PastLimit, LineLong as OverLong, OutOfMemory as NoMemory}
+use Rattle.rdf_term.specs.declared.triple.Triple.{Triple}
 use Rattle.rdf_term.specs.Order.{triple_cmp}
+use Rattle.entity_model.specs.declared.id.EntityId.{EntityId}
+use Rattle.entity_model.specs.declared.mapping.MappingVersion.{MappingVersion}
+use Rattle.entity_model.specs.declared.mapping.MappingVersion.TheVariants.{One}
+use Rattle.replay_model.specs.Acceptance.{version_in_force}
+use Rattle.replay_model.specs.Versions.{all_by}
 use Rattle.entity_model.specs.declared.delivery.Delivery.{Delivery}
 use Rattle.entity_model.specs.declared.delivery.Delivery.TheVariants.{Ask}
 use Rattle.event_line.specs.declared.faults.LineCause.{LineCause}
@@ -12,7 +18,7 @@ use Rattle.event_line.specs.Line.{delivery_of}
 use Rattle.entity_state.specs.declared.record.Record.{Record}
 use Rattle.replay_model.specs.Records.{Bytes}
 use Rattle.replay_model.specs.Replies.{HoldsDocument}
-use Rattle.replay_model.specs.ReplayState.{ReplayState, nothing_delivered_within}
+use Rattle.replay_model.specs.ReplayState.{ReplayState, following, nothing_delivered_within}
 use Rattle.replay_model.specs.Transcript.{ask_section, asks}
 use Rattle.replay_model.specs.Union.{union}
 use Rattle.rdf_term.specs.Pattern.{rows}
@@ -26,16 +32,18 @@ use Rattle.session.specs.declared.stop.Stop.{Stop}
 use Rattle.session.specs.declared.stop.Stop.TheVariants.{BadLine, OutOfMemory}
 use Rattle.session.specs.declared.stop.Unapplied.{Unapplied}
 use Rattle.session.specs.Counts.{Counts}
-use Rattle.session.specs.Headline.{IsPlayedAfter, StandsAtQuestion, Stopped}
-use Rattle.session.specs.Moment.{Input, Moment, Run, Setting, Stage, onward, with_output}
+use Rattle.session.specs.Headline.{IsPlayedAfter, StandsAtMapping, StandsAtQuestion, Stopped}
+use Rattle.session.specs.Moment.{Input, Moment, Run, Setting, Stage, horizon_at, onward, with_mapped, with_output}
 use Rattle.session.specs.Reading.{AreFirst, HasRead, TakesByNeed}
+use Rattle.session.specs.Remapping.{Mapped, held_triples, mapped_by, remapped_some}
 use Rattle.session.specs.Stop.{stop_of_fault}
 use Rattle.session.specs.Stops.{HasTaken, StopsWithin}
-use Rattle.session.specs.Taking.{AnswersInPart, AtRest, CutsOff, TakesDelivery, TakesInPart, course_after, judgement, turn}
+use Rattle.session.specs.Taking.{AnswersInPart, AtRest, CutsOff, IsWithin, RemapsInPart, TakesDelivery, TakesInPart, course_after, course_begun, judgement, turn}
 use Rattle.words.specs.Options.{limit_of}
 use Rattle.session.proofs.Deliveries.{asks-push, rest_within}
-use Rattle.session.proofs.Due.{risen_by-none}
-use Rattle.session.proofs.Ends.{halted, interrupted, is_played, rose_since}
+use Rattle.session.proofs.Due.{risen_by-none, within_mapped}
+use Rattle.session.proofs.Ends.{halted, interrupted, is_played, left_stale, rose_since}
+use Rattle.session.proofs.Versions.{all_held_by}
 use Rattle.session.proofs.Reading.{IsNextLine, all_read, as_many, bad_line, first_lines, first_with, not_called, nothing_read, nothing_taken_of, over_long, past_limit, read_more, takes_on, whole_read}
 
 -- the lines so far were read, the world has taken them, and so many of them asked
@@ -53,7 +61,7 @@ pub record Progress (run : Run) (before now : Moment) (reader : Reading) (asked 
   pub ended : reader.ended ≡ true → IsAtEnd now.input.left
 
 -- before the first delivery a world is at rest
-pub nothing_taken : (setting : Setting) (h : Option ℕ) (output : Output) (counts : Counts) → let s : Stage = record { output = output; counts = counts; world = nothing_delivered_within h } in AtRest setting [] s s
+pub nothing_taken : (setting : Setting) (h : Option ℕ) (output : Output) (counts : Counts) → let s : Stage = record { output = output; counts = counts; world = nothing_delivered_within h; mapped = record { version = One; second = [] } } in AtRest setting [] s s
 nothing_taken setting h output counts = record {
   leads = record {
     made = 0;
@@ -63,12 +71,13 @@ nothing_taken setting h output counts = record {
     says = λ others agree. sym (after_nothing output.bytes);
   };
   rests = refl;
+  mapped = refl;
   later = omega arith;
 }
 
 -- a moment before the first delivery
 abbrev pub at_start : Option ℕ → Input → Output → Counts → Moment
-at_start h input output counts = record { input = input; stage = record { output = output; counts = counts; world = nothing_delivered_within h } }
+at_start h input output counts = record { input = input; stage = record { output = output; counts = counts; world = nothing_delivered_within h; mapped = record { version = One; second = [] } } }
 
 -- before the first line
 pub nothing_begun : (run : Run) (h : Option ℕ) (input : Input) (output : Output) (counts : Counts) → Progress run (at_start h input output counts) (at_start h input output counts) (fresh (limit_of run.choices)) 0
@@ -88,12 +97,17 @@ nothing_begun run h input output counts = record {
 
 module _ (run : Run) (before now : Moment) (reader : Reading) (asked : ℕ) (so_far : Progress run before now reader asked) where
   played : IsPlayedAfter run.setting so_far.deliveries before.stage now.stage
-  played = is_played run.setting (course_after so_far.deliveries before.stage) before.stage now.stage so_far.at_rest.leads so_far.at_rest.rests
+  played = is_played run.setting (course_after so_far.deliveries before.stage) before.stage now.stage so_far.at_rest.leads so_far.at_rest.rests so_far.at_rest.mapped
 
   -- what was taken, after a call of the reader, whatever it answered
   pub taken_on : (next : Reading) (left_next : Option (List ℕ)) → ReadsAsNeeded reader next now.input.left left_next → IfSome before.input.left (λ bytes. TakesByNeed (limit_of run.choices) bytes left_next)
   taken_on next left_next reads =
       takes_on (limit_of run.choices) reader now.input.left so_far.deliveries so_far.max so_far.sound before.input.left next left_next so_far.read reads so_far.taken
+
+  -- the lines so far, and none more
+  first_still : (next : Reading) (left_next : Option (List ℕ)) → ReadsAsNeeded reader next now.input.left left_next → AreFirst (limit_of run.choices) before.input.left left_next (so_far.deliveries ++ [])
+  first_still next left_next reads =
+      rw (append-nil so_far.deliveries) (first_lines (limit_of run.choices) reader now.input.left so_far.deliveries so_far.max so_far.sound before.input.left next left_next reads so_far.read)
 
   -- memory was refused: the world is as it was after the lines so far
   pub stands : (next : Reading) (input : Input) → ReadsAsNeeded reader next now.input.left input.left → StopsWithin run before (record now { input = input })
@@ -101,8 +115,8 @@ module _ (run : Run) (before now : Moment) (reader : Reading) (asked : ℕ) (so_
     deliveries = so_far.deliveries;
     last = None;
     within = rest_within run.setting so_far.deliveries before.stage now.stage so_far.at_rest;
-    first = rw (append-nil so_far.deliveries)
-        (first_lines (limit_of run.choices) reader now.input.left so_far.deliveries so_far.max so_far.sound before.input.left next input.left reads so_far.read);
+    mapped = so_far.at_rest.mapped;
+    first = first_still next input.left reads;
   }
 
   -- the number of the next line
@@ -120,7 +134,7 @@ module _ (run : Run) (before now : Moment) (reader : Reading) (asked : ℕ) (so_
       record { deliveries = so_far.deliveries; played = played; past = past_limit (limit_of run.choices) reader now.input.left so_far.deliveries so_far.max so_far.sound before.input.left so_far.read cause }
   fault_stops (OverLong number) next input cause leaves reads =
       record { deliveries = so_far.deliveries; played = played; counted = numbered number cause.0; bad = over_long (limit_of run.choices) reader now.input.left so_far.deliveries so_far.max so_far.sound before.input.left number so_far.read cause.0 cause.1 }
-  fault_stops NoMemory next input cause leaves reads = inl (inl (stands next input reads))
+  fault_stops NoMemory next input cause leaves reads = inl (inl (inl (stands next input reads)))
 
   -- at the end of the input all lines were taken
   pub end_reached : (input : Input) → IsAtEnd input.left → IsAtEnd (unread reader now.input.left) → HasTaken run before (record now { input = input })
@@ -142,7 +156,7 @@ module _ (run : Run) (before now : Moment) (reader : Reading) (asked : ℕ) (so_
           counted = numbered number counted;
           bad = bad_line (limit_of run.choices) reader now.input.left so_far.deliveries so_far.max so_far.sound line next input.left is before.input.left number bad.0 so_far.read counted bad.2;
         }))
-        (λ refused. subst (λ s. Stopped s run before (record now { input = input })) (sym refused) (inl (inl (stands next input is.reads))))
+        (λ refused. subst (λ s. Stopped s run before (record now { input = input })) (sym refused) (inl (inl (inl (stands next input is.reads)))))
         why
 
     module _ (after : Moment) (d : Delivery) (asked_now : ℕ) (is : IsNextLine line reader next now.input.left after.input.left) (delivers : delivery_of line ≡ Ok d) (more : asked_now ≡ asked + asks (d ∷ [])) where
@@ -152,36 +166,81 @@ module _ (run : Run) (before now : Moment) (reader : Reading) (asked : ℕ) (so_
       first : AreFirst (limit_of run.choices) before.input.left after.input.left (so_far.deliveries ++ d ∷ [])
       first = first_with (limit_of run.choices) reader now.input.left so_far.deliveries so_far.max so_far.sound line next after.input.left is before.input.left d so_far.read delivers
 
+      -- what was played before stands with a stage in which nothing else changed but the output
+      played_still : after.stage.world ≡ now.stage.world → after.stage.counts ≡ now.stage.counts → (mapped : Mapped) → mapped ≡ now.stage.mapped →
+          IsPlayedAfter run.setting so_far.deliveries before.stage (with_mapped (onward now.stage after.stage.counts after.stage.world) mapped)
+      played_still world counts mapped same =
+          subst (λ m. IsPlayedAfter run.setting so_far.deliveries before.stage (with_mapped (onward now.stage after.stage.counts after.stage.world) m)) (sym same)
+          (subst (λ w. IsPlayedAfter run.setting so_far.deliveries before.stage (onward now.stage after.stage.counts w)) (sym world)
+          (subst (λ c. IsPlayedAfter run.setting so_far.deliveries before.stage (onward now.stage c now.stage.world)) (sym counts) played))
+
       -- a question that isn't answered wholly stops the taking
       at_question : (why : Unwritten) → AnswersInPart why (turn asked_now d) now.stage after.stage → StandsAtQuestion why run before after
-      at_question why in_part = record {
-        deliveries = so_far.deliveries;
-        pattern = in_part.pattern;
-        between = now.stage.output;
-        played = subst (λ w. IsPlayedAfter run.setting so_far.deliveries before.stage (onward now.stage after.stage.counts w)) (sym in_part.world)
-            (subst (λ c. IsPlayedAfter run.setting so_far.deliveries before.stage (onward now.stage c now.stage.world)) (sym in_part.counts) played);
-        cut_short = subst (λ (w : ReplayState). IsCutShort why (ask_section (asks so_far.deliveries + 1) (rows (union triple_cmp meaning w.played.records) in_part.pattern)) now.stage.output after.stage.output) (sym in_part.world)
-            (subst (λ n. IsCutShort why (ask_section n (rows (union triple_cmp meaning now.stage.world.played.records) in_part.pattern)) now.stage.output after.stage.output)
-            (asked_is ∙ ap (λ q. asks (so_far.deliveries ++ q ∷ [])) in_part.is ∙ asks-push so_far.deliveries (Ask in_part.pattern)) in_part.cut_short);
-        first = subst (λ q. AreFirst (limit_of run.choices) before.input.left after.input.left (so_far.deliveries ++ q ∷ [])) in_part.is first;
-      }
+      at_question why in_part =
+          let CutShort : ℕ → List Triple → Type 0 = λ n triples. IsCutShort why (ask_section n (rows triples in_part.pattern)) now.stage.output after.stage.output in
+          record {
+            deliveries = so_far.deliveries;
+            pattern = in_part.pattern;
+            between = now.stage.output;
+            played = played_still in_part.world in_part.counts after.stage.mapped in_part.mapped;
+            cut_short = subst (CutShort (asks so_far.deliveries + 1))
+                (all_held_by (version_in_force so_far.deliveries) now.stage.mapped now.stage.world.played.records so_far.at_rest.mapped
+                ∙ ap (λ (w : ReplayState). union triple_cmp (meaning (version_in_force so_far.deliveries)) w.played.records) (sym in_part.world))
+                (subst (λ n. CutShort n (held_triples now.stage.mapped now.stage.world.played.records))
+                (asked_is ∙ ap (λ q. asks (so_far.deliveries ++ q ∷ [])) in_part.is ∙ asks-push so_far.deliveries (Ask in_part.pattern)) in_part.cut_short);
+            first = subst (λ q. AreFirst (limit_of run.choices) before.input.left after.input.left (so_far.deliveries ++ q ∷ [])) in_part.is first;
+          }
 
       -- a delivery wasn't taken wholly, and nothing was printed
       starves : (why : Unapplied) → TakesInPart why run.setting d now.stage after.stage → StopsWithin run before after
-      starves why in_part = ⊎_elim
-          (λ same. subst (λ o. StopsWithin run before (record after { stage = with_output after.stage o })) (sym in_part.output)
-          (subst (λ w. StopsWithin run before (record { input = after.input; stage = onward now.stage after.stage.counts w })) (sym same.0)
-          (subst (λ c. StopsWithin run before (record { input = after.input; stage = onward now.stage c now.stage.world })) (sym same.1)
-          (stands next after.input is.reads))))
-          (λ begun. record { deliveries = so_far.deliveries; last = Some d; within = begun; first = first })
+      starves why in_part =
+          let mapped = in_part.mapped (version_in_force so_far.deliveries) so_far.at_rest.mapped in
+          ⊎_elim
+          (λ same. record {
+            deliveries = so_far.deliveries;
+            last = None;
+            within = still same.0 same.1;
+            mapped = mapped;
+            first = first_still next after.input.left is.reads;
+          })
+          (λ begun. record { deliveries = so_far.deliveries; last = Some d; within = begun; mapped = mapped; first = first })
           (in_part.world so_far.deliveries before.stage so_far.at_rest)
+        where
+          Within : Stage → Type 0
+          Within s = IsWithin run.setting (course_begun so_far.deliveries None before.stage) (λ replies. following (horizon_at before.stage) replies so_far.deliveries) before.stage s
+
+          still : after.stage.world ≡ now.stage.world → after.stage.counts ≡ now.stage.counts → Within after.stage
+          still world counts =
+              subst (λ o. Within (with_output after.stage o)) (sym in_part.output)
+              (subst (λ w. Within (with_mapped (onward now.stage after.stage.counts w) after.stage.mapped)) (sym world)
+              (subst (λ c. Within (with_mapped (onward now.stage c now.stage.world) after.stage.mapped)) (sym counts)
+              (within_mapped _ _ _ _ now.stage after.stage.mapped (rest_within run.setting so_far.deliveries before.stage now.stage so_far.at_rest))))
+
+      -- not all that is held was mapped anew, and nothing was printed
+      remaps : (why : Unapplied) → RemapsInPart why run.setting d now.stage after.stage → StandsAtMapping run before after
+      remaps why in_part =
+          let v : MappingVersion = version_in_force so_far.deliveries in
+          let start : ReplayState → List EntityId → Mapped = λ w second. remapped_some in_part.steps w.played.records (record { version = in_part.version; second = second }) in
+          record {
+            deliveries = so_far.deliveries;
+            version = in_part.version;
+            steps = in_part.steps;
+            played = subst (λ o. IsPlayedAfter run.setting so_far.deliveries before.stage (with_mapped (with_output after.stage o) (mapped_by v after.stage.world.played.records))) (sym in_part.output)
+                (played_still in_part.world in_part.counts (mapped_by v after.stage.world.played.records) (ap (λ (w : ReplayState). mapped_by v w.played.records) in_part.world ∙ sym so_far.at_rest.mapped));
+            mapped = in_part.mapped
+                ∙ ap (start now.stage.world) (ap (λ (m : Mapped). m.second) so_far.at_rest.mapped)
+                ∙ ap (λ (w : ReplayState). start w (all_by v w.played.records)) (sym in_part.world);
+            first = subst (λ q. AreFirst (limit_of run.choices) before.input.left after.input.left (so_far.deliveries ++ q ∷ [])) in_part.is first;
+          }
 
       -- a delivery that isn't taken wholly stops the taking
       pub delivery_stops : (stop : Stop) → CutsOff stop run.setting (turn asked_now d) now.stage after.stage → Stopped stop run before after
       delivery_stops stop cut = ⊎_elim
           (λ printing. subst (λ s. Stopped s run before after) (sym printing.1)
           (interrupted printing.0 run before after now.stage.output so_far.at_rest.later (λ fault. (printing.2.cut_short.failed fault).1) (inl (at_question printing.0 printing.2))))
+          (⊎_elim
           (λ starving. subst (λ s. Stopped s run before after) (sym starving.1) (halted starving.0 run before after starving.2.held_up (inl (starves starving.0 starving.2))))
+          (λ remapping. subst (λ s. Stopped s run before after) (sym remapping.1) (left_stale remapping.0 run before after remapping.2.left_stale (remaps remapping.0 remapping.2))))
           cut
 
       -- a line that is taken

@@ -9,9 +9,10 @@ use Rattle.entity_model.specs.declared.id.EntityId.{EntityId}
 use Rattle.entity_model.specs.declared.event.Event.{Event}
 use Rattle.entity_state.specs.State.{is_kept}
 use Rattle.entity_model.specs.declared.delivery.Delivery.{Delivery}
-use Rattle.entity_model.specs.declared.delivery.Delivery.TheVariants.{Ask}
+use Rattle.entity_model.specs.declared.delivery.Delivery.TheVariants.{Ask, Mapping}
+use Rattle.entity_model.specs.declared.mapping.MappingVersion.{MappingVersion}
 use Rattle.event_line.specs.declared.faults.LineCause.{LineCause}
-use Rattle.replay_model.specs.Acceptance.{due, known, late}
+use Rattle.replay_model.specs.Acceptance.{due, known, late, version_in_force}
 use Rattle.replay_model.specs.Entries.{has_open_revision, is_open_late, late_events}
 use Rattle.replay_model.specs.Fate.{events_of, fate, in_order}
 use Rattle.replay_model.specs.Records.{Bytes, is_settled, record_of}
@@ -20,6 +21,7 @@ use Rattle.replay_model.specs.Replies.{GivesDocument, HoldsWhatIsThere, TellsWha
 use Rattle.replay_model.specs.ReplayState.{ReplayState, following_to_end}
 use Rattle.replay_model.specs.Transcript.{Sections, ask_section, asks, closing, transcript}
 use Rattle.replay_model.specs.Union.{union}
+use Rattle.replay_model.specs.Versions.{all_by}
 use Rattle.rdf_term.specs.Pattern.{rows}
 use Rattle.world.specs.Meaning.{meaning}
 use Rattle.transcript.specs.declared.write.Unwritten.{Unwritten}
@@ -29,21 +31,23 @@ use Rattle.words.specs.Options.{limit_of}
 use Rattle.session.specs.declared.stop.Stop.{Stop}
 use Rattle.session.specs.declared.stop.Stop.TheVariants.{BadLine, ReadFault, WriteFault, TooLong, StoreFull, OutOfMemory}
 use Rattle.session.specs.Counts.{HasCounted}
-use Rattle.session.specs.Moment.{Moment, Run, Setting, Stage, with_output, horizon_at}
+use Rattle.session.specs.Moment.{Moment, Run, Setting, Stage, with_mapped, with_output, horizon_at}
 use Rattle.session.specs.Reading.{AreDeliveries, AreFirst, AreWhole, IsPastLimit, IsRefusedLine}
+use Rattle.session.specs.Remapping.{IsFullOfStale, mapped_by, remapped_some}
 use Rattle.session.specs.Sections.{sections_of}
 use Rattle.session.specs.Stops.{IsStarved}
 use Rattle.session.specs.Taking.{Course, HoldsDocuments, IsFull, course_after, course_printed, course_to_end, judgement, replies_there}
 
 -- the world is where a play leads, with some replies to its fetches, each a document of its entity or a reason, the output has what
--- the play says, and the counts of the source rose by these fetches; what is held are documents of their entities; where it is known
--- what the source has, the replies are those of what is there, but for the events whose fetches failed, which the side output names
+-- the play says, and the counts of the source rose by these fetches; what is held are documents of their entities,
+-- each mapped by the version in force; where it is known what the source has, the replies are those of what is there, but for the events whose fetches failed, which the side output names
 pub record IsPlayed (setting : Setting) (course : Course) (start now : Stage) : Type 0 where
   pub replies : Replies
   pub fit : (e : Event) (r : ℕ) → GivesDocument judgement e.entity (replies e r)
   pub is : now.world ≡ course.state replies
   pub says : now.output.bytes ≡ course.bytes replies
   pub documents : HoldsDocuments now.world
+  pub mapped : now.mapped ≡ mapped_by course.version now.world.played.records
   pub counted : HasCounted start.counts now.counts (length (course.fetched replies)) now.world.played.side
   pub source : (contents : ℕ → Option Bytes) → setting.known ≡ Some contents → now.world ≡ course.state (replies_there contents now.world)
   pub source_says : (contents : ℕ → Option Bytes) → setting.known ≡ Some contents → now.output.bytes ≡ course.bytes (replies_there contents now.world)
@@ -109,7 +113,7 @@ pub record Ending (run : Run) (before now : Moment) : Type 0 where
 pub record BrokenOff (why : Unwritten) (run : Run) (before now : Moment) : Type 0 where
   pub between : Output
   pub replayed : HasReplayed run before (record now { stage = with_output now.stage between })
-  pub cut_short : IsCutShort why (closing meaning (sections_of run.choices) now.stage.world.played) between now.stage.output
+  pub cut_short : IsCutShort why (closing meaning (version_in_force replayed.deliveries) (sections_of run.choices) now.stage.world.played) between now.stage.output
 
 -- the world has taken the deliveries of all whole lines of the bytes that were read before a read failed
 pub record StandsAfter (run : Run) (before now : Moment) : Type 0 where
@@ -137,8 +141,18 @@ pub record StandsAtQuestion (why : Unwritten) (run : Run) (before now : Moment) 
   pub pattern : Pattern
   pub between : Output
   pub played : IsPlayedAfter run.setting deliveries before.stage (with_output now.stage between)
-  pub cut_short : IsCutShort why (ask_section (asks deliveries + 1) (rows (union triple_cmp meaning now.stage.world.played.records) pattern)) between now.stage.output
+  pub cut_short : IsCutShort why (ask_section (asks deliveries + 1) (rows (union triple_cmp (meaning (version_in_force deliveries)) now.stage.world.played.records) pattern)) between now.stage.output
   pub first : AreFirst (limit_of run.choices) before.input.left now.input.left (deliveries ++ Ask pattern ∷ [])
+
+-- the world has taken the deliveries before a line that changes the mapping, every page being mapped by the version that was in force
+-- there; this line's version is in force, and the pages of some entities, the least first, are mapped by it
+pub record StandsAtMapping (run : Run) (before now : Moment) : Type 0 where
+  pub deliveries : List Delivery
+  pub version : MappingVersion
+  pub steps : ℕ
+  pub played : IsPlayedAfter run.setting deliveries before.stage (with_mapped now.stage (mapped_by (version_in_force deliveries) now.stage.world.played.records))
+  pub mapped : now.stage.mapped ≡ remapped_some steps now.stage.world.played.records (record { version = version; second = all_by (version_in_force deliveries) now.stage.world.played.records })
+  pub first : AreFirst (limit_of run.choices) before.input.left now.input.left (deliveries ++ Mapping version ∷ [])
 
 -- what a run leaves that stopped while it printed: in the answer to a question, or in the sections
 abbrev pub IsInterrupted : Unwritten → Run → Moment → Moment → Type 0
@@ -150,5 +164,7 @@ Stopped (BadLine number cause) run before now = StandsBeforeLine number cause ru
 Stopped ReadFault run before now = Rose before.input.faults now.input.faults × StandsAfter run before now
 Stopped WriteFault run before now = Rose before.stage.output.faults now.stage.output.faults × IsInterrupted NotWritten run before now
 Stopped TooLong run before now = StandsAtLimit run before now
-Stopped StoreFull run before now = IsFull run.setting now.stage.world × IsStarved run before now
-Stopped OutOfMemory run before now = IsStarved run before now ⊎ IsInterrupted Refused run before now
+Stopped StoreFull run before now =
+    (IsFull run.setting now.stage.world now.stage.mapped × IsStarved run before now)
+    ⊎ (IsFullOfStale run.setting.room now.stage.world.played.records now.stage.mapped × StandsAtMapping run before now)
+Stopped OutOfMemory run before now = (IsStarved run before now ⊎ StandsAtMapping run before now) ⊎ IsInterrupted Refused run before now

@@ -4,6 +4,7 @@ pub mod Drilling
 pub mod Headline
 pub mod Moment
 pub mod Reading
+pub mod Remapping
 pub mod Sections
 pub mod Status
 pub mod Stop

@@ -1,14 +1,17 @@
 -- A run, and what stands at a moment of it.
-use Rattle.std.specs.Prelude.{ℕ, List, Option}
+use Rattle.std.specs.Prelude.{ℕ, List, [], Option}
 use Rattle.std.specs.Option.{option_map}
 use Rattle.wq_io.specs.declared.source.Source.{Ghosts as SourceOf}
 use Rattle.wq_io.specs.declared.sink.Sink.{Ghosts as SinkOf}
 use Rattle.revisions.specs.declared.revisions.Revisions.{Ghosts as RevisionsOf}
 use Rattle.revisions.specs.Revisions.{Contents}
+use Rattle.entity_model.specs.declared.mapping.MappingVersion.TheVariants.{One}
 use Rattle.replay_model.specs.Records.{Bytes}
 use Rattle.replay_model.specs.ReplayState.{ReplayState, nothing_delivered_within}
+use Rattle.world.specs.WorldState.{WorldState}
 use Rattle.transcript.specs.Printing.{Output, output}
 use Rattle.session.specs.Counts.{Counts, counts}
+use Rattle.session.specs.Remapping.{Mapped, mapped_in}
 use Rattle.words.specs.Options.{Choices, place_of, terms_of}
 
 -- what deliveries are taken under: what the source of revisions has in its directory, where it is known, and for how many terms
@@ -21,15 +24,17 @@ pub record Setting : Type 0 where
 abbrev pub setting : Option Contents → List ℕ → ℕ → Setting
 setting contents directory room = record { known = option_map (λ (c : Contents). c directory) contents; room = room }
 
--- what the taking of deliveries changes: the output, the counts of the source of revisions, and the world
+-- what the taking of deliveries changes: the output, the counts of the source of revisions, the world, and the versions by which
+-- it maps
 pub record Stage : Type 0 where
   pub output : Output
   pub counts : Counts
   pub world : ReplayState
+  pub mapped : Mapped
 
 -- the stage that these are
-abbrev pub stage : {R K : Type 0} → RevisionsOf R → SinkOf K → R → K → ReplayState → Stage
-stage source sink revisions out world = record { output = output sink out; counts = counts source revisions; world = world }
+abbrev pub stage : {R K : Type 0} → RevisionsOf R → SinkOf K → R → K → WorldState → Stage
+stage source sink revisions out world = record { output = output sink out; counts = counts source revisions; world = world.replay; mapped = mapped_in world }
 
 -- the horizon of the world, if it has one
 abbrev pub horizon_at : Stage → Option ℕ
@@ -37,11 +42,15 @@ horizon_at s = s.world.buffer.horizon
 
 -- the stage with these counts and this world
 abbrev pub onward : Stage → Counts → ReplayState → Stage
-onward s counts world = record { output = s.output; counts = counts; world = world }
+onward s counts world = record { output = s.output; counts = counts; world = world; mapped = s.mapped }
 
 -- the stage with this output
 abbrev pub with_output : Stage → Output → Stage
-with_output s out = record { output = out; counts = s.counts; world = s.world }
+with_output s out = record { output = out; counts = s.counts; world = s.world; mapped = s.mapped }
+
+-- the stage with these versions
+abbrev pub with_mapped : Stage → Mapped → Stage
+with_mapped s mapped = record { output = s.output; counts = s.counts; world = s.world; mapped = mapped }
 
 -- an input at a moment: the bytes that are left of it, where they are known, and how many reads failed, as far as 64 bits
 -- count them
@@ -55,7 +64,7 @@ pub record Moment : Type 0 where
   pub stage : Stage
 
 -- the moment that these are
-abbrev pub moment : {S R K : Type 0} → SourceOf S → RevisionsOf R → SinkOf K → S → R → K → ReplayState → Moment
+abbrev pub moment : {S R K : Type 0} → SourceOf S → RevisionsOf R → SinkOf K → S → R → K → WorldState → Moment
 moment events_of source sink events revisions out world = record {
   input = record { left = events_of.left events; faults = events_of.faults events };
   stage = stage source sink revisions out world;
@@ -66,9 +75,10 @@ pub record Run : Type 0 where
   pub choices : Choices
   pub setting : Setting
 
--- the world that a run of these choices begins with: empty, with the horizon that was chosen
-abbrev pub world_at_start : Choices → ReplayState
-world_at_start choices = nothing_delivered_within choices.horizon
+-- the world that a run of these choices begins with: empty, with the horizon and the room that were chosen, and with the first
+-- version of the mapping
+abbrev pub world_at_start : Choices → WorldState
+world_at_start choices = record { replay = nothing_delivered_within choices.horizon; room = terms_of choices; mapping = One; second = [] }
 
 -- the run of these choices over a source with these contents
 abbrev pub run_of : Option Contents → Choices → Run

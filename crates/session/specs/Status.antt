@@ -1,7 +1,7 @@
 -- The text and the number of each status.
 use Rattle.std.specs.Prelude.{ℕ, List, [], ◌++◌, decimal, codes}
 use Rattle.event_line.specs.declared.faults.LineCause.{LineCause}
-use Rattle.event_line.specs.declared.faults.LineCause.TheVariants.{LineLong, NotJson, NoForm, Kind, Entity, Rev, Time, Mode, Pattern}
+use Rattle.event_line.specs.declared.faults.LineCause.TheVariants.{LineLong, NotJson, NoForm, Kind, Entity, Rev, Time, Mode, Pattern, Mapping}
 use Rattle.session.specs.declared.status.Status.{Status}
 use Rattle.session.specs.declared.status.Status.TheVariants.{Ok as Ended, BadWords, BadLine, ReadFault, WriteFault, TooLong, StoreFull, OutOfMemory}
 
@@ -16,6 +16,7 @@ cause_name Rev = codes "Rev"
 cause_name Time = codes "Time"
 cause_name Mode = codes "Mode"
 cause_name Pattern = codes "Pattern"
+cause_name Mapping = codes "Mapping"
 
 -- the line on a line that is no delivery
 abbrev pub bad_line_text : ℕ → LineCause → List ℕ

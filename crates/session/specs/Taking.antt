@@ -1,25 +1,24 @@
 -- How far a world has come in a play while deliveries are taken, and what the taking of one delivery leaves.
-use Rattle.std.specs.Prelude.{◌≡◌, ◌⊎◌, ⊤, ℕ, ◌<◌, ◌≤◌, ◌+◌, List, [], ◌∷◌, ◌++◌, length, Option, None, Some}
+use Rattle.std.specs.Prelude.{◌≡◌, ◌⊎◌, ⊤, ℕ, ◌≤◌, ◌+◌, List, [], ◌∷◌, ◌++◌, length, Option, None, Some}
 use Rattle.std.specs.Option.{option_to_list}
 use Rattle.wq_io.specs.Streams.{after_known}
 use Rattle.rdf_term.specs.declared.pattern.Pattern.{Pattern}
-use Rattle.rdf_term.specs.Order.{triple_cmp}
 use Rattle.entity_model.specs.declared.id.EntityId.{EntityId}
 use Rattle.entity_json.specs.Document.{unfit_of}
 use Rattle.entity_model.specs.declared.event.Event.{Event}
 use Rattle.entity_model.specs.declared.delivery.Delivery.{Delivery}
-use Rattle.entity_model.specs.declared.delivery.Delivery.TheVariants.{Ask}
+use Rattle.entity_model.specs.declared.delivery.Delivery.TheVariants.{Ask, Mapping}
+use Rattle.entity_model.specs.declared.mapping.MappingVersion.{MappingVersion}
 use Rattle.reorder_buffer.specs.Buffered.{first_due}
+use Rattle.replay_model.specs.Acceptance.{version_in_force}
 use Rattle.replay_model.specs.Records.{Bytes, record_of}
 use Rattle.replay_model.specs.Play.{Fetch, Replies, fetches, fetches_to_end}
 use Rattle.replay_model.specs.Replies.{GivesDocument, HoldsDocument, Judgement, failed_events, source_replies}
 use Rattle.replay_model.specs.ReplayState.{ReplayState, after_some, entered, fetches_due, following, following_to_end}
 use Rattle.replay_model.specs.Explained.{AgreeOnApplied, Explained, revision_wanted}
 use Rattle.replay_model.specs.Transcript.{Sections, ask_section, asks, said as answers_said, transcript}
-use Rattle.replay_model.specs.Union.{union}
 use Rattle.rdf_term.specs.Pattern.{rows}
 use Rattle.world.specs.Meaning.{meaning}
-use Rattle.world.specs.Roomed.{room_with}
 use Rattle.transcript.specs.declared.write.Unwritten.{Unwritten}
 use Rattle.transcript.specs.Printing.{IsCutShort}
 use Rattle.session.specs.declared.stop.Stop.{Stop}
@@ -27,6 +26,7 @@ use Rattle.session.specs.declared.stop.Unapplied.{Unapplied}
 use Rattle.session.specs.declared.stop.Unapplied.TheVariants.{StoreFull, OutOfMemory}
 use Rattle.session.specs.Counts.{Counts, HasCounted, HasCountedWithin}
 use Rattle.session.specs.Moment.{Setting, Stage, onward, horizon_at}
+use Rattle.session.specs.Remapping.{HasNoRoom, IsLeftStale, KeepsVersion, Mapped, held_triples, mapped_by, remapped_some}
 use Rattle.session.specs.Stop.{stop_of_unapplied, stop_of_unwritten}
 
 -- why bytes are no document of an entity
@@ -41,11 +41,13 @@ HoldsDocuments world = (x : EntityId) → HoldsDocument judgement x (record_of w
 abbrev pub replies_there : (ℕ → Option Bytes) → ReplayState → Replies
 replies_there contents world = source_replies judgement contents (failed_events world.played.side)
 
--- a play, by the replies to its fetches: where it leads, what it fetches, and which bytes the output has then
+-- a play, by the replies to its fetches: where it leads, what it fetches, and which bytes the output has then; and the version of the
+-- mapping that is in force there
 pub record Course : Type 0 where
   pub state : Replies → ReplayState
   pub fetched : Replies → List Fetch
   pub bytes : Replies → Option (List ℕ)
+  pub version : MappingVersion
 
 -- the bytes of an output behind what a play with these replies says at the deliveries
 abbrev pub said_behind : List Delivery → Stage → Replies → Option (List ℕ)
@@ -53,7 +55,7 @@ said_behind ds start replies = after_known start.output.bytes (answers_said mean
 
 -- the play of these deliveries
 abbrev pub course_after : List Delivery → Stage → Course
-course_after ds start = record { state = λ replies. following (horizon_at start) replies ds; fetched = λ replies. fetches (horizon_at start) replies ds; bytes = said_behind ds start }
+course_after ds start = record { state = λ replies. following (horizon_at start) replies ds; fetched = λ replies. fetches (horizon_at start) replies ds; bytes = said_behind ds start; version = version_in_force ds }
 
 -- the play of these deliveries and perhaps one more, which says nothing yet
 abbrev pub course_begun : List Delivery → Option Delivery → Stage → Course
@@ -61,7 +63,7 @@ course_begun ds last start = record (course_after (ds ++ option_to_list last) st
 
 -- the play of these deliveries and the end of the input
 abbrev pub course_to_end : List Delivery → Stage → Course
-course_to_end ds start = record { state = λ replies. following_to_end (horizon_at start) replies ds; fetched = λ replies. fetches_to_end (horizon_at start) replies ds; bytes = said_behind ds start }
+course_to_end ds start = record { state = λ replies. following_to_end (horizon_at start) replies ds; fetched = λ replies. fetches_to_end (horizon_at start) replies ds; bytes = said_behind ds start; version = version_in_force ds }
 
 -- the same, and these sections
 abbrev pub course_printed : Sections → List Delivery → Stage → Course
@@ -108,16 +110,18 @@ entered_perhaps w None = w
 entered_perhaps w (Some d) = entered w d
 
 -- the world has taken these deliveries, and no event is due: with some replies, it is where a replay of them leads, and the
--- output has what this replay says
+-- output has what this replay says; and every page is mapped by the version in force
 pub record AtRest (setting : Setting) (ds : List Delivery) (start now : Stage) : Type 0 where
   pub leads : Leads setting (course_after ds start) start now
   pub rests : first_due now.world.buffer ≡ None
+  pub mapped : now.mapped ≡ mapped_by (version_in_force ds) now.world.played.records
   pub later : start.output.faults ≤ now.output.faults
 
--- the world has taken these deliveries and the end of the input, and no event is due
+-- the world has taken these deliveries and the end of the input, no event is due, and every page is mapped by the version in force
 pub record AtEnd (setting : Setting) (ds : List Delivery) (start now : Stage) : Type 0 where
   pub leads : Leads setting (course_to_end ds start) start now
   pub rests : first_due now.world.buffer ≡ None
+  pub mapped : now.mapped ≡ mapped_by (version_in_force ds) now.world.played.records
   pub later : start.output.faults ≤ now.output.faults
 
 -- all due events were applied: where the world led to a play, it does so now
@@ -125,20 +129,19 @@ pub record AppliesDue (setting : Setting) (before now : Counts) (old new : Repla
   pub leads : (course : Course) (start s : Stage) → Leads setting course start (onward s before old) → Leads setting course start (onward s now new)
   pub rests : first_due new.buffer ≡ None
 
--- the least due event wants a page: a document of its entity, and what the source has where it is known; and the triples of
--- all that is held and of this page have more terms than there is room for
-pub record IsFull (setting : Setting) (world : ReplayState) : Type 0 where
+-- the least due event wants a page: a document of its entity, and what the source has where it is known; and there is no room for it
+pub record IsFull (setting : Setting) (world : ReplayState) (mapped : Mapped) : Type 0 where
   pub event : Event
   pub due : first_due world.buffer ≡ Some event
   pub bytes : Bytes
   pub document : judgement event.entity bytes ≡ None
   pub there : (contents : ℕ → Option Bytes) → setting.known ≡ Some contents → contents (revision_wanted world event) ≡ Some bytes
-  pub over : setting.room < room_with world.played.records (meaning event.entity (revision_wanted world event) bytes)
+  pub over : HasNoRoom setting.room world.played.records mapped event.entity (revision_wanted world event) bytes
 
 -- why the least due event isn't applied
-abbrev pub IsHeldUp : Unapplied → Setting → ReplayState → Type 0
-IsHeldUp StoreFull setting world = IsFull setting world
-IsHeldUp OutOfMemory setting world = ⊤
+abbrev pub IsHeldUp : Unapplied → Setting → ReplayState → Mapped → Type 0
+IsHeldUp StoreFull setting world mapped = IsFull setting world mapped
+IsHeldUp OutOfMemory setting world mapped = ⊤
 
 -- a due event wasn't applied: where the world was under way in a play, it is so still
 abbrev pub StaysWithin : Setting → Counts → Counts → ReplayState → ReplayState → Type 0
@@ -164,20 +167,36 @@ pub record AnswersInPart (why : Unwritten) (t : Turn) (before now : Stage) : Typ
   pub pattern : Pattern
   pub is : t.delivery ≡ Ask pattern
   pub world : now.world ≡ before.world
+  pub mapped : now.mapped ≡ before.mapped
   pub counts : now.counts ≡ before.counts
-  pub cut_short : IsCutShort why (ask_section t.asked (rows (union triple_cmp meaning before.world.played.records) pattern)) before.output now.output
+  pub cut_short : IsCutShort why (ask_section t.asked (rows (held_triples before.mapped before.world.played.records) pattern)) before.output now.output
 
 -- an event or a watermark wasn't taken wholly: nothing was printed, and a world that was at rest is as it was, with the counts, or
--- has taken it, with some of what it makes due
+-- has taken it, with some of what it makes due; every page is mapped by the version by which it was, if all were by one
 pub record TakesInPart (why : Unapplied) (setting : Setting) (d : Delivery) (before now : Stage) : Type 0 where
-  pub held_up : IsHeldUp why setting now.world
+  pub held_up : IsHeldUp why setting now.world now.mapped
   pub output : now.output ≡ before.output
+  pub mapped : KeepsVersion before.mapped now.mapped before.world.played.records now.world.played.records
   pub world : (ds : List Delivery) (start : Stage) → AtRest setting ds start before →
       ((now.world ≡ before.world) × (now.counts ≡ before.counts))
       ⊎ IsWithin setting (course_begun ds (Some d) start) (λ replies. entered (following (horizon_at start) replies ds) d) start now
 
--- a delivery wasn't taken, or not wholly: its answer wasn't written, or it or what it makes due wasn't applied
+-- a change of the mapping wasn't taken wholly: its version is in force, and the pages of some entities, the least first, are mapped
+-- by it; all else is as it was
+pub record RemapsInPart (why : Unapplied) (setting : Setting) (d : Delivery) (before now : Stage) : Type 0 where
+  pub version : MappingVersion
+  pub is : d ≡ Mapping version
+  pub left_stale : IsLeftStale why setting.room now.world.played.records now.mapped
+  pub output : now.output ≡ before.output
+  pub counts : now.counts ≡ before.counts
+  pub world : now.world ≡ before.world
+  pub steps : ℕ
+  pub mapped : now.mapped ≡ remapped_some steps before.world.played.records (record { version = version; second = before.mapped.second })
+
+-- a delivery wasn't taken, or not wholly: its answer wasn't written, or it or what it makes due wasn't applied, or not all that is
+-- held was mapped anew
 abbrev pub CutsOff : Stop → Setting → Turn → Stage → Stage → Type 0
 CutsOff stop setting t before now =
     ((why : Unwritten) × (stop ≡ stop_of_unwritten why) × AnswersInPart why t before now)
-    ⊎ ((why : Unapplied) × (stop ≡ stop_of_unapplied why) × TakesInPart why setting t.delivery before now)
+    ⊎ (((why : Unapplied) × (stop ≡ stop_of_unapplied why) × TakesInPart why setting t.delivery before now)
+    ⊎ ((why : Unapplied) × (stop ≡ stop_of_unapplied why) × RemapsInPart why setting t.delivery before now))

@@ -3,11 +3,12 @@
 ghost use Rattle.std.specs.Prelude.{◌≡◌, ◌≤◌, ◌∷◌, [], false, IfErr, OnErr, OnOk};
 ghost use Rattle.replay_model.specs.ReplayState.{after_end, after_event, after_mark};
 ghost use Rattle.replay_model.specs.Transcript.{asks};
-ghost use Rattle.world.specs.Roomed.{HasRoom};
 ghost use Rattle.session.specs.Counts.{HasGoneOn, counts};
 ghost use Rattle.session.specs.Moment.{setting, stage};
+ghost use Rattle.session.specs.Remapping.{HoldsWithin, KeepsVersion, mapped_in};
 ghost use Rattle.session.specs.Taking.{AppliesDue, CutsOff, IsHeldUp, StaysWithin, TakesDelivery, turn};
 
+use crate::remapping::take_mapping;
 use crate::stop::{Stop, Unapplied};
 use entity_model::{Delivery, Event};
 use rdf_term::OutOfMemory;
@@ -24,11 +25,12 @@ pub fn asks(delivery: &Delivery) -> u64
 {
     match delivery {
         Delivery::Ask(_) => 1,
-        Delivery::Event(_) | Delivery::Watermark(_) => 0,
+        Delivery::Event(_) | Delivery::Watermark(_) | Delivery::Mapping(_) => 0,
     }
 }
 
-// Takes one delivery, applies all that it makes due, and answers it if it asks, as the question with the number `asked`.
+// Takes one delivery: all that it makes due is applied, it is answered if it asks, as the question with the number `asked`, and what
+// is held is mapped anew if it changes the mapping.
 pub fn deliver<R: Revisions, K: Sink>(
     alloc: Global,
     directory: &str,
@@ -40,11 +42,11 @@ pub fn deliver<R: Revisions, K: Sink>(
 ) -> Result<(), Stop>
     requires { world.old.replay.buffer.closed ≡ false }
     ensures ok { OnOk result (TakesDelivery (setting (R.contents revisions.old) directory.now world.old.room) (turn asked delivery.now)
-        (stage R.Revisions K.Sink revisions.old out.old world.old.replay) (stage R.Revisions K.Sink revisions.new out.new world.new.replay)) }
+        (stage R.Revisions K.Sink revisions.old out.old world.old) (stage R.Revisions K.Sink revisions.new out.new world.new)) }
     ensures err { IfErr result (λ stop. CutsOff stop (setting (R.contents revisions.old) directory.now world.old.room) (turn asked delivery.now)
-        (stage R.Revisions K.Sink revisions.old out.old world.old.replay) (stage R.Revisions K.Sink revisions.new out.new world.new.replay)) }
+        (stage R.Revisions K.Sink revisions.old out.old world.old) (stage R.Revisions K.Sink revisions.new out.new world.new)) }
     ensures room { world.new.room ≡ world.old.room }
-    ensures held { HasRoom world.old.room world.old.replay.played.records → HasRoom world.old.room world.new.replay.played.records }
+    ensures held { HoldsWithin world.old.room world.old → HoldsWithin world.old.room world.new }
     ensures most { K.most_faults out.new ≡ K.most_faults out.old }
     ensures source { HasGoneOn R.Revisions revisions.old revisions.new }
 {
@@ -52,6 +54,7 @@ pub fn deliver<R: Revisions, K: Sink>(
         Delivery::Event(event) => Ok(take_event(*event, world)?),
         Delivery::Watermark(mark) => Ok(take_mark(directory, mark, revisions, world)?),
         Delivery::Ask(pattern) => Ok(print_answer(alloc, asked, pattern, world, out)?),
+        Delivery::Mapping(version) => Ok(take_mapping(*version, world)?),
     }
 }
 
@@ -65,9 +68,10 @@ pub fn take_end<R: Revisions>(
         (counts R.Revisions revisions.old) (counts R.Revisions revisions.new) (after_end world.old.replay) world.new.replay) }
     ensures err { OnErr result (StaysWithin (setting (R.contents revisions.old) directory.now world.old.room)
         (counts R.Revisions revisions.old) (counts R.Revisions revisions.new) (after_end world.old.replay) world.new.replay) }
-    ensures held_up { IfErr result (λ why. IsHeldUp why (setting (R.contents revisions.old) directory.now world.old.room) world.new.replay) }
+    ensures held_up { IfErr result (λ why. IsHeldUp why (setting (R.contents revisions.old) directory.now world.old.room) world.new.replay (mapped_in world.new)) }
     ensures room { world.new.room ≡ world.old.room }
-    ensures held { HasRoom world.old.room world.new.replay.played.records }
+    ensures held { HoldsWithin world.old.room world.new }
+    ensures versions { KeepsVersion (mapped_in world.old) (mapped_in world.new) world.old.replay.played.records world.new.replay.played.records }
     ensures source { HasGoneOn R.Revisions revisions.old revisions.new }
 {
     world.close();
@@ -85,9 +89,10 @@ fn take_mark<R: Revisions>(
         (counts R.Revisions revisions.old) (counts R.Revisions revisions.new) (after_mark world.old.replay mark.now) world.new.replay) }
     ensures err { OnErr result (StaysWithin (setting (R.contents revisions.old) directory.now world.old.room)
         (counts R.Revisions revisions.old) (counts R.Revisions revisions.new) (after_mark world.old.replay mark.now) world.new.replay) }
-    ensures held_up { IfErr result (λ why. IsHeldUp why (setting (R.contents revisions.old) directory.now world.old.room) world.new.replay) }
+    ensures held_up { IfErr result (λ why. IsHeldUp why (setting (R.contents revisions.old) directory.now world.old.room) world.new.replay (mapped_in world.new)) }
     ensures room { world.new.room ≡ world.old.room }
-    ensures held { HasRoom world.old.room world.new.replay.played.records }
+    ensures held { HoldsWithin world.old.room world.new }
+    ensures versions { KeepsVersion (mapped_in world.old) (mapped_in world.new) world.old.replay.played.records world.new.replay.played.records }
     ensures source { HasGoneOn R.Revisions revisions.old revisions.new }
 {
     raise(mark, world);
@@ -98,6 +103,7 @@ fn take_mark<R: Revisions>(
 fn raise(mark: &i64, world: &mut World)
     ensures mark { world.new.replay ≡ after_mark world.old.replay mark.now }
     ensures room { world.new.room ≡ world.old.room }
+    ensures versions { mapped_in world.new ≡ mapped_in world.old }
 {
     world.raise(*mark);
 }
@@ -107,7 +113,8 @@ fn take_event(event: Event, world: &mut World) -> Result<(), OutOfMemory>
     requires { world.old.replay.buffer.closed ≡ false }
     ensures ok { OnOk result (world.new.replay ≡ after_event world.old.replay event) }
     ensures room { world.new.room ≡ world.old.room }
-    ensures err { OnErr result (world.new.replay ≡ world.old.replay) }
+    ensures versions { mapped_in world.new ≡ mapped_in world.old }
+    ensures err { OnErr result (world.new ≡ world.old) }
 {
     world.take(event)?;
     Ok(())
@@ -123,9 +130,10 @@ fn apply_due<R: Revisions>(
         (counts R.Revisions revisions.old) (counts R.Revisions revisions.new) world.old.replay world.new.replay) }
     ensures err { OnErr result (StaysWithin (setting (R.contents revisions.old) directory.now world.old.room)
         (counts R.Revisions revisions.old) (counts R.Revisions revisions.new) world.old.replay world.new.replay) }
-    ensures held_up { IfErr result (λ why. IsHeldUp why (setting (R.contents revisions.old) directory.now world.old.room) world.new.replay) }
+    ensures held_up { IfErr result (λ why. IsHeldUp why (setting (R.contents revisions.old) directory.now world.old.room) world.new.replay (mapped_in world.new)) }
     ensures room { world.new.room ≡ world.old.room }
-    ensures held { HasRoom world.old.room world.new.replay.played.records }
+    ensures held { HoldsWithin world.old.room world.new }
+    ensures versions { KeepsVersion (mapped_in world.old) (mapped_in world.new) world.old.replay.played.records world.new.replay.played.records }
     ensures source { HasGoneOn R.Revisions revisions.old revisions.new }
 {
     loop {

@@ -1,6 +1,7 @@
 // A drill: a replay of deliveries and pages that are made from its size, and its summary.
 
-ghost use Rattle.std.specs.Prelude.{◌≡◌, ◌≤◌, IfErr, OnOk};
+ghost use Rattle.std.specs.Prelude.{◌≡◌, ◌≤◌, [], IfErr, OnOk};
+ghost use Rattle.entity_model.specs.declared.mapping.MappingVersion.{MappingVersion};
 ghost use Rattle.replay_model.specs.ReplayState.{nothing_delivered};
 ghost use Rattle.transcript.specs.Printing.{output};
 ghost use Rattle.session.specs.Drilling.{DrillStopped, HasDrilled};
@@ -25,6 +26,8 @@ pub fn drill<K: Sink>(
 ) -> Result<(), Unwritten>
     requires size { (1 ≤ size) × (size ≤ greatest_size) }
     requires world { world.old.replay ≡ nothing_delivered }
+    requires mapping { world.old.mapping ≡ MappingVersion.One }
+    requires second { world.old.second ≡ [] }
     ensures ok { OnOk result (HasDrilled size (output K.Sink out.old) (output K.Sink out.new) world.new.replay) }
     ensures most { K.most_faults out.new ≡ K.most_faults out.old }
     ensures err { IfErr result (λ why. DrillStopped why size (output K.Sink out.old) (output K.Sink out.new) world.new.replay) }

@@ -10,9 +10,8 @@ ghost use Rattle.entity_model.specs.declared.event.Event.{Event};
 ghost use Rattle.entity_model.specs.declared.id.EntityId.{EntityId};
 ghost use Rattle.entity_model.specs.Event.{event_cmp};
 ghost use Rattle.entity_state.specs.State.{is_kept};
-ghost use Rattle.replay_model.specs.Acceptance.{accepted, late};
+ghost use Rattle.replay_model.specs.Acceptance.{accepted, late, version_in_force};
 ghost use Rattle.replay_model.specs.Records.{Bytes, is_settled, record_of};
-ghost use Rattle.replay_model.specs.Union.{union};
 ghost use Rattle.world.specs.Meaning.{meaning};
 ghost use Rattle.words.specs.Options.{limit_of};
 ghost use Rattle.session.specs.declared.status.Status.{Status};
@@ -21,16 +20,19 @@ ghost use Rattle.session.specs.Headline.{Ending, Stopped};
 ghost use Rattle.session.specs.Moment.{Moment, Run, horizon_at};
 ghost use Rattle.session.specs.Reading.{AreDeliveries};
 ghost use Rattle.session.specs.Stop.{stop_of};
+ghost use Rattle.session.specs.Remapping.{IsFullOfStale, held_triples};
 ghost use Rattle.session.specs.Taking.{IsFull, judgement};
 
 /// A replay ends well, or for want of memory, where the words are understood, each line of the input is a delivery, the input is
-/// within the limit, no read and no write fails, and the page that the least due event wants has room.
+/// within the limit, no read and no write fails, and there is room for the page that the least due event wants and for the next page
+/// that is to be mapped anew.
 pub fn good_input_is_replayed()
     ensures { (run : Run) (before now : Moment) (status : Status) (bytes : List ℕ) (ds : List Delivery) →
         (status ≡ Status.BadWords → ⊥) → IfSome (stop_of status) (λ stop. Stopped stop run before now) →
         before.input.left ≡ Some bytes → AreDeliveries (limit_of run.choices) bytes ds →
         IsStill before.input.faults now.input.faults → IsStill before.stage.output.faults now.stage.output.faults →
-        (IsFull run.setting now.stage.world → ⊥) →
+        (IsFull run.setting now.stage.world now.stage.mapped → ⊥) →
+        (IsFullOfStale run.setting.room now.stage.world.played.records now.stage.mapped → ⊥) →
         (status ≡ Status.Ok) ⊎ (status ≡ Status.OutOfMemory) }
 {}
 
@@ -45,13 +47,14 @@ pub fn unsettled_pages_have_no_document()
 {}
 
 /// After a replay that ended well over told contents, and that left each entity settled, the triples of all that is held are those
-/// that the kept revisions mean, as the source has them.
+/// that the kept revisions mean, as the source has them, by the version of the mapping that is in force at the end.
 pub fn settled_pages_are_the_union()
-    ensures { (run : Run) (before now : Moment) (contents : ℕ → Option Bytes) →
-        Ending run before now → run.setting.known ≡ Some contents →
+    ensures { (run : Run) (before now : Moment) (contents : ℕ → Option Bytes) → (ending : Ending run before now) →
+        run.setting.known ≡ Some contents →
         ((x : EntityId) → is_settled (record_of now.stage.world.played.records x) ≡ true) →
-        union triple_cmp meaning now.stage.world.played.records
-        ≡ sorted triple_cmp (flat_map (λ entry. triples_in meaning contents entry.0 entry.1.state) (map.entries now.stage.world.played.records)) }
+        held_triples now.stage.mapped now.stage.world.played.records
+        ≡ sorted triple_cmp (flat_map (λ entry. triples_in (meaning (version_in_force ending.replayed.deliveries)) contents entry.0 entry.1.state)
+        (map.entries now.stage.world.played.records)) }
 {}
 
 /// After a replay that ended well over told contents, and whose fetches didn't fail, the side output is empty where no delivery is late

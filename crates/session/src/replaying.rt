@@ -1,13 +1,14 @@
 // A replay: the lines of the input, the end, and the sections that are asked for.
 
-ghost use Rattle.std.specs.Prelude.{◌≡◌, ◌≤◌, IfErr, IfSome, OnOk};
-ghost use Rattle.world.specs.Roomed.{HasRoom};
+ghost use Rattle.std.specs.Prelude.{◌≡◌, ◌≤◌, [], IfErr, IfSome, OnOk};
+ghost use Rattle.entity_model.specs.declared.mapping.MappingVersion.{MappingVersion};
 ghost use Rattle.replay_model.specs.ReplayState.{nothing_delivered, nothing_delivered_within};
 ghost use Rattle.transcript.specs.Sections.{chosen};
 ghost use Rattle.session.specs.Counts.{HasGoneOn};
 ghost use Rattle.session.specs.Headline.{Ending, HasReplayed, Stopped};
 ghost use Rattle.session.specs.Moment.{moment, run_of, world_at_start};
 ghost use Rattle.session.specs.Reading.{TakesByNeed};
+ghost use Rattle.session.specs.Remapping.{HoldsWithin};
 ghost use Rattle.session.specs.Sections.{sections_of};
 ghost use Rattle.words.specs.Options.{limit_of, terms_of};
 
@@ -30,16 +31,18 @@ pub fn replay<S: Source, R: Revisions, K: Sink>(
     out: &mut K,
     world: &mut World,
 ) -> Result<(), Stop>
-    requires { world.old.replay ≡ nothing_delivered }
+    requires world { world.old.replay ≡ nothing_delivered }
+    requires mapping { world.old.mapping ≡ MappingVersion.One }
+    requires second { world.old.second ≡ [] }
     ensures ok { OnOk result (Ending (run_of (R.contents revisions.old) options.now)
         (moment S.Source R.Revisions K.Sink events.old revisions.old out.old (world_at_start options.now))
-        (moment S.Source R.Revisions K.Sink events.new revisions.new out.new world.new.replay)) }
+        (moment S.Source R.Revisions K.Sink events.new revisions.new out.new world.new)) }
     ensures taken { IfSome (S.left events.old) (λ bytes. TakesByNeed (limit_of options.now) bytes (S.left events.new)) }
     ensures most { (S.most_faults events.new ≡ S.most_faults events.old) × (K.most_faults out.new ≡ K.most_faults out.old) }
     ensures err { IfErr result (λ stop. Stopped stop (run_of (R.contents revisions.old) options.now)
         (moment S.Source R.Revisions K.Sink events.old revisions.old out.old (world_at_start options.now))
-        (moment S.Source R.Revisions K.Sink events.new revisions.new out.new world.new.replay)) }
-    ensures held { HasRoom (terms_of options.now) world.new.replay.played.records }
+        (moment S.Source R.Revisions K.Sink events.new revisions.new out.new world.new)) }
+    ensures held { HoldsWithin (terms_of options.now) world.new }
     ensures source { HasGoneOn R.Revisions revisions.old revisions.new }
 {
     set_horizon(options, world);
@@ -48,8 +51,12 @@ pub fn replay<S: Source, R: Revisions, K: Sink>(
 
 // Sets the horizon that is asked for, if one is.
 fn set_horizon(options: &ReplayOptions<'_>, world: &mut World)
-    requires { world.old.replay ≡ nothing_delivered }
-    ensures { world.new.replay ≡ world_at_start options.now }
+    requires world { world.old.replay ≡ nothing_delivered }
+    requires mapping { world.old.mapping ≡ MappingVersion.One }
+    requires second { world.old.second ≡ [] }
+    ensures replay { world.new.replay ≡ (world_at_start options.now).replay }
+    ensures mapping { world.new.mapping ≡ MappingVersion.One }
+    ensures second { world.new.second ≡ [] }
 {
     if let Some(micros) = options.horizon() {
         world.set_horizon(micros);
@@ -65,16 +72,18 @@ fn replay_within<S: Source, R: Revisions, K: Sink>(
     out: &mut K,
     world: &mut World,
 ) -> Result<(), Stop>
-    requires { world.old.replay ≡ nothing_delivered_within world.old.replay.buffer.horizon }
+    requires world { world.old.replay ≡ nothing_delivered_within world.old.replay.buffer.horizon }
+    requires mapping { world.old.mapping ≡ MappingVersion.One }
+    requires second { world.old.second ≡ [] }
     ensures ok { OnOk result (Ending (run_of (R.contents revisions.old) options.now)
-        (moment S.Source R.Revisions K.Sink events.old revisions.old out.old world.old.replay)
-        (moment S.Source R.Revisions K.Sink events.new revisions.new out.new world.new.replay)) }
+        (moment S.Source R.Revisions K.Sink events.old revisions.old out.old world.old)
+        (moment S.Source R.Revisions K.Sink events.new revisions.new out.new world.new)) }
     ensures taken { IfSome (S.left events.old) (λ bytes. TakesByNeed (limit_of options.now) bytes (S.left events.new)) }
     ensures most { (S.most_faults events.new ≡ S.most_faults events.old) × (K.most_faults out.new ≡ K.most_faults out.old) }
     ensures err { IfErr result (λ stop. Stopped stop (run_of (R.contents revisions.old) options.now)
-        (moment S.Source R.Revisions K.Sink events.old revisions.old out.old world.old.replay)
-        (moment S.Source R.Revisions K.Sink events.new revisions.new out.new world.new.replay)) }
-    ensures held { HasRoom (terms_of options.now) world.new.replay.played.records }
+        (moment S.Source R.Revisions K.Sink events.old revisions.old out.old world.old)
+        (moment S.Source R.Revisions K.Sink events.new revisions.new out.new world.new)) }
+    ensures held { HoldsWithin (terms_of options.now) world.new }
     ensures source { HasGoneOn R.Revisions revisions.old revisions.new }
 {
     let arguments = take_arguments(alloc, options)?;
@@ -104,17 +113,19 @@ fn take_all<S: Source, R: Revisions, K: Sink>(
     world: &mut World,
 ) -> Result<(), Stop>
     requires world { world.old.replay ≡ nothing_delivered_within world.old.replay.buffer.horizon }
+    requires mapping { world.old.mapping ≡ MappingVersion.One }
+    requires second { world.old.second ≡ [] }
     requires room { world.old.room ≡ terms_of plan.now }
-    requires held { HasRoom world.old.room world.old.replay.played.records }
+    requires held { HoldsWithin world.old.room world.old }
     ensures ok { OnOk result (HasReplayed (run_of (R.contents revisions.old) plan.now)
-        (moment S.Source R.Revisions K.Sink events.old revisions.old out.old world.old.replay)
-        (moment S.Source R.Revisions K.Sink events.new revisions.new out.new world.new.replay)) }
+        (moment S.Source R.Revisions K.Sink events.old revisions.old out.old world.old)
+        (moment S.Source R.Revisions K.Sink events.new revisions.new out.new world.new)) }
     ensures taken { IfSome (S.left events.old) (λ bytes. TakesByNeed (limit_of plan.now) bytes (S.left events.new)) }
     ensures most { (S.most_faults events.new ≡ S.most_faults events.old) × (K.most_faults out.new ≡ K.most_faults out.old) }
     ensures err { IfErr result (λ stop. Stopped stop (run_of (R.contents revisions.old) plan.now)
-        (moment S.Source R.Revisions K.Sink events.old revisions.old out.old world.old.replay)
-        (moment S.Source R.Revisions K.Sink events.new revisions.new out.new world.new.replay)) }
-    ensures held { HasRoom world.old.room world.new.replay.played.records }
+        (moment S.Source R.Revisions K.Sink events.old revisions.old out.old world.old)
+        (moment S.Source R.Revisions K.Sink events.new revisions.new out.new world.new)) }
+    ensures held { HoldsWithin world.old.room world.new }
     ensures source { HasGoneOn R.Revisions revisions.old revisions.new }
     ensures later { OnOk result (K.faults out.old ≤ K.faults out.new) }
 {

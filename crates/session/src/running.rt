@@ -1,13 +1,14 @@
 // The top call.
 
-ghost use Rattle.std.specs.Prelude.{◌≡◌, ◌⊎◌, ◌↔◌, ℕ, ◌≤◌, None, Some, map, string_bytes, IfSome};
+ghost use Rattle.std.specs.Prelude.{◌≡◌, ◌⊎◌, ◌↔◌, ℕ, ◌≤◌, [], None, Some, map, string_bytes, IfSome};
 ghost use Rattle.wq_io.specs.Streams.{Rose};
 ghost use Rattle.replay_model.specs.ReplayState.{nothing_delivered};
-ghost use Rattle.world.specs.Roomed.{HasRoom};
+ghost use Rattle.entity_model.specs.declared.mapping.MappingVersion.{MappingVersion};
 ghost use Rattle.session.specs.Drilling.{DrillEnding};
 ghost use Rattle.session.specs.Headline.{Ending, Stopped};
 ghost use Rattle.session.specs.Moment.{moment, run_of, stage, world_at_start};
 ghost use Rattle.session.specs.Reading.{TakesByNeed};
+ghost use Rattle.session.specs.Remapping.{HoldsWithin};
 ghost use Rattle.session.specs.Stop.{stop_of};
 ghost use Rattle.words.specs.Options.{Choices, limit_of, terms_of};
 ghost use Rattle.words.specs.Plan.{plan_of};
@@ -35,7 +36,9 @@ pub fn run<S: Source, R: Revisions, K: Sink>(
     out: &mut K,
     world: &mut World,
 ) -> Status
-    requires { world.old.replay ≡ nothing_delivered }
+    requires world { world.old.replay ≡ nothing_delivered }
+    requires mapping { world.old.mapping ≡ MappingVersion.One }
+    requires second { world.old.second ≡ [] }
     ensures bad_words { (result ≡ Status.BadWords) ↔ (plan_of (map (λ w. string_bytes w) words.now) ≡ None) }
     ensures untouched { result ≡ Status.BadWords →
         (events.new ≡ events.old) × (revisions.new ≡ revisions.old) × (out.new ≡ out.old) × (world.new ≡ world.old) }
@@ -45,13 +48,13 @@ pub fn run<S: Source, R: Revisions, K: Sink>(
     ensures ok { result ≡ Status.Ok → (choices : Choices) → plan_of (map (λ w. string_bytes w) words.now) ≡ Some (Replay choices) →
         Ending (run_of (R.contents revisions.old) choices)
         (moment S.Source R.Revisions K.Sink events.old revisions.old out.old (world_at_start choices))
-        (moment S.Source R.Revisions K.Sink events.new revisions.new out.new world.new.replay) }
+        (moment S.Source R.Revisions K.Sink events.new revisions.new out.new world.new) }
 
     // Each other ending has its cause, and leaves the world of the lines before, with the answers to their questions.
     ensures stopped { IfSome (stop_of result) (λ stop. (choices : Choices) → plan_of (map (λ w. string_bytes w) words.now) ≡ Some (Replay choices) →
         Stopped stop (run_of (R.contents revisions.old) choices)
         (moment S.Source R.Revisions K.Sink events.old revisions.old out.old (world_at_start choices))
-        (moment S.Source R.Revisions K.Sink events.new revisions.new out.new world.new.replay)) }
+        (moment S.Source R.Revisions K.Sink events.new revisions.new out.new world.new)) }
 
     // However a replay ends, the input was read no further than it had to be.
     ensures taken { (choices : Choices) → plan_of (map (λ w. string_bytes w) words.now) ≡ Some (Replay choices) →
@@ -59,13 +62,13 @@ pub fn run<S: Source, R: Revisions, K: Sink>(
 
     // However a replay ends, what is held has no more different terms than the words allow.
     ensures held { (choices : Choices) → plan_of (map (λ w. string_bytes w) words.now) ≡ Some (Replay choices) →
-        HasRoom (terms_of choices) world.new.replay.played.records }
+        HoldsWithin (terms_of choices) world.new }
 
     // A drill ends well, or while it printed, or for want of memory.
     ensures drilled { (size : ℕ) → plan_of (map (λ w. string_bytes w) words.now) ≡ Some (Drill size) →
         DrillEnding result size
-        (stage R.Revisions K.Sink revisions.old out.old world.old.replay)
-        (stage R.Revisions K.Sink revisions.new out.new world.new.replay) }
+        (stage R.Revisions K.Sink revisions.old out.old world.old)
+        (stage R.Revisions K.Sink revisions.new out.new world.new) }
 
     ensures drilled_alone { (size : ℕ) → plan_of (map (λ w. string_bytes w) words.now) ≡ Some (Drill size) →
         (events.new ≡ events.old) × (revisions.new ≡ revisions.old) }

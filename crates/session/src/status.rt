@@ -84,5 +84,6 @@ fn cause_name(cause: LineCause) -> &'static str
         LineCause::Time => "Time",
         LineCause::Mode => "Mode",
         LineCause::Pattern => "Pattern",
+        LineCause::Mapping => "Mapping",
     }
 }

@@ -1,7 +1,7 @@
 // The lines of the input are taken one by one.
 
-ghost use Rattle.std.specs.Prelude.{◌≡◌, ◌⊎◌, Ok, Err, IfErr, IfOk, IfSome, OnOk};
-ghost use Rattle.world.specs.Roomed.{HasRoom};
+ghost use Rattle.std.specs.Prelude.{◌≡◌, ◌⊎◌, [], Ok, Err, IfErr, IfOk, IfSome, OnOk};
+ghost use Rattle.entity_model.specs.declared.mapping.MappingVersion.{MappingVersion};
 ghost use Rattle.replay_model.specs.ReplayState.{nothing_delivered_within};
 ghost use Rattle.event_line.specs.declared.faults.LineCause.{LineCause};
 ghost use Rattle.event_line.specs.Line.{delivery_of};
@@ -10,6 +10,7 @@ ghost use Rattle.session.specs.Counts.{HasGoneOn};
 ghost use Rattle.session.specs.Headline.{Stopped};
 ghost use Rattle.session.specs.Moment.{moment, run_of};
 ghost use Rattle.session.specs.Reading.{TakesByNeed};
+ghost use Rattle.session.specs.Remapping.{HoldsWithin};
 ghost use Rattle.session.specs.Stops.{HasTaken};
 ghost use Rattle.words.specs.Options.{limit_of, terms_of};
 
@@ -34,18 +35,20 @@ pub fn take_lines<S: Source, R: Revisions, K: Sink>(
     world: &mut World,
 ) -> Result<(), Stop>
     requires world { world.old.replay ≡ nothing_delivered_within world.old.replay.buffer.horizon }
+    requires mapping { world.old.mapping ≡ MappingVersion.One }
+    requires second { world.old.second ≡ [] }
     requires room { world.old.room ≡ terms_of plan.now }
-    requires held { HasRoom world.old.room world.old.replay.played.records }
+    requires held { HoldsWithin world.old.room world.old }
     ensures ok { OnOk result (HasTaken (run_of (R.contents revisions.old) plan.now)
-        (moment S.Source R.Revisions K.Sink events.old revisions.old out.old world.old.replay)
-        (moment S.Source R.Revisions K.Sink events.new revisions.new out.new world.new.replay)) }
+        (moment S.Source R.Revisions K.Sink events.old revisions.old out.old world.old)
+        (moment S.Source R.Revisions K.Sink events.new revisions.new out.new world.new)) }
     ensures taken { IfSome (S.left events.old) (λ bytes. TakesByNeed (limit_of plan.now) bytes (S.left events.new)) }
     ensures most { (S.most_faults events.new ≡ S.most_faults events.old) × (K.most_faults out.new ≡ K.most_faults out.old) }
     ensures room { OnOk result (world.new.room ≡ world.old.room) }
-    ensures held { HasRoom world.old.room world.new.replay.played.records }
+    ensures held { HoldsWithin world.old.room world.new }
     ensures err { IfErr result (λ stop. Stopped stop (run_of (R.contents revisions.old) plan.now)
-        (moment S.Source R.Revisions K.Sink events.old revisions.old out.old world.old.replay)
-        (moment S.Source R.Revisions K.Sink events.new revisions.new out.new world.new.replay)) }
+        (moment S.Source R.Revisions K.Sink events.old revisions.old out.old world.old)
+        (moment S.Source R.Revisions K.Sink events.new revisions.new out.new world.new)) }
     ensures source { HasGoneOn R.Revisions revisions.old revisions.new }
 {
     let directory = plan.place();

@@ -2,12 +2,13 @@
 
 ghost use Rattle.std.specs.Prelude.{◌≡◌, cond, []};
 ghost use Rattle.rdf_term.specs.Order.{triple_cmp};
-ghost use Rattle.replay_model.specs.Transcript.{ask_section, closing, export_section, side_section, state_section};
+ghost use Rattle.replay_model.specs.Transcript.{ask_section, export_section, side_section, state_section};
 ghost use Rattle.replay_model.specs.Union.{union};
+ghost use Rattle.replay_model.specs.Versions.{meaning_by};
 ghost use Rattle.rdf_term.specs.Pattern.{rows};
 ghost use Rattle.world.specs.Meaning.{meaning};
 ghost use Rattle.transcript.specs.Printing.{Prints, output};
-ghost use Rattle.transcript.specs.Sections.{chosen};
+ghost use Rattle.transcript.specs.Sections.{chosen, closing_of};
 
 use crate::entries::print_entries;
 use crate::lines::{answer_line, export_line};
@@ -42,7 +43,7 @@ pub fn print_answer<K: Sink>(
     world: &World,
     out: &mut K,
 ) -> Result<(), Unwritten>
-    ensures { Prints (ask_section number (rows (union triple_cmp meaning world.now.replay.played.records) pattern.now))
+    ensures { Prints (ask_section number (rows (union triple_cmp (meaning_by meaning world.now.second) world.now.replay.played.records) pattern.now))
         (output K.Sink out.old) (output K.Sink out.new) result }
 {
     let triples = world.matches(pattern)?;
@@ -60,7 +61,8 @@ pub fn print_closing<K: Sink>(
     world: &World,
     out: &mut K,
 ) -> Result<(), Unwritten>
-    ensures { Prints (closing meaning (chosen sections) world.now.replay.played) (output K.Sink out.old) (output K.Sink out.new) result }
+    ensures { Prints (closing_of (union triple_cmp (meaning_by meaning world.now.second) world.now.replay.played.records) (chosen sections) world.now.replay.played)
+        (output K.Sink out.old) (output K.Sink out.new) result }
 {
     print_export(alloc, sections.export, world, out)?;
     print_state(alloc, sections.state, world, out)?;
@@ -74,7 +76,7 @@ fn print_export<K: Sink>(
     world: &World,
     out: &mut K,
 ) -> Result<(), Unwritten>
-    ensures { Prints (cond wanted (export_section (union triple_cmp meaning world.now.replay.played.records)) [])
+    ensures { Prints (cond wanted (export_section (union triple_cmp (meaning_by meaning world.now.second) world.now.replay.played.records)) [])
         (output K.Sink out.old) (output K.Sink out.new) result }
 {
     if !wanted {

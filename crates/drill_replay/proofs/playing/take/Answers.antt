@@ -1,7 +1,7 @@
 -- After each delivery the world is that of the replay.
 use Rattle.std.proofs.Common.{ap}
 use Rattle.world.specs.WorldState.{WorldState}
-use Rattle.drill_replay.proofs.Taking.{ask_after, event_after, mark_after}
+use Rattle.drill_replay.proofs.Taking.{ask_after, event_after, mapping_after, mark_after}
 use Rattle.drill_replay.proofs.playing.take.Goals as goal
 
 pub returns-in_ok-take-in-Event-clause-ok : goal.returns-in_ok-take-in-Event-clause-ok
@@ -13,3 +13,6 @@ returns-in_ok-apply_due-in-Watermark-clause-ok c =
 
 pub returns-in-Ask-clause-ok : goal.returns-in-Ask-clause-ok
 returns-in-Ask-clause-ok c = rw c.in-Ask.is (λ ds after. ask_after c.args.size ds c.args.world.now.replay c.in-Ask.field-0 after)
+
+pub returns-in-Mapping-clause-ok : goal.returns-in-Mapping-clause-ok
+returns-in-Mapping-clause-ok c = rw c.in-Mapping.is (λ ds after. mapping_after c.args.size ds c.args.world.now.replay c.in-Mapping.field-0 after)

@@ -2,6 +2,7 @@
 use Rattle.std.proofs.Common.{◌≡◌, length}
 use Rattle.session.specs.Counts.{HasGoneOn, counts}
 use Rattle.session.specs.Moment.{setting}
+use Rattle.session.specs.Remapping.{KeepsVersion, mapped_in}
 use Rattle.session.proofs.Due.{Goes}
 use Rattle.session.proofs.delivering.apply_due.Given as goal
 
@@ -10,6 +11,7 @@ invariant-loop g l =
     Goes (setting (g.R.Revisions.contents l.fn.revisions) l.directory l.fn.world.room) (counts g.R.Revisions l.fn.revisions) (counts g.R.Revisions l.revisions) l.fn.world.replay l.world.replay
     × HasGoneOn g.R.Revisions l.fn.revisions l.revisions
     × (l.world.room ≡ l.fn.world.room)
+    × KeepsVersion (mapped_in l.fn.world) (mapped_in l.world) l.fn.world.replay.played.records l.world.replay.played.records
 
 abbrev pub decreases-loop : goal.decreases-loop
 decreases-loop g l = length l.world.replay.buffer.waiting

@@ -12,3 +12,6 @@ returns-clause-held_up g c = rw c.close.ensures at c.apply_due.ensures.held_up
 
 pub returns-clause-held : goal.returns-clause-held
 returns-clause-held g c = rw c.close.ensures at c.apply_due.ensures.held
+
+pub returns-clause-versions : goal.returns-clause-versions
+returns-clause-versions g c = rw c.close.ensures at c.apply_due.ensures.versions

@@ -3,6 +3,7 @@ use Rattle.std.proofs.Common.{inl, ◌∙◌}
 use Rattle.std.specs.FinMap.{len-empty}
 use Rattle.std.proofs.lemmas.Result.{err_from_is_err_and}
 use Rattle.session.specs.Moment.{Moment, Run, moment, run_of}
+use Rattle.session.specs.Headline.{HasReplayed}
 use Rattle.session.proofs.Ends.{broken_off, ending, prints_asked}
 use Rattle.replay_model.specs.Play.{nothing_played}
 use Rattle.world.proofs.Rooming.{nothing_held}
@@ -14,7 +15,7 @@ pub returns-in_err-arguments-clause-err : goal.returns-in_err-arguments-clause-e
 returns-in_err-arguments-clause-err g c =
     let p = err_from_is_err_and c.from_residual.result c.from_residual.ensures.1 in
     let run : Run = run_of (g.R.Revisions.contents c.args.revisions.now) c.args.options.now in
-    rw (p.1, p.2, c.requires) (inl (inl (stands_at_start run _ _ _ _)))
+    rw (p.1, p.2, c.requires.world, c.requires.mapping, c.requires.second) (inl (inl (inl (stands_at_start run _ _ _ _))))
 
 pub returns-in_err-take_all-clause-err : goal.returns-in_err-take_all-clause-err
 returns-in_err-take_all-clause-err g c =
@@ -24,20 +25,22 @@ returns-in_err-take_all-clause-err g c =
 pub returns-clause-ok : goal.returns-clause-ok
 returns-clause-ok g c =
     let run : Run = run_of (g.R.Revisions.contents c.args.revisions.now) c.args.options.now in
-    let before : Moment = moment g.S.Source g.R.Revisions g.K.Sink c.args.events.now c.args.revisions.now c.args.out.now c.args.world.now.replay in
-    let between : Moment = moment g.S.Source g.R.Revisions g.K.Sink c.take_all.new.events c.take_all.new.revisions c.take_all.new.out c.take_all.new.world.replay in
-    ending run before between _ (rw (c.in_ok-arguments.ensures, c.set_room.ensures) at c.in_ok-take_all.ensures.ok) (prints_asked _ _ _ _ _ _ (rw c.in_ok-arguments.ensures at c.sections.ensures) c.in_ok-print_closing.ensures)
+    let before : Moment = moment g.S.Source g.R.Revisions g.K.Sink c.args.events.now c.args.revisions.now c.args.out.now c.args.world.now in
+    let between : Moment = moment g.S.Source g.R.Revisions g.K.Sink c.take_all.new.events c.take_all.new.revisions c.take_all.new.out c.take_all.new.world in
+    let replayed : HasReplayed run before between = rw (c.in_ok-arguments.ensures, c.set_room.ensures) at c.in_ok-take_all.ensures.ok in
+    ending run before between _ replayed (prints_asked _ _ _ _ _ _ _ _ (rw c.in_ok-arguments.ensures at c.sections.ensures) replayed.replay.played.mapped c.in_ok-print_closing.ensures)
 
 pub returns-in_err-print_closing-clause-err : goal.returns-in_err-print_closing-clause-err
 returns-in_err-print_closing-clause-err g c =
     let run : Run = run_of (g.R.Revisions.contents c.args.revisions.now) c.args.options.now in
-    let before : Moment = moment g.S.Source g.R.Revisions g.K.Sink c.args.events.now c.args.revisions.now c.args.out.now c.args.world.now.replay in
-    let between : Moment = moment g.S.Source g.R.Revisions g.K.Sink c.take_all.new.events c.take_all.new.revisions c.take_all.new.out c.take_all.new.world.replay in
+    let before : Moment = moment g.S.Source g.R.Revisions g.K.Sink c.args.events.now c.args.revisions.now c.args.out.now c.args.world.now in
+    let between : Moment = moment g.S.Source g.R.Revisions g.K.Sink c.take_all.new.events c.take_all.new.revisions c.take_all.new.out c.take_all.new.world in
     let p = err_from_is_err_and c.from_residual-in_err-print_closing.result c.from_residual-in_err-print_closing.ensures.1 in
-    rw (p.1, p.2) (broken_off _ run before between _ (rw (c.in_ok-arguments.ensures, c.set_room.ensures) at c.in_ok-take_all.ensures.ok) c.in_ok-take_all.ensures.later (prints_asked _ _ _ _ _ _ (rw c.in_ok-arguments.ensures at c.sections.ensures) c.in_err-print_closing.ensures))
+    let replayed : HasReplayed run before between = rw (c.in_ok-arguments.ensures, c.set_room.ensures) at c.in_ok-take_all.ensures.ok in
+    rw (p.1, p.2) (broken_off _ run before between _ replayed c.in_ok-take_all.ensures.later (prints_asked _ _ _ _ _ _ _ _ (rw c.in_ok-arguments.ensures at c.sections.ensures) replayed.replay.played.mapped c.in_err-print_closing.ensures))
 
 pub set_room-requires : goal.set_room-requires
-set_room-requires g c = rw c.requires (len-empty _ _)
+set_room-requires g c = rw c.requires.world (len-empty _ _)
 
 pub returns-in_err-arguments-clause-taken : goal.returns-in_err-arguments-clause-taken
 returns-in_err-arguments-clause-taken g c = nothing_taken_of _ _
@@ -58,7 +61,7 @@ pub returns-clause-most : goal.returns-clause-most
 returns-clause-most g c = (c.take_all.ensures.most.0, c.print_closing.ensures.most ∙ c.take_all.ensures.most.1)
 
 pub returns-in_err-arguments-clause-held : goal.returns-in_err-arguments-clause-held
-returns-in_err-arguments-clause-held g c = rw c.requires (nothing_held nothing_played.records _ (len-empty _ _))
+returns-in_err-arguments-clause-held g c = rw c.requires.world (nothing_held _ nothing_played.records _ (len-empty _ _))
 
 pub returns-in_err-take_all-clause-held : goal.returns-in_err-take_all-clause-held
 returns-in_err-take_all-clause-held g c = rw (c.set_room.ensures, c.terms.ensures, c.in_ok-arguments.ensures) at c.take_all.ensures.held
@@ -70,4 +73,4 @@ pub returns-clause-held : goal.returns-clause-held
 returns-clause-held g c = rw (c.set_room.ensures, c.terms.ensures, c.in_ok-arguments.ensures) at c.take_all.ensures.held
 
 pub take_all-requires-clause-held : goal.take_all-requires-clause-held
-take_all-requires-clause-held g c = rw (c.set_room.ensures, c.requires) (nothing_held nothing_played.records _ (len-empty _ _))
+take_all-requires-clause-held g c = rw (c.set_room.ensures, c.requires.world) (nothing_held _ nothing_played.records _ (len-empty _ _))

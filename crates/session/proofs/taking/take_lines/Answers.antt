@@ -11,7 +11,7 @@ use Rattle.session.proofs.taking.take_lines.Goals as goal
 pub loop-line-init : goal.loop-line-init
 loop-line-init g c =
     let run : Run = run_of (g.R.Revisions.contents c.args.revisions.now) c.args.plan.now in (
-      rw (c.new-lines.ensures, c.limit.ensures.value, c.requires.world) (nothing_begun run _ _ _ _),
+      rw (c.new-lines.ensures, c.limit.ensures.value, c.requires.world, c.requires.mapping, c.requires.second) (nothing_begun run _ _ _ _),
       record { known = refl; faults = omega arith; misses = omega arith; most = refl },
       refl,
       (refl, refl),
@@ -44,7 +44,7 @@ returns-in_err-deliver-clause-err g c =
     let delivered = rw c.as_slice.ensures.value at c.in_ok-delivery.ensures.ok in
     let cuts = rw (c.loop-line.invariant.1.known, c.place-directory.ensures, c.loop-line.invariant.2 ∙ c.requires.room) at c.in_err-deliver.ensures.err in
     rw (p.1, p.2) (delivery_stops _ _ _ _ _ c.loop-line.invariant.0 c.next.new.line.items c.next.new.self
-    (moment g.S.Source g.R.Revisions g.K.Sink c.next.new.source c.deliver.new.revisions c.deliver.new.out c.deliver.new.world.replay) c.in_ok-delivery.delivery _
+    (moment g.S.Source g.R.Revisions g.K.Sink c.next.new.source c.deliver.new.revisions c.deliver.new.out c.deliver.new.world) c.in_ok-delivery.delivery _
     (record { first = line; total = c.in_ok-number.ensures.length; takes = bytes; goes = c.in_ok-number.ensures.goes_on; reads = c.next.ensures.reads }) delivered (omega (arith, c.asks-asked.ensures.number)) _ cuts)
 
 pub returns-in_err-deliver-clause-source : goal.returns-in_err-deliver-clause-source
@@ -60,7 +60,7 @@ loop-line-preserved g c =
     let one = c.asks-asked.ensures.at_most_one in
     let asked = c.asks-asked.ensures.number in (
       line_taken _ _ _ _ _ c.loop-line.invariant.0 c.next.new.line.items c.next.new.self
-          (moment g.S.Source g.R.Revisions g.K.Sink c.next.new.source c.deliver.new.revisions c.deliver.new.out c.deliver.new.world.replay) c.in_ok-delivery.delivery _
+          (moment g.S.Source g.R.Revisions g.K.Sink c.next.new.source c.deliver.new.revisions c.deliver.new.out c.deliver.new.world) c.in_ok-delivery.delivery _
           (record { first = line; total = c.in_ok-number.ensures.length; takes = bytes; goes = c.in_ok-number.ensures.goes_on; reads = c.next.ensures.reads }) delivered (omega (arith, asked))
           c.in_ok-number.ensures.later (sym number.1 ∙ number.0) c.in_ok-number.ensures.ended (omega (arith, asked, one)) takes,
       gone-on g.R.Revisions _ _ _ c.loop-line.invariant.1 c.in_ok-deliver.ensures.source,

@@ -1,6 +1,6 @@
 -- The lines so far were read, and the world has taken them.
 use Rattle.std.proofs.Common.{◌≡◌, ◌-◌}
-use Rattle.world.specs.Roomed.{HasRoom}
+use Rattle.session.specs.Remapping.{HoldsWithin}
 use Rattle.session.specs.Counts.{HasGoneOn}
 use Rattle.session.specs.Moment.{moment, run_of}
 use Rattle.session.proofs.Progress.{Progress}
@@ -9,12 +9,12 @@ use Rattle.session.proofs.taking.take_lines.Given as goal
 abbrev pub invariant-loop-line : goal.invariant-loop-line
 invariant-loop-line g l =
     Progress (run_of (g.R.Revisions.contents l.fn.revisions) l.plan)
-    (moment g.S.Source g.R.Revisions g.K.Sink l.fn.events l.fn.revisions l.fn.out l.fn.world.replay)
-    (moment g.S.Source g.R.Revisions g.K.Sink l.events l.revisions l.out l.world.replay) l.lines l.asked
+    (moment g.S.Source g.R.Revisions g.K.Sink l.fn.events l.fn.revisions l.fn.out l.fn.world)
+    (moment g.S.Source g.R.Revisions g.K.Sink l.events l.revisions l.out l.world) l.lines l.asked
     × HasGoneOn g.R.Revisions l.fn.revisions l.revisions
     × (l.world.room ≡ l.fn.world.room)
     × ((g.S.Source.most_faults l.events ≡ g.S.Source.most_faults l.fn.events) × (g.K.Sink.most_faults l.out ≡ g.K.Sink.most_faults l.fn.out))
-    × HasRoom l.fn.world.room l.world.replay.played.records
+    × HoldsWithin l.fn.world.room l.world
 
 abbrev pub decreases-loop-line : goal.decreases-loop-line
 decreases-loop-line g l = l.lines.max_bytes - l.lines.given

@@ -1,0 +1,157 @@
+-- By which versions all that is held is mapped, after each step.
+use Rattle.std.proofs.Common.{◌≡◌, ◌∙◌, refl, sym, ap, subst, ℕ, suc, ◌<◌, Bool, true, false, cond, List, [], ◌∷◌, length, filter, Option, None, Some, IfSome, Result, Ok, Err, is_some, arith}
+use Rattle.std.specs.FinMap as map
+use Rattle.rdf_term.specs.Order.{triple_cmp}
+use Rattle.entity_model.specs.declared.id.EntityId.{EntityId}
+use Rattle.entity_model.specs.declared.event.Event.{Event}
+use Rattle.entity_model.specs.declared.mapping.MappingVersion.{MappingVersion}
+use Rattle.entity_state.specs.declared.record.Held.{Held}
+use Rattle.entity_state.specs.declared.record.Record.{Record}
+use Rattle.entity_state.specs.State.{is_deleted, state_after}
+use Rattle.side_output.specs.declared.entry.Cause.{Cause}
+use Rattle.revisions.specs.Revisions.{Contents}
+use Rattle.replay_model.specs.Explained.{is_fetching}
+use Rattle.replay_model.specs.Play.{held_after_fetch, record_after}
+use Rattle.replay_model.specs.Records.{Bytes, Records, record_of}
+use Rattle.replay_model.specs.ReplayState.{ReplayState}
+use Rattle.replay_model.specs.Union.{triples_held, union}
+use Rattle.replay_model.specs.Versions.{all_by, is_holder, meaning_by}
+use Rattle.replay_model.proofs.Versions.{all-drop, all-keep, all-put, union-all}
+use Rattle.world.specs.Applying.{Applies, outcome_of_reply}
+use Rattle.world.specs.Meaning.{meaning}
+use Rattle.world.specs.Roomed.{HasRoom, room_with}
+use Rattle.world.specs.WorldState.{WorldState, first_of, next_stale, remapped, second_after, stale, triples_anew}
+use Rattle.world.specs.declared.applied.Applied.{Applied}
+use Rattle.world.specs.declared.applied.Outcome.{Outcome}
+use Rattle.world.specs.declared.applied.Outcome.TheVariants.{Same, Dropped}
+use Rattle.session.specs.Remapping.{HoldsWithin, IsFullOfStale, KeepsVersion, Mapped, held_triples, mapped_by, mapped_in, remapped_in, remapped_some}
+
+-- where every page is mapped by one version, the triples of all that is held are the union by this version
+pub all_held_by : (version : MappingVersion) (mapped : Mapped) (records : Records) → mapped ≡ mapped_by version records → held_triples mapped records ≡ union triple_cmp (meaning version) records
+all_held_by version mapped records is = ap (λ (m : Mapped). held_triples m records) is ∙ union-all meaning version records triple_cmp
+
+-- what an application leads to, by whether it fetches
+abbrev outcome_by : Bool → Bool → Result Bytes Cause → Outcome
+outcome_by fetching deleting reply = cond fetching (outcome_of_reply reply) (cond deleting Dropped Same)
+
+-- a page that comes is mapped by the version by which all others are
+put_by : (version : MappingVersion) (records : Records) (x : EntityId) (r : Record Bytes) (fetching deleting : Bool) (rev : ℕ) (reply : Result Bytes Cause) →
+    r.held ≡ cond fetching (held_after_fetch rev reply (record_of records x).held) (cond deleting None (record_of records x).held) →
+    all_by version (map.insert records x r) ≡ second_after (outcome_by fetching deleting reply) version x (all_by version records)
+put_by version records x r true deleting rev (Ok bytes) is = all-put version records x r (ap is_some is)
+put_by version records x r true deleting rev (Err cause) is = all-keep version records x r (ap is_some is)
+put_by version records x r false true rev reply is = all-drop version records x r (ap is_some is)
+put_by version records x r false false rev reply is = all-keep version records x r (ap is_some is)
+
+-- after an application every page is mapped by the version by which all were
+pub applies-versions : (contents : Option Contents) (directory : List ℕ) (old new : WorldState) (applied : Applied) → Applies contents directory old.replay new.replay applied → new.mapping ≡ old.mapping →
+    new.second ≡ second_after applied.outcome old.mapping applied.event.entity old.second → KeepsVersion (mapped_in old) (mapped_in new) old.replay.played.records new.replay.played.records
+applies-versions contents directory old new applied a same second version is =
+    let e : Event = applied.event in
+    let records : Records = old.replay.played.records in
+    let after : Record Bytes = record_after (λ q r. a.reply) e (record_of records e.entity) in
+    let mapping : old.mapping ≡ version = ap (λ (m : Mapped). m.version) is in
+    let put : all_by version (map.insert records e.entity after) ≡ second_after applied.outcome version e.entity (all_by version records) =
+    put_by version records e.entity after (is_fetching old.replay e) (is_deleted (state_after (record_of records e.entity).state e).mode) (state_after (record_of records e.entity).state e).rev a.reply refl
+    ∙ ap (λ (o : Outcome). second_after o version e.entity (all_by version records)) (sym a.outcome) in
+    let now : new.second ≡ all_by version new.replay.played.records =
+    second ∙ ap (λ v. second_after applied.outcome v e.entity old.second) mapping ∙ ap (λ (m : Mapped). second_after applied.outcome version e.entity m.second) is
+    ∙ sym put ∙ ap (λ (w : ReplayState). all_by version w.played.records) (sym a.new_is) in
+    ap (λ v. record { version = v; second = new.second }) (same ∙ mapping) ∙ ap (λ xs. record { version = version; second = xs }) now
+
+-- what has room has it where nothing of it changes
+pub holds_still : (room : ℕ) (old new : WorldState) → new.replay.played.records ≡ old.replay.played.records → mapped_in new ≡ mapped_in old → HoldsWithin room old → HoldsWithin room new
+holds_still room old new records versions held =
+    subst (λ xs. HasRoom (meaning_by meaning xs) room new.replay.played.records) (sym (ap (λ (m : Mapped). m.second) versions))
+    (subst (HasRoom (meaning_by meaning old.second) room) (sym records) held)
+
+-- versions are kept by one step and then by others
+pub keeps-further : (old between new : WorldState) → KeepsVersion (mapped_in old) (mapped_in between) old.replay.played.records between.replay.played.records →
+    KeepsVersion (mapped_in between) (mapped_in new) between.replay.played.records new.replay.played.records → KeepsVersion (mapped_in old) (mapped_in new) old.replay.played.records new.replay.played.records
+keeps-further old between new first second version is = second version (first version is)
+
+-- and by a step that changes nothing
+pub keeps-still : (old between new : WorldState) → new ≡ between → KeepsVersion (mapped_in old) (mapped_in between) old.replay.played.records between.replay.played.records →
+    KeepsVersion (mapped_in old) (mapped_in new) old.replay.played.records new.replay.played.records
+keeps-still old between new same keeps = rw same keeps
+
+-- where there are some, there is a first
+pub first_there : {A : Type 0} (P : Type 0) (xs : List A) (o : Option A) → 0 < length xs → o ≡ first_of xs → IfSome o (λ _. P) → P
+first_there P [] o some is given = absurd (omega (arith, some))
+first_there P (x ∷ xs) o some is given = let there : IfSome (Some x) (λ _. P) = subst (λ p. IfSome p (λ _. P)) is given in there
+
+-- the first that passes both tests passes the one
+passes_both : {A : Type 0} (p q : A → Bool) (xs : List A) (x : A) (rest : List A) → filter p (filter q xs) ≡ x ∷ rest → q x ≡ true
+passes_both p q [] x rest is = cc
+passes_both {A} p q (y ∷ ys) x rest is = by (passes_both p q ys x rest) (q y) refl is
+  where
+    Later : Type 0
+    Later = filter p (filter q ys) ≡ x ∷ rest → q x ≡ true
+
+    here : Later → (b : Bool) → q y ≡ true → cond b (y ∷ filter p (filter q ys)) (filter p (filter q ys)) ≡ x ∷ rest → q x ≡ true
+    here later true passes same = let at : y ≡ x = cc in ap q (sym at) ∙ passes
+    here later false passes same = later same
+
+    by : Later → (b : Bool) → q y ≡ b → filter p (cond b (y ∷ filter q ys) (filter q ys)) ≡ x ∷ rest → q x ≡ true
+    by later true passes same = here later (p y) passes same
+    by later false fails same = later same
+
+-- where the page of the least stale entity has no room, the store is full
+pub full_of_stale : (w : WorldState) → 0 < length (stale w) → w.room < room_with (meaning_by meaning w.second) w.replay.played.records (triples_anew meaning w (next_stale w)) →
+    IsFullOfStale w.room w.replay.played.records (mapped_in w)
+full_of_stale w some over = by (stale w) refl some
+  where
+    records : Records
+    records = w.replay.played.records
+
+    held : (x : EntityId) (h : Option (Held Bytes)) → (record_of records x).held ≡ h → is_some h ≡ true → next_stale w ≡ Some x → IsFullOfStale w.room records (mapped_in w)
+    held x None is holds next = cc
+    held x (Some page) is holds next = record {
+      entity = x;
+      next = next;
+      page = page;
+      holds = is;
+      over = subst (λ triples. w.room < room_with (meaning_by meaning w.second) records triples) (ap (triples_anew meaning w) next ∙ ap (triples_held (meaning w.mapping) x) is) over;
+    }
+
+    by : (xs : List EntityId) → stale w ≡ xs → 0 < length xs → IsFullOfStale w.room records (mapped_in w)
+    by [] is none = absurd (omega (arith, none))
+    by (x ∷ rest) is there = held x (record_of records x).held refl (passes_both _ (is_holder records) (map.keys records) x rest is) (ap first_of is)
+
+-- a version was put in force in a world, and some pages, the least first, were mapped by it
+pub record Remaps (version : MappingVersion) (old now : WorldState) : Type 0 where
+  pub replay : now.replay ≡ old.replay
+  pub room : now.room ≡ old.room
+  pub steps : ℕ
+  pub mapped : mapped_in now ≡ remapped_some steps old.replay.played.records (record { version = version; second = old.second })
+  pub version_is : now.mapping ≡ version
+  pub held : HoldsWithin old.room old → HoldsWithin old.room now
+
+-- none yet
+pub remaps_none : (version : MappingVersion) (old now : WorldState) → now ≡ record old { mapping = version } → Remaps version old now
+remaps_none version old now is = rw is (record { replay = refl; room = refl; steps = 0; mapped = refl; version_is = refl; held = λ held. held })
+
+-- and one more
+pub remaps_next : (version : MappingVersion) (old now new : WorldState) → Remaps version old now → new ≡ remapped now → HoldsWithin new.room new → Remaps version old new
+remaps_next version old now new so_far is held = record {
+  replay = ap (λ (w : WorldState). w.replay) is ∙ so_far.replay;
+  room = ap (λ (w : WorldState). w.room) is ∙ so_far.room;
+  steps = suc so_far.steps;
+  mapped = ap mapped_in is ∙ ap (λ (w : ReplayState). remapped_in w.played.records (mapped_in now)) so_far.replay ∙ ap (remapped_in old.replay.played.records) so_far.mapped;
+  version_is = ap (λ (w : WorldState). w.mapping) is ∙ so_far.version_is;
+  held = λ before. subst (λ n. HoldsWithin n new) (ap (λ (w : WorldState). w.room) is ∙ so_far.room) held;
+}
+
+-- all of them
+pub remaps_all : (version : MappingVersion) (old now : WorldState) → Remaps version old now → now.second ≡ all_by now.mapping now.replay.played.records → mapped_in now ≡ mapped_by version old.replay.played.records
+remaps_all version old now so_far all =
+    ap (λ xs. record { version = now.mapping; second = xs }) all
+    ∙ ap (λ v. mapped_by v now.replay.played.records) so_far.version_is
+    ∙ ap (λ (w : ReplayState). mapped_by version w.played.records) so_far.replay
+
+-- the next one has no room
+pub remaps_full : (version : MappingVersion) (old now new : WorldState) → Remaps version old now → new ≡ now → 0 < length (stale now) →
+    now.room < room_with (meaning_by meaning now.second) now.replay.played.records (triples_anew meaning now (next_stale now)) → IsFullOfStale old.room old.replay.played.records (mapped_in new)
+remaps_full version old now new so_far same some over =
+    let Full : ℕ → ReplayState → Type 0 = λ n w. IsFullOfStale n w.played.records (mapped_in new) in
+    subst (λ n. Full n old.replay) so_far.room (subst (Full now.room) so_far.replay (rw same (full_of_stale now some over)))

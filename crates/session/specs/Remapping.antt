@@ -1,0 +1,71 @@
+-- By which versions of the mapping the pages are mapped that a world holds, and how they are mapped anew.
+use Rattle.std.specs.Prelude.{◌≡◌, ⊤, ℕ, zero, suc, ◌<◌, List, Option, Some}
+use Rattle.rdf_term.specs.declared.triple.Triple.{Triple}
+use Rattle.rdf_term.specs.Order.{triple_cmp}
+use Rattle.entity_model.specs.declared.id.EntityId.{EntityId}
+use Rattle.entity_model.specs.declared.mapping.MappingVersion.{MappingVersion}
+use Rattle.entity_state.specs.declared.record.Held.{Held}
+use Rattle.replay_model.specs.Records.{Bytes, Records, record_of}
+use Rattle.replay_model.specs.Union.{union}
+use Rattle.replay_model.specs.Versions.{all_by, meaning_by}
+use Rattle.world.specs.Meaning.{meaning}
+use Rattle.world.specs.Roomed.{HasRoom, room_with}
+use Rattle.world.specs.WorldState.{WorldState, first_of, stale_by, with_version_of}
+use Rattle.session.specs.declared.stop.Unapplied.{Unapplied}
+use Rattle.session.specs.declared.stop.Unapplied.TheVariants.{StoreFull, OutOfMemory}
+
+-- the version of the mapping in force, and which entities hold a page that is mapped by the second version; all others hold by the
+-- first
+pub record Mapped : Type 0 where
+  pub version : MappingVersion
+  pub second : List EntityId
+
+-- this version is in force, and every page that is held is mapped by it
+abbrev pub mapped_by : MappingVersion → Records → Mapped
+mapped_by version records = record { version = version; second = all_by version records }
+
+-- the versions of a world
+abbrev pub mapped_in : WorldState → Mapped
+mapped_in world = record { version = world.mapping; second = world.second }
+
+-- where one version was in force and every page mapped by it, this is so still
+abbrev pub KeepsVersion : Mapped → Mapped → Records → Records → Type 0
+KeepsVersion old new before now = (version : MappingVersion) → old ≡ mapped_by version before → new ≡ mapped_by version now
+
+-- the triples of all that is held, each page by the version that it is mapped by
+abbrev pub held_triples : Mapped → Records → List Triple
+held_triples mapped records = union triple_cmp (meaning_by meaning mapped.second) records
+
+-- what a world holds has no more different terms than this room
+abbrev pub HoldsWithin : ℕ → WorldState → Type 0
+HoldsWithin room world = HasRoom (meaning_by meaning world.second) room world.replay.played.records
+
+-- the triples of all that is held have, together with those of a page by the version in force, more different terms than this room
+abbrev pub HasNoRoom : ℕ → Records → Mapped → EntityId → ℕ → Bytes → Type 0
+HasNoRoom room records mapped x rev bytes = room < room_with (meaning_by meaning mapped.second) records (meaning mapped.version x rev bytes)
+
+-- the least entity whose page isn't mapped by the version in force, if there is one
+abbrev pub next_stale_in : Records → Mapped → Option EntityId
+next_stale_in records mapped = first_of (stale_by mapped.version mapped.second records)
+
+-- its page is mapped by the version in force now
+abbrev pub remapped_in : Records → Mapped → Mapped
+remapped_in records mapped = record { version = mapped.version; second = with_version_of mapped.version (next_stale_in records mapped) mapped.second }
+
+-- so many pages are mapped anew, one after the other
+abbrev pub remapped_some : ℕ → Records → Mapped → Mapped
+remapped_some zero records mapped = mapped
+remapped_some (suc n) records mapped = remapped_in records (remapped_some n records mapped)
+
+-- the page of the least entity whose page isn't mapped by the version in force has no room by this version
+pub record IsFullOfStale (room : ℕ) (records : Records) (mapped : Mapped) : Type 0 where
+  pub entity : EntityId
+  pub next : next_stale_in records mapped ≡ Some entity
+  pub page : Held Bytes
+  pub holds : (record_of records entity).held ≡ Some page
+  pub over : HasNoRoom room records mapped entity page.revision page.content
+
+-- why this page isn't mapped anew
+abbrev pub IsLeftStale : Unapplied → ℕ → Records → Mapped → Type 0
+IsLeftStale StoreFull room records mapped = IsFullOfStale room records mapped
+IsLeftStale OutOfMemory room records mapped = ⊤

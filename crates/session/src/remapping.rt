@@ -1,0 +1,31 @@
+// Another version of the mapping comes into force, and what is held is mapped anew.
+
+ghost use Rattle.std.specs.Prelude.{◌≡◌, ℕ, IfErr, OnErr, OnOk};
+ghost use Rattle.session.specs.Remapping.{HoldsWithin, IsLeftStale, mapped_by, mapped_in, remapped_some};
+
+use crate::stop::Unapplied;
+use entity_model::MappingVersion;
+use world::{World, WorldFault};
+
+// Puts a version of the mapping in force, and maps all that is held by it, the page of the least entity first.
+pub fn take_mapping(version: MappingVersion, world: &mut World) -> Result<(), Unapplied>
+    ensures replay { world.new.replay ≡ world.old.replay }
+    ensures room { world.new.room ≡ world.old.room }
+    ensures held { HoldsWithin world.old.room world.old → HoldsWithin world.old.room world.new }
+    ensures ok { OnOk result (mapped_in world.new ≡ mapped_by version world.old.replay.played.records) }
+    ensures err { OnErr result ((steps : ℕ) × (mapped_in world.new
+        ≡ remapped_some steps world.old.replay.played.records (record { version = version; second = world.old.second }))) }
+    ensures left_stale { IfErr result (λ why. IsLeftStale why world.old.room world.old.replay.played.records (mapped_in world.new)) }
+{
+    world.set_mapping(version);
+    while world.stale() > 0 {
+        match world.remap_next() {
+            Ok(_) => {}
+            Err(WorldFault::Full) => return Err(Unapplied::StoreFull),
+            Err(WorldFault::Nothing | WorldFault::OutOfMemory) => {
+                return Err(Unapplied::OutOfMemory);
+            }
+        }
+    }
+    Ok(())
+}
