@@ -3,6 +3,7 @@ pub mod ByVersion
 pub mod Entries
 pub mod Fit
 pub mod Laying
+pub mod Means
 pub mod Moving
 pub mod Owning
 pub mod Pieced

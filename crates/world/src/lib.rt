@@ -11,10 +11,12 @@ mod fetching;
 mod holders;
 mod holding;
 mod kept;
+mod laws;
 mod meaning;
 mod pages;
 mod remapping;
 mod world;
 
 pub use applied::{Applied, Outcome, WorldFault};
+pub use laws::meaning_is_by_rules;
 pub use world::World;
