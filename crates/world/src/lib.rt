@@ -11,6 +11,7 @@ mod holding;
 mod kept;
 mod meaning;
 mod pages;
+mod rows;
 mod world;
 
 pub use applied::{Applied, Outcome, WorldFault};

@@ -37,10 +37,10 @@ use triple_store::{Store, StoreFault};
 /// side output, and how many terms there may be.
 #[derive(Drop)]
 pub struct Pages {
-    region: Region,
+    pub(crate) region: Region,
     table: Table<Kept>,
     pub side: Side,
-    store: Store,
+    pub(crate) store: Store,
 }
 
 impl Model for Pages {
