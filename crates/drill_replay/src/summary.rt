@@ -14,8 +14,9 @@ ghost use Rattle.drill_replay.specs.Summary.{digest_line, drilled, kept_in, line
 use crate::playing::{Counts, play};
 use entity_state::Mode;
 use md5::{Digest, Md5};
-use rdf_term::{OutOfMemory, Triple, TripleSet, write_triple};
+use rdf_term::OutOfMemory;
 use std::alloc::Global;
+use triple_store::Rows;
 use world::World;
 
 /// What is told of a drill: its size, its deliveries, how many distinct events were accepted and were late, how many
@@ -74,24 +75,24 @@ fn summarize(
     ensures { IfOk result (λ summary. summary ≡ summary_of size) }
 {
     let kept = kept(world)?;
-    let triples = triples(world)?;
+    let rows = rows(world)?;
     Ok(Summary {
         size,
         deliveries: counts.deliveries,
         accepted: counts.accepted,
         late: counts.late,
         kept,
-        triples: triples.items().len(),
-        digest: digest(alloc, triples.items())?,
+        triples: rows.len(),
+        digest: digest(alloc, &rows)?,
     })
 }
 
 // The triples of all that is held, by version One of the mapping.
-fn triples(world: &World) -> Result<TripleSet, OutOfMemory>
+fn rows(world: &World) -> Result<Rows<'_>, OutOfMemory>
     requires { IsByFirst world.now }
-    ensures { IfOk result (λ set. set ≡ union triple_cmp (meaning One) world.now.replay.played.records) }
+    ensures { IfOk result (λ rows. rows ≡ union triple_cmp (meaning One) world.now.replay.played.records) }
 {
-    world.export()
+    world.rows()
 }
 
 // How many entities' pages are kept.
@@ -109,14 +110,14 @@ fn kept(world: &World) -> Result<u64, OutOfMemory>
 }
 
 // The MD5 of the lines of the triples, line by line.
-fn digest(alloc: Global, triples: &[Triple]) -> Result<[u8; 16], OutOfMemory>
-    ensures { IfOk result (λ digest. digest ≡ md5 (triple_lines triples.now)) }
+fn digest(alloc: Global, rows: &Rows<'_>) -> Result<[u8; 16], OutOfMemory>
+    ensures { IfOk result (λ digest. digest ≡ md5 (triple_lines rows.now)) }
 {
     let mut hasher = Md5::new();
     let mut line = Vec::new(alloc);
-    for triple in triples {
+    for place in 0..rows.len() {
         line.clear();
-        write_triple(triple, &mut line)?;
+        rows.write(place, &mut line)?;
         hasher.update(line.as_slice());
     }
     Ok(hasher.finalize())

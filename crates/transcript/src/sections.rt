@@ -46,9 +46,9 @@ pub fn print_answer<K: Sink>(
     ensures { Prints (ask_section number (rows (union triple_cmp (meaning_by meaning world.now.second) world.now.replay.played.records) pattern.now))
         (output K.Sink out.old) (output K.Sink out.new) result }
 {
-    let triples = world.matches(pattern)?;
-    let head = answer_line(alloc, number, triples.items().len())?;
-    print_section(alloc, head.as_str(), triples.items(), out)
+    let rows = world.matching(pattern)?;
+    let head = answer_line(alloc, number, rows.len())?;
+    print_section(alloc, head.as_str(), &rows, out)
 }
 
 /// Prints the sections that are asked for: the export, the states and the side output.
@@ -82,9 +82,9 @@ fn print_export<K: Sink>(
     if !wanted {
         return Ok(());
     }
-    let triples = world.export()?;
-    let head = export_line(alloc, triples.items().len())?;
-    print_section(alloc, head.as_str(), triples.items(), out)
+    let rows = world.rows()?;
+    let head = export_line(alloc, rows.len())?;
+    print_section(alloc, head.as_str(), &rows, out)
 }
 
 // Prints the section of the states, where it is wanted.

@@ -4,13 +4,15 @@ pub mod Exchanged
 pub mod Held
 pub mod Imaged
 pub mod Keyed
+pub mod Lines
+pub mod Listed
 pub mod Live
 pub mod Mapped
 pub mod Matched
+pub mod Ordered
 pub mod Owners
 pub mod Removing
 pub mod Rooming
-pub mod Rows
 pub mod Standing
 pub mod Stocked
 pub mod Storing

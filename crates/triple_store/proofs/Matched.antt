@@ -55,7 +55,7 @@ count_both : (b : Bool) (f : Key → Bool) (ks : List Key) → nat_lt 0 (count_b
 count_both true f ks = refl
 count_both false f ks = ap (nat_lt 0) (count_never ks)
 
-count_fewer : (f g : Key → Bool) (ks : List Key) → count_by (λ k. f k && g k) ks ≤ count_by g ks
+pub count_fewer : (f g : Key → Bool) (ks : List Key) → count_by (λ k. f k && g k) ks ≤ count_by g ks
 count_fewer f g [] = omega arith
 count_fewer f g (k ∷ ks) = omega (arith, count_by-cons (λ x. f x && g x) k ks, count_by-cons g k ks, count_fewer f g ks, by (f k) (g k))
   where

@@ -14,8 +14,10 @@ mod holding;
 mod matching;
 mod releasing;
 mod room;
+mod rows;
 mod store;
 mod uncounted;
 
 pub use fault::StoreFault;
+pub use rows::Rows;
 pub use store::Store;

@@ -81,7 +81,7 @@ impl Store {
     }
 
     // The pattern of slots; `None` where a wanted term is in none.
-    fn slots_of(&self, region: &Region, pattern: &Pattern) -> Option<SlotPattern>
+    pub(crate) fn slots_of(&self, region: &Region, pattern: &Pattern) -> Option<SlotPattern>
         requires { IsStored self.now region.now }
         ensures { (key : TheKey) → is_key self.now key ≡ true → agrees pattern.now (triple_at self.now.pool region.now key) ≡ key_agrees result key }
     {

@@ -15,6 +15,7 @@ mod laws;
 mod meaning;
 mod pages;
 mod remapping;
+mod rows;
 mod world;
 
 pub use applied::{Applied, Outcome, WorldFault};

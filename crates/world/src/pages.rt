@@ -44,11 +44,11 @@ use triple_store::{Store, StoreFault};
 #[derive(Drop)]
 pub struct Pages {
     mapping: MappingVersion,
-    region: Region,
+    pub(crate) region: Region,
     table: Table<Kept>,
     holders: Holders,
     pub side: Side,
-    store: Store,
+    pub(crate) store: Store,
 }
 
 impl Model for Pages {

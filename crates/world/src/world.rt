@@ -54,7 +54,7 @@ const ROOM: u32 = 20_000_000;
 pub struct World {
     alloc: Global,
     buffer: Buffer,
-    pages: Pages,
+    pub(crate) pages: Pages,
 }
 
 impl Model for World {

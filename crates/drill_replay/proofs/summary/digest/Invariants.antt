@@ -4,5 +4,5 @@ use Rattle.md5.specs.Md5.{Holds}
 use Rattle.drill_replay.specs.Summary.{triple_lines}
 use Rattle.drill_replay.proofs.summary.digest.Given as goal
 
-abbrev pub invariant-loop-triple : goal.invariant-loop-triple
-invariant-loop-triple l = Holds l.hasher (triple_lines (take l.triple-index l.triples))
+abbrev pub invariant-loop-place : goal.invariant-loop-place
+invariant-loop-place l = Holds l.hasher (triple_lines (take l.place l.rows))

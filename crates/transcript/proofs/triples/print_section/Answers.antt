@@ -8,8 +8,8 @@ use Rattle.transcript.proofs.triples.print_section.Goals as goal
 pub returns-in_err-write_all : goal.returns-in_err-write_all
 returns-in_err-write_all g c =
     let p = err_from_is_err_and c.from_residual.result c.from_residual.ensures.1 in
-    rw (p.1, p.2) (prints_first _ c.args.head.now (flat_map triple_text c.args.triples.now) _ _ (rw c.as_bytes.ensures.value at c.in_err-write_all.ensures))
+    rw (p.1, p.2) (prints_first _ c.args.head.now (flat_map triple_text c.args.rows.now) _ _ (rw c.as_bytes.ensures.value at c.in_err-write_all.ensures))
 
 pub returns : goal.returns
 returns g c =
-    prints_both c.print_triples.result c.args.head.now (flat_map triple_text c.args.triples.now) _ _ _ (rw c.as_bytes.ensures.value at c.in_ok-write_all.ensures) c.print_triples.ensures
+    prints_both c.print_rows.result c.args.head.now (flat_map triple_text c.args.rows.now) _ _ _ (rw c.as_bytes.ensures.value at c.in_ok-write_all.ensures) c.print_rows.ensures

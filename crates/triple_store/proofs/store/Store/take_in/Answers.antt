@@ -1,7 +1,7 @@
 use Rattle.std.proofs.Common.{◌≡◌, ◌+◌, ◌<◌, arith, length, take, vec_len, sym, ◌∙◌}
 use Rattle.triple_store.proofs.AtHand.{held_again, held_more, on_ok}
 use Rattle.triple_store.proofs.Rooming.{same_fault}
-use Rattle.triple_store.proofs.Rows.{next_fits, next_full, next_held, next_new, row_canonical}
+use Rattle.triple_store.proofs.Listed.{next_fits, next_full, next_held, next_new, row_canonical}
 use Rattle.triple_store.proofs.Taking.{none_more}
 use Rattle.triple_store.proofs.store.Store.take_in.Goals as goal
 

@@ -5,9 +5,9 @@ use Rattle.rdf_term.specs.Order.{triple_cmp}
 use Rattle.replay_model.specs.Union.{union}
 use Rattle.replay_model.specs.Versions.{meaning_by}
 use Rattle.world.specs.Meaning.{meaning}
-use Rattle.drill_replay.proofs.summary.triples.Goals as goal
+use Rattle.drill_replay.proofs.summary.rows.Goals as goal
 
 pub returns : goal.returns
 returns c =
-    subst (λ (second : List EntityId). IfOk c.export.result (λ set. set ≡ union triple_cmp (meaning_by meaning second) c.args.world.now.replay.played.records))
-    c.requires.1 c.export.ensures.value
+    subst (λ (second : List EntityId). IfOk c.rows.result (λ set. set ≡ union triple_cmp (meaning_by meaning second) c.args.world.now.replay.played.records))
+    c.requires.1 c.rows.ensures

@@ -1,9 +1,0 @@
--- The lines of the triples so far were written.
-use Rattle.std.proofs.Common.{take, Ok}
-use Rattle.std.specs.List.{flat_map}
-use Rattle.rdf_term.specs.Text.{triple_text}
-use Rattle.transcript.specs.Printing.{Prints, output}
-use Rattle.transcript.proofs.triples.print_triples.Given as goal
-
-abbrev pub invariant-loop-triple : goal.invariant-loop-triple
-invariant-loop-triple g l = Prints (flat_map triple_text (take l.triple-index l.triples)) (output g.K.Sink l.fn.out) (output g.K.Sink l.out) (Ok tt)

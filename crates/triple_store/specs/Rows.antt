@@ -1,0 +1,20 @@
+-- The order of triples by the texts of their terms.
+use Rattle.std.specs.Prelude.{ℕ, List, [], ◌∷◌, ◌++◌}
+use Rattle.std.specs.declared.cmp.Ordering.{Ordering}
+use Rattle.std.specs.Cmp.{IsTotalOrder, on_total, then_total}
+use Rattle.std.specs.Cmp.Lexicographic.{nat_list_cmp_total}
+use Rattle.std.specs.Ordering.{on, then_cmp}
+use Rattle.rdf_term.specs.Order.{bytes_cmp}
+use Rattle.triple_texts.specs.declared.triple_text.TripleText.{TripleText}
+
+-- by the subject's text, then the predicate's, then the object's
+abbrev pub text_cmp : TripleText → TripleText → Ordering
+text_cmp = then_cmp (on (λ row. row.subject.now) bytes_cmp) (then_cmp (on (λ row. row.predicate.now) bytes_cmp) (on (λ row. row.object.now) bytes_cmp))
+
+-- the order is total
+pub text_cmp-total : IsTotalOrder text_cmp
+text_cmp-total = then_total (on_total (λ row. row.subject.now) nat_list_cmp_total) (then_total (on_total (λ row. row.predicate.now) nat_list_cmp_total) (on_total (λ row. row.object.now) nat_list_cmp_total))
+
+-- the line of a triple by its texts: each with a space after it, then `.` and LF
+abbrev pub line_of : TripleText → List ℕ
+line_of row = (row.subject.now ++ 32 ∷ []) ++ (row.predicate.now ++ 32 ∷ []) ++ (row.object.now ++ 32 ∷ []) ++ 46 ∷ 10 ∷ []

@@ -1,0 +1,205 @@
+// The stored triples in their order, by the texts of their terms.
+
+ghost use Rattle.std.specs.Prelude.{◌≡◌, ◌<◌, ◌++◌, ◌∷◌, [], true, length, slice_get, map as mapped, IfOk, IfSome, OnOk, OnErr};
+ghost use Rattle.std.specs.FinMap as map;
+ghost use Rattle.std.specs.List.{All};
+ghost use Rattle.std.specs.List.Sorted.{IsPermutation, IsSorted};
+ghost use Rattle.std.specs.Ordering.{ordering_then};
+ghost use Rattle.rising.specs.Rising.{has};
+ghost use Rattle.rdf_term.specs.Append.{Appends};
+ghost use Rattle.rdf_term.specs.Order.{bytes_cmp};
+ghost use Rattle.rdf_term.specs.Pattern.{rows};
+ghost use Rattle.rdf_term.specs.Text.{triple_text};
+ghost use Rattle.slot_index.specs.declared.key.Key.{Key as TheKey};
+ghost use Rattle.slot_index.specs.Keys.{key_cmp};
+ghost use Rattle.triple_store.specs.Rows.{line_of, text_cmp};
+ghost use Rattle.triple_store.specs.Slots.{HasCanonicalTexts, HasTexts, triple_at, triple_of};
+ghost use Rattle.triple_store.specs.Stored.{IsStored, counts_in, is_key};
+
+use crate::store::Store;
+use crate::uncounted::range;
+use rdf_term::{OutOfMemory, Pattern};
+use slot_index::Key;
+use std::cmp::Ordering;
+use std::marker::Model;
+use term_pool::Slot;
+use text_region::Region;
+use triple_texts::TripleText;
+
+/// Stored triples in strictly rising order, whose texts lie in the region. Contracts see the list of the triples.
+#[derive(Debug, Drop)]
+pub struct Rows<'a> {
+    rows: Vec<TripleText<'a>>,
+}
+
+impl<'a> Model for Rows<'a> {
+    ghost use Rattle.std.specs.Prelude.{List, map};
+    ghost use Rattle.std.specs.List.{All};
+    ghost use Rattle.rdf_term.specs.declared.triple.Triple.{Triple};
+    ghost use Rattle.triple_store.specs.Slots.{HasCanonicalTexts, triple_of};
+
+    ghost Value = { List Triple };
+
+    ghost view = { λ r. map triple_of r.rows.items };
+
+    ghost invariant = { λ r. All HasCanonicalTexts r.rows.items };
+}
+
+impl<'a> Rows<'a> {
+    /// The number of triples.
+    pub fn len(&self) -> usize
+        ensures { result ≡ length self.now }
+    {
+        self.rows.len()
+    }
+
+    /// Appends the line of the triple at a place from 0, its LF included. After `OutOfMemory` the buffer has what it had.
+    pub fn write(&self, place: usize, out: &mut Vec<u8>) -> Result<(), OutOfMemory>
+        requires { place < length self.now }
+        ensures ok { OnOk result (IfSome (slice_get self.now place) (λ triple. out.new.items ≡ out.old.items ++ triple_text triple)) }
+        ensures err { OnErr result (out.new.items ≡ out.old.items) }
+    {
+        write_row(&self.rows[place], out)
+    }
+}
+
+impl Store {
+    /// The stored triples: three slices each, which are sorted.
+    pub fn rows<'a>(&self, region: &'a Region) -> Result<Rows<'a>, OutOfMemory>
+        requires { IsStored self.now region.now }
+        ensures rows { IfOk result (λ found. found ≡ map.keys (counts_in self.now region.now)) }
+    {
+        self.matching(
+            region,
+            &Pattern {
+                subject: None,
+                predicate: None,
+                object: None,
+            },
+        )
+    }
+
+    /// The stored triples that agree with the pattern. A wanted term costs one look-up; then it is one range of one index, and
+    /// the triples of that range, three slices each, are sorted.
+    pub fn matching<'a>(
+        &self,
+        region: &'a Region,
+        pattern: &Pattern,
+    ) -> Result<Rows<'a>, OutOfMemory>
+        requires { IsStored self.now region.now }
+        ensures rows { IfOk result (λ found. found ≡ rows (map.keys (counts_in self.now region.now)) pattern.now) }
+    {
+        let Some(wanted) = self.slots_of(region, pattern) else {
+            return Ok(Rows {
+                rows: Vec::new(self.alloc),
+            });
+        };
+        let keys = range(&self.index, wanted)?;
+        let mut rows = self.texts_of(region, keys.as_slice())?;
+        sort_rows(&mut rows);
+        Ok(Rows { rows })
+    }
+
+    // The texts of stored triples of slots.
+    fn texts_of<'a>(
+        &self,
+        region: &'a Region,
+        keys: &[Key],
+    ) -> Result<Vec<TripleText<'a>>, OutOfMemory>
+        requires stored { IsStored self.now region.now }
+        requires there { (key : TheKey) → has key_cmp key keys.now ≡ true → is_key self.now key ≡ true }
+        ensures triples { IfOk result (λ rows. mapped triple_of rows.items ≡ mapped (triple_at self.now.pool region.now) keys.now) }
+        ensures canonical { IfOk result (λ rows. All HasCanonicalTexts rows.items) }
+    {
+        let mut rows = Vec::with_capacity(self.alloc, keys.len())?;
+        for key in keys {
+            rows.push(self.texts_at(region, *key))?;
+        }
+        Ok(rows)
+    }
+
+    // The texts of a stored triple of slots.
+    fn texts_at<'a>(&self, region: &'a Region, key: Key) -> TripleText<'a>
+        requires stored { IsStored self.now region.now }
+        requires there { is_key self.now key ≡ true }
+        ensures { HasTexts self.now.pool region.now key result }
+    {
+        TripleText {
+            subject: self.pool.text(region, Slot { number: key.first }),
+            predicate: self.pool.text(region, Slot { number: key.second }),
+            object: self.pool.text(region, Slot { number: key.third }),
+        }
+    }
+}
+
+// Sorts triples by the texts of their terms. It takes no memory.
+fn sort_rows(rows: &mut Vec<TripleText<'_>>)
+    ensures same { IsPermutation rows.old.items rows.new.items }
+    ensures sorted { IsSorted text_cmp rows.new.items }
+{
+    rows.sort_unstable_by(|a, b| compare(a, b));
+}
+
+// The order of two triples by the texts of their terms.
+fn compare(a: &TripleText<'_>, b: &TripleText<'_>) -> Ordering
+    ensures { result ≡ text_cmp a.now b.now }
+{
+    match a.subject.cmp(b.subject) {
+        Ordering::Equal => compare_rest(a, b),
+        decided => decided,
+    }
+}
+
+// The order by the predicates, then by the objects.
+fn compare_rest(a: &TripleText<'_>, b: &TripleText<'_>) -> Ordering
+    ensures { result ≡ ordering_then (bytes_cmp a.now.predicate.now b.now.predicate.now) (bytes_cmp a.now.object.now b.now.object.now) }
+{
+    match a.predicate.cmp(b.predicate) {
+        Ordering::Equal => a.object.cmp(b.object),
+        decided => decided,
+    }
+}
+
+// Appends the line of a triple, its LF included.
+fn write_row(row: &TripleText<'_>, out: &mut Vec<u8>) -> Result<(), OutOfMemory>
+    requires { HasCanonicalTexts row.now }
+    ensures ok { OnOk result (out.new.items ≡ out.old.items ++ triple_text (triple_of row.now)) }
+    ensures err { OnErr result (out.new.items ≡ out.old.items) }
+{
+    let start = out.len();
+    match append_row(row, out) {
+        Ok(()) => Ok(()),
+        Err(refused) => {
+            out.truncate(start);
+            Err(refused)
+        }
+    }
+}
+
+// Appends the line; after `OutOfMemory` a part of it may stand there.
+#[tactic(auto, using(rdf_term::proofs::Appending::still_front, std::proofs::lemmas::List::append_assoc))]
+fn append_row(row: &TripleText<'_>, out: &mut Vec<u8>) -> Result<(), OutOfMemory>
+    ensures { Appends out.old.items out.new.items (line_of row.now) result }
+{
+    append_spaced(row.subject, out)?;
+    append_spaced(row.predicate, out)?;
+    append_spaced(row.object, out)?;
+    append_bytes(b".\n", out)
+}
+
+// Appends a text and a space.
+#[tactic(auto, using(rdf_term::proofs::Appending::still_front, std::proofs::lemmas::List::append_assoc))]
+fn append_spaced(text: &[u8], out: &mut Vec<u8>) -> Result<(), OutOfMemory>
+    ensures { Appends out.old.items out.new.items (text.now ++ 32 ∷ []) result }
+{
+    append_bytes(text, out)?;
+    append_bytes(b" ", out)
+}
+
+// Appends bytes.
+fn append_bytes(bytes: &[u8], out: &mut Vec<u8>) -> Result<(), OutOfMemory>
+    ensures { Appends out.old.items out.new.items bytes.now result }
+{
+    out.extend_from_slice(bytes)?;
+    Ok(())
+}
