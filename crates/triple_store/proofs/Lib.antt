@@ -11,6 +11,7 @@ pub mod Mapped
 pub mod Matched
 pub mod Ordered
 pub mod Owners
+pub mod Patched
 pub mod Removing
 pub mod Rooming
 pub mod Standing

@@ -10,10 +10,10 @@ use Rattle.std.specs.Ordering.{eq_by_cmp, ordering_reverse, ordering_then}
 use Rattle.std.proofs.lemmas.Cmp.{tied_itself}
 use Rattle.std.proofs.lemmas.List.{get_or-map, length-map}
 use Rattle.std.proofs.lemmas.List.Elements.{All-get_or}
-use Rattle.std.proofs.lemmas.List.Sorted.{All-permutation, IsPermutation-map, sum_by-IsPermutation}
+use Rattle.std.proofs.lemmas.List.Sorted.{All-permutation, IsPermutation-map, length_permutation, sum_by-IsPermutation}
 use Rattle.rising.specs.Rising.{IsRising, has, sorted}
 use Rattle.rising.proofs.Bools.{clash, equal, or_false_left}
-use Rattle.rising.proofs.Rising.{turned}
+use Rattle.rising.proofs.Rising.{IsRising-sorted, turned}
 use Rattle.rising.proofs.Sorting.{deduped}
 use Rattle.rdf_term.specs.declared.triple.Triple.{Triple}
 use Rattle.rdf_term.specs.declared.pattern.Pattern.{Pattern}
@@ -167,15 +167,30 @@ found_once st r w found h is =
       counted_once triple_cmp-total triple_cmp-IsAntisymmetric (mapped m (map.keys st.index)) t apart,
     ))
 
--- in order they are the stored triples that agree with the pattern
+module _ (st : Store) (r : Texts) (w : SlotPattern) (found : List Key) (before after : List TripleText) (h : IsStored st r)
+    (is : (f : Key → Bool) → count_by f found ≡ count_by (λ k. slots_agree w k && f k) (map.keys st.index))
+    (means : mapped triple_of before ≡ mapped (triple_at st.pool r) found) (canonical : All HasCanonicalTexts before) (p : IsPermutation before after) (s : IsSorted text_cmp after) where
+  in_order : mapped triple_of after ≡ sorted triple_cmp (mapped (triple_at st.pool r) found)
+  in_order =
+      let m = triple_at st.pool r in
+      let same : IsPermutation (mapped m found) (mapped triple_of after) = subst (λ ts. IsPermutation ts (mapped triple_of after)) means (IsPermutation-map triple_of before after p) in
+      distinct_sorted triple_cmp-total triple_cmp-IsAntisymmetric (mapped m found) (mapped triple_of after) same (found_once st r w found h is)
+      (sorted_triples after (All-permutation HasCanonicalTexts before after p canonical) s)
+
+  -- in order they rise
+  pub rows_rising : IsRising triple_cmp (mapped triple_of after)
+  rows_rising = subst (IsRising triple_cmp) (sym in_order) (IsRising-sorted triple_cmp-total (mapped (triple_at st.pool r) found))
+
+-- and are as many as the keys
+pub rows_long : (st : Store) (r : Texts) (found : List Key) (before after : List TripleText) → mapped triple_of before ≡ mapped (triple_at st.pool r) found → IsPermutation before after → length found ≡ length (mapped triple_of after)
+rows_long st r found before after means p =
+    sym (length-map found (triple_at st.pool r)) ∙ ap length (sym means) ∙ length-map before triple_of ∙ sym (length_permutation before after p) ∙ sym (length-map after triple_of)
+
+-- and are the stored triples that agree with the pattern
 pub rows_matched : (st : Store) (r : Texts) (pattern : Pattern) (w : SlotPattern) (found : List Key) (before after : List TripleText) → IsStored st r
     → ((k : Key) → map.contains_key st.index k ≡ true → agrees pattern (triple_at st.pool r k) ≡ slots_agree w k)
     → ((f : Key → Bool) → count_by f found ≡ count_by (λ k. slots_agree w k && f k) (map.keys st.index))
     → mapped triple_of before ≡ mapped (triple_at st.pool r) found → All HasCanonicalTexts before → IsPermutation before after → IsSorted text_cmp after
     → mapped triple_of after ≡ filter (agrees pattern) (map.keys (image (triple_at st.pool r) st.index))
 rows_matched st r pattern w found before after h alike is means canonical p s =
-    let m = triple_at st.pool r in
-    let same : IsPermutation (mapped m found) (mapped triple_of after) = subst (λ ts. IsPermutation ts (mapped triple_of after)) means (IsPermutation-map triple_of before after p) in
-    distinct_sorted triple_cmp-total triple_cmp-IsAntisymmetric (mapped m found) (mapped triple_of after) same (found_once st r w found h is)
-    (sorted_triples after (All-permutation HasCanonicalTexts before after p canonical) s)
-    ∙ matched st.pool r st.index pattern w found alike is
+    in_order st r w found before after h is means canonical p s ∙ matched st.pool r st.index pattern w found alike is

@@ -108,7 +108,7 @@ has-meant_more m [] key q = or_none (same_triple q (m key))
 has-meant_more m (k ∷ keys) key q = ap (λ b. same_triple q (m k) || b) (has-meant_more m keys key q) ∙ sym (or_assoc (same_triple q (m k)) (has triple_cmp q (mapped m keys)) (same_triple q (m key)))
 
 -- one owner less of a triple that wasn't among those that have one less
-one_less : (now before after : ℕ) (gone same : Bool) → (same ≡ true → (gone ≡ false) × (0 < now)) → now + one_if gone ≡ before → after ≡ now - one_if same → after + one_if (gone || same) ≡ before
+pub one_less : (now before after : ℕ) (gone same : Bool) → (same ≡ true → (gone ≡ false) × (0 < now)) → now + one_if gone ≡ before → after ≡ now - one_if same → after + one_if (gone || same) ≡ before
 one_less now before after gone true h e f = let k : (gone ≡ false) × (0 < now) = h refl in omega (arith, ap one_if k.0, ap (λ b. one_if (b || true)) k.0, k.1, e, f)
 one_less now before after true false h e f = omega (arith, e, f)
 one_less now before after false false h e f = omega (arith, e, f)

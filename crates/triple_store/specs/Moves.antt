@@ -35,3 +35,10 @@ pub record Takes (old : Store) (before : Texts) (new : Store) (after : Texts) (h
   pub kept : (key : Key) (triple : Triple) → HasKey old before key triple → HasKey new after key triple
   pub beside : (piece : Piece) → beside new after piece ≡ beside old before piece
   pub limit : limit_of new ≡ limit_of old
+
+-- these triples have one owner less
+pub record Loses (old : Store) (before : Texts) (new : Store) (after : Texts) (triples : List Triple) : Type 0 where
+  pub stored : IsStored new after
+  pub counts : (triple : Triple) → count_of (counts_in new after) triple + one_if (has triple_cmp triple triples) ≡ count_of (counts_in old before) triple
+  pub beside : (piece : Piece) → beside new after piece ≡ beside old before piece
+  pub limit : limit_of new ≡ limit_of old

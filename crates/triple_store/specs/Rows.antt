@@ -1,11 +1,15 @@
--- The order of triples by the texts of their terms.
+-- Triples by the texts of their terms: their order, their lines, and rows of them.
 use Rattle.std.specs.Prelude.{ℕ, List, [], ◌∷◌, ◌++◌}
+use Rattle.std.specs.Prelude.{map as mapped}
+use Rattle.std.specs.List.{All}
 use Rattle.std.specs.declared.cmp.Ordering.{Ordering}
 use Rattle.std.specs.Cmp.{IsTotalOrder, on_total, then_total}
 use Rattle.std.specs.Cmp.Lexicographic.{nat_list_cmp_total}
 use Rattle.std.specs.Ordering.{on, then_cmp}
-use Rattle.rdf_term.specs.Order.{bytes_cmp}
+use Rattle.rising.specs.Rising.{IsRising}
+use Rattle.rdf_term.specs.Order.{bytes_cmp, triple_cmp}
 use Rattle.triple_texts.specs.declared.triple_text.TripleText.{TripleText}
+use Rattle.triple_store.specs.Slots.{HasCanonicalTexts, triple_of}
 
 -- by the subject's text, then the predicate's, then the object's
 abbrev pub text_cmp : TripleText → TripleText → Ordering
@@ -18,3 +22,8 @@ text_cmp-total = then_total (on_total (λ row. row.subject.now) nat_list_cmp_tot
 -- the line of a triple by its texts: each with a space after it, then `.` and LF
 abbrev pub line_of : TripleText → List ℕ
 line_of row = (row.subject.now ++ 32 ∷ []) ++ (row.predicate.now ++ 32 ∷ []) ++ (row.object.now ++ 32 ∷ []) ++ 46 ∷ 10 ∷ []
+
+-- the texts are canonical, and the triples rise strictly
+pub record AreRows (rows : List TripleText) : Type 0 where
+  pub canonical : All HasCanonicalTexts rows
+  pub rising : IsRising triple_cmp (mapped triple_of rows)

@@ -12,6 +12,8 @@ mod exchanging;
 mod fault;
 mod holding;
 mod matching;
+mod patching;
+mod reading;
 mod releasing;
 mod room;
 mod rows;

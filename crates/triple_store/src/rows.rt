@@ -1,11 +1,12 @@
 // The stored triples in their order, by the texts of their terms.
 
-ghost use Rattle.std.specs.Prelude.{◌≡◌, ◌<◌, ◌++◌, ◌∷◌, [], true, length, slice_get, map as mapped, IfOk, IfSome, OnOk, OnErr};
+ghost use Rattle.std.specs.Prelude.{◌≡◌, ◌+◌, ◌<◌, ◌++◌, ◌∷◌, [], true, length, slice_get, map as mapped, IfOk, IfSome, OnOk, OnErr};
 ghost use Rattle.std.specs.FinMap as map;
 ghost use Rattle.std.specs.List.{All};
 ghost use Rattle.std.specs.List.Sorted.{IsPermutation, IsSorted};
 ghost use Rattle.std.specs.Ordering.{ordering_then};
 ghost use Rattle.rising.specs.Rising.{has};
+ghost use Rattle.block_index.specs.Steps.{Within};
 ghost use Rattle.rdf_term.specs.Append.{Appends};
 ghost use Rattle.rdf_term.specs.Order.{bytes_cmp};
 ghost use Rattle.rdf_term.specs.Pattern.{rows};
@@ -16,12 +17,15 @@ ghost use Rattle.triple_store.specs.Rows.{line_of, text_cmp};
 ghost use Rattle.triple_store.specs.Slots.{HasCanonicalTexts, HasTexts, triple_at, triple_of};
 ghost use Rattle.triple_store.specs.Stored.{IsStored, counts_in, is_key};
 
+use crate::reading::read_rows;
 use crate::store::Store;
-use crate::uncounted::range;
-use rdf_term::{OutOfMemory, Pattern};
+use block_index::Steps;
+use rdf_term::{OutOfMemory, Pattern, TripleSet};
 use slot_index::Key;
+use std::alloc::Global;
 use std::cmp::Ordering;
-use std::marker::Model;
+use std::marker::{Brand, Model};
+use std::sync::ledger::{Blank, Ledger};
 use term_pool::Slot;
 use text_region::Region;
 use triple_texts::TripleText;
@@ -34,15 +38,15 @@ pub struct Rows<'a> {
 
 impl<'a> Model for Rows<'a> {
     ghost use Rattle.std.specs.Prelude.{List, map};
-    ghost use Rattle.std.specs.List.{All};
     ghost use Rattle.rdf_term.specs.declared.triple.Triple.{Triple};
-    ghost use Rattle.triple_store.specs.Slots.{HasCanonicalTexts, triple_of};
+    ghost use Rattle.triple_store.specs.Rows.{AreRows};
+    ghost use Rattle.triple_store.specs.Slots.{triple_of};
 
     ghost Value = { List Triple };
 
     ghost view = { λ r. map triple_of r.rows.items };
 
-    ghost invariant = { λ r. All HasCanonicalTexts r.rows.items };
+    ghost invariant = { λ r. AreRows r.rows.items };
 }
 
 impl<'a> Rows<'a> {
@@ -60,6 +64,14 @@ impl<'a> Rows<'a> {
         ensures err { OnErr result (out.new.items ≡ out.old.items) }
     {
         write_row(&self.rows[place], out)
+    }
+
+    /// The triples in memory of their own.
+    pub fn triples(&self, alloc: Global) -> Result<TripleSet, OutOfMemory>
+        ensures { IfOk result (λ set. set ≡ self.now) }
+    {
+        let triples = read_rows(alloc, self.rows.as_slice())?;
+        Ok(TripleSet::from_rising(triples))
     }
 }
 
@@ -89,12 +101,27 @@ impl Store {
         requires { IsStored self.now region.now }
         ensures rows { IfOk result (λ found. found ≡ rows (map.keys (counts_in self.now region.now)) pattern.now) }
     {
+        matching_by::<Brand>(self, region, pattern, Blank::new(1))
+    }
+
+    /// The same, with its steps in the index counted: at most nine more than the triples that it gives and the binary digits of
+    /// the number of stored triples together.
+    pub fn matching_in_steps<'a, L: Ledger>(
+        &self,
+        region: &'a Region,
+        pattern: &Pattern,
+        steps: &mut Steps<L>,
+    ) -> Result<Rows<'a>, OutOfMemory>
+        requires { IsStored self.now region.now }
+        ensures rows { IfOk result (λ found. found ≡ rows (map.keys (counts_in self.now region.now)) pattern.now) }
+        ensures cost { IfOk result (λ found. Within (map.len (counts_in self.now region.now)) (9 + length found) steps.old steps.new) }
+    {
         let Some(wanted) = self.slots_of(region, pattern) else {
             return Ok(Rows {
                 rows: Vec::new(self.alloc),
             });
         };
-        let keys = range(&self.index, wanted)?;
+        let keys = self.index.range(wanted, steps)?;
         let mut rows = self.texts_of(region, keys.as_slice())?;
         sort_rows(&mut rows);
         Ok(Rows { rows })
@@ -130,6 +157,23 @@ impl Store {
             object: self.pool.text(region, Slot { number: key.third }),
         }
     }
+}
+
+// The stored triples that agree with the pattern, where nobody counts the steps.
+fn matching_by<'a, L: Ledger>(
+    store: &Store,
+    region: &'a Region,
+    pattern: &Pattern,
+    blank: Blank,
+) -> Result<Rows<'a>, OutOfMemory>
+    requires stored { IsStored store.now region.now }
+    requires name { blank.name ≡ L.name }
+    requires parts { blank.parts ≡ L.parts }
+    requires some { 0 < blank.parts }
+    ensures { IfOk result (λ found. found ≡ rows (map.keys (counts_in store.now region.now)) pattern.now) }
+{
+    let mut steps = Steps::<L>::new(blank);
+    store.matching_in_steps(region, pattern, &mut steps)
 }
 
 // Sorts triples by the texts of their terms. It takes no memory.

@@ -1,14 +1,11 @@
 // Calls of the index whose steps nobody counts.
 
-ghost use Rattle.std.specs.Prelude.{◌≡◌, ◌<◌, ◌==◌, ◌&&◌, Bool, count_by, IfOk, OnOk, OnErr};
-ghost use Rattle.std.specs.FinMap as map;
-ghost use Rattle.slot_index.specs.declared.key.Key.{Key as TheKey};
+ghost use Rattle.std.specs.Prelude.{◌≡◌, ◌<◌, ◌==◌, IfOk, OnOk, OnErr};
 ghost use Rattle.slot_index.specs.Counts.{count_of, lowered, raised};
-ghost use Rattle.slot_index.specs.Patterns.{agrees};
 
 use block_index::Steps;
-use rdf_term::{List, OutOfMemory};
-use slot_index::{Key, SlotIndex, SlotPattern};
+use rdf_term::OutOfMemory;
+use slot_index::{Key, SlotIndex};
 use std::marker::Brand;
 use std::sync::ledger::{Blank, Ledger};
 
@@ -69,25 +66,4 @@ fn count_in<L: Ledger>(index: &SlotIndex, key: Key, blank: Blank) -> u64
 {
     let mut steps = Steps::<L>::new(blank);
     index.count(key, &mut steps)
-}
-
-// The stored triples that agree with a pattern.
-pub(crate) fn range(index: &SlotIndex, pattern: SlotPattern) -> Result<List<Key>, OutOfMemory>
-    ensures { IfOk result (λ found. (p : TheKey → Bool) → count_by p found ≡ count_by (λ key. agrees pattern key && p key) (map.keys index.now)) }
-{
-    range_by::<Brand>(index, pattern, Blank::new(1))
-}
-
-fn range_by<L: Ledger>(
-    index: &SlotIndex,
-    pattern: SlotPattern,
-    blank: Blank,
-) -> Result<List<Key>, OutOfMemory>
-    requires name { blank.name ≡ L.name }
-    requires parts { blank.parts ≡ L.parts }
-    requires some { 0 < blank.parts }
-    ensures { IfOk result (λ found. (p : TheKey → Bool) → count_by p found ≡ count_by (λ key. agrees pattern key && p key) (map.keys index.now)) }
-{
-    let mut steps = Steps::<L>::new(blank);
-    index.range(pattern, &mut steps)
 }

@@ -2,7 +2,7 @@
 use Rattle.std.proofs.Common.{◌≡◌, Some, ap, sym, ◌∙◌}
 use Rattle.rdf_term.specs.Undo.{undo}
 use Rattle.rdf_term.proofs.Texts.{undo-term_text}
-use Rattle.triple_store.proofs.matching.read_back.Goals as goal
+use Rattle.triple_store.proofs.reading.read_back.Goals as goal
 
 pub returns : goal.returns
 returns c =

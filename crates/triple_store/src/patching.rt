@@ -1,0 +1,80 @@
+// A patch of triples, applied.
+
+ghost use Rattle.std.specs.Prelude.{◌≡◌, ◌<◌, ◌≤◌, true, [], Err, IfOk, IsOk, OnOk, OnErr};
+ghost use Rattle.std.specs.List.{AllByRecursion};
+ghost use Rattle.rising.specs.Rising.{IsRising, has};
+ghost use Rattle.rdf_term.specs.declared.triple.Triple.{Triple as TheTriple};
+ghost use Rattle.rdf_term.specs.Fit.{HasFitAndShortTerms};
+ghost use Rattle.rdf_term.specs.Order.{triple_cmp};
+ghost use Rattle.text_region.specs.declared.piece.Piece.{Piece as ThePiece};
+ghost use Rattle.triple_store.specs.Counts.{Exchanges, count_of};
+ghost use Rattle.triple_store.specs.Moves.{Loses};
+ghost use Rattle.triple_store.specs.Room.{room_for};
+ghost use Rattle.triple_store.specs.Stored.{IsStored, beside, counts_in, limit_of};
+
+use crate::fault::StoreFault;
+use crate::store::Store;
+use rdf_term::{OutOfMemory, Triple};
+use std::alloc::Global;
+use text_region::Region;
+use triple_patch::Patch;
+use triple_sink::emit_all;
+use triple_texts::TripleTexts;
+
+impl Store {
+    /// Counts one owner more of each triple that comes and one less of each that goes; what has no owner left is no longer
+    /// stored. After a fault every triple has the count that it had. Where none comes it takes no memory and always succeeds.
+    pub fn apply(&mut self, region: &mut Region, patch: &Patch) -> Result<(), StoreFault>
+        requires stored { IsStored self.old region.old }
+        requires fit { AllByRecursion HasFitAndShortTerms patch.now.adds }
+        requires countable { (triple : TheTriple) → has triple_cmp triple patch.now.adds ≡ true → count_of (counts_in self.old region.old) triple < 18446744073709551615 }
+        requires there { (triple : TheTriple) → has triple_cmp triple patch.now.removes ≡ true → 0 < count_of (counts_in self.old region.old) triple }
+        ensures stored { IsStored self.new region.new }
+        ensures ok { OnOk result (Exchanges (counts_in self.old region.old) (counts_in self.new region.new) patch.now.removes patch.now.adds) }
+        ensures err { OnErr result (counts_in self.new region.new ≡ counts_in self.old region.old) }
+        ensures full { result ≡ Err StoreFault.Full → limit_of self.old < room_for (counts_in self.old region.old) patch.now.adds }
+        ensures within { OnOk result (room_for (counts_in self.old region.old) patch.now.adds ≤ limit_of self.old) }
+        ensures free { patch.now.adds ≡ [] → IsOk result }
+        ensures beside { (piece : ThePiece) → beside self.new region.new piece ≡ beside self.old region.old piece }
+        ensures limit { limit_of self.new ≡ limit_of self.old }
+    {
+        let Ok(texts) = texts_of(self.alloc, patch.adds.items()) else {
+            return Err(StoreFault::OutOfMemory);
+        };
+        match self.exchange(region, &[], &texts) {
+            Ok(_keys) => {
+                self.remove_all(region, patch.removes.items());
+                Ok(())
+            }
+            Err(fault) => Err(fault),
+        }
+    }
+
+    // Counts one owner less of each triple. It takes no memory.
+    fn remove_all(&mut self, region: &mut Region, triples: &[Triple])
+        requires stored { IsStored self.old region.old }
+        requires rising { IsRising triple_cmp triples.now }
+        requires there { (triple : TheTriple) → has triple_cmp triple triples.now ≡ true → 0 < count_of (counts_in self.old region.old) triple }
+        ensures { Loses self.old region.old self.new region.new triples.now }
+    {
+        for triple in triples {
+            let Some(key) = self.key_of(region, triple) else {
+                unreachable!()
+            };
+            self.remove(region, key);
+        }
+    }
+}
+
+// Triples by their texts. Without triples it takes no memory.
+fn texts_of(alloc: Global, triples: &[Triple]) -> Result<TripleTexts, OutOfMemory>
+    ensures texts { IfOk result (λ texts. texts ≡ triples.now) }
+    ensures free { triples.now ≡ [] → IsOk result }
+{
+    let mut texts = TripleTexts::new(alloc);
+    if triples.is_empty() {
+        return Ok(texts);
+    }
+    emit_all(alloc, triples, &mut texts)?;
+    Ok(texts)
+}
