@@ -20,7 +20,7 @@ use Rattle.replay_model.proofs.Versions.{all-drop, all-keep, all-put, union-all}
 use Rattle.world.specs.Applying.{Applies, outcome_of_reply}
 use Rattle.world.specs.Meaning.{meaning}
 use Rattle.world.specs.Roomed.{HasRoom, room_with}
-use Rattle.world.specs.WorldState.{WorldState, first_of, next_stale, remapped, second_after, stale, triples_anew}
+use Rattle.world.specs.WorldState.{WorldState, first_of, next_stale, remapped, second_after, stale, triples_anew, triples_of}
 use Rattle.world.specs.declared.applied.Applied.{Applied}
 use Rattle.world.specs.declared.applied.Outcome.{Outcome}
 use Rattle.world.specs.declared.applied.Outcome.TheVariants.{Same, Dropped}
@@ -97,7 +97,7 @@ passes_both {A} p q (y ∷ ys) x rest is = by (passes_both p q ys x rest) (q y) 
     by later false fails same = later same
 
 -- where the page of the least stale entity has no room, the store is full
-pub full_of_stale : (w : WorldState) → 0 < length (stale w) → w.room < room_with (meaning_by meaning w.second) w.replay.played.records (triples_anew meaning w (next_stale w)) →
+pub full_of_stale : (w : WorldState) → 0 < length (stale w) → w.room < room_with (meaning_by meaning w.second) w.replay.played.records (triples_anew w) →
     IsFullOfStale w.room w.replay.played.records (mapped_in w)
 full_of_stale w some over = by (stale w) refl some
   where
@@ -111,7 +111,7 @@ full_of_stale w some over = by (stale w) refl some
       next = next;
       page = page;
       holds = is;
-      over = subst (λ triples. w.room < room_with (meaning_by meaning w.second) records triples) (ap (triples_anew meaning w) next ∙ ap (triples_held (meaning w.mapping) x) is) over;
+      over = subst (λ triples. w.room < room_with (meaning_by meaning w.second) records triples) (ap (triples_of (meaning w.mapping) records) next ∙ ap (triples_held (meaning w.mapping) x) is) over;
     }
 
     by : (xs : List EntityId) → stale w ≡ xs → 0 < length xs → IsFullOfStale w.room records (mapped_in w)
@@ -151,7 +151,7 @@ remaps_all version old now so_far all =
 
 -- the next one has no room
 pub remaps_full : (version : MappingVersion) (old now new : WorldState) → Remaps version old now → new ≡ now → 0 < length (stale now) →
-    now.room < room_with (meaning_by meaning now.second) now.replay.played.records (triples_anew meaning now (next_stale now)) → IsFullOfStale old.room old.replay.played.records (mapped_in new)
+    now.room < room_with (meaning_by meaning now.second) now.replay.played.records (triples_anew now) → IsFullOfStale old.room old.replay.played.records (mapped_in new)
 remaps_full version old now new so_far same some over =
     let Full : ℕ → ReplayState → Type 0 = λ n w. IsFullOfStale n w.played.records (mapped_in new) in
     subst (λ n. Full n old.replay) so_far.room (subst (Full now.room) so_far.replay (rw same (full_of_stale now some over)))
