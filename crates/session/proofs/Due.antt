@@ -285,6 +285,7 @@ is_full contents directory room old new same stays over =
     rw stays (record {
       event = over.event;
       due = over.due;
+      fetches = over.wanted;
       bytes = over.bytes;
       document = over.is_reply.0;
       there = full_there contents directory room over.event.entity _ over.bytes over.is_reply;

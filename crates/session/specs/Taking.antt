@@ -1,5 +1,5 @@
 -- How far a world has come in a play while deliveries are taken, and what the taking of one delivery leaves.
-use Rattle.std.specs.Prelude.{◌≡◌, ◌⊎◌, ⊤, ℕ, ◌≤◌, ◌+◌, List, [], ◌∷◌, ◌++◌, length, Option, None, Some}
+use Rattle.std.specs.Prelude.{◌≡◌, true, ◌⊎◌, ⊤, ℕ, ◌≤◌, ◌+◌, List, [], ◌∷◌, ◌++◌, length, Option, None, Some}
 use Rattle.std.specs.Option.{option_to_list}
 use Rattle.wq_io.specs.Streams.{after_known}
 use Rattle.rdf_term.specs.declared.pattern.Pattern.{Pattern}
@@ -15,7 +15,7 @@ use Rattle.replay_model.specs.Records.{Bytes, record_of}
 use Rattle.replay_model.specs.Play.{Fetch, Replies, fetches, fetches_to_end}
 use Rattle.replay_model.specs.Replies.{GivesDocument, HoldsDocument, Judgement, failed_events, source_replies}
 use Rattle.replay_model.specs.ReplayState.{ReplayState, after_some, entered, fetches_due, following, following_to_end}
-use Rattle.replay_model.specs.Explained.{AgreeOnApplied, Explained, revision_wanted}
+use Rattle.replay_model.specs.Explained.{AgreeOnApplied, Explained, is_fetching, revision_wanted}
 use Rattle.replay_model.specs.Transcript.{Sections, ask_section, asks, said as answers_said, transcript}
 use Rattle.rdf_term.specs.Pattern.{rows}
 use Rattle.world.specs.Meaning.{meaning}
@@ -133,6 +133,7 @@ pub record AppliesDue (setting : Setting) (before now : Counts) (old new : Repla
 pub record IsFull (setting : Setting) (world : ReplayState) (mapped : Mapped) : Type 0 where
   pub event : Event
   pub due : first_due world.buffer ≡ Some event
+  pub fetches : is_fetching world event ≡ true
   pub bytes : Bytes
   pub document : judgement event.entity bytes ≡ None
   pub there : (contents : ℕ → Option Bytes) → setting.known ≡ Some contents → contents (revision_wanted world event) ≡ Some bytes

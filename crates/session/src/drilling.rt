@@ -4,6 +4,7 @@ ghost use Rattle.std.specs.Prelude.{◌≡◌, ◌≤◌, [], IfErr, OnOk};
 ghost use Rattle.entity_model.specs.declared.mapping.MappingVersion.{MappingVersion};
 ghost use Rattle.replay_model.specs.ReplayState.{nothing_delivered};
 ghost use Rattle.transcript.specs.Printing.{output};
+ghost use Rattle.drill_replay.specs.Playing.{IsByFirst};
 ghost use Rattle.session.specs.Drilling.{DrillStopped, HasDrilled};
 ghost use Rattle.words.specs.Plan.{greatest_size};
 
@@ -17,7 +18,7 @@ use wq_io::Sink;
 /// For how many terms a drill has room.
 const ROOM: u32 = 20_000_000;
 
-// Runs the drill of this size, and prints its summary.
+// Runs the drill of this size, by version One of the mapping, and prints its summary.
 pub fn drill<K: Sink>(
     alloc: Global,
     size: u32,
@@ -29,6 +30,7 @@ pub fn drill<K: Sink>(
     requires mapping { world.old.mapping ≡ MappingVersion.One }
     requires second { world.old.second ≡ [] }
     ensures ok { OnOk result (HasDrilled size (output K.Sink out.old) (output K.Sink out.new) world.new.replay) }
+    ensures first { IsByFirst world.new }
     ensures most { K.most_faults out.new ≡ K.most_faults out.old }
     ensures err { IfErr result (λ why. DrillStopped why size (output K.Sink out.old) (output K.Sink out.new) world.new.replay) }
 {

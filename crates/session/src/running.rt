@@ -4,6 +4,7 @@ ghost use Rattle.std.specs.Prelude.{◌≡◌, ◌⊎◌, ◌↔◌, ℕ, ◌≤
 ghost use Rattle.wq_io.specs.Streams.{Rose};
 ghost use Rattle.replay_model.specs.ReplayState.{nothing_delivered};
 ghost use Rattle.entity_model.specs.declared.mapping.MappingVersion.{MappingVersion};
+ghost use Rattle.drill_replay.specs.Playing.{IsByFirst};
 ghost use Rattle.session.specs.Drilling.{DrillEnding};
 ghost use Rattle.session.specs.Headline.{Ending, Stopped};
 ghost use Rattle.session.specs.Moment.{moment, run_of, stage, world_at_start};
@@ -69,6 +70,9 @@ pub fn run<S: Source, R: Revisions, K: Sink>(
         DrillEnding result size
         (stage R.Revisions K.Sink revisions.old out.old world.old)
         (stage R.Revisions K.Sink revisions.new out.new world.new) }
+
+    // All that a drill leaves is mapped by the first version, which is in force.
+    ensures drilled_by_first { (size : ℕ) → plan_of (map (λ w. string_bytes w) words.now) ≡ Some (Drill size) → IsByFirst world.new }
 
     ensures drilled_alone { (size : ℕ) → plan_of (map (λ w. string_bytes w) words.now) ≡ Some (Drill size) →
         (events.new ≡ events.old) × (revisions.new ≡ revisions.old) }

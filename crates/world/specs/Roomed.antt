@@ -1,11 +1,12 @@
 -- How many terms the store needs room for.
-use Rattle.std.specs.Prelude.{◌≡◌, ℕ, ◌<◌, ◌≤◌, List, [], ◌++◌, Option, Some, Result, Ok, Err}
+use Rattle.std.specs.Prelude.{◌≡◌, ℕ, true, ◌<◌, ◌≤◌, List, [], ◌++◌, Option, Some, Result, Ok, Err}
 use Rattle.std.specs.List.{flat_map}
 use Rattle.rdf_term.specs.declared.triple.Triple.{Triple}
 use Rattle.rdf_term.specs.Order.{triple_cmp}
 use Rattle.entity_model.specs.declared.id.EntityId.{EntityId}
 use Rattle.entity_model.specs.declared.event.Event.{Event}
 use Rattle.entity_model.specs.declared.mapping.MappingVersion.{MappingVersion}
+use Rattle.entity_state.specs.Standing.{standing_after, standing_of, standing_wants}
 use Rattle.entity_state.specs.State.{state_after}
 use Rattle.reorder_buffer.specs.Buffered.{first_due}
 use Rattle.revisions.specs.Revisions.{Contents}
@@ -41,6 +42,7 @@ pub record Overfills (old : PagesState) (x : EntityId) (rev : ℕ) (reply : Resu
 pub record IsOverfull (told : Option Contents) (place : List ℕ) (old : WorldState) : Type 0 where
   pub event : Event
   pub due : first_due old.replay.buffer ≡ Some event
+  pub wanted : standing_wants (standing_after (standing_of (record_of old.replay.played.records event.entity)) event) ≡ true
   pub bytes : Bytes
   pub is_reply : IsReply told place event.entity (state_after (record_of old.replay.played.records event.entity).state event).rev (Ok bytes)
   pub over : old.room < room_with (meaning_by meaning old.second) old.replay.played.records (meaning old.mapping event.entity (state_after (record_of old.replay.played.records event.entity).state event).rev bytes)
