@@ -1,6 +1,7 @@
 //! The values that the whole workspace speaks of: the ids of Wikidata's items and properties, the
 //! events of their pages with the order in which they are applied, the documents of pages with all
-//! that they say, and the reasons for which the bytes of a page are no document.
+//! that they say, the reasons for which the bytes of a page are no document, and the versions of the rules by which
+//! a page is mapped.
 #![tactic(auto)]
 
 mod delivery;

@@ -25,8 +25,9 @@ use words::{Plan, read_plan};
 use world::World;
 use wq_io::{Sink, Source};
 
-/// Does what the words ask for. A replay reads the event lines, applies what is due, answers each question at once, and prints
-/// at the end what the words ask for; a drill replays deliveries and pages that are made from its size, and prints its summary.
+/// Does what the words ask for. A replay reads the event lines, applies what is due, answers each question at once, maps what is
+/// held anew where a line changes the mapping, and prints at the end what the words ask for; a drill replays
+/// deliveries and pages that are made from its size, and prints its summary.
 ///
 /// `words` are those after the program's name; each line of `events` is one delivery; `revisions` has the pages.
 pub fn run<S: Source, R: Revisions, K: Sink>(

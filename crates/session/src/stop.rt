@@ -10,10 +10,10 @@ use rdf_term::OutOfMemory;
 use transcript::Unwritten;
 use wq_io::LineFault;
 
-// Why not all due events were applied; the least of them stays due.
+// Why not all due events were applied, the least of them staying due; or not all pages mapped anew.
 #[derive(Clone, Copy, Debug, PartialEq, Eq)]
 pub enum Unapplied {
-    // There is no room for the terms of its page.
+    // There is no room for the terms of a page, new or mapped anew.
     StoreFull,
     // A request for memory was refused.
     OutOfMemory,
