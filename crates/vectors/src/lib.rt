@@ -19,6 +19,10 @@ mod names;
 #[cfg(test)]
 mod patches;
 #[cfg(test)]
+mod pools;
+#[cfg(test)]
 mod ranks;
+#[cfg(test)]
+mod regions;
 #[cfg(test)]
 mod streams;

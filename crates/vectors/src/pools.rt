@@ -1,0 +1,128 @@
+// A pool that fills up, and that has room again.
+
+ghost use Rattle.std.specs.Prelude.{◌≡◌, ◌+◌, ◌≤◌, ℕ, IfOk, OnOk};
+ghost use Rattle.rdf_term.specs.Fit.{IsFitAndShort};
+ghost use Rattle.term_pool.specs.Pool.{LiesIn, count_at};
+
+use rdf_term::{Term, read_term, write_term};
+use std::alloc::Global;
+use std::hash::RandomState;
+use std::process::Abort;
+use std::test::Fail;
+use term_pool::{Pool, PoolFault};
+use text_region::Region;
+
+// For a pool of two terms at most: a use more of a term or one less, and how many terms are there then, or that it is full. The
+// same text as an IRI and as a literal are two terms.
+const STEPS: &str = "+ <a> 1
++ \"a\" 2
++ <b> full
++ <a> 2
+- <a> 2
+- \"a\" 1
++ <b> 2
++ \"a\" full
+- <a> 1
+- <b> 0
++ \"a\" 1";
+
+// The term that a text writes.
+fn term_of(alloc: Global, text: &str) -> Result<Term, Fail>
+    ensures { IfOk result IsFitAndShort }
+{
+    let Some(term) = read_term(alloc, text)? else {
+        return Err("a term".into());
+    };
+    let mut written = Vec::new(alloc);
+    write_term(&term, &mut written)?;
+    if written.len() > 33_554_432 {
+        return Err("a short term".into());
+    }
+    Ok(term)
+}
+
+// Counts a use more, and says whether that was refused since the pool is full.
+fn is_full_for(pool: &mut Pool, region: &mut Region, term: &Term, uses: u64) -> Result<bool, Fail>
+    requires lies { LiesIn pool.old region.old }
+    requires fit { IsFitAndShort term.now }
+    requires few { (slot : ℕ) → count_at pool.old slot ≤ uses }
+    ensures lies { LiesIn pool.new region.new }
+    ensures few { (slot : ℕ) → count_at pool.new slot ≤ uses + 1 }
+{
+    match pool.intern(region, term) {
+        Ok(_) => Ok(false),
+        Err(PoolFault::Full) => Ok(true),
+        Err(PoolFault::OutOfMemory) => Err("out of memory".into()),
+    }
+}
+
+// Counts a use less of a term that is there.
+fn release(pool: &mut Pool, region: &mut Region, term: &Term, uses: u64) -> Result<(), Fail>
+    requires lies { LiesIn pool.old region.old }
+    requires few { (slot : ℕ) → count_at pool.old slot ≤ uses }
+    ensures lies { LiesIn pool.new region.new }
+    ensures few { (slot : ℕ) → count_at pool.new slot ≤ uses + 1 }
+{
+    let Some(slot) = pool.find(region, term) else {
+        return Err("a term that is there".into());
+    };
+    pool.release(region, slot);
+    Ok(())
+}
+
+// Counts a use more of a term, or one less, and says whether the pool is full for it.
+fn is_full_for_call(
+    pool: &mut Pool,
+    region: &mut Region,
+    sign: &str,
+    term: &Term,
+    uses: u64,
+) -> Result<bool, Fail>
+    requires lies { LiesIn pool.old region.old }
+    requires fit { IsFitAndShort term.now }
+    requires few { (slot : ℕ) → count_at pool.old slot ≤ uses }
+    ensures lies { LiesIn pool.new region.new }
+    ensures few { (slot : ℕ) → count_at pool.new slot ≤ uses + 1 }
+{
+    if sign == "+" {
+        return is_full_for(pool, region, term, uses);
+    }
+    release(pool, region, term, uses)?;
+    Ok(false)
+}
+
+// Checks one step.
+fn check_step(
+    rt: &(impl Abort + Alloc<A = Global>),
+    pool: &mut Pool,
+    region: &mut Region,
+    step: &str,
+    uses: u64,
+) -> Result<(), Fail>
+    requires lies { LiesIn pool.old region.old }
+    requires few { (slot : ℕ) → count_at pool.old slot ≤ uses }
+    ensures lies { OnOk result (LiesIn pool.new region.new) }
+    ensures few { OnOk result ((slot : ℕ) → count_at pool.new slot ≤ uses + 1) }
+{
+    let (sign, row) = step.split_once(' ').ok_or("a step")?;
+    let (text, want) = row.split_once(' ').ok_or("a row")?;
+    let term = term_of(rt.alloc(), text)?;
+    if is_full_for_call(pool, region, sign, &term, uses)? {
+        assert_eq!(rt; "full", want, "{step:?}");
+        return Ok(());
+    }
+    assert_eq!(rt; pool.len(), want.parse::<u32>()?, "{step:?}");
+    Ok(())
+}
+
+#[test]
+fn a_pool_fills_up(rt: HostRuntime) -> Result<(), Fail> {
+    let mut region = Region::new(rt.alloc())?;
+    let mut pool = Pool::new(rt.alloc(), RandomState::new(&rt)?, 2);
+    let mut uses: u64 = 0;
+    for step in STEPS.lines() {
+        check_step(&rt, &mut pool, &mut region, step, uses)?;
+        uses = uses.checked_add(1).ok_or("few steps")?;
+    }
+    Ok(())
+}
