@@ -24,7 +24,7 @@ abbrev pub stop_of_unwritten : Unwritten → Stop
 stop_of_unwritten NotWritten = WriteFault
 stop_of_unwritten Refused = OutOfMemory
 
--- why a run stopped where not all that was due was applied
+-- why a run stopped where not all due events were applied, or not all pages mapped anew
 abbrev pub stop_of_unapplied : Unapplied → Stop
 stop_of_unapplied NoRoom = StoreFull
 stop_of_unapplied Starved = OutOfMemory

@@ -1,4 +1,5 @@
--- What stands where memory was refused, or the store was full, while nothing was printed, and where all lines were taken.
+-- What stands where memory was refused, or the store was full, while nothing was printed and no page
+-- was being mapped anew, and where all lines were taken.
 use Rattle.std.specs.Prelude.{◌≡◌, ◌⊎◌, List, ◌++◌, Option, IfSome}
 use Rattle.std.specs.Option.{option_to_list}
 use Rattle.wq_io.specs.Streams.{IsAtEnd}
@@ -36,6 +37,6 @@ pub record StopsAtEnd (run : Run) (before now : Moment) : Type 0 where
   pub mapped : now.stage.mapped ≡ mapped_by (version_in_force deliveries) now.stage.world.played.records
   pub are : IfSome before.input.left (λ bytes. AreDeliveries (limit_of run.choices) bytes deliveries)
 
--- what stands where memory was refused, or the store was full, while nothing was printed
+-- what stands where memory was refused, or the store was full, while nothing was printed and no page was being mapped anew
 abbrev pub IsStarved : Run → Moment → Moment → Type 0
 IsStarved run before now = StopsWithin run before now ⊎ StopsAtEnd run before now
