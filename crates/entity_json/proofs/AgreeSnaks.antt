@@ -14,10 +14,10 @@ use Rattle.entity_model.specs.declared.snak.Snak.{Snak}
 use Rattle.entity_json.specs.Leaves.{◌>>=◌, text_at, list_of, id_of_kind}
 use Rattle.entity_json.specs.Joined.{numbered}
 use Rattle.entity_json.specs.Properties.{UnderProperty}
-use Rattle.entity_json.specs.Snaks.{HasValue, IsContent, IsDatatype, IsSnak, AreSnaks}
+use Rattle.entity_json.specs.Snaks.{HasValue, IsContent, IsDatatype, IsSnak, AreSnaks, value_type}
 use Rattle.entity_json.specs.Reading.Steps.{put, steps}
 use Rattle.entity_json.specs.Reading.Values.{value_of}
-use Rattle.entity_json.specs.Reading.Snaks.{value_type as type_read, text_or, datatype_of, content_named, snak_content, snak_of, snaks_step, snaks_at}
+use Rattle.entity_json.specs.Reading.Snaks.{text_or, datatype_of, content_named, snak_content, snak_of, snaks_step, snaks_at}
 use Rattle.entity_json.proofs.Agree.{Agree, Grown, Walks, list-sound, list-complete, map-sound, map-complete}
 use Rattle.entity_json.proofs.AgreeLeaves.{same-from_test, test-from_same, id_of_kind-sound, id_of_kind-complete}
 use Rattle.entity_json.proofs.AgreeValues.{value-sound, value-complete}
@@ -73,13 +73,11 @@ content-complete t NoValue h = ap (λ o. o >>= λ type. content_named type t) h
 content-complete t SomeValue h = ap (λ o. o >>= λ type. content_named type t) h
 
 -- the datatype
-datatype-sound : (m : Option Tree) (t : Tree) (s : List ℕ) → text_or (type_read t) m ≡ Some s → IsDatatype m t s
-unfolding type_read
+datatype-sound : (m : Option Tree) (t : Tree) (s : List ℕ) → text_or (value_type t) m ≡ Some s → IsDatatype m t s
 datatype-sound None t s e = sym (some_is e)
 datatype-sound (Some u) t s e = e
 
-datatype-complete : (m : Option Tree) (t : Tree) (s : List ℕ) → IsDatatype m t s → text_or (type_read t) m ≡ Some s
-unfolding type_read
+datatype-complete : (m : Option Tree) (t : Tree) (s : List ℕ) → IsDatatype m t s → text_or (value_type t) m ≡ Some s
 datatype-complete None t s h = ap Some (sym h)
 datatype-complete (Some u) t s h = h
 

@@ -45,7 +45,7 @@ use Rattle.entity_json.specs.Tagged.{IsTagged, AreLabels, AreAliases}
 use Rattle.entity_json.specs.declared.values.NumberedType.{NumberedType}
 use Rattle.entity_json.specs.declared.values.NumberedType.TheVariants.{Property, Item}
 use Rattle.entity_json.specs.Values.{numbered_letter, IsEntityValue, IsTime, IsQuantity, HasPrecision, IsGlobe, IsValue}
-use Rattle.entity_json.specs.Snaks.{HasValue, IsContent, IsDatatype, IsSnak, AreSnaks}
+use Rattle.entity_json.specs.Snaks.{HasValue, IsContent, IsDatatype, IsSnak, AreSnaks, value_type}
 use Rattle.entity_json.specs.Statements.{IsReference, HasMain, IsStatement, AreStatements}
 use Rattle.entity_json.specs.Links.{IsLink}
 use Rattle.entity_json.specs.Pages.{HasDatatype, HasLinks, IsEntity, IsDocument, StandsAt, IsPage}
@@ -172,6 +172,7 @@ type-length (Some u) =
     text_or_empty-length (text_at (codes "type") u) (weight u) (λ s e. omega (arith, text-length (member_of (codes "type") u) s e, member-light (codes "type") u))
 
 datatype-length : (o : Option Tree) (t : Tree) (s : List ℕ) → weight_there o ≤ 8388608 → weight t ≤ 8388608 → IsDatatype o t s → length s ≤ 8388608
+unfolding value_type
 datatype-length None t s m l h = omega (arith, ap length h, type-length (member_of (codes "datavalue") t), member-light (codes "datavalue") t)
 datatype-length (Some u) t s m l h = omega (arith, text-length (Some u) s h)
 

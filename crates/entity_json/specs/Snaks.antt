@@ -30,7 +30,7 @@ IsContent t NoValue = text_at (codes "snaktype") t ≡ Some (codes "novalue")
 IsContent t SomeValue = text_at (codes "snaktype") t ≡ Some (codes "somevalue")
 
 -- the type of the `datavalue`, or the empty text where there is none
-abbrev pub value_type : Tree → List ℕ
+unfoldable pub value_type : Tree → List ℕ
 value_type t = unwrap_or (member_of (codes "datavalue") t >>= text_at (codes "type")) []
 
 -- the datatype: where it is missing, the type of the value stands for it

@@ -3,7 +3,8 @@
 ghost use Rattle.std.specs.Prelude.{◌≡◌, Some};
 ghost use Rattle.json_spell.specs.View.{json_view, member_view};
 ghost use Rattle.entity_json.specs.Finds.{Finds, Makes};
-ghost use Rattle.entity_json.specs.Reading.Snaks.{value_type, datatype_of, content_named, snak_content, snak_of, snak_step, snaks_step, snaks_at};
+ghost use Rattle.entity_json.specs.Snaks.{value_type};
+ghost use Rattle.entity_json.specs.Reading.Snaks.{datatype_of, content_named, snak_content, snak_of, snak_step, snaks_step, snaks_at};
 
 use crate::each::{EntryReader, ItemReader, each_found_entry, each_item};
 use crate::leaf::{id_of_kind, list_of, member_at, text_at, text_of};
@@ -16,7 +17,7 @@ use rdf_term::{List, Piece, Text};
 use std::alloc::Global;
 
 // The type of the data value, or the empty text where there is none.
-#[tactic(auto, unfolding(crate::specs::Reading::Snaks::value_type))]
+#[tactic(auto, unfolding(crate::specs::Snaks::value_type))]
 fn value_type<'m>(json: &'m Json<'_>) -> &'m str
     ensures { result.now ≡ value_type (json_view json.now) }
 {

@@ -1,10 +1,9 @@
 -- The triples of a small document have fit and short terms.
 use Rattle.std.proofs.Common.{◌≡◌, ℕ, ◌≤◌, Bool, true, false, cond, List, [], ◌∷◌, ◌++◌, length, decimal, Option, Some, None, refl, arith}
-use Rattle.std.specs.List.{AllByRecursion, flat_map}
+use Rattle.std.specs.List.{flat_map}
 use Rattle.std.proofs.lemmas.List.Elements.{recursion_from_All}
 use Rattle.rising.specs.Rising.{sorted}
 use Rattle.rdf_term.specs.declared.term.Term.{Term}
-use Rattle.rdf_term.specs.declared.triple.Triple.{Triple}
 use Rattle.rdf_term.specs.Fit.{IsFitAndShort, HasFitAndShortTerms}
 use Rattle.rdf_term.specs.Grammar.{is_word}
 use Rattle.rdf_term.specs.Order.{triple_cmp}
@@ -26,15 +25,15 @@ use Rattle.rdf_vocabulary.specs.declared.predicate.Predicate.TheVariants as Say
 use Rattle.rdf_vocabulary.specs.declared.prefix.Prefix.{Prefix}
 use Rattle.rdf_vocabulary.specs.declared.prefix.Prefix.TheVariants.{Wd, Data, Wdt, P, Ps, Psv, Pq, Pqv, Pr, Prv, Wdno, Wikibase}
 use Rattle.rdf_vocabulary.specs.declared.resource.Resource.TheVariants.{Dataset, PublicDomain}
-use Rattle.rdf_vocabulary.specs.Prefix.{prefixed}
-use Rattle.rdf_vocabulary.proofs.Fit.{predicate_fit, resource_fit, prefixed_fit}
-use Rattle.value_nodes.specs.Nodes.{about}
-use Rattle.value_nodes.proofs.Fit.{literal_fit, plain_fit, simple_term_fit}
+use Rattle.rdf_vocabulary.specs.Predicate.{about}
+use Rattle.rdf_vocabulary.specs.Prefix.{entity_term, prefixed}
+use Rattle.rdf_vocabulary.proofs.Fit.{AreFit, about_fit, class_fit, join, join_all, plain_fit, resource_fit, prefixed_fit}
+use Rattle.rdf_vocabulary.proofs.Ids.{decimal_short, id_term_fit}
+use Rattle.value_nodes.proofs.Fit.{literal_fit, simple_term_fit}
 use Rattle.entity_model.specs.declared.mapping.MappingVersion.{MappingVersion}
 use Rattle.statement_rdf.specs.Ranking.{is_best}
-use Rattle.statement_rdf.proofs.NamesFit.{id_term_fit, decimal_short}
 use Rattle.statement_rdf.proofs.Fit.{statement_triples_fit}
-use Rattle.entity_rdf.specs.About.{alias_triples, change_triples, class_of, class_triples, dataset_term, dataset_triples, description_triples, entity_term, format_version, identifiers, label_triples, link_count, number_term, number_triples, page_triples, tagged_term}
+use Rattle.entity_rdf.specs.About.{alias_triples, change_triples, class_of, class_triples, dataset_term, dataset_triples, description_triples, format_version, identifiers, label_triples, link_count, number_term, number_triples, page_triples, tagged_term}
 use Rattle.entity_rdf.specs.Property.{datatype_triples, is_datatype_char, other_predicates, predicate_triple, property_triples, property_triples_of, type_name, value_predicates}
 use Rattle.entity_rdf.specs.Statements.{judged_triples, statements_triples}
 use Rattle.entity_rdf.specs.Dump.{dump, spoken_triples, text_triples}
@@ -42,21 +41,6 @@ use Rattle.sitelinks.specs.Article.{article_triples}
 use Rattle.sitelinks.proofs.Fit.{article_triples_fit}
 use Rattle.munger.proofs.Fit.{sorted_each}
 use Rattle.entity_rdf.proofs.TypeNames.{type_name_iri, type_name_short}
-
--- all terms of the triples are fit and short
-abbrev AreFit : List Triple → Type 0
-AreFit triples = AllByRecursion HasFitAndShortTerms triples
-
-about_fit : (node : Term) (predicate : Predicate) (object : Term) → IsFitAndShort node → IsFitAndShort object → HasFitAndShortTerms (about node predicate object)
-about_fit node predicate object n o = record { subject = n; predicate = predicate_fit predicate; object = o }
-
-join : (xs ys : List Triple) → AreFit xs → AreFit ys → AreFit (xs ++ ys)
-join [] ys p q = q
-join (x ∷ xs) ys p q = (p.0, join xs ys p.1 q)
-
-join_all : {A : Type 0} (Small : A → Type 0) (f : A → List Triple) (xs : List A) → ((x : A) → Small x → AreFit (f x)) → AllByRecursion Small xs → AreFit (flat_map f xs)
-join_all Small f [] fits all = tt
-join_all Small f (x ∷ xs) fits all = join (f x) (flat_map f xs) (fits x all.0) (join_all Small f xs fits all.1)
 
 entity_fit : (x : EntityId) → IsFitAndShort (entity_term x)
 entity_fit x = id_term_fit Wd x
@@ -90,7 +74,7 @@ texts_fit x e small =
     let aliases = flat_map (alias_triples node) e.aliases in
     join (class_triples x ++ labels ++ descriptions) aliases
     (join (class_triples x ++ labels) descriptions
-    (join (class_triples x) labels (about_fit node Say.RdfType _ n (resource_fit (class_of x.kind)), tt)
+    (join (class_triples x) labels (class_fit node (class_of x.kind) n, tt)
     (join_all IsSmallTagged (label_triples node) e.labels (label_fit node n) (recursion_from_All IsSmallTagged e.labels small.labels)))
     (join_all IsSmallTagged (description_triples node) e.descriptions (description_fit node n) (recursion_from_All IsSmallTagged e.descriptions small.descriptions)))
     (join_all IsSmallTagged (alias_triples node) e.aliases (alias_fit node n) (recursion_from_All IsSmallTagged e.aliases small.aliases))
@@ -100,7 +84,7 @@ unfolding format_version
 page_fit x =
     let node = dataset_term x in
     let n = dataset_fit x in (
-      about_fit node Say.RdfType _ n (resource_fit Dataset),
+      class_fit node Dataset n,
       (
         about_fit node Say.About _ n (entity_fit x),
         (about_fit node Say.License _ n (resource_fit PublicDomain), (about_fit node Say.SoftwareVersion _ n (plain_fit format_version (omega arith)), tt)),

@@ -11,10 +11,11 @@ use Rattle.entity_model.specs.declared.entity.Entity.{Entity}
 use Rattle.entity_model.specs.declared.document.Document.{Document}
 use Rattle.entity_model.specs.declared.document.Document.TheVariants.{Entity as AnEntity, Redirect}
 use Rattle.entity_model.specs.declared.mapping.MappingVersion.{MappingVersion}
+use Rattle.rdf_vocabulary.specs.Prefix.{entity_term}
 use Rattle.statement_rdf.specs.Ranking.{is_best}
 use Rattle.statement_rdf.proofs.Given.{statement_rules}
 use Rattle.statement_rdf.proofs.Members.{in_front, in_back, in_either, in_flat_map, flat_map_in}
-use Rattle.entity_rdf.specs.About.{alias_triples, change_triples, class_triples, dataset_term, dataset_triples, description_triples, entity_term, label_triples, link_count as link_counts, number_triples, page_triples}
+use Rattle.entity_rdf.specs.About.{alias_triples, change_triples, class_triples, dataset_term, dataset_triples, description_triples, label_triples, link_count as link_counts, number_triples, page_triples}
 use Rattle.entity_rdf.specs.Property.{datatype_triples, other_predicates, property_triples, property_triples_of, value_predicates}
 use Rattle.entity_rdf.specs.Statements.{judged_triples, statements_triples}
 use Rattle.entity_rdf.specs.Dump.{dump, entity_triples, spoken_triples, text_triples}

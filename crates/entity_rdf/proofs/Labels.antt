@@ -32,16 +32,18 @@ use Rattle.rdf_vocabulary.specs.declared.prefix.Prefix.TheVariants.{Wd, Wdt, P, 
 use Rattle.rdf_vocabulary.specs.declared.resource.Resource.TheVariants as Resources
 use Rattle.rdf_vocabulary.specs.Datatype.{typed}
 use Rattle.rdf_vocabulary.specs.Fields.{hashed_name}
-use Rattle.rdf_vocabulary.specs.Prefix.{prefixed}
-use Rattle.rdf_vocabulary.specs.Resource.{resource_term}
+use Rattle.rdf_vocabulary.specs.Predicate.{about}
+use Rattle.rdf_vocabulary.specs.Prefix.{entity_term, id_term, prefixed}
+use Rattle.rdf_vocabulary.specs.Resource.{class_triple, resource_term}
 use Rattle.rdf_vocabulary.specs.Unreserved.{escaped_name}
 use Rattle.rdf_vocabulary.proofs.NamesFit.{length-hashed_name}
+use Rattle.rdf_vocabulary.proofs.Shared.{append_each, chosen}
 use Rattle.wb_values.specs.declared.literal.TimeText.{TimeText}
 use Rattle.wb_values.specs.declared.literal.TimeText.TheVariants.{DateTime, Plain as PlainTime}
 use Rattle.wb_values.specs.Decimal.{is_decimal}
 use Rattle.wb_values.specs.Literal.{time_literal}
 use Rattle.value_nodes.specs.Name.{node_name, number_one, one}
-use Rattle.value_nodes.specs.Nodes.{about, bound_triples, named_triples, node_triples, value_part_triples, precision_triples, unit_term}
+use Rattle.value_nodes.specs.Nodes.{bound_triples, named_triples, node_triples, value_part_triples, precision_triples, unit_term}
 use Rattle.value_nodes.specs.Said.{object_triples, triple}
 use Rattle.value_nodes.specs.Terms.{amount_term, commons_media, julian_calendar, simple_term, text_term, time_term, time_text_term, url}
 use Rattle.sitelinks.specs.declared.sites.Site.{Site}
@@ -49,15 +51,15 @@ use Rattle.sitelinks.specs.Article.{article_iri, article_triples, badge_triple, 
 use Rattle.sitelinks.specs.Site.{site_of}
 use Rattle.statement_rdf.specs.declared.role.Role.{Role}
 use Rattle.statement_rdf.specs.declared.role.Role.TheVariants as Roles
-use Rattle.statement_rdf.specs.Node.{id_term, reference_node, statement_node}
+use Rattle.statement_rdf.specs.Node.{reference_node, statement_node}
 use Rattle.entity_model.specs.declared.mapping.MappingVersion.{MappingVersion}
 use Rattle.statement_rdf.specs.Ranking.{is_best}
 use Rattle.statement_rdf.specs.Role.{node_prefix, value_prefix}
 use Rattle.statement_rdf.specs.Snak.{content_triples, link_triples, snak_triples}
-use Rattle.statement_rdf.specs.Statement.{class_triple, direct_content, direct_triples, head_triples, main_triples, qualifier_triples, reference_triples, statement_triples, where_best}
+use Rattle.statement_rdf.specs.Statement.{direct_content, direct_triples, head_triples, main_triples, qualifier_triples, reference_triples, statement_triples, where_best}
 use Rattle.munger.specs.Short.{has_short_label, HasShortLabels}
 use Rattle.munger.proofs.Fit.{sorted_each}
-use Rattle.entity_rdf.specs.About.{alias_triples, change_triples, class_triples, dataset_term, dataset_triples, description_triples, entity_term, label_triples, link_count, number_triples, page_triples}
+use Rattle.entity_rdf.specs.About.{alias_triples, change_triples, class_triples, dataset_term, dataset_triples, description_triples, label_triples, link_count, number_triples, page_triples}
 use Rattle.entity_rdf.specs.Property.{datatype_triples, is_datatype_char, other_predicates, predicate_triple, property_triples, property_triples_of, type_name, value_predicates}
 use Rattle.entity_rdf.specs.Statements.{judged_triples, statements_triples}
 use Rattle.entity_rdf.specs.Dump.{dump, spoken_triples, text_triples}
@@ -71,16 +73,11 @@ abbrev AreShort : List Triple → Type 0
 AreShort triples = AllByRecursion HasShortLabels triples
 
 join : (xs ys : List Triple) → AreShort xs → AreShort ys → AreShort (xs ++ ys)
-join [] ys p q = q
-join (x ∷ xs) ys p q = (p.0, join xs ys p.1 q)
+join xs ys p q = append_each HasShortLabels xs ys p q
 
 join_all : {A : Type 0} (f : A → List Triple) (xs : List A) → ((x : A) → AreShort (f x)) → AreShort (flat_map f xs)
 join_all f [] short = tt
 join_all f (x ∷ xs) short = join (f x) (flat_map f xs) (short x) (join_all f xs short)
-
-chosen : (b : Bool) (x y : Term) → IsShort x → IsShort y → IsShort (cond b x y)
-chosen true x y p q = p
-chosen false x y p q = q
 
 triple_short : (subject predicate object : Term) → IsShort subject → IsShort predicate → IsShort object → HasShortLabels (triple subject predicate object)
 triple_short subject predicate object s p o = record { subject = s; predicate = p; object = o }
@@ -93,20 +90,20 @@ blank_short : (fields : List ℕ) → IsShort (Blank (hashed_name fields))
 blank_short fields = ap (λ n. nat_le n 32) (length-hashed_name fields)
 
 tagged_short : (text tag : List ℕ) → IsShort (tagged_of text tag)
-tagged_short text tag = chosen (is_tag tag) (Lang text tag) (Plain text) refl refl
+tagged_short text tag = chosen IsShort (is_tag tag) (Lang text tag) (Plain text) refl refl
 
 -- the terms of values, none of which is a blank node
 text_short : (datatype text : List ℕ) → IsShort (text_term datatype text)
 text_short datatype text =
     let file = prefixed FilePath (escaped_name text) in
-    chosen (bytes_eq datatype url) (iri_of text) (cond (bytes_eq datatype commons_media) file (Plain text)) refl
-    (chosen (bytes_eq datatype commons_media) file (Plain text) refl refl)
+    chosen IsShort (bytes_eq datatype url) (iri_of text) (cond (bytes_eq datatype commons_media) file (Plain text)) refl
+    (chosen IsShort (bytes_eq datatype commons_media) file (Plain text) refl refl)
 
 amount_short : (text : List ℕ) → IsShort (amount_term text)
-amount_short text = chosen (is_decimal text) (typed text Decimal) (Plain text) refl refl
+amount_short text = chosen IsShort (is_decimal text) (typed text Decimal) (Plain text) refl refl
 
 unit_short : (unit : List ℕ) → IsShort (unit_term unit)
-unit_short unit = chosen (bytes_eq unit one) (prefixed Wd number_one) (iri_of unit) refl refl
+unit_short unit = chosen IsShort (bytes_eq unit one) (prefixed Wd number_one) (iri_of unit) refl refl
 
 by_time : (text : TimeText) → IsShort (time_text_term text)
 by_time (DateTime text) = refl

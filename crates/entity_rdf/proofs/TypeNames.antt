@@ -1,23 +1,17 @@
 -- The name of a type of properties may stand in an IRI, and is no longer than its datatype.
-use Rattle.std.proofs.Common.{◌≡◌, ℕ, ◌+◌, ◌≤◌, Bool, true, false, ◌&&◌, cond, List, [], ◌∷◌, length, refl, arith}
+use Rattle.std.proofs.Common.{◌≡◌, ℕ, ◌+◌, ◌≤◌, Bool, true, false, cond, List, [], ◌∷◌, length, refl, arith}
 use Rattle.std.proofs.lemmas.Bool.Decides.{nat_tests}
 use Rattle.std.proofs.lemmas.List.{length-append}
 use Rattle.std.proofs.lemmas.List.Folds.{list_all-append}
 use Rattle.std.specs.Char.{to_ascii_uppercase}
 use Rattle.std.specs.List.{flat_map, list_all, slice_split, onto_first}
 use Rattle.rdf_term.specs.Grammar.{is_iri, is_iri_char, is_word}
+use Rattle.rdf_vocabulary.proofs.Shared.{both}
 use Rattle.entity_rdf.specs.Property.{capitalized, is_datatype_char, is_hyphen, type_name}
 
 -- each character of each part is one of a datatype
 abbrev are_parts : List (List ℕ) → Bool
 are_parts parts = list_all (list_all is_datatype_char) parts
-
-false_true : false ≡ true → ⊥
-false_true h = cc
-
-both : (a b : Bool) → (a && b) ≡ true → (a ≡ true) × (b ≡ true)
-both true b h = (refl, h)
-both false b h = absurd (false_true h)
 
 onto_parts : (c : ℕ) (parts : List (List ℕ)) → is_datatype_char c ≡ true → are_parts parts ≡ true → are_parts (onto_first c parts) ≡ true
 onto_parts c [] h all = rw h refl

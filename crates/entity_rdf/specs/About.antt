@@ -8,26 +8,22 @@ use Rattle.rdf_term.specs.Grammar.{tagged_of}
 use Rattle.entity_model.specs.declared.id.EntityId.{EntityId}
 use Rattle.entity_model.specs.declared.id.IdKind.{IdKind}
 use Rattle.entity_model.specs.declared.id.IdKind.TheVariants.{P, Q}
-use Rattle.entity_model.specs.EntityId.{id_text}
 use Rattle.entity_model.specs.declared.value.Tagged.{Tagged}
 use Rattle.entity_model.specs.declared.statement.Statement.{Statement}
 use Rattle.entity_model.specs.declared.entity.Entity.{Entity}
 use Rattle.rdf_vocabulary.specs.declared.datatype.Datatype.TheVariants.{Integer, DateTime}
 use Rattle.rdf_vocabulary.specs.declared.predicate.Predicate.TheVariants as Say
-use Rattle.rdf_vocabulary.specs.declared.prefix.Prefix.TheVariants.{Wd, Data}
+use Rattle.rdf_vocabulary.specs.declared.prefix.Prefix.TheVariants.{Data}
 use Rattle.rdf_vocabulary.specs.declared.resource.Resource.{Resource}
 use Rattle.rdf_vocabulary.specs.declared.resource.Resource.TheVariants.{Item, Property, Dataset, PublicDomain}
 use Rattle.rdf_vocabulary.specs.Datatype.{typed}
-use Rattle.rdf_vocabulary.specs.Prefix.{prefixed}
-use Rattle.rdf_vocabulary.specs.Resource.{resource_term}
-use Rattle.value_nodes.specs.Nodes.{about}
+use Rattle.rdf_vocabulary.specs.Predicate.{about}
+use Rattle.rdf_vocabulary.specs.Prefix.{entity_term, id_term}
+use Rattle.rdf_vocabulary.specs.Resource.{class_triple, resource_term}
 
--- the entity, and the dataset that its page is
-abbrev pub entity_term : EntityId → Term
-entity_term x = prefixed Wd (id_text x)
-
+-- the dataset that an entity's page is
 abbrev pub dataset_term : EntityId → Term
-dataset_term x = prefixed Data (id_text x)
+dataset_term x = id_term Data x
 
 -- a whole number
 abbrev pub number_term : ℕ → Term
@@ -39,7 +35,7 @@ class_of P = Property
 class_of Q = Item
 
 abbrev pub class_triples : EntityId → List Triple
-class_triples x = about (entity_term x) Say.RdfType (resource_term (class_of x.kind)) ∷ []
+class_triples x = class_triple (entity_term x) (class_of x.kind) ∷ []
 
 -- a text in its language
 abbrev pub tagged_term : Tagged → Term
@@ -63,7 +59,7 @@ format_version = codes "1.0.0"
 -- what is said of each dataset, whichever revision it is of
 abbrev pub page_triples : EntityId → List Triple
 page_triples x =
-    about (dataset_term x) Say.RdfType (resource_term Dataset)
+    class_triple (dataset_term x) Dataset
     ∷ about (dataset_term x) Say.About (entity_term x)
     ∷ about (dataset_term x) Say.License (resource_term PublicDomain)
     ∷ about (dataset_term x) Say.SoftwareVersion (Plain format_version) ∷ []

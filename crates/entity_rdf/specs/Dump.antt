@@ -8,9 +8,10 @@ use Rattle.entity_model.specs.declared.document.Document.{Document}
 use Rattle.entity_model.specs.declared.document.Document.TheVariants.{Entity as AnEntity, Redirect}
 use Rattle.entity_model.specs.declared.mapping.MappingVersion.{MappingVersion}
 use Rattle.rdf_vocabulary.specs.declared.predicate.Predicate.TheVariants as Say
-use Rattle.value_nodes.specs.Nodes.{about}
+use Rattle.rdf_vocabulary.specs.Predicate.{about}
+use Rattle.rdf_vocabulary.specs.Prefix.{entity_term}
 use Rattle.sitelinks.specs.Article.{article_triples}
-use Rattle.entity_rdf.specs.About.{alias_triples, class_triples, dataset_triples, description_triples, entity_term, label_triples}
+use Rattle.entity_rdf.specs.About.{alias_triples, class_triples, dataset_triples, description_triples, label_triples}
 use Rattle.entity_rdf.specs.Property.{property_triples}
 use Rattle.entity_rdf.specs.Statements.{statements_triples}
 

@@ -16,23 +16,24 @@ use Rattle.rdf_vocabulary.specs.declared.datatype.Datatype.TheVariants.{DateTime
 use Rattle.rdf_vocabulary.specs.declared.predicate.Predicate.TheVariants as Say
 use Rattle.rdf_vocabulary.specs.declared.resource.Resource.TheVariants.{Dataset, PublicDomain}
 use Rattle.rdf_vocabulary.specs.Datatype.{typed}
-use Rattle.rdf_vocabulary.specs.Resource.{resource_term}
-use Rattle.value_nodes.specs.Nodes.{about}
+use Rattle.rdf_vocabulary.specs.Predicate.{about}
+use Rattle.rdf_vocabulary.specs.Prefix.{entity_term}
+use Rattle.rdf_vocabulary.specs.Resource.{class_triple, resource_term}
 use Rattle.sitelinks.specs.Article.{article_triples}
 use Rattle.statement_rdf.specs.Gives.{StatementGives}
 use Rattle.statement_rdf.specs.Ranking.{is_best}
-use Rattle.entity_rdf.specs.About.{class_of, dataset_term, entity_term, format_version, identifiers, number_term, tagged_term}
+use Rattle.entity_rdf.specs.About.{class_of, dataset_term, format_version, identifiers, number_term, tagged_term}
 use Rattle.entity_rdf.specs.Property.{other_predicates, type_triples, value_predicates}
 
 -- the document of an entity says the triple
 pub data EntityGives (version : MappingVersion) (x : EntityId) (rev : ℕ) (e : Entity) (t : Triple) : Type 0 where
-  class : t ≡ about (entity_term x) Say.RdfType (resource_term (class_of x.kind)) → EntityGives version x rev e t
+  class : t ≡ class_triple (entity_term x) (class_of x.kind) → EntityGives version x rev e t
   label : (l : Tagged) → In l e.labels → t ≡ about (entity_term x) Say.Label (tagged_term l) → EntityGives version x rev e t
   preferred_label : (l : Tagged) → In l e.labels → t ≡ about (entity_term x) Say.PrefLabel (tagged_term l) → EntityGives version x rev e t
   name : (l : Tagged) → In l e.labels → t ≡ about (entity_term x) Say.Name (tagged_term l) → EntityGives version x rev e t
   description : (d : Tagged) → In d e.descriptions → t ≡ about (entity_term x) Say.Description (tagged_term d) → EntityGives version x rev e t
   alternative_label : (a : Tagged) → In a e.aliases → t ≡ about (entity_term x) Say.AltLabel (tagged_term a) → EntityGives version x rev e t
-  dataset : t ≡ about (dataset_term x) Say.RdfType (resource_term Dataset) → EntityGives version x rev e t
+  dataset : t ≡ class_triple (dataset_term x) Dataset → EntityGives version x rev e t
   dataset_about : t ≡ about (dataset_term x) Say.About (entity_term x) → EntityGives version x rev e t
   license : t ≡ about (dataset_term x) Say.License (resource_term PublicDomain) → EntityGives version x rev e t
   format : t ≡ about (dataset_term x) Say.SoftwareVersion (Plain format_version) → EntityGives version x rev e t

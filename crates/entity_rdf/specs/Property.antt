@@ -8,14 +8,12 @@ use Rattle.rdf_term.specs.Grammar.{is_word}
 use Rattle.entity_model.specs.declared.id.EntityId.{EntityId}
 use Rattle.entity_model.specs.declared.id.IdKind.{IdKind}
 use Rattle.entity_model.specs.declared.id.IdKind.TheVariants as Letter
-use Rattle.entity_model.specs.EntityId.{id_text}
 use Rattle.rdf_vocabulary.specs.declared.predicate.Predicate.{Predicate}
 use Rattle.rdf_vocabulary.specs.declared.predicate.Predicate.TheVariants as Say
 use Rattle.rdf_vocabulary.specs.declared.prefix.Prefix.{Prefix}
 use Rattle.rdf_vocabulary.specs.declared.prefix.Prefix.TheVariants.{Wdt, P, Ps, Psv, Pq, Pqv, Pr, Prv, Wdno, Wikibase}
-use Rattle.rdf_vocabulary.specs.Prefix.{prefixed}
-use Rattle.value_nodes.specs.Nodes.{about}
-use Rattle.entity_rdf.specs.About.{entity_term}
+use Rattle.rdf_vocabulary.specs.Predicate.{about}
+use Rattle.rdf_vocabulary.specs.Prefix.{entity_term, id_term, prefixed}
 
 -- a hyphen
 abbrev pub is_hyphen : ℕ → Bool
@@ -45,7 +43,7 @@ datatype_triples entity (Some datatype) = type_triples entity datatype
 
 -- the property as a predicate of a namespace
 abbrev pub predicate_triple : EntityId → Predicate → Prefix → Triple
-predicate_triple x predicate prefix = about (entity_term x) predicate (prefixed prefix (id_text x))
+predicate_triple x predicate prefix = about (entity_term x) predicate (id_term prefix x)
 
 abbrev pub value_predicates : EntityId → List Triple
 value_predicates x =

@@ -7,7 +7,7 @@ use Rattle.entity_model.specs.declared.statement.Statement.{Statement}
 use Rattle.entity_model.specs.declared.mapping.MappingVersion.{MappingVersion}
 use Rattle.statement_rdf.specs.Ranking.{is_best}
 use Rattle.statement_rdf.specs.Statement.{statement_triples}
-use Rattle.entity_rdf.specs.About.{entity_term}
+use Rattle.rdf_vocabulary.specs.Prefix.{entity_term}
 
 -- a statement, best or not among all of them
 abbrev pub judged_triples : MappingVersion → EntityId → List Statement → Statement → List Triple

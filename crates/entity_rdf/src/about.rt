@@ -1,8 +1,7 @@
 // What a page says of its entity: its class and its texts.
 
-ghost use Rattle.std.specs.Prelude.{◌≡◌, [], ◌∷◌, OnOk};
+ghost use Rattle.std.specs.Prelude.{◌≡◌, OnOk};
 ghost use Rattle.std.specs.List.{flat_map};
-ghost use Rattle.value_nodes.specs.Nodes.{about};
 ghost use Rattle.triple_sink.specs.Gains.{Gains};
 ghost use Rattle.triple_sink.specs.TermRef.{meant};
 ghost use Rattle.entity_rdf.specs.About.{alias_triples, class_of, class_triples, description_triples, label_triples, tagged_term};
@@ -10,25 +9,10 @@ ghost use Rattle.entity_rdf.specs.About.{alias_triples, class_of, class_triples,
 use entity_model::{EntityId, IdKind, Tagged};
 use rdf_term::OutOfMemory;
 use rdf_vocabulary::{Predicate, Prefix, Resource};
-use triple_sink::{Setting, TermRef, TripleSink};
-
-/// Emits one triple.
-pub(crate) fn emit<S: TripleSink>(
-    setting: Setting,
-    subject: &TermRef<'_>,
-    predicate: Predicate,
-    object: &TermRef<'_>,
-    out: &mut S,
-) -> Result<(), OutOfMemory>
-    ensures gains { OnOk result (Gains S.items S.keeps out.old out.new (about (meant subject.now) predicate (meant object.now) ∷ [])) }
-    ensures stays { S.rest out.new ≡ S.rest out.old }
-{
-    let predicate = TermRef::Iri(predicate.text());
-    out.emit(setting.alloc, subject, &predicate, object)
-}
+use triple_sink::{Setting, TermRef, TripleSink, emit_about, emit_class};
 
 /// Emits the class of the entity.
-pub(crate) fn emit_class<S: TripleSink>(
+pub(crate) fn emit_entity_class<S: TripleSink>(
     setting: Setting,
     id: EntityId,
     out: &mut S,
@@ -37,8 +21,7 @@ pub(crate) fn emit_class<S: TripleSink>(
     ensures stays { S.rest out.new ≡ S.rest out.old }
 {
     let entity = TermRef::Id(Prefix::Wd, id);
-    let class = TermRef::Iri(class_of(id.kind).text());
-    emit(setting, &entity, Predicate::RdfType, &class, out)
+    emit_class(setting.alloc, &entity, class_of(id.kind), out)
 }
 
 // The class of an entity, by the letter of its id.
@@ -69,9 +52,9 @@ fn emit_label<S: TripleSink>(
     ensures stays { S.rest out.new ≡ S.rest out.old }
 {
     let text = text_ref(label);
-    emit(setting, entity, Predicate::Label, &text, out)?;
-    emit(setting, entity, Predicate::PrefLabel, &text, out)?;
-    emit(setting, entity, Predicate::Name, &text, out)
+    emit_about(setting.alloc, entity, Predicate::Label, &text, out)?;
+    emit_about(setting.alloc, entity, Predicate::PrefLabel, &text, out)?;
+    emit_about(setting.alloc, entity, Predicate::Name, &text, out)
 }
 
 /// Emits the labels.
@@ -102,7 +85,7 @@ pub(crate) fn emit_descriptions<S: TripleSink>(
 {
     for description in descriptions {
         let text = text_ref(description);
-        emit(setting, entity, Predicate::Description, &text, out)?;
+        emit_about(setting.alloc, entity, Predicate::Description, &text, out)?;
     }
     Ok(())
 }
@@ -119,7 +102,7 @@ pub(crate) fn emit_aliases<S: TripleSink>(
 {
     for alias in aliases {
         let text = text_ref(alias);
-        emit(setting, entity, Predicate::AltLabel, &text, out)?;
+        emit_about(setting.alloc, entity, Predicate::AltLabel, &text, out)?;
     }
     Ok(())
 }

@@ -2,18 +2,17 @@
 
 ghost use Rattle.std.specs.Prelude.{◌≡◌, [], ◌∷◌, OnOk};
 ghost use Rattle.std.specs.Option.{option_copied};
-ghost use Rattle.value_nodes.specs.Nodes.{about};
+ghost use Rattle.rdf_vocabulary.specs.Predicate.{about};
 ghost use Rattle.triple_sink.specs.Gains.{Gains};
 ghost use Rattle.triple_sink.specs.TermRef.{meant};
 ghost use Rattle.rdf_term.specs.declared.term.Term.TheVariants.{Plain};
 ghost use Rattle.entity_rdf.specs.About.{change_triples, dataset_triples, format_version, identifiers, is_identifier, link_count, number_term, number_triples, page_triples};
 
-use crate::about::emit;
 use entity_model::{Entity, EntityId, IdKind, Statement};
 use itoa::Buffer;
 use rdf_term::{OutOfMemory, Piece};
 use rdf_vocabulary::{Datatype, Predicate, Prefix, Resource};
-use triple_sink::{Setting, TermRef, TripleSink};
+use triple_sink::{Setting, TermRef, TripleSink, emit_about, emit_class};
 
 /// Emits what is said of the dataset of the revision's page.
 pub(crate) fn emit_dataset<S: TripleSink>(
@@ -39,12 +38,11 @@ fn emit_page<S: TripleSink>(setting: Setting, id: EntityId, out: &mut S) -> Resu
     ensures stays { S.rest out.new ≡ S.rest out.old }
 {
     let dataset = TermRef::Id(Prefix::Data, id);
-    let class = TermRef::Iri(Resource::Dataset.text());
-    emit(setting, &dataset, Predicate::RdfType, &class, out)?;
+    emit_class(setting.alloc, &dataset, Resource::Dataset, out)?;
     let entity = TermRef::Id(Prefix::Wd, id);
-    emit(setting, &dataset, Predicate::About, &entity, out)?;
+    emit_about(setting.alloc, &dataset, Predicate::About, &entity, out)?;
     let license = TermRef::Iri(Resource::PublicDomain.text());
-    emit(setting, &dataset, Predicate::License, &license, out)?;
+    emit_about(setting.alloc, &dataset, Predicate::License, &license, out)?;
     emit_format(setting, &dataset, out)
 }
 
@@ -59,7 +57,13 @@ fn emit_format<S: TripleSink>(
     ensures stays { S.rest out.new ≡ S.rest out.old }
 {
     let version = TermRef::Plain("1.0.0");
-    emit(setting, dataset, Predicate::SoftwareVersion, &version, out)
+    emit_about(
+        setting.alloc,
+        dataset,
+        Predicate::SoftwareVersion,
+        &version,
+        out,
+    )
 }
 
 // Emits a whole number.
@@ -75,7 +79,7 @@ fn emit_number<S: TripleSink>(
 {
     let mut buffer = Buffer::new();
     let number = TermRef::Typed(buffer.format(number), Datatype::Integer.text());
-    emit(setting, dataset, predicate, &number, out)
+    emit_about(setting.alloc, dataset, predicate, &number, out)
 }
 
 // How many statements are identifiers in other databases.
@@ -144,7 +148,7 @@ fn emit_change<S: TripleSink>(
     match time {
         Some(time) => {
             let time = TermRef::Typed(time.as_str(), Datatype::DateTime.text());
-            emit(setting, dataset, Predicate::DateModified, &time, out)
+            emit_about(setting.alloc, dataset, Predicate::DateModified, &time, out)
         }
         None => Ok(()),
     }

@@ -8,12 +8,11 @@ ghost use Rattle.triple_sink.specs.Gains.{Gains};
 ghost use Rattle.triple_sink.specs.TermRef.{meant};
 ghost use Rattle.entity_rdf.specs.Property.{capitalized, datatype_triples, is_datatype_char, is_hyphen, other_predicates, predicate_triple, property_triples, type_name, type_triples, value_predicates};
 
-use crate::about::emit;
 use entity_model::{EntityId, IdKind};
 use rdf_term::{OutOfMemory, Piece};
 use rdf_vocabulary::{Predicate, Prefix};
 use std::alloc::Global;
-use triple_sink::{Setting, TermRef, TripleSink};
+use triple_sink::{Setting, TermRef, TripleSink, emit_about};
 
 // Whether letters, digits and hyphens alone make the datatype.
 pub(crate) fn has_type(datatype: &[u8]) -> bool
@@ -95,7 +94,7 @@ fn emit_type<S: TripleSink>(
     }
     let name = type_name(setting.alloc, datatype)?;
     let class = TermRef::Named(Prefix::Wikibase, name.as_str());
-    emit(setting, entity, Predicate::PropertyType, &class, out)
+    emit_about(setting.alloc, entity, Predicate::PropertyType, &class, out)
 }
 
 // Emits the type of properties of the datatype that the page says.
@@ -126,7 +125,13 @@ fn emit_predicate<S: TripleSink>(
     ensures stays { S.rest out.new ≡ S.rest out.old }
 {
     let entity = TermRef::Id(Prefix::Wd, id);
-    emit(setting, &entity, predicate, &TermRef::Id(prefix, id), out)
+    emit_about(
+        setting.alloc,
+        &entity,
+        predicate,
+        &TermRef::Id(prefix, id),
+        out,
+    )
 }
 
 fn emit_value_predicates<S: TripleSink>(

@@ -6,7 +6,7 @@ ghost use Rattle.sitelinks.specs.Article.{article_triples};
 ghost use Rattle.triple_sink.specs.Gains.{Gains};
 ghost use Rattle.entity_rdf.specs.Dump.{dump, entity_triples, redirect_triples, spoken_triples, text_triples};
 
-use crate::about::{emit, emit_aliases, emit_class, emit_descriptions, emit_labels};
+use crate::about::{emit_aliases, emit_descriptions, emit_entity_class, emit_labels};
 use crate::dataset::emit_dataset;
 use crate::property::emit_property;
 use crate::statements::emit_statements;
@@ -14,7 +14,7 @@ use entity_model::{Document, Entity, EntityId, Link};
 use rdf_term::OutOfMemory;
 use rdf_vocabulary::{Predicate, Prefix};
 use sitelinks::emit_article;
-use triple_sink::{Setting, TermRef, TripleSink};
+use triple_sink::{Setting, TermRef, TripleSink, emit_about};
 
 /// Emits the triples that the rules of the dump give for the document of a revision of `id`, one rule after the
 /// other. A triple may come more than once.
@@ -45,7 +45,7 @@ fn emit_redirect<S: TripleSink>(
 {
     let entity = TermRef::Id(Prefix::Wd, id);
     let target = TermRef::Id(Prefix::Wd, target);
-    emit(setting, &entity, Predicate::SameAs, &target, out)
+    emit_about(setting.alloc, &entity, Predicate::SameAs, &target, out)
 }
 
 fn emit_entity<S: TripleSink>(
@@ -104,7 +104,7 @@ fn emit_texts<S: TripleSink>(
     ensures stays { S.rest out.new ≡ S.rest out.old }
 {
     let subject = TermRef::Id(Prefix::Wd, id);
-    emit_class(setting, id, out)?;
+    emit_entity_class(setting, id, out)?;
     emit_labels(setting, &subject, entity.labels.as_slice(), out)?;
     emit_descriptions(setting, &subject, entity.descriptions.as_slice(), out)?;
     emit_aliases(setting, &subject, entity.aliases.as_slice(), out)

@@ -81,8 +81,8 @@ else_cause cause None next = Err cause
 else_cause cause (Some a) next = next a
 
 -- the event that an object with `kind` is, or the first cause in the order of kind, entity, revision, time and mode
-abbrev pub event_of : Data → Result Event LineCause
-event_of json =
+abbrev pub event_in : Data → Result Event LineCause
+event_in json =
     else_cause BadKind (kind_name json) (λ name.
     else_cause Entity (entity_of json) (λ entity.
     else_cause Rev (rev_of json) (λ rev.
@@ -96,8 +96,8 @@ told (Ok event) = Ok (Told event)
 told (Err cause) = Err cause
 
 -- the watermark that an object with `watermark` is, or the cause
-abbrev pub watermark_of : Data → Result Delivery LineCause
-watermark_of json = else_cause Time (time_at (codes "watermark") json) (λ time. Ok (Watermark time))
+abbrev pub watermark_in : Data → Result Delivery LineCause
+watermark_in json = else_cause Time (time_at (codes "watermark") json) (λ time. Ok (Watermark time))
 
 -- what a text wants at its place: `?` leaves the place free, and any other text is that of a term in N-Triples
 abbrev pub place_of : List ℕ → Option (Option Term)
@@ -125,8 +125,8 @@ abbrev pub pattern_of : Data → Option Pattern
 pattern_of ask = option_and_then pattern_in (as_array ask)
 
 -- the question with that value of `ask`, or the cause
-abbrev pub ask_of : Data → Result Delivery LineCause
-ask_of ask = else_cause BadPattern (pattern_of ask) (λ pattern. Ok (Ask pattern))
+abbrev pub ask_in : Data → Result Delivery LineCause
+ask_in ask = else_cause BadPattern (pattern_of ask) (λ pattern. Ok (Ask pattern))
 
 -- the version with that number
 abbrev pub version_numbered : ℕ → Option MappingVersion
@@ -137,15 +137,15 @@ abbrev pub version_of : Data → Option MappingVersion
 version_of mapping = option_and_then version_numbered (option_and_then as_u64 (as_number mapping))
 
 -- the change to the version that the value of `mapping` names, or the cause
-abbrev pub mapping_of : Data → Result Delivery LineCause
-mapping_of mapping = else_cause BadMapping (version_of mapping) (λ version. Ok (Mapping version))
+abbrev pub mapping_in : Data → Result Delivery LineCause
+mapping_in mapping = else_cause BadMapping (version_of mapping) (λ version. Ok (Mapping version))
 
 -- what an object delivers by the values of its keys `kind`, `watermark`, `ask` and `mapping`, of which it has exactly one
 abbrev pub by_form : Data → Option Data → Option Data → Option Data → Option Data → Result Delivery LineCause
-by_form json (Some kind) None None None = told (event_of json)
-by_form json None (Some watermark) None None = watermark_of json
-by_form json None None (Some ask) None = ask_of ask
-by_form json None None None (Some mapping) = mapping_of mapping
+by_form json (Some kind) None None None = told (event_in json)
+by_form json None (Some watermark) None None = watermark_in json
+by_form json None None (Some ask) None = ask_in ask
+by_form json None None None (Some mapping) = mapping_in mapping
 by_form json _ _ _ _ = Err NoForm
 
 -- what a JSON value delivers; only an object has keys

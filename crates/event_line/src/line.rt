@@ -3,7 +3,7 @@
 ghost use Rattle.std.specs.Prelude.{◌≡◌, ◌⊎◌, None, Some, MatchResult, IfOk};
 ghost use Rattle.serde_json.specs.View.{view};
 ghost use Rattle.rdf_term.specs.Reader.{read as term_of};
-ghost use Rattle.event_line.specs.Line.{Answers, AnswersPart, data_of, delivery_in, else_cause, event_of, watermark_of, ask_of, mapping_of, version_of, pattern_of, pattern_with, place_in, kind_named, kind_name, entity_of, rev_of, time_at, whole_kind};
+ghost use Rattle.event_line.specs.Line.{Answers, AnswersPart, data_of, delivery_in, else_cause, event_in, watermark_in, ask_in, mapping_in, version_of, pattern_of, pattern_with, place_in, kind_named, kind_name, entity_of, rev_of, time_at, whole_kind};
 ghost use Rattle.event_line.specs.declared.faults.DeliveryFault.TheVariants.{Bad as Refused, OutOfMemory as NoMemory};
 ghost use Rattle.event_line.specs.declared.faults.LineCause.TheVariants.{NotJson as NoJson};
 
@@ -76,7 +76,7 @@ fn delivery_in(alloc: Global, value: &Value) -> Result<Delivery, DeliveryFault>
 
 /// The event that an object with `kind` is.
 fn event(object: &Value) -> Result<Event, LineCause>
-    ensures { result ≡ event_of (view object.now) }
+    ensures { result ≡ event_in (view object.now) }
 {
     let name = kind_name(object).ok_or(LineCause::Kind)?;
     let entity = entity(object).ok_or(LineCause::Entity)?;
@@ -93,7 +93,7 @@ fn event(object: &Value) -> Result<Event, LineCause>
 
 /// The watermark that an object with `watermark` is.
 fn watermark(object: &Value) -> Result<Delivery, LineCause>
-    ensures { result ≡ watermark_of (view object.now) }
+    ensures { result ≡ watermark_in (view object.now) }
 {
     let time = time_at(object, "watermark").ok_or(LineCause::Time)?;
     Ok(Delivery::Watermark(time))
@@ -101,14 +101,14 @@ fn watermark(object: &Value) -> Result<Delivery, LineCause>
 
 /// The question with that value of `ask`.
 fn ask(alloc: Global, value: &Value) -> Result<Delivery, DeliveryFault>
-    ensures { AnswersPart (ask_of (view value.now)) result }
+    ensures { AnswersPart (ask_in (view value.now)) result }
 {
     Ok(Delivery::Ask(pattern(alloc, value)?))
 }
 
 /// The change to the version with that value of `mapping`.
 fn mapping(value: &Value) -> Result<Delivery, LineCause>
-    ensures { result ≡ mapping_of (view value.now) }
+    ensures { result ≡ mapping_in (view value.now) }
 {
     let version = version(value).ok_or(LineCause::Mapping)?;
     Ok(Delivery::Mapping(version))

@@ -1,35 +1,32 @@
 -- What is left of short triples is short, and of fit ones fit.
-use Rattle.std.proofs.Common.{◌≡◌, ℕ, ◌≤◌, Bool, true, false, ◌&&◌, nat_le, List, [], ◌∷◌, ◌++◌, length, Ordering, Less, Equal, Greater, refl, arith, lit≤}
+use Rattle.std.proofs.Common.{◌≡◌, ℕ, ◌≤◌, true, nat_le, List, [], ◌∷◌, ◌++◌, length, Ordering, Less, Equal, Greater, refl, arith, lit≤}
 use Rattle.std.proofs.lemmas.Bool.Decides.{nat_tests}
 use Rattle.std.proofs.lemmas.List.{length-append}
 use Rattle.std.specs.BTreeSet.{insert_key}
-use Rattle.std.specs.Char.{is_ascii_alphanumeric}
-use Rattle.std.specs.List.{AllByRecursion, flat_map, list_all}
+use Rattle.std.specs.List.{AllByRecursion, flat_map}
 use Rattle.std.specs.Ordering.{match_ordering}
 use Rattle.rising.specs.Rising.{sorted}
 use Rattle.rdf_term.specs.declared.term.Term.{Term}
 use Rattle.rdf_term.specs.declared.term.Term.TheVariants.{Iri, Blank, Plain, Lang, Typed}
 use Rattle.rdf_term.specs.declared.triple.Triple.{Triple}
 use Rattle.rdf_term.specs.Fit.{IsFitAndShort, HasFitAndShortTerms}
-use Rattle.rdf_term.specs.Grammar.{is_iri, is_iri_char, is_label}
+use Rattle.rdf_term.specs.Grammar.{is_iri, is_label}
 use Rattle.rdf_term.specs.Order.{triple_cmp}
 use Rattle.entity_model.specs.declared.id.EntityId.{EntityId}
 use Rattle.rdf_vocabulary.specs.declared.prefix.Prefix.TheVariants.{Wd, Genid}
 use Rattle.rdf_vocabulary.specs.Prefix.{prefix_text, prefixed}
 use Rattle.rdf_vocabulary.proofs.Fit.{prefixed_fit}
+use Rattle.rdf_vocabulary.proofs.Ids.{id_term_fit}
+use Rattle.rdf_vocabulary.proofs.NamesFit.{letters_iri}
+use Rattle.rdf_vocabulary.proofs.Shared.{flat_map_each}
 use Rattle.munger.specs.declared.verdict.Verdict.{Verdict}
 use Rattle.munger.specs.declared.verdict.Verdict.TheVariants.{Moved, Dropped, Kept}
 use Rattle.munger.specs.Munging.{left_by, munge, munged}
 use Rattle.munger.specs.Naming.{named}
 use Rattle.munger.specs.Short.{IsShort, HasShortTerms, has_short_label, HasShortLabels}
 use Rattle.munger.specs.Verdict.{verdict}
-use Rattle.rdf_vocabulary.proofs.Ids.{id_term_fit}
 
 module _ {A : Type 0} (P : A → Type 0) where
-  join : (xs ys : List A) → AllByRecursion P xs → AllByRecursion P ys → AllByRecursion P (xs ++ ys)
-  join [] ys p q = q
-  join (x ∷ xs) ys p q = (p.0, join xs ys p.1 q)
-
   insert_each : (R : A → A → Ordering) (xs : List A) (k : A) → P k → AllByRecursion P xs → AllByRecursion P (insert_key R xs k)
   insert_each R [] k p h = (p, tt)
   insert_each R (x ∷ xs) k p h =
@@ -43,11 +40,6 @@ module _ {A : Type 0} (P : A → Type 0) where
   pub sorted_each : (R : A → A → Ordering) (xs : List A) → AllByRecursion P xs → AllByRecursion P (sorted R xs)
   sorted_each R [] h = tt
   sorted_each R (x ∷ xs) h = insert_each R (sorted R xs) x h.0 (sorted_each R xs h.1)
-
-module _ {A B : Type 0} (P : A → Type 0) (Q : B → Type 0) (f : A → List B) (step : (x : A) → P x → AllByRecursion Q (f x)) where
-  pub flat_map_each : (xs : List A) → AllByRecursion P xs → AllByRecursion Q (flat_map f xs)
-  flat_map_each [] h = tt
-  flat_map_each (x ∷ xs) h = join Q (f x) (flat_map f xs) (step x h.0) (flat_map_each xs h.1)
 
 genid_short : length (prefix_text Genid) ≤ 100
 unfolding prefix_text
@@ -95,19 +87,6 @@ pub munge_short : (id : EntityId) (triples : List Triple) → AllByRecursion Has
 munge_short id triples s l =
     sorted_each HasShortTerms triple_cmp (flat_map (munged id) triples)
     (flat_map_each (λ x. HasShortTerms x × HasShortLabels x) HasShortTerms (munged id) (λ x h. left_short id x (verdict id x) h.0 h.1) triples (both_each triples s l))
-
-both : (a b : Bool) → (a && b) ≡ true → (a ≡ true) × (b ≡ true)
-both true b e = (refl, e)
-both false b e = cc
-
-letter_or_digit_iri : (c : ℕ) → is_ascii_alphanumeric c ≡ true → is_iri_char c ≡ true
-letter_or_digit_iri c h = grind (arith, nat_tests)
-
-letters_iri : (label : List ℕ) → list_all is_ascii_alphanumeric label ≡ true → is_iri label ≡ true
-letters_iri [] h = refl
-letters_iri (c ∷ label) h =
-    let n = both (is_ascii_alphanumeric c) (list_all is_ascii_alphanumeric label) h in
-    rw (letter_or_digit_iri c n.0) (letters_iri label n.1)
 
 label_iri : (label : List ℕ) → is_label label ≡ true → is_iri label ≡ true
 label_iri [] h = refl

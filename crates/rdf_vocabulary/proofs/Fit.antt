@@ -1,11 +1,15 @@
--- The terms of the vocabulary are fit and short.
-use Rattle.std.proofs.Common.{◌≡◌, ℕ, ◌+◌, ◌*◌, ◌≤◌, true, false, List, [], ◌∷◌, ◌++◌, length, refl, arith, lit≤}
+-- The terms of the vocabulary are fit and short, and so are triples of such terms.
+use Rattle.std.proofs.Common.{◌≡◌, ℕ, ◌+◌, ◌*◌, ◌≤◌, Bool, true, false, cond, List, [], ◌∷◌, ◌++◌, length, refl, arith, lit≤}
 use Rattle.std.proofs.lemmas.Bool.Decides.{nat_tests}
 use Rattle.std.proofs.lemmas.List.{length-append}
 use Rattle.std.proofs.lemmas.List.Folds.{list_all-append}
+use Rattle.std.specs.List.{AllByRecursion, flat_map}
 use Rattle.std.specs.Str.{bytes_eq}
-use Rattle.rdf_term.specs.Fit.{xsd_string, IsFitAndShort}
-use Rattle.rdf_term.specs.Grammar.{is_iri, is_iri_char}
+use Rattle.rdf_term.specs.declared.term.Term.{Term}
+use Rattle.rdf_term.specs.declared.term.Term.TheVariants.{Plain, Lang}
+use Rattle.rdf_term.specs.declared.triple.Triple.{Triple}
+use Rattle.rdf_term.specs.Fit.{xsd_string, IsFitAndShort, HasFitAndShortTerms}
+use Rattle.rdf_term.specs.Grammar.{is_iri, is_iri_char, is_tag, tagged_of}
 use Rattle.rdf_term.specs.Text.{escaped, escaped_byte}
 use Rattle.rdf_vocabulary.specs.declared.prefix.Prefix.{Prefix}
 use Rattle.rdf_vocabulary.specs.declared.prefix.Prefix.TheVariants as Prefixs
@@ -16,9 +20,10 @@ use Rattle.rdf_vocabulary.specs.declared.resource.Resource.TheVariants as Resour
 use Rattle.rdf_vocabulary.specs.declared.datatype.Datatype.{Datatype}
 use Rattle.rdf_vocabulary.specs.declared.datatype.Datatype.TheVariants as Datatypes
 use Rattle.rdf_vocabulary.specs.Datatype.{datatype_text, typed}
-use Rattle.rdf_vocabulary.specs.Predicate.{predicate_text, predicate_term}
+use Rattle.rdf_vocabulary.specs.Predicate.{about, predicate_text, predicate_term}
 use Rattle.rdf_vocabulary.specs.Prefix.{prefix_text, prefixed}
-use Rattle.rdf_vocabulary.specs.Resource.{resource_text, resource_term}
+use Rattle.rdf_vocabulary.specs.Resource.{class_triple, resource_text, resource_term}
+use Rattle.rdf_vocabulary.proofs.Shared.{append_each, flat_map_each}
 
 prefix_text_is : (word : Prefix) → (is_iri (prefix_text word) ≡ true) × (length (prefix_text word) ≤ 100)
 unfolding prefix_text
@@ -150,3 +155,32 @@ typed_fit text word h =
       fit = rw (w.0, w.1);
       short = omega (arith, w.2, length-append (escaped text) (34 ∷ 94 ∷ 94 ∷ 60 ∷ (datatype_text word ++ (62 ∷ []))), length-append (datatype_text word) (62 ∷ []));
     }
+
+-- plain texts
+pub plain_fit : (text : List ℕ) → length text ≤ 16777000 → IsFitAndShort (Plain text)
+plain_fit text h = record { fit = refl; short = omega (arith, escaped_short text, length-append (escaped text) (34 ∷ [])) }
+
+-- texts with a language tag
+pub tagged_fit : (text tag : List ℕ) → length text ≤ 8388608 → length tag ≤ 8388800 → IsFitAndShort (tagged_of text tag)
+tagged_fit text tag h k = by_tag (is_tag tag) refl
+  where
+    by_tag : (b : Bool) → is_tag tag ≡ b → IsFitAndShort (cond b (Lang text tag) (Plain text))
+    by_tag true e = record { fit = e; short = omega (arith, escaped_short text, length-append (escaped text) (34 ∷ 64 ∷ tag)) }
+    by_tag false e = plain_fit text (omega arith)
+
+-- all terms of the triples are fit and short
+abbrev pub AreFit : List Triple → Type 0
+AreFit triples = AllByRecursion HasFitAndShortTerms triples
+
+pub join : (xs ys : List Triple) → AreFit xs → AreFit ys → AreFit (xs ++ ys)
+join xs ys p q = append_each HasFitAndShortTerms xs ys p q
+
+pub join_all : {A : Type 0} (Small : A → Type 0) (f : A → List Triple) (xs : List A) → ((x : A) → Small x → AreFit (f x)) → AllByRecursion Small xs → AreFit (flat_map f xs)
+join_all Small f xs fits all = flat_map_each Small HasFitAndShortTerms f fits xs all
+
+-- a triple by a word of the vocabulary
+pub about_fit : (subject : Term) (predicate : Predicate) (object : Term) → IsFitAndShort subject → IsFitAndShort object → HasFitAndShortTerms (about subject predicate object)
+about_fit subject predicate object s o = record { subject = s; predicate = predicate_fit predicate; object = o }
+
+pub class_fit : (node : Term) (class : Resource) → IsFitAndShort node → HasFitAndShortTerms (class_triple node class)
+class_fit node class n = about_fit node Predicates.RdfType (resource_term class) n (resource_fit class)

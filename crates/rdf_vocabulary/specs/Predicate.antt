@@ -1,7 +1,8 @@
--- The predicates of the dump that are no property of Wikidata.
+-- The predicates of the dump that are no property of Wikidata, and triples by them.
 use Rattle.std.specs.Prelude.{ℕ, List, codes}
 use Rattle.rdf_term.specs.declared.term.Term.{Term}
 use Rattle.rdf_term.specs.declared.term.Term.TheVariants.{Iri}
+use Rattle.rdf_term.specs.declared.triple.Triple.{Triple}
 use Rattle.rdf_vocabulary.specs.declared.predicate.Predicate.{Predicate}
 use Rattle.rdf_vocabulary.specs.declared.predicate.Predicate.TheVariants.{RdfType, Label, PrefLabel, AltLabel, Name, Description, About, SoftwareVersion, Version, DateModified, InLanguage, IsPartOf, License, SameAs, WasDerivedFrom, Rank, Statements, Identifiers, Sitelinks, Badge, WikiGroup, PropertyType, DirectClaim, Claim, StatementProperty, StatementValue, Qualifier, QualifierValue, Reference, ReferenceValue, Novalue, TimeValue, TimePrecision, TimeTimezone, TimeCalendarModel, QuantityAmount, QuantityUnit, QuantityUpperBound, QuantityLowerBound, GeoLatitude, GeoLongitude, GeoPrecision, GeoGlobe}
 
@@ -54,3 +55,7 @@ predicate_text GeoGlobe = codes "http://wikiba.se/ontology#geoGlobe"
 -- the predicate as a term
 abbrev pub predicate_term : Predicate → Term
 predicate_term word = Iri (predicate_text word)
+
+-- a triple that says something of a subject
+abbrev pub about : Term → Predicate → Term → Triple
+about subject predicate object = record { subject = subject; predicate = predicate_term predicate; object = object }

@@ -1,7 +1,9 @@
--- Namespaces of IRIs, and the IRIs of names in them.
+-- Namespaces of IRIs, and the IRIs of names and entities in them.
 use Rattle.std.specs.Prelude.{ℕ, List, ◌++◌, codes}
 use Rattle.rdf_term.specs.declared.term.Term.{Term}
 use Rattle.rdf_term.specs.declared.term.Term.TheVariants.{Iri}
+use Rattle.entity_model.specs.declared.id.EntityId.{EntityId}
+use Rattle.entity_model.specs.EntityId.{id_text}
 use Rattle.rdf_vocabulary.specs.declared.prefix.Prefix.{Prefix}
 use Rattle.rdf_vocabulary.specs.declared.prefix.Prefix.TheVariants.{Wd, Wds, Wdv, Wdref, Wdt, P, Ps, Psv, Pq, Pqv, Pr, Prv, Wdno, Data, Genid, Wikibase, FilePath}
 
@@ -28,3 +30,11 @@ prefix_text FilePath = codes "http://commons.wikimedia.org/wiki/Special:FilePath
 -- the IRI of a name in a namespace
 abbrev pub prefixed : Prefix → List ℕ → Term
 prefixed prefix name = Iri (prefix_text prefix ++ name)
+
+-- the IRI of an entity's id in a namespace
+abbrev pub id_term : Prefix → EntityId → Term
+id_term prefix id = prefixed prefix (id_text id)
+
+-- the IRI of an entity
+abbrev pub entity_term : EntityId → Term
+entity_term id = id_term Wd id

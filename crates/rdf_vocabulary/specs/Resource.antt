@@ -2,8 +2,11 @@
 use Rattle.std.specs.Prelude.{ℕ, List, codes}
 use Rattle.rdf_term.specs.declared.term.Term.{Term}
 use Rattle.rdf_term.specs.declared.term.Term.TheVariants.{Iri}
+use Rattle.rdf_term.specs.declared.triple.Triple.{Triple}
+use Rattle.rdf_vocabulary.specs.declared.predicate.Predicate.TheVariants.{RdfType}
 use Rattle.rdf_vocabulary.specs.declared.resource.Resource.{Resource}
 use Rattle.rdf_vocabulary.specs.declared.resource.Resource.TheVariants.{Item, Property, Statement, Reference, BestRank, PreferredRank, NormalRank, DeprecatedRank, TimeValue, QuantityValue, GlobecoordinateValue, Dataset, Article, PublicDomain}
+use Rattle.rdf_vocabulary.specs.Predicate.{about}
 
 -- the text of a resource's IRI
 unfoldable pub resource_text : Resource → List ℕ
@@ -25,3 +28,7 @@ resource_text PublicDomain = codes "http://creativecommons.org/publicdomain/zero
 -- the resource as a term
 abbrev pub resource_term : Resource → Term
 resource_term word = Iri (resource_text word)
+
+-- the class of a node
+abbrev pub class_triple : Term → Resource → Triple
+class_triple node class = about node RdfType (resource_term class)

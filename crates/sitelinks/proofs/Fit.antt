@@ -9,21 +9,19 @@ use Rattle.std.specs.List.{AllByRecursion}
 use Rattle.std.specs.Option.{option_map_or}
 use Rattle.std.specs.Str.{bytes_eq}
 use Rattle.rdf_term.specs.declared.term.Term.{Term}
-use Rattle.rdf_term.specs.declared.term.Term.TheVariants.{Iri, Plain, Lang}
-use Rattle.rdf_term.specs.declared.triple.Triple.{Triple}
+use Rattle.rdf_term.specs.declared.term.Term.TheVariants.{Iri, Plain}
 use Rattle.rdf_term.specs.Fit.{IsFitAndShort, HasFitAndShortTerms}
-use Rattle.rdf_term.specs.Grammar.{is_iri, is_iri_char, is_tag, tagged_of}
-use Rattle.rdf_term.specs.Text.{escaped}
+use Rattle.rdf_term.specs.Grammar.{is_iri, is_iri_char, tagged_of}
 use Rattle.entity_model.specs.declared.entity.Link.{Link}
 use Rattle.entity_model.specs.declared.id.EntityId.{EntityId}
 use Rattle.entity_model.specs.Document.{IsSmallLink}
-use Rattle.rdf_vocabulary.specs.declared.predicate.Predicate.{Predicate}
 use Rattle.rdf_vocabulary.specs.declared.predicate.Predicate.TheVariants as Predicates
 use Rattle.rdf_vocabulary.specs.declared.prefix.Prefix.TheVariants.{Wd}
 use Rattle.rdf_vocabulary.specs.declared.resource.Resource.TheVariants.{Article}
-use Rattle.rdf_vocabulary.specs.Resource.{resource_term}
+use Rattle.rdf_vocabulary.specs.Predicate.{about}
+use Rattle.rdf_vocabulary.specs.Prefix.{entity_term}
 use Rattle.rdf_vocabulary.specs.Unreserved.{escaped_name}
-use Rattle.rdf_vocabulary.proofs.Fit.{predicate_fit, resource_fit, escaped_short}
+use Rattle.rdf_vocabulary.proofs.Fit.{about_fit, class_fit, join, plain_fit, tagged_fit}
 use Rattle.rdf_vocabulary.proofs.Ids.{id_term_fit}
 use Rattle.rdf_vocabulary.proofs.NamesFit.{escaped_name_iri, escaped_name_short}
 use Rattle.sitelinks.specs.declared.language.Place.{Place}
@@ -33,7 +31,7 @@ use Rattle.sitelinks.specs.declared.project.Project.TheVariants as Projects
 use Rattle.sitelinks.specs.declared.sites.Site.{Site}
 use Rattle.sitelinks.specs.declared.special.SpecialSite.{SpecialSite}
 use Rattle.sitelinks.specs.declared.special.SpecialSite.TheVariants as Specials
-use Rattle.sitelinks.specs.Article.{article_iri, article_triples, badge_triple, entity_term, found_triples, group_triple, article_head_triples, said, triples_of}
+use Rattle.sitelinks.specs.Article.{article_iri, article_triples, badge_triple, found_triples, group_triple, article_head_triples, triples_of}
 use Rattle.sitelinks.specs.Language.{is_language, is_lowercase_or_digit}
 use Rattle.sitelinks.specs.LanguageReader.{is_rest_of_language, place_after}
 use Rattle.sitelinks.specs.Project.{coded, coded_or, first_coded, project_group, project_suffix, projects}
@@ -153,16 +151,6 @@ special_or_small n (Some special) other h = special_small n special
 site_small : (id : List ℕ) → IfSome (site_of id) (IsSmallSite (length id))
 site_small id = special_or_small (length id) (special_named id) (coded_site (coded id)) (coded_small (length id) (coded id) (code_small projects id))
 
-plain_fit : (text : List ℕ) → length text ≤ 16777000 → IsFitAndShort (Plain text)
-plain_fit text h = record { fit = refl; short = omega (arith, escaped_short text, length-append (escaped text) (34 ∷ [])) }
-
-tagged_fit : (text tag : List ℕ) → length text ≤ 8388608 → length tag ≤ 8388800 → IsFitAndShort (tagged_of text tag)
-tagged_fit text tag h k = by (is_tag tag) refl
-  where
-    by : (b : Bool) → is_tag tag ≡ b → IsFitAndShort (cond b (Lang text tag) (Plain text))
-    by true e = record { fit = e; short = omega (arith, escaped_short text, length-append (escaped text) (34 ∷ 64 ∷ tag)) }
-    by false e = plain_fit text (omega arith)
-
 iri_fit : (iri : List ℕ) → is_iri iri ≡ true → length iri ≤ 33554000 → IsFitAndShort (Iri iri)
 iri_fit iri h short = record { fit = h; short = omega (arith, length-append iri (62 ∷ [])) }
 
@@ -174,39 +162,32 @@ article_fit n site title s h =
     (all_iri front (escaped_name name) (all_iri site.base (codes "wiki/") s.iri refl) (escaped_name_iri name))
     (omega (arith, s.base, escaped_name_short name, length-map title (replaced_byte 32 95), length-append site.base (codes "wiki/"), length-append front (escaped_name name)))
 
-said_fit : (subject : Term) (predicate : Predicate) (object : Term) → IsFitAndShort subject → IsFitAndShort object → HasFitAndShortTerms (said subject predicate object)
-said_fit subject predicate object s o = record { subject = s; predicate = predicate_fit predicate; object = o }
-
-join : (P : Triple → Type 0) (xs ys : List Triple) → AllByRecursion P xs → AllByRecursion P ys → AllByRecursion P (xs ++ ys)
-join P [] ys p q = q
-join P (x ∷ xs) ys p q = (p.0, join P xs ys p.1 q)
-
 badges_fit : (article : Term) (badges : List EntityId) → IsFitAndShort article → AllByRecursion HasFitAndShortTerms (map (badge_triple article) badges)
 badges_fit article [] a = tt
-badges_fit article (badge ∷ badges) a = (said_fit article Predicates.Badge (entity_term badge) a (id_term_fit Wd badge), badges_fit article badges a)
+badges_fit article (badge ∷ badges) a = (about_fit article Predicates.Badge (entity_term badge) a (id_term_fit Wd badge), badges_fit article badges a)
 
 triples_fit : (article : Term) (entity : EntityId) (link : Link) (site : Site) → IsFitAndShort article → IsSmallSite (length link.site) site → IsSmallLink link → AllByRecursion HasFitAndShortTerms (triples_of article entity link site)
 triples_fit article entity link site a s h =
     let base = iri_fit site.base s.iri (omega (arith, s.base)) in
     let head : AllByRecursion HasFitAndShortTerms (article_head_triples article entity site) = (
-      said_fit article Predicates.RdfType (resource_term Article) a (resource_fit Article),
+      class_fit article Article a,
       (
-        said_fit article Predicates.About (entity_term entity) a (id_term_fit Wd entity),
+        about_fit article Predicates.About (entity_term entity) a (id_term_fit Wd entity),
         (
-          said_fit article Predicates.InLanguage (Plain site.language) a (plain_fit site.language (omega (arith, s.language))),
-          (said_fit article Predicates.IsPartOf (Iri site.base) a base, tt),
+          about_fit article Predicates.InLanguage (Plain site.language) a (plain_fit site.language (omega (arith, s.language))),
+          (about_fit article Predicates.IsPartOf (Iri site.base) a base, tt),
         ),
       ),
     ) in
-    let name = said article Predicates.Name (tagged_of link.title site.language) in
+    let name = about article Predicates.Name (tagged_of link.title site.language) in
     let named : AllByRecursion HasFitAndShortTerms (name ∷ []) =
-    (said_fit article Predicates.Name (tagged_of link.title site.language) a (tagged_fit link.title site.language (omega arith) (omega (arith, s.language))), tt) in
+    (about_fit article Predicates.Name (tagged_of link.title site.language) a (tagged_fit link.title site.language (omega arith) (omega (arith, s.language))), tt) in
     let group : AllByRecursion HasFitAndShortTerms (group_triple site ∷ []) =
-    (said_fit (Iri site.base) Predicates.WikiGroup (Plain site.group) base (plain_fit site.group (omega (arith, s.group))), tt) in
+    (about_fit (Iri site.base) Predicates.WikiGroup (Plain site.group) base (plain_fit site.group (omega (arith, s.group))), tt) in
     let badges = map (badge_triple article) link.badges in
     let front = article_head_triples article entity site ++ name ∷ [] in
-    join HasFitAndShortTerms (front ++ badges) (group_triple site ∷ [])
-    (join HasFitAndShortTerms front badges (join HasFitAndShortTerms (article_head_triples article entity site) (name ∷ []) head named) (badges_fit article link.badges a)) group
+    join (front ++ badges) (group_triple site ∷ [])
+    (join front badges (join (article_head_triples article entity site) (name ∷ []) head named) (badges_fit article link.badges a)) group
 
 found_fit : (entity : EntityId) (link : Link) (found : Option Site) → IfSome found (IsSmallSite (length link.site)) → IsSmallLink link → AllByRecursion HasFitAndShortTerms (found_triples entity link found)
 found_fit entity link None s h = tt

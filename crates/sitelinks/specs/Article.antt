@@ -6,14 +6,11 @@ use Rattle.rdf_term.specs.declared.triple.Triple.{Triple}
 use Rattle.rdf_term.specs.Grammar.{tagged_of}
 use Rattle.entity_model.specs.declared.entity.Link.{Link}
 use Rattle.entity_model.specs.declared.id.EntityId.{EntityId}
-use Rattle.entity_model.specs.EntityId.{id_text}
-use Rattle.rdf_vocabulary.specs.declared.predicate.Predicate.{Predicate}
-use Rattle.rdf_vocabulary.specs.declared.predicate.Predicate.TheVariants.{RdfType, About, InLanguage, IsPartOf, Name, Badge, WikiGroup}
-use Rattle.rdf_vocabulary.specs.declared.prefix.Prefix.TheVariants.{Wd}
+use Rattle.rdf_vocabulary.specs.declared.predicate.Predicate.TheVariants.{About, InLanguage, IsPartOf, Name, Badge, WikiGroup}
 use Rattle.rdf_vocabulary.specs.declared.resource.Resource.TheVariants.{Article}
-use Rattle.rdf_vocabulary.specs.Predicate.{predicate_term}
-use Rattle.rdf_vocabulary.specs.Prefix.{prefixed}
-use Rattle.rdf_vocabulary.specs.Resource.{resource_term}
+use Rattle.rdf_vocabulary.specs.Predicate.{about}
+use Rattle.rdf_vocabulary.specs.Prefix.{entity_term}
+use Rattle.rdf_vocabulary.specs.Resource.{class_triple}
 use Rattle.rdf_vocabulary.specs.Unreserved.{escaped_name}
 use Rattle.sitelinks.specs.declared.sites.Site.{Site}
 use Rattle.sitelinks.specs.Replaced.{replaced}
@@ -23,35 +20,27 @@ use Rattle.sitelinks.specs.Site.{site_of}
 abbrev pub article_iri : Site → List ℕ → List ℕ
 article_iri site title = site.base ++ codes "wiki/" ++ escaped_name (replaced 32 95 title)
 
--- the IRI of an entity
-abbrev pub entity_term : EntityId → Term
-entity_term id = prefixed Wd (id_text id)
-
--- a triple that says something of a subject
-abbrev pub said : Term → Predicate → Term → Triple
-said subject predicate object = record { subject = subject; predicate = predicate_term predicate; object = object }
-
 -- what the article is, and where
 abbrev pub article_head_triples : Term → EntityId → Site → List Triple
 article_head_triples article entity site =
-    said article RdfType (resource_term Article)
-    ∷ said article About (entity_term entity)
-    ∷ said article InLanguage (Plain site.language)
-    ∷ said article IsPartOf (Iri site.base) ∷ []
+    class_triple article Article
+    ∷ about article About (entity_term entity)
+    ∷ about article InLanguage (Plain site.language)
+    ∷ about article IsPartOf (Iri site.base) ∷ []
 
 -- a badge of the article
 abbrev pub badge_triple : Term → EntityId → Triple
-badge_triple article badge = said article Badge (entity_term badge)
+badge_triple article badge = about article Badge (entity_term badge)
 
 -- the group of the site
 abbrev pub group_triple : Site → Triple
-group_triple site = said (Iri site.base) WikiGroup (Plain site.group)
+group_triple site = about (Iri site.base) WikiGroup (Plain site.group)
 
 -- the triples of an article of a site
 abbrev pub triples_of : Term → EntityId → Link → Site → List Triple
 triples_of article entity link site =
     article_head_triples article entity site
-    ++ said article Name (tagged_of link.title site.language) ∷ []
+    ++ about article Name (tagged_of link.title site.language) ∷ []
     ++ map (badge_triple article) link.badges
     ++ group_triple site ∷ []
 

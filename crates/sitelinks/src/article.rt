@@ -4,9 +4,10 @@ ghost use Rattle.std.specs.Prelude.{◌≡◌, [], ◌∷◌, ◌++◌, IfOk, On
 ghost use Rattle.std.specs.List.{AllByRecursion};
 ghost use Rattle.rdf_term.specs.Fit.{HasFitAndShortTerms};
 ghost use Rattle.entity_model.specs.Document.{IsSmallLink};
+ghost use Rattle.rdf_vocabulary.specs.Predicate.{about};
 ghost use Rattle.triple_sink.specs.Gains.{Gains};
 ghost use Rattle.triple_sink.specs.TermRef.{meant};
-ghost use Rattle.sitelinks.specs.Article.{article_iri, article_triples, badge_triple, group_triple, article_head_triples, said, site_triples};
+ghost use Rattle.sitelinks.specs.Article.{article_iri, article_triples, badge_triple, group_triple, article_head_triples, site_triples};
 ghost use Rattle.rdf_term.specs.Grammar.{tagged_of};
 
 use crate::lookup::site;
@@ -16,7 +17,7 @@ use entity_model::{EntityId, Link};
 use rdf_term::OutOfMemory;
 use rdf_vocabulary::{Predicate, Prefix, Resource, push_escaped_name};
 use std::alloc::Global;
-use triple_sink::{Setting, TermRef, TripleSink};
+use triple_sink::{Setting, TermRef, TripleSink, emit_about, emit_class};
 
 // Room for most IRIs of articles, in bytes.
 const IRI_ROOM: usize = 96;
@@ -81,14 +82,19 @@ fn emit_head<S: TripleSink>(
     ensures gains { OnOk result (Gains S.items S.keeps out.old out.new (article_head_triples (meant article.now) entity site.now)) }
     ensures stays { S.rest out.new ≡ S.rest out.old }
 {
-    let class = TermRef::Iri(Resource::Article.text());
-    emit(setting, article, Predicate::RdfType, &class, out)?;
+    emit_class(setting.alloc, article, Resource::Article, out)?;
     let entity = TermRef::Id(Prefix::Wd, entity);
-    emit(setting, article, Predicate::About, &entity, out)?;
+    emit_about(setting.alloc, article, Predicate::About, &entity, out)?;
     let language = TermRef::Plain(site.language.as_str());
-    emit(setting, article, Predicate::InLanguage, &language, out)?;
+    emit_about(
+        setting.alloc,
+        article,
+        Predicate::InLanguage,
+        &language,
+        out,
+    )?;
     let base = TermRef::Iri(site.base.as_str());
-    emit(setting, article, Predicate::IsPartOf, &base, out)
+    emit_about(setting.alloc, article, Predicate::IsPartOf, &base, out)
 }
 
 // Emits the article's name, which is its title.
@@ -99,11 +105,11 @@ fn emit_name<S: TripleSink>(
     site: &Site,
     out: &mut S,
 ) -> Result<(), OutOfMemory>
-    ensures gains { OnOk result (Gains S.items S.keeps out.old out.new (said (meant article.now) Predicate.Name (tagged_of title.now site.now.language) ∷ [])) }
+    ensures gains { OnOk result (Gains S.items S.keeps out.old out.new (about (meant article.now) Predicate.Name (tagged_of title.now site.now.language) ∷ [])) }
     ensures stays { S.rest out.new ≡ S.rest out.old }
 {
     let name = TermRef::tagged(title, site.language.as_str());
-    emit(setting, article, Predicate::Name, &name, out)
+    emit_about(setting.alloc, article, Predicate::Name, &name, out)
 }
 
 // Emits the badges of the article.
@@ -118,7 +124,7 @@ fn emit_badges<S: TripleSink>(
 {
     for badge in badges {
         let badge = TermRef::Id(Prefix::Wd, *badge);
-        emit(setting, article, Predicate::Badge, &badge, out)?;
+        emit_about(setting.alloc, article, Predicate::Badge, &badge, out)?;
     }
     Ok(())
 }
@@ -130,20 +136,5 @@ fn emit_group<S: TripleSink>(setting: Setting, site: &Site, out: &mut S) -> Resu
 {
     let base = TermRef::Iri(site.base.as_str());
     let group = TermRef::Plain(site.group.as_str());
-    emit(setting, &base, Predicate::WikiGroup, &group, out)
-}
-
-// Emits one triple.
-fn emit<S: TripleSink>(
-    setting: Setting,
-    subject: &TermRef<'_>,
-    predicate: Predicate,
-    object: &TermRef<'_>,
-    out: &mut S,
-) -> Result<(), OutOfMemory>
-    ensures gains { OnOk result (Gains S.items S.keeps out.old out.new (said (meant subject.now) predicate (meant object.now) ∷ [])) }
-    ensures stays { S.rest out.new ≡ S.rest out.old }
-{
-    let predicate = TermRef::Iri(predicate.text());
-    out.emit(setting.alloc, subject, &predicate, object)
+    emit_about(setting.alloc, &base, Predicate::WikiGroup, &group, out)
 }

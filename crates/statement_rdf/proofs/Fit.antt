@@ -16,10 +16,12 @@ use Rattle.entity_model.specs.Snak.{IsSmallContent, IsSmallSnak}
 use Rattle.entity_model.specs.Statement.{IsSmallReference, IsSmallStatement}
 use Rattle.rdf_vocabulary.specs.declared.predicate.Predicate.TheVariants as Predicates
 use Rattle.rdf_vocabulary.specs.declared.prefix.Prefix.TheVariants.{P, Wdno, Wdt, Wdv}
-use Rattle.rdf_vocabulary.specs.declared.resource.Resource.{Resource}
 use Rattle.rdf_vocabulary.specs.declared.resource.Resource.TheVariants as Resources
 use Rattle.rdf_vocabulary.specs.Fields.{hashed_name}
-use Rattle.rdf_vocabulary.proofs.Fit.{predicate_fit, resource_fit, prefixed_fit}
+use Rattle.rdf_vocabulary.specs.Prefix.{id_term}
+use Rattle.rdf_vocabulary.specs.Resource.{class_triple}
+use Rattle.rdf_vocabulary.proofs.Fit.{AreFit, class_fit, join, join_all, predicate_fit, resource_fit, prefixed_fit}
+use Rattle.rdf_vocabulary.proofs.Ids.{id_term_fit}
 use Rattle.rdf_vocabulary.proofs.NamesFit.{hashed_name_iri, length-hashed_name}
 use Rattle.value_nodes.specs.Name.{name_fields, node_name}
 use Rattle.value_nodes.specs.Nodes.{node_triples}
@@ -30,29 +32,14 @@ use Rattle.value_nodes.proofs.NodesFit.{node_triples_fit}
 use Rattle.entity_model.specs.declared.mapping.MappingVersion.{MappingVersion}
 use Rattle.statement_rdf.specs.declared.role.Role.{Role}
 use Rattle.statement_rdf.specs.declared.role.Role.TheVariants as Roles
-use Rattle.statement_rdf.specs.Node.{id_term, statement_node, reference_node}
+use Rattle.statement_rdf.specs.Node.{statement_node, reference_node}
 use Rattle.statement_rdf.specs.Role.{value_prefix, node_prefix}
 use Rattle.statement_rdf.specs.Snak.{link_triples, no_value_triple, content_triples, snak_triples}
-use Rattle.statement_rdf.specs.Statement.{class_triple, direct_content, direct_triples, head_triples, main_triples, qualifier_triples, rank_resource, reference_triples, statement_triples, where_best}
-use Rattle.statement_rdf.proofs.NamesFit.{id_term_fit, statement_node_fit, reference_node_fit, blank_fit}
-
--- all terms of the triples are fit and short
-abbrev AreFit : List Triple → Type 0
-AreFit triples = AllByRecursion HasFitAndShortTerms triples
+use Rattle.statement_rdf.specs.Statement.{direct_content, direct_triples, head_triples, main_triples, qualifier_triples, rank_resource, reference_triples, statement_triples, where_best}
+use Rattle.statement_rdf.proofs.NamesFit.{statement_node_fit, reference_node_fit, blank_fit}
 
 triple_fit : (subject predicate object : Term) → IsFitAndShort subject → IsFitAndShort predicate → IsFitAndShort object → HasFitAndShortTerms (triple subject predicate object)
 triple_fit subject predicate object s p o = record { subject = s; predicate = p; object = o }
-
-class_fit : (node : Term) (class : Resource) → IsFitAndShort node → HasFitAndShortTerms (class_triple node class)
-class_fit node class n = triple_fit node _ _ n (predicate_fit Predicates.RdfType) (resource_fit class)
-
-join : (xs ys : List Triple) → AreFit xs → AreFit ys → AreFit (xs ++ ys)
-join [] ys p q = q
-join (x ∷ xs) ys p q = (p.0, join xs ys p.1 q)
-
-join_all : {A : Type 0} (Small : A → Type 0) (f : A → List Triple) (xs : List A) → ((x : A) → Small x → AreFit (f x)) → AllByRecursion Small xs → AreFit (flat_map f xs)
-join_all Small f [] fits all = tt
-join_all Small f (x ∷ xs) fits all = join (f x) (flat_map f xs) (fits x all.0) (join_all Small f xs fits all.1)
 
 object_fit : (subject predicate : Term) (object : Option Term) → IsFitAndShort subject → IsFitAndShort predicate → IfSome object IsFitAndShort → AreFit (object_triples subject predicate object)
 object_fit subject predicate None s p o = tt

@@ -3,26 +3,21 @@ use Rattle.std.proofs.Common.{◌≡◌, ℕ, ◌≤◌, inl, inr, Bool, true, f
 use Rattle.std.specs.Prelude.{◌↔◌, ◌≢◌, IsTrue}
 use Rattle.std.proofs.lemmas.Bool.Decides.{nat_tests}
 use Rattle.std.proofs.lemmas.Cmp.{eq_by_cmp_equiv}
-use Rattle.std.specs.declared.cmp.Ordering.{Ordering}
-use Rattle.std.specs.declared.cmp.Ordering.TheVariants.{Less, Equal, Greater}
-use Rattle.std.specs.Ordering.{eq_by_cmp, is_eq}
+use Rattle.std.specs.Ordering.{eq_by_cmp}
 use Rattle.std.specs.List.{list_any}
 use Rattle.rising.specs.Rising.{In}
+use Rattle.rising.proofs.Bools.{equal}
 use Rattle.entity_model.specs.declared.id.EntityId.{EntityId}
 use Rattle.entity_model.specs.declared.statement.Rank.{Rank}
 use Rattle.entity_model.specs.declared.statement.Rank.TheVariants.{Deprecated, Normal, Preferred}
 use Rattle.entity_model.specs.declared.statement.Statement.{Statement}
 use Rattle.entity_model.specs.EntityId.{entity_cmp, entity_cmp_total, entity_cmp_same}
+use Rattle.rdf_vocabulary.proofs.Shared.{both}
 use Rattle.statement_rdf.specs.Ranking.{rank_place, is_ranked_above, is_best, IsBest}
-
-tie : (o : Ordering) → is_eq o ≡ true → o ≡ Equal
-tie Less e = cc
-tie Equal e = refl
-tie Greater e = cc
 
 -- ids that their order does not tell apart are one id
 same_id : (x y : EntityId) → eq_by_cmp entity_cmp x y ≡ true → x ≡ y
-same_id x y e = entity_cmp_same x y (tie (entity_cmp x y) e)
+same_id x y e = entity_cmp_same x y (equal (entity_cmp x y) e)
 
 id_itself : (x y : EntityId) → y ≡ x → eq_by_cmp entity_cmp x y ≡ true
 id_itself x y e = ap (eq_by_cmp entity_cmp x) e ∙ (eq_by_cmp_equiv entity_cmp_total).refl x
@@ -36,10 +31,6 @@ counts : (rank : Rank) → rank ≢ Deprecated → nat_lt 0 (rank_place rank) �
 counts Deprecated h = absurd (h refl)
 counts Normal h = refl
 counts Preferred h = refl
-
-both : (a b : Bool) → (a && b) ≡ true → (a ≡ true) × (b ≡ true)
-both true b e = (refl, e)
-both false b e = cc
 
 neither : (a b : Bool) → (a || b) ≡ false → (a ≡ false) × (b ≡ false)
 neither true b e = cc

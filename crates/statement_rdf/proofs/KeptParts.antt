@@ -1,17 +1,14 @@
 -- A text whose bytes stand for themselves is the name that it becomes, and a `$` becomes `-`.
-use Rattle.std.proofs.Common.{◌≡◌, ℕ, Bool, true, false, ◌&&◌, List, [], ◌∷◌, ◌++◌, Option, Some, None, IfSome, refl, ap, ◌∙◌, arith}
+use Rattle.std.proofs.Common.{◌≡◌, ℕ, true, List, [], ◌∷◌, ◌++◌, Option, Some, None, IfSome, refl, ap, ◌∙◌, arith}
 use Rattle.std.specs.Prelude.{MatchOption}
 use Rattle.std.proofs.lemmas.List.Concat.{flat_map-append}
 use Rattle.std.specs.List.{list_all}
 use Rattle.std.proofs.lemmas.Bool.Decides.{nat_tests}
+use Rattle.rdf_vocabulary.proofs.Shared.{both}
 use Rattle.statement_rdf.specs.Node.{is_kept, name_byte, statement_name}
 
 stands : (b : ℕ) → is_kept b ≡ true → name_byte b ≡ b ∷ []
 stands b h = grind (arith, nat_tests)
-
-both : (a b : Bool) → (a && b) ≡ true → (a ≡ true) × (b ≡ true)
-both true b e = (refl, e)
-both false b e = cc
 
 pub kept_same : (id : List ℕ) → list_all is_kept id ≡ true → statement_name id ≡ id
 kept_same [] h = refl

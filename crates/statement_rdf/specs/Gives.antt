@@ -12,7 +12,7 @@ use Rattle.rdf_vocabulary.specs.declared.predicate.Predicate.TheVariants as Pred
 use Rattle.rdf_vocabulary.specs.declared.prefix.Prefix.TheVariants.{P, Wdt, Wdv, Wdno}
 use Rattle.rdf_vocabulary.specs.declared.resource.Resource.TheVariants as Resources
 use Rattle.rdf_vocabulary.specs.Predicate.{predicate_term}
-use Rattle.rdf_vocabulary.specs.Prefix.{prefixed}
+use Rattle.rdf_vocabulary.specs.Prefix.{id_term, prefixed}
 use Rattle.rdf_vocabulary.specs.Resource.{resource_term}
 use Rattle.value_nodes.specs.Name.{node_name}
 use Rattle.value_nodes.specs.Nodes.{node_triples}
@@ -21,7 +21,7 @@ use Rattle.value_nodes.specs.Terms.{simple_term}
 use Rattle.entity_model.specs.declared.mapping.MappingVersion.{MappingVersion}
 use Rattle.statement_rdf.specs.declared.role.Role.{Role}
 use Rattle.statement_rdf.specs.declared.role.Role.TheVariants as Roles
-use Rattle.statement_rdf.specs.Node.{id_term, statement_node, reference_node}
+use Rattle.statement_rdf.specs.Node.{statement_node, reference_node}
 use Rattle.statement_rdf.specs.Role.{value_prefix, node_prefix}
 use Rattle.statement_rdf.specs.Snak.{unknown_node}
 use Rattle.statement_rdf.specs.Statement.{rank_resource}

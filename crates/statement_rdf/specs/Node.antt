@@ -1,21 +1,10 @@
--- The terms for entities, statements, references and properties.
+-- The nodes of statements and references.
 use Rattle.std.specs.Prelude.{ℕ, Bool, ◌||◌, ◌&&◌, ◌==◌, nat_le, nat_lt, if◌then◌else◌, List, [], ◌∷◌}
 use Rattle.std.specs.Char.{is_ascii_alphanumeric}
 use Rattle.std.specs.List.{flat_map}
 use Rattle.rdf_term.specs.declared.term.Term.{Term}
-use Rattle.entity_model.specs.declared.id.EntityId.{EntityId}
-use Rattle.entity_model.specs.EntityId.{id_text}
-use Rattle.rdf_vocabulary.specs.declared.prefix.Prefix.{Prefix}
-use Rattle.rdf_vocabulary.specs.declared.prefix.Prefix.TheVariants.{Wd, Wds, Wdref}
+use Rattle.rdf_vocabulary.specs.declared.prefix.Prefix.TheVariants.{Wds, Wdref}
 use Rattle.rdf_vocabulary.specs.Prefix.{prefixed}
-
--- the IRI of an entity's id in a namespace
-abbrev pub id_term : Prefix → EntityId → Term
-id_term prefix id = prefixed prefix (id_text id)
-
--- the IRI of an entity
-abbrev pub entity_term : EntityId → Term
-entity_term id = id_term Wd id
 
 -- whether a character may stand in the name of a statement's node: ASCII letters, digits, `_` and `-`
 abbrev pub is_kept : ℕ → Bool

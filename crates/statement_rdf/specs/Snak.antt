@@ -13,14 +13,13 @@ use Rattle.rdf_vocabulary.specs.declared.predicate.Predicate.TheVariants.{RdfTyp
 use Rattle.rdf_vocabulary.specs.declared.prefix.Prefix.TheVariants.{Wdno, Wdv}
 use Rattle.rdf_vocabulary.specs.Fields.{field, hashed_name}
 use Rattle.rdf_vocabulary.specs.Predicate.{predicate_term}
-use Rattle.rdf_vocabulary.specs.Prefix.{prefixed}
+use Rattle.rdf_vocabulary.specs.Prefix.{id_term, prefixed}
 use Rattle.value_nodes.specs.Name.{node_name}
 use Rattle.value_nodes.specs.Nodes.{node_triples}
 use Rattle.value_nodes.specs.Said.{triple, object_triples}
 use Rattle.value_nodes.specs.Terms.{simple_term}
 use Rattle.entity_model.specs.declared.mapping.MappingVersion.{MappingVersion}
 use Rattle.statement_rdf.specs.declared.role.Role.{Role}
-use Rattle.statement_rdf.specs.Node.{id_term}
 use Rattle.statement_rdf.specs.Role.{value_prefix, node_prefix, role_text}
 
 -- the label of the node that stands for an unknown value: the hash of the statement's id, the property, the role and the snak's place

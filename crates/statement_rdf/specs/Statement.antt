@@ -15,12 +15,13 @@ use Rattle.rdf_vocabulary.specs.declared.prefix.Prefix.TheVariants.{P, Wdt}
 use Rattle.rdf_vocabulary.specs.declared.resource.Resource.{Resource}
 use Rattle.rdf_vocabulary.specs.declared.resource.Resource.TheVariants as Resources
 use Rattle.rdf_vocabulary.specs.Predicate.{predicate_term}
-use Rattle.rdf_vocabulary.specs.Resource.{resource_term}
+use Rattle.rdf_vocabulary.specs.Prefix.{id_term}
+use Rattle.rdf_vocabulary.specs.Resource.{class_triple, resource_term}
 use Rattle.value_nodes.specs.Said.{triple, object_triples}
 use Rattle.value_nodes.specs.Terms.{simple_term}
 use Rattle.entity_model.specs.declared.mapping.MappingVersion.{MappingVersion}
 use Rattle.statement_rdf.specs.declared.role.Role.TheVariants as Roles
-use Rattle.statement_rdf.specs.Node.{id_term, statement_node, reference_node}
+use Rattle.statement_rdf.specs.Node.{statement_node, reference_node}
 use Rattle.statement_rdf.specs.Snak.{unknown_node, no_value_triple, snak_triples}
 
 -- the term of a rank
@@ -28,10 +29,6 @@ abbrev pub rank_resource : Rank → Resource
 rank_resource Deprecated = Resources.DeprecatedRank
 rank_resource Normal = Resources.NormalRank
 rank_resource Preferred = Resources.PreferredRank
-
--- the class of a node
-abbrev pub class_triple : Term → Resource → Triple
-class_triple node class = triple node (predicate_term Predicates.RdfType) (resource_term class)
 
 -- the triples that hold only where the statement is best
 abbrev pub where_best : Bool → List Triple → List Triple

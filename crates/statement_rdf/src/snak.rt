@@ -9,7 +9,7 @@ ghost use Rattle.value_nodes.specs.Name.{node_name};
 ghost use Rattle.value_nodes.specs.Nodes.{node_triples};
 ghost use Rattle.value_nodes.specs.Said.{object_triples};
 ghost use Rattle.value_nodes.specs.Terms.{simple_term};
-ghost use Rattle.statement_rdf.specs.Node.{id_term};
+ghost use Rattle.rdf_vocabulary.specs.Prefix.{id_term};
 ghost use Rattle.statement_rdf.specs.Snak.{link_triples, no_value_triple, snak_triples, unknown_label, value_triples};
 
 use crate::role::Role;

@@ -1,10 +1,10 @@
 // The triples of statements.
 
-ghost use Rattle.std.specs.Prelude.{◌≡◌, [], ◌∷◌, OnOk};
+ghost use Rattle.std.specs.Prelude.{◌≡◌, OnOk};
 ghost use Rattle.std.specs.List.{flat_map};
 ghost use Rattle.triple_sink.specs.Gains.{Gains};
 ghost use Rattle.triple_sink.specs.TermRef.{meant};
-ghost use Rattle.statement_rdf.specs.Statement.{class_triple, direct_triples, head_triples, main_triples, part_triples, qualifier_triples, rank_resource, reference_triples, source_triples, statement_triples};
+ghost use Rattle.statement_rdf.specs.Statement.{direct_triples, head_triples, main_triples, part_triples, qualifier_triples, rank_resource, reference_triples, source_triples, statement_triples};
 
 use crate::node::statement_name;
 use crate::role::Role;
@@ -13,7 +13,7 @@ use entity_model::{Content, Rank, Reference, Snak, Statement};
 use rdf_term::{OutOfMemory, Text};
 use rdf_vocabulary::{Predicate, Prefix, Resource};
 use std::alloc::Global;
-use triple_sink::{Setting, TermRef, TripleSink};
+use triple_sink::{Setting, TermRef, TripleSink, emit_about, emit_class};
 
 /// Hands on the triples of a statement of the entity, which may be any subject: the statement's node with its
 /// class and rank, what it states, its qualifiers and its references. A best statement's node also has the
@@ -70,9 +70,8 @@ fn emit_head<S: TripleSink>(
     let claim = TermRef::Id(Prefix::P, statement.property);
     out.emit(alloc, entity, &claim, node)?;
     emit_class(alloc, node, Resource::Statement, out)?;
-    let predicate = TermRef::Iri(Predicate::Rank.text());
     let rank = TermRef::Iri(rank_resource(statement.rank).text());
-    out.emit(alloc, node, &predicate, &rank)?;
+    emit_about(alloc, node, Predicate::Rank, &rank, out)?;
     if best {
         emit_class(alloc, node, Resource::BestRank, out)?;
     }
@@ -198,21 +197,6 @@ fn emit_source<S: TripleSink>(
         (source_triples (meant node.now) (meant source.now))) }
     ensures stays { S.rest out.new ≡ S.rest out.old }
 {
-    let predicate = TermRef::Iri(Predicate::WasDerivedFrom.text());
-    out.emit(alloc, node, &predicate, source)?;
+    emit_about(alloc, node, Predicate::WasDerivedFrom, source, out)?;
     emit_class(alloc, source, Resource::Reference, out)
-}
-
-// Hands on the class of a node.
-fn emit_class<S: TripleSink>(
-    alloc: Global,
-    node: &TermRef<'_>,
-    class: Resource,
-    out: &mut S,
-) -> Result<(), OutOfMemory>
-    ensures gains { OnOk result (Gains S.items S.keeps out.old out.new (class_triple (meant node.now) class ∷ [])) }
-    ensures stays { S.rest out.new ≡ S.rest out.old }
-{
-    let predicate = TermRef::Iri(Predicate::RdfType.text());
-    out.emit(alloc, node, &predicate, &TermRef::Iri(class.text()))
 }

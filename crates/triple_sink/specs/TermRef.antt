@@ -2,15 +2,14 @@
 use Rattle.rdf_term.specs.declared.term.Term.{Term}
 use Rattle.rdf_term.specs.declared.term.Term.TheVariants as T
 use Rattle.rdf_term.specs.declared.triple.Triple.{Triple}
-use Rattle.entity_model.specs.EntityId.{id_text}
-use Rattle.rdf_vocabulary.specs.Prefix.{prefixed}
+use Rattle.rdf_vocabulary.specs.Prefix.{id_term, prefixed}
 use Rattle.triple_sink.specs.declared.term_ref.TermRef.{TermRef}
 use Rattle.triple_sink.specs.declared.term_ref.TermRef.TheVariants.{Named, Id, Iri, Blank, Plain, Lang, Typed}
 
 -- the term
 abbrev pub meant : TermRef → Term
 meant (Named prefix name) = prefixed prefix name.now
-meant (Id prefix id) = prefixed prefix (id_text id)
+meant (Id prefix id) = id_term prefix id
 meant (Iri iri) = T.Iri iri.now
 meant (Blank label) = T.Blank label.now
 meant (Plain text) = T.Plain text.now

@@ -5,9 +5,8 @@ ghost use Rattle.std.specs.Str.{IsUtf8};
 ghost use Rattle.rdf_term.specs.Append.{Appends};
 ghost use Rattle.rdf_term.specs.Grammar.{tagged_of};
 ghost use Rattle.rdf_term.specs.Text.{in_brackets, quoted, term_text};
-ghost use Rattle.entity_model.specs.EntityId.{id_text};
 ghost use Rattle.entity_model.specs.IdKind.{letter_of};
-ghost use Rattle.rdf_vocabulary.specs.Prefix.{prefixed};
+ghost use Rattle.rdf_vocabulary.specs.Prefix.{id_term};
 ghost use Rattle.triple_sink.specs.TermRef.{meant};
 
 use entity_model::{EntityId, IdKind};
@@ -103,7 +102,7 @@ impl<'a> TermRef<'a> {
 
 // The IRI of an entity's id in a namespace.
 fn id_term(alloc: Global, prefix: Prefix, id: EntityId) -> Result<Term, OutOfMemory>
-    ensures { IfOk result (λ term. term ≡ prefixed prefix (id_text id)) }
+    ensures { IfOk result (λ term. term ≡ id_term prefix id) }
 {
     let name = id.text(alloc)?;
     prefix.term(alloc, name.as_str())
@@ -111,8 +110,8 @@ fn id_term(alloc: Global, prefix: Prefix, id: EntityId) -> Result<Term, OutOfMem
 
 // Appends the IRI of an entity's id in a namespace.
 fn write_id(prefix: Prefix, id: EntityId, out: &mut Vec<u8>) -> Result<(), OutOfMemory>
-    ensures text { Appends out.old.items out.new.items (term_text (prefixed prefix (id_text id))) result }
-    ensures utf8 { IsUtf8 (term_text (prefixed prefix (id_text id))) }
+    ensures text { Appends out.old.items out.new.items (term_text (id_term prefix id)) result }
+    ensures utf8 { IsUtf8 (term_text (id_term prefix id)) }
 {
     let mut buffer = Buffer::new();
     write_numbered(

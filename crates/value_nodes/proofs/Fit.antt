@@ -8,10 +8,8 @@ use Rattle.std.specs.Prelude.{codes, IfSome, ◌==◌}
 use Rattle.std.specs.Char.{is_ascii_alphanumeric}
 use Rattle.std.specs.List.{list_all}
 use Rattle.std.specs.Str.{bytes_eq}
-use Rattle.rdf_term.specs.declared.term.Term.{Term}
-use Rattle.rdf_term.specs.declared.term.Term.TheVariants.{Plain, Lang}
 use Rattle.rdf_term.specs.Fit.{IsFitAndShort}
-use Rattle.rdf_term.specs.Grammar.{is_iri, is_iri_char, is_tag, iri_of, tagged_of, percent_encoded, percent_encoded_byte}
+use Rattle.rdf_term.specs.Grammar.{is_iri, is_iri_char, iri_of, percent_encoded, percent_encoded_byte}
 use Rattle.rdf_term.specs.Text.{escaped, escaped_byte}
 use Rattle.rdf_term.proofs.FitTerms.{iri_of_fit}
 use Rattle.rdf_term.proofs.IriChars.{is_iri_char-high}
@@ -25,8 +23,9 @@ use Rattle.rdf_vocabulary.specs.declared.datatype.Datatype.TheVariants.{DateTime
 use Rattle.rdf_vocabulary.specs.declared.prefix.Prefix.TheVariants.{Wd, FilePath}
 use Rattle.rdf_vocabulary.specs.Datatype.{typed}
 use Rattle.rdf_vocabulary.specs.Unreserved.{escaped_name}
-use Rattle.rdf_vocabulary.proofs.Fit.{prefixed_fit, typed_fit, escaped_short}
+use Rattle.rdf_vocabulary.proofs.Fit.{escaped_short, plain_fit, prefixed_fit, tagged_fit, typed_fit}
 use Rattle.rdf_vocabulary.proofs.NamesFit.{escaped_name_iri, escaped_name_short}
+use Rattle.rdf_vocabulary.proofs.Shared.{both, chosen}
 use Rattle.wb_values.specs.declared.literal.TimeText.{TimeText}
 use Rattle.wb_values.specs.declared.literal.TimeText.TheVariants.{DateTime, Plain as PlainTime}
 use Rattle.wb_values.specs.Decimal.{is_decimal}
@@ -34,13 +33,6 @@ use Rattle.wb_values.specs.Literal.{time_literal}
 use Rattle.wb_values.proofs.Lengths.{literal_text, time_literal_short}
 use Rattle.wb_values.specs.Point.{earth, globe_text, point_text}
 use Rattle.value_nodes.specs.Terms.{url, commons_media, julian_calendar, text_term, amount_term, time_text_term, time_term, globe_term, simple_term}
-
--- plain texts
-pub plain_fit : (text : List ℕ) → length text ≤ 16777000 → IsFitAndShort (Plain text)
-plain_fit text h = record {
-  fit = refl;
-  short = omega (arith, escaped_short text, length-append (escaped text) (34 ∷ []));
-}
 
 -- typed texts
 pub literal_fit : (text : List ℕ) (datatype : Datatype) → length text ≤ 16777000 → IsFitAndShort (typed text datatype)
@@ -60,10 +52,6 @@ iri_fit text h = record {
   fit = iri_of_fit text;
   short = omega (arith, percent_encoded_short text, length-append (percent_encoded text) (62 ∷ []));
 }
-
-chosen : (P : Term → Type 0) (b : Bool) (x y : Term) → P x → P y → P (cond b x y)
-chosen P true x y p q = p
-chosen P false x y p q = q
 
 pub text_term_fit : (datatype text : List ℕ) → length text ≤ 8388608 → IsFitAndShort (text_term datatype text)
 text_term_fit datatype text h =
@@ -87,10 +75,6 @@ time_term_fit time h =
 
 pieces : (xs ys : List ℕ) → length (escaped (xs ++ ys)) ≡ length (escaped xs) + length (escaped ys)
 pieces xs ys = ap length (flat_map-append escaped_byte xs ys) ∙ length-append (escaped xs) (escaped ys)
-
-both : (a b : Bool) → (a && b) ≡ true → (a ≡ true) × (b ≡ true)
-both true b e = (refl, e)
-both false b e = cc
 
 entity_char : (c : ℕ) → (is_ascii_alphanumeric c || (c == 45)) ≡ true → is_iri_char c ≡ true
 entity_char c h = grind (arith, nat_tests)
@@ -138,13 +122,6 @@ globe_term_fit globe h =
       pieces (a ++ b ++ globe.longitude ++ c ++ globe.latitude) d,
     ))
 
-tagged_fit : (text tag : List ℕ) → length text + length tag ≤ 8388608 → IsFitAndShort (tagged_of text tag)
-tagged_fit text tag h = by_tag (is_tag tag) refl
-  where
-    by_tag : (b : Bool) → is_tag tag ≡ b → IsFitAndShort (cond b (Lang text tag) (Plain text))
-    by_tag true e = record { fit = e; short = omega (arith, escaped_short text, length-append (escaped text) (34 ∷ 64 ∷ tag)) }
-    by_tag false e = plain_fit text (omega arith)
-
 entity_iri : (id : List ℕ) → list_all (λ c. is_ascii_alphanumeric c || (c == 45)) id ≡ true → is_iri id ≡ true
 entity_iri [] h = refl
 entity_iri (c ∷ id) h =
@@ -161,5 +138,5 @@ simple_term_fit datatype (Str text) s = text_term_fit datatype text s.texts
 simple_term_fit datatype (Time time) s = time_term_fit time (omega (arith, s.texts))
 simple_term_fit datatype (Quantity quantity) s = amount_term_fit quantity.amount (omega (arith, s.texts))
 simple_term_fit datatype (Globe globe) s = globe_term_fit globe (omega (arith, s.texts))
-simple_term_fit datatype (Mono tagged) s = tagged_fit tagged.text tagged.language s.texts
+simple_term_fit datatype (Mono tagged) s = tagged_fit tagged.text tagged.language (omega (arith, s.texts)) (omega (arith, s.texts))
 simple_term_fit datatype Other s = tt

@@ -13,23 +13,14 @@ use Rattle.rdf_vocabulary.specs.declared.datatype.Datatype.TheVariants.{Integer,
 use Rattle.rdf_vocabulary.specs.declared.predicate.Predicate.{Predicate}
 use Rattle.rdf_vocabulary.specs.declared.predicate.Predicate.TheVariants as P
 use Rattle.rdf_vocabulary.specs.declared.prefix.Prefix.TheVariants.{Wd, Wdv}
-use Rattle.rdf_vocabulary.specs.declared.resource.Resource.{Resource}
 use Rattle.rdf_vocabulary.specs.declared.resource.Resource.TheVariants.{TimeValue, QuantityValue, GlobecoordinateValue}
 use Rattle.rdf_vocabulary.specs.Datatype.{typed}
-use Rattle.rdf_vocabulary.specs.Predicate.{predicate_term}
+use Rattle.rdf_vocabulary.specs.Predicate.{about}
 use Rattle.rdf_vocabulary.specs.Prefix.{prefixed}
-use Rattle.rdf_vocabulary.specs.Resource.{resource_term}
+use Rattle.rdf_vocabulary.specs.Resource.{class_triple}
 use Rattle.entity_model.specs.declared.mapping.MappingVersion.{MappingVersion}
 use Rattle.value_nodes.specs.Name.{one, number_one, node_name}
 use Rattle.value_nodes.specs.Terms.{amount_term, time_term}
-
--- a triple that says something of a node
-abbrev pub about : Term → Predicate → Term → Triple
-about node predicate object = record { subject = node; predicate = predicate_term predicate; object = object }
-
--- the class of a node
-abbrev pub type_triple : Term → Resource → Triple
-type_triple node class = about node P.RdfType (resource_term class)
 
 -- the unit of an amount, where `1` is the number one
 abbrev pub unit_term : List ℕ → Term
@@ -69,9 +60,9 @@ globe_triples node globe =
 
 -- the class and the parts of a value, as they are said of a node
 abbrev pub value_part_triples : Term → Value → List Triple
-value_part_triples node (Time time) = (type_triple node TimeValue ∷ []) ++ time_triples node time
-value_part_triples node (Quantity quantity) = (type_triple node QuantityValue ∷ []) ++ quantity_triples node quantity
-value_part_triples node (Globe globe) = (type_triple node GlobecoordinateValue ∷ []) ++ globe_triples node globe
+value_part_triples node (Time time) = (class_triple node TimeValue ∷ []) ++ time_triples node time
+value_part_triples node (Quantity quantity) = (class_triple node QuantityValue ∷ []) ++ quantity_triples node quantity
+value_part_triples node (Globe globe) = (class_triple node GlobecoordinateValue ∷ []) ++ globe_triples node globe
 value_part_triples node (Entity id) = []
 value_part_triples node (Str text) = []
 value_part_triples node (Mono tagged) = []

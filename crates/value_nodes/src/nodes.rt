@@ -3,16 +3,17 @@
 ghost use Rattle.std.specs.Prelude.{◌≡◌, [], ◌∷◌, OnOk};
 ghost use Rattle.std.specs.Option.{option_copied};
 ghost use Rattle.rdf_vocabulary.specs.Datatype.{typed};
+ghost use Rattle.rdf_vocabulary.specs.Predicate.{about};
 ghost use Rattle.triple_sink.specs.Gains.{Gains};
 ghost use Rattle.triple_sink.specs.TermRef.{meant};
-ghost use Rattle.value_nodes.specs.Nodes.{about, bound_triples, globe_triples, value_part_triples, precision_triples, quantity_triples, time_triples, type_triple, unit_term};
+ghost use Rattle.value_nodes.specs.Nodes.{bound_triples, globe_triples, value_part_triples, precision_triples, quantity_triples, time_triples, unit_term};
 
 use crate::simple::{emit_amount, emit_iri, emit_time};
 use entity_model::{GlobeParts, QuantityParts, TimeParts, Value};
 use rdf_term::{OutOfMemory, Piece};
 use rdf_vocabulary::{Datatype, Predicate, Prefix, Resource};
 use std::alloc::Global;
-use triple_sink::{TermRef, TripleSink};
+use triple_sink::{TermRef, TripleSink, emit_about, emit_class};
 
 /// Hands on the triples of the value's node: its class and its parts. A value that has no node has none.
 pub fn emit_parts<S: TripleSink>(
@@ -26,15 +27,15 @@ pub fn emit_parts<S: TripleSink>(
 {
     match value {
         Value::Time(time) => {
-            emit_type(alloc, node, Resource::TimeValue, out)?;
+            emit_class(alloc, node, Resource::TimeValue, out)?;
             emit_time_parts(alloc, node, time, out)
         }
         Value::Quantity(quantity) => {
-            emit_type(alloc, node, Resource::QuantityValue, out)?;
+            emit_class(alloc, node, Resource::QuantityValue, out)?;
             emit_quantity_parts(alloc, node, quantity, out)
         }
         Value::Globe(globe) => {
-            emit_type(alloc, node, Resource::GlobecoordinateValue, out)?;
+            emit_class(alloc, node, Resource::GlobecoordinateValue, out)?;
             emit_globe_parts(alloc, node, globe, out)
         }
         Value::Entity(_) | Value::Str(_) | Value::Mono(_) | Value::Other => Ok(()),
@@ -163,20 +164,6 @@ fn emit_precision<S: TripleSink>(
     }
 }
 
-// Hands on that the node is of the class.
-fn emit_type<S: TripleSink>(
-    alloc: Global,
-    node: &TermRef<'_>,
-    class: Resource,
-    out: &mut S,
-) -> Result<(), OutOfMemory>
-    ensures gains { OnOk result (Gains S.items S.keeps out.old out.new (type_triple (meant node.now) class ∷ [])) }
-    ensures stays { S.rest out.new ≡ S.rest out.old }
-{
-    let predicate = TermRef::Iri(Predicate::RdfType.text());
-    out.emit(alloc, node, &predicate, &TermRef::Iri(class.text()))
-}
-
 // Hands on an `xsd:integer` of the node.
 fn emit_integer<S: TripleSink>(
     alloc: Global,
@@ -189,9 +176,8 @@ fn emit_integer<S: TripleSink>(
         (about (meant node.now) predicate (typed text.now Datatype.Integer) ∷ [])) }
     ensures stays { S.rest out.new ≡ S.rest out.old }
 {
-    let predicate = TermRef::Iri(predicate.text());
     let object = TermRef::Typed(text, Datatype::Integer.text());
-    out.emit(alloc, node, &predicate, &object)
+    emit_about(alloc, node, predicate, &object, out)
 }
 
 // Hands on an `xsd:double` of the node.
@@ -206,7 +192,6 @@ fn emit_double<S: TripleSink>(
         (about (meant node.now) predicate (typed text.now Datatype.Double) ∷ [])) }
     ensures stays { S.rest out.new ≡ S.rest out.old }
 {
-    let predicate = TermRef::Iri(predicate.text());
     let object = TermRef::Typed(text, Datatype::Double.text());
-    out.emit(alloc, node, &predicate, &object)
+    emit_about(alloc, node, predicate, &object, out)
 }

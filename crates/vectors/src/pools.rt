@@ -1,6 +1,6 @@
 // A pool that fills up, and that has room again.
 
-ghost use Rattle.std.specs.Prelude.{◌≡◌, ◌+◌, ◌≤◌, ℕ, IfOk, OnOk};
+ghost use Rattle.std.specs.Prelude.{◌+◌, ◌≤◌, ℕ, IfOk, OnOk};
 ghost use Rattle.rdf_term.specs.Fit.{IsFitAndShort};
 ghost use Rattle.term_pool.specs.Pool.{LiesIn, count_at};
 

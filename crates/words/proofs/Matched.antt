@@ -13,7 +13,7 @@ use Rattle.clap.specs.Takes.{default_passes, is_valid, level_passes, settle_pass
 use Rattle.clap.specs.Words.{App, HasMatchesOf, Text, first_of, found_of, is_simple, matches_of, one_of, rows_of, takes}
 use Rattle.clap.proofs.OnLiterals.{clap_on_literals}
 use Rattle.clap.proofs.TakesLemmas.{leaf_takes}
-use Rattle.words.specs.Arguments.{Gives, drill_command, drill_words, flag_rule, flag_text, option_rule, replay_command, word_of_flag, word_of_value, words_of}
+use Rattle.words.specs.Arguments.{HasChoices, drill_command, drill_words, flag_rule, flag_text, option_rule, replay_command, word_of_flag, word_of_value, words_of}
 use Rattle.words.specs.Options.{Choices, greatest_horizon, greatest_limit, greatest_terms, horizon_in, limit_in, terms_in}
 use Rattle.words.specs.Plan.{greatest_size, size_in}
 use Rattle.words.proofs.Written.{number_between-decimal}
@@ -179,7 +179,7 @@ flag_there : (id name : Text) (flag : Bool)
 flag_there id name false = refl
 flag_there id name true = refl
 
-pub gives : (c : Choices) → Gives (matches_of replay_command (words_of c)) c
+pub gives : (c : Choices) → HasChoices (matches_of replay_command (words_of c)) c
 gives c = record {
   place = value_matched c (codes "from") c.place (value_there (codes "from") (codes "from") (reading_by (filled (option_rule (codes "from")))) c.place);
   limit = value_matched c (codes "max-bytes") (option_map decimal c.limit) (value_there (codes "max-bytes") (codes "max-bytes") (reading_by (filled (option_rule (codes "max-bytes")))) (option_map decimal c.limit));

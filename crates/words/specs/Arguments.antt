@@ -49,8 +49,8 @@ abbrev pub flag_text : Bool → List ℕ
 flag_text false = codes "false"
 flag_text true = codes "true"
 
--- the matches give these values
-pub record Gives (rows : List Row) (c : Choices) : Type 0 where
+-- the matches have the values of these choices
+pub record HasChoices (rows : List Row) (c : Choices) : Type 0 where
   pub place : first_of (codes "from") rows ≡ c.place
   pub limit : first_of (codes "max-bytes") rows ≡ option_map decimal c.limit
   pub terms : first_of (codes "max-terms") rows ≡ option_map decimal c.terms

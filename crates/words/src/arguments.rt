@@ -4,7 +4,7 @@ ghost use Rattle.std.specs.Prelude.{◌≡◌, ◌++◌, ◌≤◌, ◌^◌, tru
 ghost use Rattle.std.specs.Fmt.{decimal};
 ghost use Rattle.std.specs.Option.{option_and_then};
 ghost use Rattle.clap.specs.Words.{app_of, first_of, first_value, found_of, kind_of, matches_of, one_text, rows_of, rule_of, takes};
-ghost use Rattle.words.specs.Arguments.{Gives, drill_command, drill_words, flag_rule, option_rule, replay_command, word_of_flag, word_of_value, words_of};
+ghost use Rattle.words.specs.Arguments.{HasChoices, drill_command, drill_words, flag_rule, option_rule, replay_command, word_of_flag, word_of_value, words_of};
 ghost use Rattle.words.specs.Options.{Choices, IsWithin, horizon_in, limit_in, limit_of, place_of, terms_in, terms_of};
 ghost use Rattle.words.specs.Plan.{greatest_size, size_in};
 
@@ -237,7 +237,7 @@ fn flag<'a>(alloc: Global, name: &'a str) -> Arg<'a>
 
 // The values that clap matched.
 fn arguments_in(alloc: Global, matches: &ArgMatches<'_>) -> Result<Arguments, OutOfMemory>
-    ensures { (c : Choices) → IsWithin c → Gives (rows_of (found_of matches.now)) c → IfOk result (λ arguments. arguments ≡ c) }
+    ensures { (c : Choices) → IsWithin c → HasChoices (rows_of (found_of matches.now)) c → IfOk result (λ arguments. arguments ≡ c) }
 {
     Ok(Arguments {
         place: place_in(alloc, matches)?,

@@ -19,7 +19,8 @@ use Rattle.entity_rdf.proofs.Direct.{direct_fit}
 use Rattle.entity_model.specs.declared.mapping.MappingVersion.{MappingVersion}
 use Rattle.entity_state.specs.declared.record.Held.{Held}
 use Rattle.entity_state.specs.declared.record.Record.{Record}
-use Rattle.munger.proofs.Fit.{flat_map_each, sorted_each}
+use Rattle.munger.proofs.Fit.{sorted_each}
+use Rattle.rdf_vocabulary.proofs.Shared.{flat_map_each}
 use Rattle.replay_model.specs.Records.{Bytes, Records}
 use Rattle.replay_model.specs.Union.{triples_at, triples_held, union}
 use Rattle.replay_model.specs.Versions.{meaning_by, version_at}

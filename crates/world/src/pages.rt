@@ -1,35 +1,31 @@
 // What is kept of the entities, and the side output.
 
-ghost use Rattle.std.specs.Prelude.{◌≡◌, ◌<◌, ◌≤◌, [], None, Some, Ok, Err, IsTrue, IfOk, IfSome, IsSome, OnErr, OnOk, MatchOption, is_some, length};
+ghost use Rattle.std.specs.Prelude.{◌≡◌, ◌<◌, ◌≤◌, [], None, Some, Ok, Err, IsTrue, IfOk, OnErr, OnOk, MatchOption, is_some};
 ghost use Rattle.std.specs.FinMap as map;
-ghost use Rattle.rdf_term.specs.Order.{triple_cmp};
-ghost use Rattle.rdf_term.specs.Pattern.{rows};
 ghost use Rattle.entity_model.specs.declared.mapping.MappingVersion.TheVariants.{One};
 ghost use Rattle.entity_state.specs.Standing.{standing_after, standing_of, standing_wants};
 ghost use Rattle.entity_state.specs.Table.{has_room};
-ghost use Rattle.triple_store.specs.Stored.{beside};
 ghost use Rattle.triple_store.specs.declared.fault.StoreFault.TheVariants.{Full};
 ghost use Rattle.replay_model.specs.Play.{apply, nothing_played};
 ghost use Rattle.replay_model.specs.Records.{record_of};
-ghost use Rattle.replay_model.specs.Union.{owners, union};
-ghost use Rattle.replay_model.specs.Versions.{all_by, meaning_by};
+ghost use Rattle.replay_model.specs.Versions.{meaning_by};
 ghost use Rattle.world.specs.Applying.{outcome_after};
 ghost use Rattle.world.specs.Fetched.{AreMeant, reply_or_any};
-ghost use Rattle.world.specs.Keeping.{held_with, kept_of, piece_at};
+ghost use Rattle.world.specs.Keeping.{kept_of};
 ghost use Rattle.world.specs.Laid.{IsLaid};
 ghost use Rattle.world.specs.Meaning.{meaning};
 ghost use Rattle.world.specs.Roomed.{HasRoom, Overfills, room_with, triples_of_reply};
-ghost use Rattle.world.specs.WorldState.{AreHolders, first_of, remapped_pages, second_after, stale_by, triples_of, version_in};
+ghost use Rattle.world.specs.WorldState.{AreHolders, second_after};
 
 use crate::applied::Outcome;
 use crate::fetching::Reply;
-use crate::holders::{Holders, other};
+use crate::holders::Holders;
 use crate::holding::{hold, keep, settle_unfetched};
 use crate::kept::Kept;
-use crate::remapping::{held_in, remap};
+use crate::remapping::held_in;
 use entity_model::{EntityId, Event, MappingVersion};
 use entity_state::{Record, Standing, Table};
-use rdf_term::{List, OutOfMemory, Pattern, Triple, TripleSet};
+use rdf_term::{List, OutOfMemory};
 use side_output::{Entry, Side};
 use std::alloc::Global;
 use std::hash::RandomState;
@@ -43,10 +39,10 @@ use triple_store::{Store, StoreFault};
 /// version Two.
 #[derive(Drop)]
 pub struct Pages {
-    mapping: MappingVersion,
+    pub(crate) mapping: MappingVersion,
     pub(crate) region: Region,
-    table: Table<Kept>,
-    holders: Holders,
+    pub(crate) table: Table<Kept>,
+    pub(crate) holders: Holders,
     pub side: Side,
     pub(crate) store: Store,
 }
@@ -168,79 +164,6 @@ impl Pages {
         }
     }
 
-    /// The version in force.
-    pub fn mapping(&self) -> MappingVersion
-        ensures { result ≡ self.now.mapping }
-    {
-        self.mapping
-    }
-
-    /// Sets the version in force. What is held stays mapped as it was.
-    pub fn set_mapping(&mut self, version: MappingVersion)
-        ensures { self.new ≡ record self.old { mapping = version } }
-    {
-        self.mapping = version;
-    }
-
-    /// The version by which the held page of an entity is mapped, if it holds one.
-    pub fn held_version(&self, id: EntityId) -> Option<MappingVersion>
-        ensures { result ≡ version_in self.now.second self.now.played.records id }
-    {
-        if self.holders.has(id, MappingVersion::Two) {
-            Some(MappingVersion::Two)
-        } else if self.holders.has(id, MappingVersion::One) {
-            Some(MappingVersion::One)
-        } else {
-            None
-        }
-    }
-
-    /// The least entity whose held page is mapped by another version than the one in force.
-    pub fn next_stale(&self) -> Option<EntityId>
-        ensures { result ≡ first_of (stale_by self.now.mapping self.now.second self.now.played.records) }
-    {
-        self.holders.least(other(self.mapping))
-    }
-
-    /// How many such entities there are.
-    pub fn stale(&self) -> usize
-        ensures count { result ≡ length (stale_by self.now.mapping self.now.second self.now.played.records) }
-        ensures none { result ≡ 0 → self.now.second ≡ all_by self.now.mapping self.now.played.records }
-    {
-        self.holders.len(other(self.mapping))
-    }
-
-    /// Maps the held page of the least such entity by the version in force, and says which entity that is. After a fault
-    /// nothing has changed.
-    pub fn remap_next(&mut self, alloc: Global) -> Result<Option<EntityId>, StoreFault>
-        ensures ok { OnOk result (self.new ≡ remapped_pages self.old) }
-        ensures played { self.new.played ≡ self.old.played }
-        ensures entity { IfOk result (λ entity. entity ≡ first_of (stale_by self.old.mapping self.old.second self.old.played.records)) }
-        ensures full { result ≡ Err Full → self.old.room < room_with (meaning_by meaning self.old.second) self.old.played.records
-            (triples_of (meaning self.old.mapping) self.old.played.records (first_of (stale_by self.old.mapping self.old.second self.old.played.records))) }
-        ensures within { OnOk result (room_with (meaning_by meaning self.old.second) self.old.played.records
-            (triples_of (meaning self.old.mapping) self.old.played.records (first_of (stale_by self.old.mapping self.old.second self.old.played.records))) ≤ self.old.room) }
-        ensures held { HasRoom (meaning_by meaning self.new.second) self.new.room self.new.played.records }
-        ensures holders { AreHolders self.new.second self.new.played.records }
-        ensures err { OnErr result (self.new ≡ self.old) }
-    {
-        let Some(id) = self.next_stale() else {
-            return Ok(None);
-        };
-        match remap(
-            alloc,
-            &mut self.store,
-            &mut self.region,
-            &mut self.table,
-            &mut self.holders,
-            id,
-            self.mapping,
-        ) {
-            Ok(()) => Ok(Some(id)),
-            Err(refused) => Err(refused),
-        }
-    }
-
     /// The revision that an entity holds, and its bytes.
     pub fn held(&self, id: EntityId) -> Option<(u64, &[u8])>
         ensures { MatchOption result ((record_of self.now.played.records id).held ≡ None)
@@ -254,27 +177,6 @@ impl Pages {
         ensures { IfOk result (λ ids. ids ≡ map.keys self.now.played.records) }
     {
         self.table.ids(alloc)
-    }
-
-    /// The triples of all that is held, in memory of their own.
-    pub fn triples(&self) -> Result<TripleSet, OutOfMemory>
-        ensures { IfOk result (λ set. set ≡ union triple_cmp (meaning_by meaning self.now.second) self.now.played.records) }
-    {
-        self.store.all(&self.region)
-    }
-
-    /// Those of them that agree with the pattern, in memory of their own.
-    pub fn matches(&self, pattern: &Pattern) -> Result<TripleSet, OutOfMemory>
-        ensures { IfOk result (λ set. set ≡ rows (union triple_cmp (meaning_by meaning self.now.second) self.now.played.records) pattern.now) }
-    {
-        self.store.matches(&self.region, pattern)
-    }
-
-    /// How many entities hold the triple.
-    pub fn owners(&self, triple: &Triple) -> u64
-        ensures { result ≡ owners triple_cmp (meaning_by meaning self.now.second) self.now.played.records triple.now }
-    {
-        self.store.count(&self.region, triple)
     }
 
     /// The region, which has the texts of the terms of all that is held, and the held pages, and nothing else.

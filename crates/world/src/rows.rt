@@ -1,18 +1,43 @@
-// The triples of all that is held, in their order, by the texts that the store has of them.
+// The triples of all that is held, in their order, and the number of the owners of each.
 
 ghost use Rattle.std.specs.Prelude.{◌≡◌, IfOk};
+ghost use Rattle.std.specs.List.{AllByRecursion};
+ghost use Rattle.rdf_term.specs.Fit.{HasFitAndShortTerms};
 ghost use Rattle.rdf_term.specs.Order.{triple_cmp};
 ghost use Rattle.rdf_term.specs.Pattern.{rows};
-ghost use Rattle.replay_model.specs.Union.{union};
+ghost use Rattle.replay_model.specs.Union.{owners, union};
 ghost use Rattle.replay_model.specs.Versions.{meaning_by};
 ghost use Rattle.world.specs.Meaning.{meaning};
 
 use crate::pages::Pages;
 use crate::world::World;
-use rdf_term::{OutOfMemory, Pattern};
+use rdf_term::{OutOfMemory, Pattern, Triple, TripleSet};
 use triple_store::Rows;
 
 impl World {
+    /// The triples of all that is held. Their terms are fit and short.
+    #[tactic(auto, using(crate::proofs::Fit::union_fit))]
+    pub fn export(&self) -> Result<TripleSet, OutOfMemory>
+        ensures value { IfOk result (λ set. set ≡ union triple_cmp (meaning_by meaning self.now.second) self.now.replay.played.records) }
+        ensures fit { IfOk result (AllByRecursion HasFitAndShortTerms) }
+    {
+        self.pages.triples()
+    }
+
+    /// The stored triples that agree with the pattern, in order, in memory of their own.
+    pub fn matches(&self, pattern: &Pattern) -> Result<TripleSet, OutOfMemory>
+        ensures { IfOk result (λ set. set ≡ rows (union triple_cmp (meaning_by meaning self.now.second) self.now.replay.played.records) pattern.now) }
+    {
+        self.pages.matches(pattern)
+    }
+
+    /// How many entities hold the triple, which takes no memory.
+    pub fn owners(&self, triple: &Triple) -> u64
+        ensures { result ≡ owners triple_cmp (meaning_by meaning self.now.second) self.now.replay.played.records triple.now }
+    {
+        self.pages.owners(triple)
+    }
+
     /// The triples of all that is held, in order, without a copy of their texts.
     pub fn rows(&self) -> Result<Rows<'_>, OutOfMemory>
         ensures { IfOk result (λ found. found ≡ union triple_cmp (meaning_by meaning self.now.second) self.now.replay.played.records) }
@@ -29,6 +54,27 @@ impl World {
 }
 
 impl Pages {
+    /// The triples of all that is held, in memory of their own.
+    pub fn triples(&self) -> Result<TripleSet, OutOfMemory>
+        ensures { IfOk result (λ set. set ≡ union triple_cmp (meaning_by meaning self.now.second) self.now.played.records) }
+    {
+        self.store.all(&self.region)
+    }
+
+    /// Those of them that agree with the pattern, in memory of their own.
+    pub fn matches(&self, pattern: &Pattern) -> Result<TripleSet, OutOfMemory>
+        ensures { IfOk result (λ set. set ≡ rows (union triple_cmp (meaning_by meaning self.now.second) self.now.played.records) pattern.now) }
+    {
+        self.store.matches(&self.region, pattern)
+    }
+
+    /// How many entities hold the triple.
+    pub fn owners(&self, triple: &Triple) -> u64
+        ensures { result ≡ owners triple_cmp (meaning_by meaning self.now.second) self.now.played.records triple.now }
+    {
+        self.store.count(&self.region, triple)
+    }
+
     // The triples of all that is held.
     pub(crate) fn rows(&self) -> Result<Rows<'_>, OutOfMemory>
         ensures { IfOk result (λ found. found ≡ union triple_cmp (meaning_by meaning self.now.second) self.now.played.records) }

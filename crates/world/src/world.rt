@@ -1,11 +1,8 @@
 // The state of a replay.
 
-ghost use Rattle.std.specs.Prelude.{◌≡◌, ◌≢◌, ◌↔◌, ◌⊎◌, ◌<◌, ◌≤◌, ◌+◌, ◌++◌, [], ℕ, false, None, Some, length, slice_get, is_some, IfSome, MatchOption, if◌then◌else◌, IfOk, IfErr, OnErr, OnOk, IsErrOf};
+ghost use Rattle.std.specs.Prelude.{◌≡◌, ◌≢◌, ◌↔◌, ◌⊎◌, ◌<◌, ◌≤◌, ◌+◌, ◌++◌, [], false, None, Some, length, slice_get, is_some, IfSome, MatchOption, if◌then◌else◌, IfOk, IfErr, OnErr, OnOk, IsErrOf};
 ghost use Rattle.std.specs.Option.{option_copied};
 ghost use Rattle.std.specs.FinMap as map;
-ghost use Rattle.std.specs.List.{AllByRecursion};
-ghost use Rattle.rdf_term.specs.Fit.{HasFitAndShortTerms};
-ghost use Rattle.rdf_term.specs.Order.{triple_cmp};
 ghost use Rattle.entity_json.specs.Document.{unfit_of};
 ghost use Rattle.entity_model.specs.declared.id.EntityId.{EntityId as AnEntity};
 ghost use Rattle.revisions.specs.Revisions.{counted};
@@ -14,9 +11,8 @@ ghost use Rattle.replay_model.specs.Entries.{HoldsUnlessOpen, is_open_in};
 ghost use Rattle.replay_model.specs.Records.{record_of};
 ghost use Rattle.replay_model.specs.Replies.{HoldsDocument};
 ghost use Rattle.replay_model.specs.ReplayState.{after_end, after_event, after_mark, nothing_delivered, nothing_delivered_within, taken_entries};
-ghost use Rattle.rdf_term.specs.Pattern.{rows};
-ghost use Rattle.replay_model.specs.Union.{owners, triples_held, union};
-ghost use Rattle.replay_model.specs.Versions.{all_by, meaning_by};
+ghost use Rattle.replay_model.specs.Union.{triples_held};
+ghost use Rattle.replay_model.specs.Versions.{meaning_by};
 ghost use Rattle.world.specs.Applying.{Applies, IsReply, IsShown, calls_after, outcome_of_reply};
 ghost use Rattle.entity_state.specs.Standing.{standing_after, standing_of, standing_wants};
 ghost use Rattle.entity_state.specs.State.{state_after};
@@ -24,7 +20,7 @@ ghost use Rattle.world.specs.Fetched.{AreMeant, reply_of, reply_or_any};
 ghost use Rattle.world.specs.Laid.{IsLaid};
 ghost use Rattle.world.specs.Meaning.{meaning};
 ghost use Rattle.world.specs.Roomed.{HasRoom, IsOverfull, room_with};
-ghost use Rattle.world.specs.WorldState.{AreHolders, held_version, next_stale, remapped, second_after, stale, triples_anew};
+ghost use Rattle.world.specs.WorldState.{AreHolders, second_after};
 ghost use Rattle.entity_model.specs.declared.mapping.MappingVersion.TheVariants.{One};
 ghost use Rattle.world.specs.declared.applied.Outcome.TheVariants.{Stored};
 ghost use Rattle.world.specs.declared.applied.WorldFault.TheVariants.{Full, Nothing as NothingDue};
@@ -32,9 +28,9 @@ ghost use Rattle.world.specs.declared.applied.WorldFault.TheVariants.{Full, Noth
 use crate::applied::{Applied, WorldFault};
 use crate::fetching::{Reply, fetch};
 use crate::pages::Pages;
-use entity_model::{EntityId, Event, MappingVersion};
+use entity_model::{EntityId, Event};
 use entity_state::State;
-use rdf_term::{List, OutOfMemory, Pattern, Triple, TripleSet};
+use rdf_term::{List, OutOfMemory};
 use reorder_buffer::{Buffer, Taken};
 use revisions::Revisions;
 use side_output::{Entry, Side, is_open};
@@ -52,7 +48,7 @@ const ROOM: u32 = 20_000_000;
 /// room; and the version of the mapping in force, with the entities whose pages are mapped by version Two.
 #[derive(Drop)]
 pub struct World {
-    alloc: Global,
+    pub(crate) alloc: Global,
     buffer: Buffer,
     pub(crate) pages: Pages,
 }
@@ -195,88 +191,6 @@ impl World {
             Err(StoreFault::Full) => Err(WorldFault::Full),
             Err(StoreFault::OutOfMemory) => Err(WorldFault::OutOfMemory),
         }
-    }
-
-    /// The version of the mapping in force, by which the pages of later applications are mapped.
-    pub fn mapping(&self) -> MappingVersion
-        ensures { result ≡ self.now.mapping }
-    {
-        self.pages.mapping()
-    }
-
-    /// Sets the version in force. What is held stays mapped as it was.
-    pub fn set_mapping(&mut self, version: MappingVersion)
-        ensures { self.new ≡ record self.old { mapping = version } }
-    {
-        self.pages.set_mapping(version);
-    }
-
-    /// The version by which the held page of an entity is mapped, if it holds one. It takes no memory.
-    pub fn held_version(&self, id: EntityId) -> Option<MappingVersion>
-        ensures { result ≡ held_version self.now id }
-    {
-        self.pages.held_version(id)
-    }
-
-    /// The least entity whose held page is mapped by another version than the one in force. It takes no memory.
-    pub fn next_stale(&self) -> Option<EntityId>
-        ensures { result ≡ next_stale self.now }
-    {
-        self.pages.next_stale()
-    }
-
-    /// How many entities there are whose held pages are mapped by another version than the one in force. It takes no memory.
-    pub fn stale(&self) -> usize
-        ensures count { result ≡ length (stale self.now) }
-        ensures none { result ≡ 0 → self.now.second ≡ all_by self.now.mapping self.now.replay.played.records }
-    {
-        self.pages.stale()
-    }
-
-    /// Maps the held page of the least stale entity by the version in force, and says which entity that is; none where no
-    /// entity is stale, and then nothing changes. Nothing is fetched. After a fault nothing has changed. `Full` is said exactly
-    /// where the new triples, with those of all that is held, have more terms than there is room for.
-    pub fn remap_next(&mut self) -> Result<Option<EntityId>, WorldFault>
-        ensures ok { OnOk result (self.new ≡ remapped self.old) }
-        ensures entity { IfOk result (λ entity. entity ≡ next_stale self.old) }
-        ensures fewer { IfOk result (λ entity. IfSome entity (λ _. length (stale self.new) + 1 ≡ length (stale self.old))) }
-        ensures full { IsErrOf result Full → self.old.room
-            < room_with (meaning_by meaning self.old.second) self.old.replay.played.records (triples_anew self.old) }
-        ensures within { OnOk result (room_with (meaning_by meaning self.old.second) self.old.replay.played.records
-            (triples_anew self.old) ≤ self.old.room) }
-        ensures held { HasRoom (meaning_by meaning self.new.second) self.new.room self.new.replay.played.records }
-        ensures holders { AreHolders self.new.second self.new.replay.played.records }
-        ensures err { OnErr result (self.new ≡ self.old) }
-        ensures something { ¬ (IsErrOf result NothingDue) }
-    {
-        match self.pages.remap_next(self.alloc) {
-            Ok(entity) => Ok(entity),
-            Err(StoreFault::Full) => Err(WorldFault::Full),
-            Err(StoreFault::OutOfMemory) => Err(WorldFault::OutOfMemory),
-        }
-    }
-
-    /// The triples of all that is held. Their terms are fit and short.
-    #[tactic(auto, using(crate::proofs::Fit::union_fit))]
-    pub fn export(&self) -> Result<TripleSet, OutOfMemory>
-        ensures value { IfOk result (λ set. set ≡ union triple_cmp (meaning_by meaning self.now.second) self.now.replay.played.records) }
-        ensures fit { IfOk result (AllByRecursion HasFitAndShortTerms) }
-    {
-        self.pages.triples()
-    }
-
-    /// The stored triples that agree with the pattern, in order, in memory of their own.
-    pub fn matches(&self, pattern: &Pattern) -> Result<TripleSet, OutOfMemory>
-        ensures { IfOk result (λ set. set ≡ rows (union triple_cmp (meaning_by meaning self.now.second) self.now.replay.played.records) pattern.now) }
-    {
-        self.pages.matches(pattern)
-    }
-
-    /// How many entities hold the triple, which takes no memory.
-    pub fn owners(&self, triple: &Triple) -> u64
-        ensures { result ≡ owners triple_cmp (meaning_by meaning self.now.second) self.now.replay.played.records triple.now }
-    {
-        self.pages.owners(triple)
     }
 
     /// The region, which has the texts of the terms of all that is held, each once, and the held pages, and nothing else.

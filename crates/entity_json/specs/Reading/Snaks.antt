@@ -1,5 +1,5 @@
 -- Snaks, and maps of lists of them.
-use Rattle.std.specs.Prelude.{ℕ, cond, List, [], Option, None, Some, option_map, unwrap_or, codes}
+use Rattle.std.specs.Prelude.{ℕ, cond, List, [], Option, None, Some, option_map, codes}
 use Rattle.std.specs.Str.{bytes_eq}
 use Rattle.json_spell.specs.Tree.{Tree, member_of}
 use Rattle.entity_model.specs.declared.id.IdKind.TheVariants.{P}
@@ -10,12 +10,9 @@ use Rattle.entity_model.specs.declared.snak.Snak.{Snak}
 use Rattle.entity_json.specs.Leaves.{◌>>=◌, text_of, text_at, list_of, id_of_kind}
 use Rattle.entity_json.specs.Maps.{map_at}
 use Rattle.entity_json.specs.Joined.{numbered}
+use Rattle.entity_json.specs.Snaks.{value_type}
 use Rattle.entity_json.specs.Reading.Steps.{steps, put}
 use Rattle.entity_json.specs.Reading.Values.{value_of}
-
--- the type of the data value, or the empty text where there is none
-unfoldable pub value_type : Tree → List ℕ
-value_type t = unwrap_or (member_of (codes "datavalue") t >>= text_at (codes "type")) []
 
 -- a text, or another where it is missing
 abbrev pub text_or : List ℕ → Option Tree → Option (List ℕ)

@@ -1,0 +1,47 @@
+// Triples by the words of the vocabulary.
+
+ghost use Rattle.std.specs.Prelude.{◌≡◌, [], ◌∷◌, OnOk};
+ghost use Rattle.rdf_vocabulary.specs.Predicate.{about};
+ghost use Rattle.rdf_vocabulary.specs.Resource.{class_triple};
+ghost use Rattle.triple_sink.specs.Gains.{Gains};
+ghost use Rattle.triple_sink.specs.TermRef.{meant};
+
+use crate::sink::TripleSink;
+use crate::term_ref::TermRef;
+use rdf_term::OutOfMemory;
+use rdf_vocabulary::{Predicate, Resource};
+use std::alloc::Global;
+
+/// Hands on the triple that says the object of the subject. What the sink holds after `OutOfMemory` isn't said.
+pub fn emit_about<S: TripleSink>(
+    alloc: Global,
+    subject: &TermRef<'_>,
+    predicate: Predicate,
+    object: &TermRef<'_>,
+    out: &mut S,
+) -> Result<(), OutOfMemory>
+    ensures gains { OnOk result (Gains S.items S.keeps out.old out.new (about (meant subject.now) predicate (meant object.now) ∷ [])) }
+    ensures stays { S.rest out.new ≡ S.rest out.old }
+{
+    let predicate = TermRef::Iri(predicate.text());
+    out.emit(alloc, subject, &predicate, object)
+}
+
+/// Hands on the class of a node. What the sink holds after `OutOfMemory` isn't said.
+pub fn emit_class<S: TripleSink>(
+    alloc: Global,
+    node: &TermRef<'_>,
+    class: Resource,
+    out: &mut S,
+) -> Result<(), OutOfMemory>
+    ensures gains { OnOk result (Gains S.items S.keeps out.old out.new (class_triple (meant node.now) class ∷ [])) }
+    ensures stays { S.rest out.new ≡ S.rest out.old }
+{
+    emit_about(
+        alloc,
+        node,
+        Predicate::RdfType,
+        &TermRef::Iri(class.text()),
+        out,
+    )
+}
