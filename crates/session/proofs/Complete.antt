@@ -35,9 +35,10 @@ use Rattle.session.specs.Complete.{FindsDocument, IsStill, has_document, triples
 use Rattle.session.specs.Headline.{Ending, Stopped}
 use Rattle.session.specs.Moment.{Moment, Run, horizon_at}
 use Rattle.session.specs.Reading.{AreDeliveries, IsPastLimit, IsRefusedLine, deliveries_of, line_delivers, onto_deliveries}
-use Rattle.session.specs.Remapping.{IsFullOfStale, held_triples}
+use Rattle.session.specs.Remapping.{held_triples}
 use Rattle.session.specs.Stop.{stop_of}
-use Rattle.session.specs.Taking.{IsFull, judgement}
+use Rattle.session.specs.declared.stop.Stop.TheVariants.{StoreFull as RoomPassed}
+use Rattle.session.specs.Taking.{judgement}
 use Rattle.session.proofs.Ends.{none_failed}
 use Rattle.session.proofs.Finding.{none_named}
 use Rattle.session.proofs.Opening.{any_opened, settled_triples}
@@ -108,8 +109,7 @@ none_refused {G} limit bytes ds before number cause are refused = ⊎_elim
     clash none = let never : Some ds ≡ None = sym are.delivered ∙ none in cc
 
 module _ (run : Run) (before now : Moment) (bytes : List ℕ) (ds : List Delivery) (known : before.input.left ≡ Some bytes) (are : AreDeliveries (limit_of run.choices) bytes ds)
-    (reads : IsStill before.input.faults now.input.faults) (writes : IsStill before.stage.output.faults now.stage.output.faults) (room : IsFull run.setting now.stage.world now.stage.mapped → ⊥)
-    (stale_room : IsFullOfStale run.setting.room now.stage.world.played.records now.stage.mapped → ⊥) where
+    (reads : IsStill before.input.faults now.input.faults) (writes : IsStill before.stage.output.faults now.stage.output.faults) (room : Stopped RoomPassed run before now → ⊥) where
   pub ends_well : (status : Status) → (status ≡ BadWords → ⊥) → IfSome (stop_of status) (λ stop. Stopped stop run before now) → (status ≡ Ended) ⊎ (status ≡ OutOfMemory)
   ends_well Ended understood stopped = inl refl
   ends_well BadWords understood stopped = absurd (understood refl)
@@ -125,7 +125,7 @@ module _ (run : Run) (before now : Moment) (bytes : List ℕ) (ds : List Deliver
       more : (left : Option (List ℕ)) → IfSome left (λ b. IsPastLimit (limit_of run.choices) b stopped.deliveries) → IfSome left (λ b. limit_of run.choices < length b)
       more None past = tt
       more (Some b) past = past.more
-  ends_well StoreFull understood stopped = absurd (⊎_elim (λ due. room due.0) (λ stale. stale_room stale.0) stopped)
+  ends_well StoreFull understood stopped = absurd (room stopped)
   ends_well OutOfMemory understood stopped = inr refl
 
 -- ---- the world

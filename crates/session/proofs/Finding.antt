@@ -30,7 +30,7 @@ use Rattle.replay_model.proofs.RecordOf.{entity_of, record-after, record_of-empt
 use Rattle.session.specs.Complete.{FindsDocument, has_document, keeps_page}
 
 -- the state after an event is kept at a revision of which P holds, where P holds of the revision before and of the event's
-kept_after : (P : ℕ → Type 0) (k : Kind) (s : State) (r : ℕ) → (is_kept s.mode ≡ true → P s.rev) → (keeps_page k ≡ true → P r) → is_kept (after_kind k s r).mode ≡ true → P (after_kind k s r).rev
+pub kept_after : (P : ℕ → Type 0) (k : Kind) (s : State) (r : ℕ) → (is_kept s.mode ≡ true → P s.rev) → (keeps_page k ≡ true → P r) → is_kept (after_kind k s r).mode ≡ true → P (after_kind k s r).rev
 kept_after P Edit s r before now = elim (nat_lt s.rev r) as (λ b. is_kept (cond b (kept r) s).mode ≡ true → P (cond b (kept r) s).rev) [ true ↦ λ _. now refl | false ↦ before ]
 kept_after P Delete s r before now = elim (nat_le s.rev r) as (λ b. is_kept (cond b (deleted r) s).mode ≡ true → P (cond b (deleted r) s).rev) [ true ↦ λ no. absurd (true≢false (sym no)) | false ↦ before ]
 kept_after P Undelete s r before now =

@@ -1,9 +1,13 @@
+mod Beginnings
 mod Complete
 mod Deliveries
 mod Drills
 mod Due
 mod Ends
 mod Finding
+mod Fitting
+mod Gathered
+mod Named
 mod Opening
 mod Progress
 mod Reading

@@ -1,6 +1,6 @@
 // What follows from the contract of a run where nothing goes wrong. Each law is the contract of a function that does nothing.
 
-ghost use Rattle.std.specs.Prelude.{◌≡◌, ◌⊎◌, ℕ, true, false, List, [], Option, Some, IfSome};
+ghost use Rattle.std.specs.Prelude.{◌≡◌, ◌≤◌, ◌⊎◌, ℕ, true, false, List, [], Option, Some, IfSome};
 ghost use Rattle.std.specs.FinMap as map;
 ghost use Rattle.std.specs.List.{flat_map};
 ghost use Rattle.rising.specs.Rising.{has, sorted};
@@ -14,8 +14,10 @@ ghost use Rattle.replay_model.specs.Acceptance.{accepted, late, version_in_force
 ghost use Rattle.replay_model.specs.Records.{Bytes, is_settled, record_of};
 ghost use Rattle.world.specs.Meaning.{meaning};
 ghost use Rattle.words.specs.Options.{limit_of};
+ghost use Rattle.triple_store.specs.Room.{distinct};
 ghost use Rattle.session.specs.declared.status.Status.{Status};
-ghost use Rattle.session.specs.Complete.{FindsDocument, IsStill, has_document, triples_in};
+ghost use Rattle.session.specs.declared.stop.Stop.{Stop};
+ghost use Rattle.session.specs.Complete.{FindsDocument, IsStill, has_document, terms_there, triples_in};
 ghost use Rattle.session.specs.Headline.{Ending, Stopped};
 ghost use Rattle.session.specs.Moment.{Moment, Run, horizon_at};
 ghost use Rattle.session.specs.Reading.{AreDeliveries};
@@ -33,6 +35,27 @@ pub fn good_input_is_replayed()
         IsStill before.input.faults now.input.faults → IsStill before.stage.output.faults now.stage.output.faults →
         (IsFull run.setting now.stage.world now.stage.mapped → ⊥) →
         (IsFullOfStale run.setting.room now.stage.world.played.records now.stage.mapped → ⊥) →
+        (status ≡ Status.Ok) ⊎ (status ≡ Status.OutOfMemory) }
+{}
+
+/// A replay over told contents never stops for want of room where the different terms of all pages that its input may bring are no
+/// more than the room. These are the pages at the revisions of all delivered edits, undeletions and reconciliations as kept, where a
+/// document of the entity is there, by the first version of the mapping and by each that a line brings.
+pub fn told_pages_have_room()
+    ensures { (run : Run) (before now : Moment) (contents : ℕ → Option Bytes) (bytes : List ℕ) (ds : List Delivery) →
+        Stopped Stop.StoreFull run before now → before.input.left ≡ Some bytes → AreDeliveries (limit_of run.choices) bytes ds →
+        run.setting.known ≡ Some contents → distinct (terms_there contents ds) ≤ run.setting.room → ⊥ }
+{}
+
+/// A replay over told contents ends well, or for want of memory, where the words are understood, each line of the input is a
+/// delivery, the input is within the limit, no read and no write fails, and the different terms of all pages that the input may bring
+/// are no more than the room.
+pub fn fitting_input_is_replayed()
+    ensures { (run : Run) (before now : Moment) (status : Status) (contents : ℕ → Option Bytes) (bytes : List ℕ) (ds : List Delivery) →
+        (status ≡ Status.BadWords → ⊥) → IfSome (stop_of status) (λ stop. Stopped stop run before now) →
+        before.input.left ≡ Some bytes → AreDeliveries (limit_of run.choices) bytes ds →
+        IsStill before.input.faults now.input.faults → IsStill before.stage.output.faults now.stage.output.faults →
+        run.setting.known ≡ Some contents → distinct (terms_there contents ds) ≤ run.setting.room →
         (status ≡ Status.Ok) ⊎ (status ≡ Status.OutOfMemory) }
 {}
 

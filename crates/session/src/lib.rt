@@ -17,8 +17,8 @@ mod stop;
 mod taking;
 
 pub use laws::{
-    found_pages_leave_no_entries, good_input_is_replayed, settled_pages_are_the_union,
-    unsettled_pages_have_no_document,
+    fitting_input_is_replayed, found_pages_leave_no_entries, good_input_is_replayed,
+    settled_pages_are_the_union, told_pages_have_room, unsettled_pages_have_no_document,
 };
 pub use running::run;
 pub use status::{Status, status_number, status_text};
