@@ -2,3 +2,4 @@ mod Applying
 mod Counting
 pub mod Drills
 mod Taking
+mod Versions

@@ -1,5 +1,5 @@
 -- What a drill leads to, and what is told of it.
-use Rattle.std.specs.Prelude.{ℕ, Bool, Option, None, List, [], ◌∷◌, ◌++◌, count_by, codes, decimal, flat_map, length}
+use Rattle.std.specs.Prelude.{ℕ, Bool, None, List, [], ◌∷◌, ◌++◌, count_by, codes, decimal, flat_map, length}
 use Rattle.std.specs.FinMap as map
 use Rattle.rdf_term.specs.declared.triple.Triple.{Triple}
 use Rattle.rdf_term.specs.Order.{triple_cmp}

@@ -1,0 +1,39 @@
+-- A drill brings no version of the mapping.
+use Rattle.std.proofs.Common.{◌≡◌, ◌∙◌, refl, sym, ap, ℕ, ◌-◌, ◌*◌, ◌%◌, ◌==◌, Bool, true, false, if◌then◌else◌, List, [], ◌∷◌, ◌++◌, append-nil, None, filter_map, unwrap_or}
+use Rattle.std.specs.List.{flat_map, last_or, range_with_len}
+use Rattle.std.proofs.lemmas.List.Elements.{filter_map-append}
+use Rattle.entity_model.specs.declared.delivery.Delivery.{Delivery}
+use Rattle.entity_model.specs.declared.delivery.Delivery.TheVariants.{Watermark}
+use Rattle.entity_model.specs.declared.event.Kind.TheVariants.{Delete, Edit}
+use Rattle.entity_model.specs.declared.mapping.MappingVersion.TheVariants.{One}
+use Rattle.replay_model.specs.Acceptance.{mapping_of, version_in_force}
+use Rattle.drill.specs.Drill.{deliveries_of, drill, edits, event, time_at}
+
+no_version : (fifth tenth : Bool) (i : ℕ) →
+    filter_map mapping_of (edits i ++ (if fifth then event Delete i (2 * i) (2 * i) ∷ [] else []) ++ (if tenth then Watermark (time_at (2 * i)) ∷ event Edit i (2 * i - 1) (2 * i - 3) ∷ [] else [])) ≡ []
+no_version true true i = refl
+no_version true false i = refl
+no_version false true i = refl
+no_version false false i = refl
+
+no_versions : (items : List ℕ) → filter_map mapping_of (flat_map deliveries_of items) ≡ []
+no_versions [] = refl
+no_versions (i ∷ items) =
+    filter_map-append mapping_of (deliveries_of i) (flat_map deliveries_of items)
+    ∙ ap (λ vs. vs ++ filter_map mapping_of (flat_map deliveries_of items)) (no_version (i % 5 == 0) (i % 10 == 0) i)
+    ∙ no_versions items
+
+-- a list with more at its end is empty
+first_none : {A : Type 0} (xs ys : List A) → xs ++ ys ≡ [] → xs ≡ []
+first_none [] ys none = refl
+first_none (x ∷ xs) ys none = cc
+
+-- the first version is in force after each first part
+pub part_by_first : (size : ℕ) (before after : List Delivery) → drill size ≡ before ++ after → version_in_force before ≡ One
+part_by_first size before after is =
+    ap (λ vs. unwrap_or (last_or None vs) One)
+    (first_none (filter_map mapping_of before) (filter_map mapping_of after) (sym (filter_map-append mapping_of before after) ∙ ap (filter_map mapping_of) (sym is) ∙ no_versions (range_with_len 1 size)))
+
+-- and after all deliveries
+pub drill_by_first : (size : ℕ) → version_in_force (drill size) ≡ One
+drill_by_first size = part_by_first size (drill size) [] (sym (append-nil (drill size)))
