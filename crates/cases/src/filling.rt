@@ -5,7 +5,7 @@ use anyhow::Result;
 use std::alloc::Global;
 
 // The marks for the parts of a row.
-const MARKS: [&str; 9] = ["$1", "$2", "$3", "$4", "$5", "$6", "$7", "$8", "$9"];
+pub const MARKS: [&str; 9] = ["$1", "$2", "$3", "$4", "$5", "$6", "$7", "$8", "$9"];
 
 // A text with another in place of each mark.
 pub fn replaced(alloc: Global, whole: &str, mark: &str, text: &str) -> Result<String> {

@@ -3,30 +3,8 @@
 use crate::filling::replaced;
 use crate::sections::Case;
 use crate::spelling::bytes_of;
-use anyhow::{Context, Result, bail};
+use anyhow::{Context, Result};
 use std::alloc::Global;
-
-// The names of the sections that a case may have.
-const NAMES: &[&str] = &[
-    "words",
-    "in",
-    "page",
-    "pages to",
-    "bytes a read",
-    "bytes a write",
-    "failing reads",
-    "failing writes",
-    "failing fetches",
-    "cut page",
-    "status",
-    "out",
-    "records",
-    "side",
-    "owners",
-    "fetches",
-    "waiting",
-    "rows",
-];
 
 // What a run is given.
 #[derive(Drop)]
@@ -77,17 +55,6 @@ pub enum Turns {
     EachWrite,
     // a run for each front of the page of a revision
     EachFront(u64),
-}
-
-// Sees that each section of a case has a name that is known.
-pub fn check_names(case: &Case) -> Result<()> {
-    for section in &case.sections {
-        let head = section.head.as_str();
-        if !NAMES.iter().any(|name| section.words_of(name).is_some()) {
-            bail!("no section is called {head:?}");
-        }
-    }
-    Ok(())
 }
 
 // What the run of a case is given.

@@ -1,8 +1,9 @@
 // A case tried: once, with each row of its table, or with each of its calls failing in turn.
 
+use crate::checking::check;
 use crate::comparing::difference;
 use crate::filling::filled;
-use crate::parts::{Expected, Given, Turns, check_names, expected_of, given_of, turns_of};
+use crate::parts::{Expected, Given, Turns, expected_of, given_of, turns_of};
 use crate::running::run_over;
 use crate::sections::Case;
 use anyhow::{Context, Result};
@@ -19,7 +20,7 @@ pub struct Trial {
 
 // Tries a case.
 pub fn tried(alloc: Global, keys: RandomState, case: &Case) -> Result<Trial> {
-    check_names(case).context(format_args!("{}", case.name))?;
+    check(case).context(format_args!("{}", case.name))?;
     match case.section("rows") {
         None => tried_alone(alloc, keys, case).context(format_args!("{}", case.name)),
         Some((_, rows)) => tried_with_rows(alloc, keys, case, rows).context(format_args!(

@@ -1,0 +1,91 @@
+// What a case must be before it is tried, so that no line of it goes unseen.
+
+use crate::filling::MARKS;
+use crate::sections::{Case, Section};
+use anyhow::{Context, Result, bail};
+
+// The names of the sections that stand as often as there are pages.
+const PAGES: &[&str] = &["page", "pages to"];
+
+// The names of the other sections that have lines of their own.
+const WITH_LINES: &[&str] = &["in", "out", "records", "side", "owners", "rows"];
+
+// The names of those that are one line each.
+const ONE_LINE: &[&str] = &[
+    "words",
+    "bytes a read",
+    "bytes a write",
+    "failing reads",
+    "failing writes",
+    "failing fetches",
+    "cut page",
+    "status",
+    "fetches",
+    "waiting",
+];
+
+// Sees that each section has a name that is known, stands once where it isn't a page, and has lines only where lines mean
+// something, and that each part of a table's row has a mark.
+pub fn check(case: &Case) -> Result<()> {
+    for section in &case.sections {
+        check_section(case, section)?;
+    }
+    match case.section("rows") {
+        None => Ok(()),
+        Some((_, rows)) => check_rows(case, rows),
+    }
+}
+
+// Sees that a section has a name that is known, and is as this name wants it.
+fn check_section(case: &Case, section: &Section) -> Result<()> {
+    let head = section.head.as_str();
+    if name_of(PAGES, section).is_some() {
+        return Ok(());
+    }
+    if let Some(name) = name_of(WITH_LINES, section) {
+        return check_once(case, name);
+    }
+    let name = name_of(ONE_LINE, section).context(format_args!("no section is called {head:?}"))?;
+    if !section.body.is_empty() {
+        bail!("{head:?} has lines below it");
+    }
+    check_once(case, name)
+}
+
+// The name that a section has, where it is one of these.
+fn name_of<'n>(names: &'n [&'n str], section: &Section) -> Option<&'n str> {
+    names
+        .iter()
+        .copied()
+        .find(|name| section.words_of(name).is_some())
+}
+
+// Sees that no two sections have this name.
+fn check_once(case: &Case, name: &str) -> Result<()> {
+    let count = case
+        .sections
+        .iter()
+        .filter(|section| section.words_of(name).is_some())
+        .count();
+    if count > 1 {
+        bail!("{count} sections are called {name:?}");
+    }
+    Ok(())
+}
+
+// Sees that each part of each row has a mark somewhere.
+fn check_rows(case: &Case, rows: &str) -> Result<()> {
+    for row in rows.lines() {
+        let parts = row.split(" | ").count();
+        if parts > MARKS.len() || !MARKS.iter().take(parts).all(|mark| has_mark(case, mark)) {
+            bail!("a part of the row {row:?} has no mark");
+        }
+    }
+    Ok(())
+}
+
+// Whether a section has the mark.
+fn has_mark(case: &Case, mark: &str) -> bool {
+    case.sections.iter().any(|section| section.head.as_str().contains(mark)
+        || section.body.as_str().contains(mark))
+}
