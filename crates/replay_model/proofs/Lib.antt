@@ -18,6 +18,7 @@ pub mod LateEntries
 pub mod OpenLate
 pub mod Owners
 pub mod PlayedRecords
+pub mod PlayedVersions
 pub mod Printing
 pub mod RecordOf
 pub mod Settled

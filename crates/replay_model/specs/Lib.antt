@@ -6,6 +6,7 @@ pub mod Replies
 pub mod Entries
 pub mod Union
 pub mod Versions
+pub mod PlayedVersions
 pub mod Transcript
 pub mod ReplayState
 pub mod Explained

@@ -26,4 +26,7 @@ pub use step_laws::{
 pub use union_laws::{
     owners_change_by_one, same_events_and_version_give_same_union, union_is_what_has_owners,
 };
-pub use version_laws::{one_version_gives_its_union, what_is_held_decides_the_union};
+pub use version_laws::{
+    documents_are_by_the_version_in_force, one_version_gives_its_union,
+    what_is_held_decides_the_union,
+};

@@ -1,12 +1,16 @@
 // The laws of what is held by more than one version of the mapping.
 
-ghost use Rattle.std.specs.Prelude.{◌≡◌};
+ghost use Rattle.std.specs.Prelude.{◌≡◌, ℕ, Bool, List, Option, true};
 ghost use Rattle.std.specs.declared.cmp.Ordering.{Ordering};
+ghost use Rattle.entity_model.specs.declared.delivery.Delivery.{Delivery};
 ghost use Rattle.entity_model.specs.declared.id.EntityId.{EntityId};
 ghost use Rattle.entity_model.specs.declared.mapping.MappingVersion.{MappingVersion};
+ghost use Rattle.replay_model.specs.Acceptance.{version_in_force};
+ghost use Rattle.replay_model.specs.Play.{Replies, played};
+ghost use Rattle.replay_model.specs.PlayedVersions.{second_played};
 ghost use Rattle.replay_model.specs.Records.{Records, record_of};
 ghost use Rattle.replay_model.specs.Union.{Meaning, owners, triples_held, union};
-ghost use Rattle.replay_model.specs.Versions.{all_by, meaning_by};
+ghost use Rattle.replay_model.specs.Versions.{all_by, is_holder, meaning_by, version_at};
 
 /// The union and the owners depend on what the held pages mean, and on nothing else that a meaning says.
 pub fn what_is_held_decides_the_union<Triple>()
@@ -24,4 +28,14 @@ pub fn one_version_gives_its_union<Triple>()
         union order (meaning_by meaning (all_by v records)) records ≡ union order (meaning v) records }
     ensures owners { (order : Triple → Triple → Ordering) (meaning : MappingVersion → Meaning Triple) (v : MappingVersion) (records : Records) (t : Triple) →
         owners order (meaning_by meaning (all_by v records)) records t ≡ owners order (meaning v) records t }
+{}
+
+/// After any deliveries, and so at each question, and after the end of the input, each document that is held is mapped by the version
+/// of the mapping in force: the entities that hold by version Two are all that hold a document where Two is in force, and none where
+/// One is.
+pub fn documents_are_by_the_version_in_force()
+    ensures ids { (h : Option ℕ) (closed : Bool) (replies : Replies) (ds : List Delivery) →
+        second_played h closed replies ds ≡ all_by (version_in_force ds) (played h closed replies ds).records }
+    ensures each { (h : Option ℕ) (closed : Bool) (replies : Replies) (ds : List Delivery) (x : EntityId) →
+        is_holder (played h closed replies ds).records x ≡ true → version_at (second_played h closed replies ds) x ≡ version_in_force ds }
 {}
