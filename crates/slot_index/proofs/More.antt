@@ -16,7 +16,8 @@ use Rattle.slot_index.specs.Keys.{key_cmp, key_cmp-total, key_cmp-IsAntisymmetri
 use Rattle.slot_index.specs.Counts.{Counts, HaveOwners, count_of, counts_of, raised, lowered}
 use Rattle.slot_index.specs.Counted.{with_more, IsCounted}
 use Rattle.slot_index.proofs.Mapped.{got, keys_ordered, len_ordered}
-use Rattle.slot_index.proofs.Owners.{one_if, HaveOwners-empty, HaveOwners-with_count, same_counts, count_of-raised, count_of-lowered}
+use Rattle.slot_index.proofs.Passing.{one_if}
+use Rattle.slot_index.proofs.Owners.{HaveOwners-empty, HaveOwners-with_count, same_counts, count_of-raised, count_of-lowered}
 
 -- to show something of a triple q and k: at q ≡ k, and where they differ
 at_key : (P : Key → Bool → Type 0) (k q : Key) → P k true → (same_key q k ≡ false → P q false) → P q (same_key q k)

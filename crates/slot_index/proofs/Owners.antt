@@ -8,10 +8,7 @@ use Rattle.slot_index.specs.declared.key.Key.{Key}
 use Rattle.slot_index.specs.Keys.{key_cmp, key_cmp-total, key_cmp-IsAntisymmetric, same_key, times}
 use Rattle.slot_index.specs.Counts.{Counts, counts_of, count_of, with_count, raised, lowered, HaveOwners}
 use Rattle.slot_index.proofs.Mapped.{changed, got}
-
--- a test as a number
-abbrev pub one_if : Bool → ℕ
-one_if b = cond b 1 0
+use Rattle.slot_index.proofs.Passing.{one_if}
 
 -- what the map has at a triple with this count
 abbrev pub kept : ℕ → Option ℕ
@@ -26,38 +23,40 @@ unwrap_kept : (n : ℕ) → unwrap_or (kept n) 0 ≡ n
 unwrap_kept zero = refl
 unwrap_kept (suc n) = refl
 
+-- the count that a map has where it keeps this one
+pub unwrap-cond_kept : (b : Bool) (n : ℕ) (v : Option ℕ) → unwrap_or (cond b (kept n) v) 0 ≡ cond b n (unwrap_or v 0)
+unwrap-cond_kept true n v = unwrap_kept n
+unwrap-cond_kept false n v = refl
+
+-- an entry, if there is one, counts something
+abbrev pub IsOwned : Option ℕ → Type 0
+IsOwned v = is_some v ≡ true → 0 < unwrap_or v 0
+
+pub IsOwned-cond_kept : (b : Bool) (n : ℕ) (v : Option ℕ) → IsOwned v → IsOwned (cond b (kept n) v)
+IsOwned-cond_kept true zero v h some = absurd (true≢false (sym some))
+IsOwned-cond_kept true (suc n) v h some = omega arith
+IsOwned-cond_kept false n v h some = h some
+
+-- entries that count the same are the same
+pub same_owned : (v w : Option ℕ) → IsOwned v → IsOwned w → unwrap_or v 0 ≡ unwrap_or w 0 → v ≡ w
+same_owned None None hv hw e = refl
+same_owned None (Some y) hv hw e = let some : 0 < y = hw refl in absurd (omega arith)
+same_owned (Some x) None hv hw e = let some : 0 < x = hv refl in absurd (omega arith)
+same_owned (Some x) (Some y) hv hw e = ap Some e
+
 get-with_count : (counts : Counts) (t : Key) (n : ℕ) (q : Key) → map.get (with_count counts t n) q ≡ cond (same_key q t) (kept n) (map.get counts q)
 get-with_count counts t zero q = map.get-remove key_cmp-total counts t q
 get-with_count counts t (suc n) q = map.get-insert key_cmp-total counts t (suc n) q
 
 count_of-with_count : (counts : Counts) (t : Key) (n : ℕ) (q : Key) → count_of (with_count counts t n) q ≡ cond (same_key q t) n (count_of counts q)
-count_of-with_count counts t n q = ap (λ v. unwrap_or v 0) (get-with_count counts t n q) ∙ by (same_key q t) (map.get counts q)
-  where
-    by : (b : Bool) (v : Option ℕ) → unwrap_or (cond b (kept n) v) 0 ≡ cond b n (unwrap_or v 0)
-    by true v = unwrap_kept n
-    by false v = refl
-
--- an entry, if there is one, counts something
-abbrev IsOwned : Option ℕ → Type 0
-IsOwned v = is_some v ≡ true → 0 < unwrap_or v 0
+count_of-with_count counts t n q = ap (λ v. unwrap_or v 0) (get-with_count counts t n q) ∙ unwrap-cond_kept (same_key q t) n (map.get counts q)
 
 pub HaveOwners-with_count : (counts : Counts) (t : Key) (n : ℕ) → HaveOwners counts → HaveOwners (with_count counts t n)
-HaveOwners-with_count counts t n h q = subst IsOwned (sym (get-with_count counts t n q)) (by (same_key q t) n (map.get counts q) (h q))
-  where
-    by : (b : Bool) (n : ℕ) (v : Option ℕ) → IsOwned v → IsOwned (cond b (kept n) v)
-    by true zero v h some = absurd (true≢false (sym some))
-    by true (suc n) v h some = omega arith
-    by false n v h some = h some
+HaveOwners-with_count counts t n h q = subst IsOwned (sym (get-with_count counts t n q)) (IsOwned-cond_kept (same_key q t) n (map.get counts q) (h q))
 
 -- where each stored triple has an owner, the counts fix the map
 pub same_counts : (m n : Counts) → HaveOwners m → HaveOwners n → ((q : Key) → count_of m q ≡ count_of n q) → m ≡ n
-same_counts m n hm hn e = map.same_map key_cmp-total key_cmp-IsAntisymmetric m n (λ q. alike (map.get m q) (map.get n q) (hm q) (hn q) (e q))
-  where
-    alike : (v w : Option ℕ) → IsOwned v → IsOwned w → unwrap_or v 0 ≡ unwrap_or w 0 → v ≡ w
-    alike None None hv hw e = refl
-    alike None (Some y) hv hw e = let some : 0 < y = hw refl in absurd (omega arith)
-    alike (Some x) None hv hw e = let some : 0 < x = hv refl in absurd (omega arith)
-    alike (Some x) (Some y) hv hw e = ap Some e
+same_counts m n hm hn e = map.same_map key_cmp-total key_cmp-IsAntisymmetric m n (λ q. same_owned (map.get m q) (map.get n q) (hm q) (hn q) (e q))
 
 -- where a look-up finds another count at one triple, the map has this count
 pub written : (t : Key) (n : ℕ) (w : Option ℕ) (es fs : List (Key × ℕ)) → w ≡ kept n → ((q : Key) → lookup (same_key q) fs ≡ cond (same_key t q) w (lookup (same_key q) es)) → counts_of fs ≡ with_count (counts_of es) t n

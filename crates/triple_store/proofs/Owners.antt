@@ -8,56 +8,25 @@ use Rattle.rdf_term.specs.declared.triple.Triple.{Triple}
 use Rattle.rdf_term.specs.Order.{triple_cmp, triple_cmp-total}
 use Rattle.rdf_term.proofs.Texts.{triple_cmp-IsAntisymmetric}
 use Rattle.term_pool.specs.Pool.{one_if}
+use Rattle.slot_index.proofs.Owners.{kept, unwrap-cond_kept, IsOwned, IsOwned-cond_kept, same_owned}
 use Rattle.triple_store.specs.Counts.{Counts, count_of, with_count, raised, lowered, HaveOwners}
 
 abbrev pub same_triple : Triple → Triple → Bool
 same_triple = eq_by_cmp triple_cmp
-
--- what the map has at a triple with this count
-abbrev pub kept : ℕ → Option ℕ
-kept zero = None
-kept (suc n) = Some (suc n)
-
-pub kept_some : (n : ℕ) → 0 < n → kept n ≡ Some n
-kept_some zero h = absurd (omega arith)
-kept_some (suc n) h = refl
-
-unwrap_kept : (n : ℕ) → unwrap_or (kept n) 0 ≡ n
-unwrap_kept zero = refl
-unwrap_kept (suc n) = refl
 
 pub get-with_count : (counts : Counts) (t : Triple) (n : ℕ) (q : Triple) → map.get (with_count counts t n) q ≡ cond (same_triple q t) (kept n) (map.get counts q)
 get-with_count counts t zero q = map.get-remove triple_cmp-total counts t q
 get-with_count counts t (suc n) q = map.get-insert triple_cmp-total counts t (suc n) q
 
 pub count_of-with_count : (counts : Counts) (t : Triple) (n : ℕ) (q : Triple) → count_of (with_count counts t n) q ≡ cond (same_triple q t) n (count_of counts q)
-count_of-with_count counts t n q = ap (λ v. unwrap_or v 0) (get-with_count counts t n q) ∙ by (same_triple q t) (map.get counts q)
-  where
-    by : (b : Bool) (v : Option ℕ) → unwrap_or (cond b (kept n) v) 0 ≡ cond b n (unwrap_or v 0)
-    by true v = unwrap_kept n
-    by false v = refl
-
--- an entry, if there is one, counts something
-abbrev IsOwned : Option ℕ → Type 0
-IsOwned v = is_some v ≡ true → 0 < unwrap_or v 0
+count_of-with_count counts t n q = ap (λ v. unwrap_or v 0) (get-with_count counts t n q) ∙ unwrap-cond_kept (same_triple q t) n (map.get counts q)
 
 pub HaveOwners-with_count : (counts : Counts) (t : Triple) (n : ℕ) → HaveOwners counts → HaveOwners (with_count counts t n)
-HaveOwners-with_count counts t n h q = subst IsOwned (sym (get-with_count counts t n q)) (by (same_triple q t) n (map.get counts q) (h q))
-  where
-    by : (b : Bool) (n : ℕ) (v : Option ℕ) → IsOwned v → IsOwned (cond b (kept n) v)
-    by true zero v h some = absurd (true≢false (sym some))
-    by true (suc n) v h some = omega arith
-    by false n v h some = h some
+HaveOwners-with_count counts t n h q = subst IsOwned (sym (get-with_count counts t n q)) (IsOwned-cond_kept (same_triple q t) n (map.get counts q) (h q))
 
 -- where each stored triple has an owner, the counts fix the map
 pub same_counts : (m n : Counts) → HaveOwners m → HaveOwners n → ((q : Triple) → count_of m q ≡ count_of n q) → m ≡ n
-same_counts m n hm hn e = map.same_map triple_cmp-total triple_cmp-IsAntisymmetric m n (λ q. alike (map.get m q) (map.get n q) (hm q) (hn q) (e q))
-  where
-    alike : (v w : Option ℕ) → IsOwned v → IsOwned w → unwrap_or v 0 ≡ unwrap_or w 0 → v ≡ w
-    alike None None hv hw e = refl
-    alike None (Some y) hv hw e = let some : 0 < y = hw refl in absurd (omega arith)
-    alike (Some x) None hv hw e = let some : 0 < x = hv refl in absurd (omega arith)
-    alike (Some x) (Some y) hv hw e = ap Some e
+same_counts m n hm hn e = map.same_map triple_cmp-total triple_cmp-IsAntisymmetric m n (λ q. same_owned (map.get m q) (map.get n q) (hm q) (hn q) (e q))
 
 -- the empty map has no triple without an owner
 pub HaveOwners-empty : HaveOwners map.empty
