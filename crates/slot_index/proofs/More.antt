@@ -209,7 +209,7 @@ owner_alone false n e = refl
 pub alone : (keys : List Key) (more : Counts) (k : Key) → count_of more k ≡ 0 → has key_cmp k keys ≡ (count_of (with_more keys more) k == 1)
 alone keys more k none = owner_alone (has key_cmp k keys) (count_of more k) none ∙ ap (λ n. n == 1) (sym (count_of-with_more keys more k))
 
-none_counted : (k : Key) → count_of map.empty k ≡ 0
+none_counted : (k : Key) → count_of {R = key_cmp} map.empty k ≡ 0
 none_counted k = ap (λ v. unwrap_or v 0) (map.get-empty key_cmp k)
 
 pub IsCounted-empty : IsCounted [] (counts_of [])

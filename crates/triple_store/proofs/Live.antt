@@ -24,7 +24,7 @@ use Rattle.triple_store.specs.Slots as slots
 use Rattle.triple_store.specs.Stored.{image}
 use Rattle.triple_store.proofs.Imaged.{among, find-pushed, find-pushed_none, pushed_same}
 use Rattle.triple_store.proofs.Keyed.{has_key, sum-has}
-use Rattle.slot_index.proofs.Owners.{kept}
+use Rattle.slot_index.proofs.Raising.{kept}
 use Rattle.triple_store.proofs.Owners.{get-with_count, same_triple}
 
 -- three slots with the texts of a triple stand for it
