@@ -4,14 +4,15 @@ use Rattle.std.specs.Option.{unwrap_or}
 use Rattle.std.specs.List.{All, list_all}
 use Rattle.std.specs.Char.{is_ascii_alphanumeric}
 use Rattle.std.specs.Fmt.{decimal}
-use Rattle.std.specs.Str.Parse.{AllDigits, digits_value}
+use Rattle.std.specs.Str.Parse.{AllDigits}
 use Rattle.std.specs.Prelude.{codes}
 use Rattle.std.proofs.lemmas.Bool.{and_from}
 use Rattle.std.proofs.lemmas.Bool.Decides.{nat_tests}
 use Rattle.std.proofs.lemmas.List.Elements.{All-nil, All-same, All-from_get_or}
 use Rattle.std.proofs.lemmas.List.Sums.{list_all-from_AllPass}
-use Rattle.std.proofs.lemmas.Str.Parse.{IsNumeralModel, numerals_by_value, tells_digits, digit_at}
+use Rattle.std.proofs.lemmas.Str.Parse.{digit_at}
 use Rattle.std.proofs.lemmas.Fmt.{digits_decimal, length-decimal-le}
+use Rattle.digits.proofs.Decimals.{decimal_numerals}
 use Rattle.json_spell.specs.Tree.{Tree, member_of}
 use Rattle.json_spell.specs.Weight.{weight, weight_there, are_distinct}
 use Rattle.json_spell.proofs.Names.{names_weight}
@@ -51,10 +52,6 @@ use Rattle.entity_json.specs.Links.{IsLink}
 use Rattle.entity_json.specs.Pages.{HasDatatype, HasLinks, IsEntity, IsDocument, StandsAt, IsPage}
 use Rattle.entity_json.proofs.LightTrees.{text-length, number-length, optional_text-length, member-light, Light, only_of-light, one-all, in_list-all, in_optional_list-all, in_map-all}
 
--- decimal digits and their value
-own : IsNumeralModel (AllDigits 10) (digits_value 10)
-own = numerals_by_value (AllDigits 10) tells_digits
-
 -- what an entity's id is made of
 abbrev in_entity_text : ℕ → Bool
 in_entity_text c = is_ascii_alphanumeric c || (c == 45)
@@ -82,7 +79,7 @@ numbered-entity type n low high =
     let short : length (decimal n) ≤ 10 = length-decimal-le 10 n (omega arith) (omega arith) (omega arith) in
     let letters : list_all in_entity_text text ≡ true =
     and_from (in_entity_text (numbered_letter type)) (list_all in_entity_text (decimal n)) (letter-in_text type)
-    (digits-in_text (decimal n) (digits_decimal own n (omega arith))) in
+    (digits-in_text (decimal n) (digits_decimal decimal_numerals n (omega arith))) in
     entity_text-from text (omega arith) (omega arith) letters
 
 entity_text : (o : Option Tree) (t : Tree) (text : List ℕ) → IsEntityValue o t text → is_entity_text text ≡ true

@@ -1,16 +1,10 @@
 // Whole numbers, as JSON spells them.
 
 ghost use Rattle.std.specs.Prelude.{◌≡◌, ◌<◌, ◌≤◌, ◌↔◌, ℕ, IsTrue, IfSome, Some, slice_index};
-ghost use Rattle.std.specs.Char.{is_ascii_digit};
 ghost use Rattle.std.specs.Fmt.{decimal};
-ghost use Rattle.std.specs.List.{list_all};
 ghost use Rattle.entity_json.specs.Leaves.{is_unsigned, is_whole, small_of};
 
-fn are_digits(text: &[u8]) -> bool
-    ensures { result ≡ list_all is_ascii_digit text.now }
-{
-    text.iter().all(|byte| byte.is_ascii_digit())
-}
+use digits::are_digits;
 
 // Whether the text is 0, or digits that don't begin with 0.
 fn is_unsigned(text: &[u8]) -> bool

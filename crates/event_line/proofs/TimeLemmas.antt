@@ -1,5 +1,5 @@
 -- The day number of a date that the calendar has, and bounds of what the digits of a time write.
-use Rattle.std.proofs.Common.{◌≡◌, ℕ, ◌+◌, ◌-◌, ◌*◌, ◌^◌, ◌<◌, ◌≤◌, true, ◌&&◌, nat_le, List, take, drop, Some, ℤ, pos, refl, sym, ap, ◌∙◌, arith, add-one}
+use Rattle.std.proofs.Common.{◌≡◌, ℕ, ◌+◌, ◌-◌, ◌*◌, ◌^◌, ◌<◌, ◌≤◌, true, ◌&&◌, nat_le, List, take, drop, Some, ℤ, pos, refl, sym, ap, ◌∙◌, arith}
 use Rattle.std.specs.Int.{IsInRange}
 use Rattle.std.proofs.Math.Nat.{mul-lt-mul_of_pos_right, pow-le-pow_right}
 use Rattle.std.proofs.lemmas.Bool.Decides.{nat_tests}
@@ -27,14 +27,6 @@ scaled n k scale low short is =
     let whole : 10 ^ k * 10 ^ (6 - k) ≡ 10 ^ 6 = sym (pow-add 10 k (6 - k)) ∙ ap (λ m. 10 ^ m) total in
     let below : n * 10 ^ (6 - k) < 10 ^ k * 10 ^ (6 - k) = mul-lt-mul_of_pos_right low positive in
     rw is (omega (arith, below, whole))
-
--- one more digit
-pub more_digits : (i value digit : ℕ) → value < 10 ^ i → digit < 10 → 10 * value + digit < 10 ^ (i + 1)
-more_digits i value digit low one = rw add-one (omega arith)
-
--- up to six digits
-pub few_digits : (i n value : ℕ) → value < 10 ^ i → i ≤ n → n ≤ 6 → value < 1_000_000
-few_digits i n value low here short = omega (arith, pow-le-pow_right {n = 10} (omega arith) {i = i} {j = 6} (omega arith))
 
 -- the time of a text's parts
 pub time_before_zone-of_parts : (text : List ℕ) (day : ℤ) (second microsecond : ℕ) → day_of (take 10 text) ≡ Some day →

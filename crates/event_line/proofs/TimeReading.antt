@@ -7,9 +7,12 @@ use Rattle.std.proofs.lemmas.Bool.Decides.{nat_tests}
 use Rattle.std.proofs.lemmas.Bool.{and_parts}
 use Rattle.std.proofs.lemmas.List.{take-append-drop, length-append, drop-drop}
 use Rattle.jiff_core.specs.Calendar.{days_in_month, days_from_civil}
-use Rattle.event_line.specs.Time.{two_digits, four_digits, if_below, digits_below, is_date, day_number, day_of, second_of, microsecond_of, in_microseconds, time_before_zone, time_of, two_digits_of, four_digits_of, date_text, clock_text, IsTime}
+use Rattle.digits.specs.Number.{two_digits, two_digits_of}
+use Rattle.digits.proofs.Choices.{guarded, mapped, chained}
+use Rattle.digits.proofs.Pairs.{pair_sound, pair_complete}
+use Rattle.event_line.specs.Time.{four_digits, if_below, digits_below, is_date, day_number, day_of, second_of, microsecond_of, in_microseconds, time_before_zone, time_of, four_digits_of, date_text, clock_text, IsTimeText}
 use Rattle.event_line.proofs.TimeLemmas.{day_number-of_date, time_before_zone-of_parts}
-use Rattle.event_line.proofs.TimeDigits.{guarded, mapped, chained, digits_sound, digits_complete, four_sound, four_complete}
+use Rattle.event_line.proofs.TimeDigits.{four_sound, four_complete}
 
 -- the day of a date
 record IsDay (text : List ℕ) (number : ℤ) : Type 0 where
@@ -50,8 +53,8 @@ numbers_sound y₁ y₂ y₃ y₄ m₁ m₂ d₁ d₂ number e =
     let day = chained _ (two_digits d₁ d₂) number month.2 in
     let date = guarded (is_date year.0 month.0 day.0) (Some (days_from_civil (pos year.0) month.0 day.0)) number day.2 in
     let year_text = four_sound y₁ y₂ y₃ y₄ year.0 year.1 in
-    let month_text = digits_sound m₁ m₂ month.0 month.1 in
-    let day_text = digits_sound d₁ d₂ day.0 day.1 in
+    let month_text = pair_sound m₁ m₂ month.0 month.1 in
+    let day_text = pair_sound d₁ d₂ day.0 day.1 in
     let parts = date_sound year.0 month.0 day.0 (days_in_month (pos year.0) month.0) date.0 in
     let below : year.0 < 10_000 = year_text.0 in
     let high : year.0 ≤ 9999 = omega (arith, below) in
@@ -103,7 +106,7 @@ below_sound limit a b n e =
     let same : read.0 ≡ n = let s = g.1 in cc in
     let test = g.0 in
     let below : read.0 < limit = grind (arith, nat_tests) in
-    (rw same at below, rw same at (digits_sound a b read.0 read.1).1)
+    (rw same at below, rw same at (pair_sound a b read.0 read.1).1)
 
 clock_text_is : (h₁ h₂ m₁ m₂ s₁ s₂ hour minute second : ℕ) → two_digits_of hour ≡ h₁ ∷ h₂ ∷ [] →
     two_digits_of minute ≡ m₁ ∷ m₂ ∷ [] → two_digits_of second ≡ s₁ ∷ s₂ ∷ [] →
@@ -183,7 +186,7 @@ front_parts front date clock is_date is_clock =
     sym (take-append-drop 10 front) ∙ (ap (λ d. d ++ drop 10 front) (sym is_date) ∙ ap (λ r. date ++ r) rest)
 
 -- what is read from a text is the time that its parts write
-pub time_sound : (text : List ℕ) (time : ℤ) → time_of text ≡ Some time → IsTime text time
+pub time_sound : (text : List ℕ) (time : ℤ) → time_of text ≡ Some time → IsTimeText text time
 time_sound text time e =
     let zone = zoned_sound text time e in
     let front = take (length text - 1) text in
@@ -229,14 +232,14 @@ day_complete year month day years months days =
     let longest : days_in_month (pos year) month ≤ 31 = month_lengths _ _ _ in
     let day_to : day ≤ 31 = omega (arith, day_in, longest) in
     let is_year = four_complete year (omega arith) in
-    let is_month = digits_complete month (omega arith) in
-    let is_day = digits_complete day (omega arith) in
+    let is_month = pair_complete month (omega arith) in
+    let is_day = pair_complete day (omega arith) in
     rw (is_year, is_month, is_day) (day_number-of_date year month day low months days)
 
 below_complete : (limit n : ℕ) → n < limit → limit ≤ 100 → digits_below limit (48 + n / 10) (48 + n % 10) ≡ Some n
 below_complete limit n below small =
     let test : nat_lt n limit ≡ true = grind (arith, nat_tests) in
-    let number = digits_complete n (omega arith) in
+    let number = pair_complete n (omega arith) in
     rw (number, test) refl
 
 second_complete : (hour minute second : ℕ) → hour < 24 → minute < 60 → second < 60 →
@@ -248,7 +251,7 @@ second_complete hour minute second hours minutes seconds =
     rw (is_hour, is_minute, is_second) refl
 
 -- each time that a text's parts write is read from it
-pub time_complete : (text : List ℕ) (time : ℤ) → IsTime text time → time_of text ≡ Some time
+pub time_complete : (text : List ℕ) (time : ℤ) → IsTimeText text time → time_of text ≡ Some time
 time_complete text time is =
     let date = date_text is.year is.month is.day in
     let clock = clock_text is.hour is.minute is.second in
@@ -261,6 +264,6 @@ time_complete text time is =
     ∙ (time_before_zone-of_parts front _ _ _ day second is.fraction_is ∙ ap Some (sym is.time_is)))
 
 -- the same of an answer
-pub sound_answer : (text : List ℕ) (answer : Option ℤ) → answer ≡ time_of text → IfSome answer (IsTime text)
+pub sound_answer : (text : List ℕ) (answer : Option ℤ) → answer ≡ time_of text → IfSome answer (IsTimeText text)
 sound_answer text None is = tt
 sound_answer text (Some time) is = time_sound text time (sym is)

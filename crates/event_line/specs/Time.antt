@@ -1,13 +1,10 @@
 -- The texts of times, after ISO 8601: `YYYY-MM-DDThh:mm:ssZ`, perhaps with a point and 1 to 6 digits in front of the `Z`.
-use Rattle.std.specs.Prelude.{ℕ, ◌+◌, ◌-◌, ◌*◌, ◌/◌, ◌%◌, ◌^◌, ◌<◌, ◌≡◌, Bool, ◌&&◌, ◌==◌, nat_lt, nat_le, if◌then◌else◌, List, [], ◌∷◌, ◌++◌, length, take, drop, slice_index, fold, Option, Some, None, option_map, option_and_then, ℤ, pos, ◌+ℤ◌, ◌*ℤ◌}
+use Rattle.std.specs.Prelude.{ℕ, ◌+◌, ◌-◌, ◌*◌, ◌/◌, ◌%◌, ◌^◌, ◌<◌, ◌≡◌, Bool, ◌&&◌, ◌==◌, nat_lt, nat_le, if◌then◌else◌, List, [], ◌∷◌, ◌++◌, length, take, drop, slice_index, Option, Some, None, option_map, option_and_then, ℤ, pos, ◌+ℤ◌, ◌*ℤ◌}
 use Rattle.std.specs.Char.{is_ascii_digit}
 use Rattle.std.specs.Int.{IsInRange}
 use Rattle.std.specs.List.{list_all}
 use Rattle.jiff_core.specs.Calendar.{days_in_month, days_from_civil}
-
--- the number that two decimal digits write
-abbrev pub two_digits : ℕ → ℕ → Option ℕ
-two_digits tens ones = if is_ascii_digit tens && is_ascii_digit ones then Some (10 * (tens - 48) + (ones - 48)) else None
+use Rattle.digits.specs.Number.{decimal_value, two_digits, two_digits_of}
 
 -- the number that four decimal digits write
 abbrev pub four_digits : ℕ → ℕ → ℕ → ℕ → Option ℕ
@@ -50,10 +47,6 @@ second_of (t ∷ h₁ ∷ h₂ ∷ colon ∷ m₁ ∷ m₂ ∷ mark ∷ s₁ ∷
     else None
 second_of _ = None
 
--- the number that decimal digits write
-abbrev pub decimal_value : List ℕ → ℕ
-decimal_value digits = fold (λ n digit. 10 * n + (digit - 48)) 0 digits
-
 -- 1 to 6 decimal digits
 abbrev pub is_fraction : List ℕ → Bool
 is_fraction digits = nat_le 1 (length digits) && nat_le (length digits) 6 && list_all is_ascii_digit digits
@@ -79,10 +72,7 @@ time_before_zone text =
 abbrev pub time_of : List ℕ → Option ℤ
 time_of text = if slice_index text (length text - 1) == 90 then time_before_zone (take (length text - 1) text) else None
 
--- how a number below 100, and one below 10,000, is written in two and in four digits
-abbrev pub two_digits_of : ℕ → List ℕ
-two_digits_of n = (48 + n / 10) ∷ (48 + n % 10) ∷ []
-
+-- how a number below 10,000 is written in four digits
 abbrev pub four_digits_of : ℕ → List ℕ
 four_digits_of n = two_digits_of (n / 100) ++ two_digits_of (n % 100)
 
@@ -96,7 +86,7 @@ clock_text hour minute second = 84 ∷ (two_digits_of hour ++ 58 ∷ (two_digits
 
 -- a text is the time of a day of the Gregorian calendar, with the year, the month, the day and the clock written out,
 -- perhaps a fraction, and `Z`
-pub record IsTime (text : List ℕ) (time : ℤ) : Type 0 where
+pub record IsTimeText (text : List ℕ) (time : ℤ) : Type 0 where
   pub year : ℕ
   pub month : ℕ
   pub day : ℕ

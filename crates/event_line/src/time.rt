@@ -4,8 +4,10 @@ ghost use Rattle.std.specs.Prelude.{◌≡◌, ◌*◌, ◌-◌, ◌^◌, ◌<�
 ghost use Rattle.std.specs.Char.{is_ascii_digit};
 ghost use Rattle.std.specs.List.{list_all};
 ghost use Rattle.jiff_core.specs.Calendar.{IsEpochDay};
-ghost use Rattle.event_line.specs.Time.{in_microseconds, two_digits, four_digits, digits_below, decimal_value, day_of, day_number, second_of, microsecond_of, is_fraction, time_before_zone, time_of, IsTime};
+ghost use Rattle.digits.specs.Number.{decimal_value};
+ghost use Rattle.event_line.specs.Time.{in_microseconds, four_digits, digits_below, day_of, day_number, second_of, microsecond_of, is_fraction, time_before_zone, time_of, IsTimeText};
 
+use digits::{are_digits, decimal_value, two_digits};
 use jiff_core::civil::Date;
 
 /// The microseconds since 1970-01-01T00:00:00Z of the time `YYYY-MM-DDThh:mm:ssZ`, which may have a point and
@@ -13,8 +15,8 @@ use jiff_core::civil::Date;
 /// Gregorian calendar (ISO 8601).
 pub(crate) fn microseconds(text: &[u8]) -> Option<i64>
     ensures value { result ≡ time_of text.now }
-    ensures sound { IfSome result (IsTime text.now) }
-    ensures complete { (time : ℤ) → IsTime text.now time → result ≡ Some time }
+    ensures sound { IfSome result (IsTimeText text.now) }
+    ensures complete { (time : ℤ) → IsTimeText text.now time → result ≡ Some time }
 {
     with_zone(text)
 }
@@ -119,12 +121,6 @@ fn is_fraction(digits: &[u8]) -> bool
     !digits.is_empty() && digits.len() <= 6 && are_digits(digits)
 }
 
-fn are_digits(text: &[u8]) -> bool
-    ensures { result ≡ list_all is_ascii_digit text.now }
-{
-    text.iter().all(|byte| byte.is_ascii_digit())
-}
-
 /// The digits behind a point, in millionths.
 fn millionths(digits: &[u8]) -> u32
     requires short { length digits.now ≤ 6 }
@@ -132,10 +128,7 @@ fn millionths(digits: &[u8]) -> u32
     ensures value { result ≡ decimal_value digits.now * 10 ^ (6 - length digits.now) }
     ensures bound { result < 1_000_000 }
 {
-    let mut number = 0u32;
-    for digit in digits {
-        number = 10 * number + u32::from(*digit - b'0');
-    }
+    let number = decimal_value(digits) as u32;
     number * 10u32.pow(6 - digits.len() as u32)
 }
 
@@ -157,16 +150,4 @@ fn four_digits(a: u8, b: u8, c: u8, d: u8) -> Option<u16>
     let high = two_digits(a, b)?;
     let low = two_digits(c, d)?;
     Some(100 * u16::from(high) + u16::from(low))
-}
-
-/// The number that two digits write.
-fn two_digits(tens: u8, ones: u8) -> Option<u8>
-    ensures value { result ≡ two_digits tens ones }
-    ensures bound { IfSome result (λ number. number < 100) }
-{
-    if tens.is_ascii_digit() && ones.is_ascii_digit() {
-        Some(10 * (tens - b'0') + (ones - b'0'))
-    } else {
-        None
-    }
 }

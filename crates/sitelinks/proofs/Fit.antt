@@ -37,7 +37,7 @@ use Rattle.sitelinks.specs.LanguageReader.{is_rest_of_language, place_after}
 use Rattle.sitelinks.specs.Project.{coded, coded_or, first_coded, project_group, project_suffix, projects}
 use Rattle.sitelinks.specs.Replaced.{replaced, replaced_byte}
 use Rattle.sitelinks.specs.Site.{coded_site, english, language_of, site_in, site_of, special_or, special_site}
-use Rattle.sitelinks.specs.Special.{special_base, special_group, special_named}
+use Rattle.sitelinks.specs.Special.{special_base, special_group, special_of}
 use Rattle.sitelinks.proofs.Languages.{is_language_read}
 
 -- a site's texts: the base may stand in an IRI, and none is long
@@ -149,7 +149,7 @@ special_or_small n None other h = h
 special_or_small n (Some special) other h = special_small n special
 
 site_small : (id : List ℕ) → IfSome (site_of id) (IsSmallSite (length id))
-site_small id = special_or_small (length id) (special_named id) (coded_site (coded id)) (coded_small (length id) (coded id) (code_small projects id))
+site_small id = special_or_small (length id) (special_of id) (coded_site (coded id)) (coded_small (length id) (coded id) (code_small projects id))
 
 iri_fit : (iri : List ℕ) → is_iri iri ≡ true → length iri ≤ 33554000 → IsFitAndShort (Iri iri)
 iri_fit iri h short = record { fit = h; short = omega (arith, length-append iri (62 ∷ [])) }

@@ -15,7 +15,7 @@ use Rattle.sitelinks.specs.Names.{NamesSite, IsNamed}
 use Rattle.sitelinks.specs.Names.NamesSite.{special as by_special, coded as by_code}
 use Rattle.sitelinks.specs.Project.{coded, coded_or, first_coded, project_suffix, projects}
 use Rattle.sitelinks.specs.Site.{coded_site, language_of, site_in, site_of, special_or, special_site}
-use Rattle.sitelinks.specs.Special.{special_named}
+use Rattle.sitelinks.specs.Special.{special_of}
 use Rattle.sitelinks.proofs.Suffixes.{drop-behind}
 
 -- what the last two letters of an id say of its project
@@ -119,7 +119,7 @@ coded-is id code project e =
     let front : f.0.0 ≡ code = append_cancel_right f.0.0 code (project_suffix project) (sym behind_code ∙ e) in
     f.1 ∙ ap Some (λ i. (front i, same i))
 
-named_coded : (id : List ℕ) (site : Site) (c : Option (List ℕ × Project)) → special_named id ≡ None → IfSome c (λ p. id ≡ p.0 ++ project_suffix p.1) → coded_site c ≡ Some site → NamesSite id site
+named_coded : (id : List ℕ) (site : Site) (c : Option (List ℕ × Project)) → special_of id ≡ None → IfSome c (λ p. id ≡ p.0 ++ project_suffix p.1) → coded_site c ≡ Some site → NamesSite id site
 named_coded id site None none h e = cc
 named_coded id site (Some (code, project)) none h e = by (is_language (language_of code)) refl e
   where
@@ -128,9 +128,9 @@ named_coded id site (Some (code, project)) none h e = by (is_language (language_
     by false l e = cc
 
 named : (id : List ℕ) (site : Site) → site_of id ≡ Some site → NamesSite id site
-named id site e = by (special_named id) refl e
+named id site e = by (special_of id) refl e
   where
-    by : (s : Option SpecialSite) → special_named id ≡ s → special_or s (coded_site (coded id)) ≡ Some site → NamesSite id site
+    by : (s : Option SpecialSite) → special_of id ≡ s → special_or s (coded_site (coded id)) ≡ Some site → NamesSite id site
     by None s e = named_coded id site (coded id) s (sound projects id) e
     by (Some row) s e = by_special row s (let is : special_site row ≡ site = cc in sym is)
 

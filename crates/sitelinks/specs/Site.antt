@@ -6,7 +6,7 @@ use Rattle.sitelinks.specs.declared.special.SpecialSite.{SpecialSite}
 use Rattle.sitelinks.specs.Language.{is_language}
 use Rattle.sitelinks.specs.Project.{coded, project_group}
 use Rattle.sitelinks.specs.Replaced.{replaced}
-use Rattle.sitelinks.specs.Special.{special_base, special_group, special_named}
+use Rattle.sitelinks.specs.Special.{special_base, special_group, special_of}
 
 -- the language of the special sites
 unfoldable pub english : List ℕ
@@ -44,4 +44,4 @@ special_or (Some special) other = Some (special_site special)
 
 -- the site with this id
 abbrev pub site_of : List ℕ → Option Site
-site_of id = special_or (special_named id) (coded_site (coded id))
+site_of id = special_or (special_of id) (coded_site (coded id))

@@ -5,8 +5,8 @@ use Rattle.sitelinks.specs.declared.special.SpecialSite.{SpecialSite}
 use Rattle.sitelinks.specs.declared.special.SpecialSite.TheVariants.{Commons, Meta, Species, Outreach, MediaWiki, Wikidata, Sources, Simple}
 
 -- the site with this id
-abbrev pub special_named : List ℕ → Option SpecialSite
-special_named id =
+abbrev pub special_of : List ℕ → Option SpecialSite
+special_of id =
     if bytes_eq id (codes "commonswiki") then Some Commons
     else (if bytes_eq id (codes "metawiki") then Some Meta
     else (if bytes_eq id (codes "specieswiki") then Some Species

@@ -20,7 +20,7 @@ pub fn site(alloc: Global, id: &str) -> Result<Option<Site>, OutOfMemory>
     ensures value { IfOk result (λ site. site ≡ site_of id.now) }
     ensures rules { IfOk result (IsNamed id.now) }
 {
-    if let Some(special) = SpecialSite::named(id) {
+    if let Some(special) = SpecialSite::of_id(id) {
         return Ok(Some(special_site(alloc, special)?));
     }
     match coded(id) {

@@ -1,7 +1,7 @@
 // The sites that are in no language's group.
 
 ghost use Rattle.std.specs.Prelude.{◌≡◌};
-ghost use Rattle.sitelinks.specs.Special.{special_base, special_group, special_named};
+ghost use Rattle.sitelinks.specs.Special.{special_base, special_group, special_of};
 
 /// A site whose name isn't made of a language and a project.
 #[derive(Clone, Copy, Debug, PartialEq, Eq)]
@@ -18,8 +18,8 @@ pub(crate) enum SpecialSite {
 
 impl SpecialSite {
     /// The site with this id.
-    pub(crate) fn named(id: &str) -> Option<SpecialSite>
-        ensures { result ≡ special_named id.now }
+    pub(crate) fn of_id(id: &str) -> Option<SpecialSite>
+        ensures { result ≡ special_of id.now }
     {
         match id {
             "commonswiki" => Some(SpecialSite::Commons),

@@ -8,7 +8,8 @@ use Rattle.std.proofs.Math.Seq.{drop-cons}
 use Rattle.slot_index.specs.declared.key.Key.{Key}
 use Rattle.slot_index.specs.Keys.{key_cmp, key_cmp-total, same_key, times}
 use Rattle.slot_index.specs.Counts.{Counts, count_of, raised}
-use Rattle.slot_index.proofs.Owners.{one_if, times-cons, count_of-fold-raised}
+use Rattle.slot_index.proofs.Owners.{times-cons, count_of-fold-raised}
+use Rattle.slot_index.proofs.Passing.{one_if}
 
 times-next : (ts : List Key) (i : ℕ) (t : Key) → t ≡ get_or ts i t → i < length ts → times t (take i ts) + 1 ≤ times t ts
 times-next ts i t is l =

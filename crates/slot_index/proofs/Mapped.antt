@@ -15,11 +15,12 @@ use Rattle.rising.specs.Rising.{has, Above, IsRising}
 use Rattle.rising.proofs.Rising.{same_rising}
 use Rattle.rising.proofs.Sorting.{IsRising-from_sorted}
 
-and_first : (a b : Bool) → T (a && b) → T a
+-- what a test by two tests says of each
+pub and_first : (a b : Bool) → T (a && b) → T a
 and_first true b h = tt
 and_first false b h = h
 
-and_second : (a b : Bool) → T (a && b) → T b
+pub and_second : (a b : Bool) → T (a && b) → T b
 and_second true b h = h
 and_second false b h = absurd h
 
@@ -37,7 +38,8 @@ module _ {K X : Type 0} (R : K → K → Ordering) where
   above_keys k [] h = tt
   above_keys k (e ∷ es) h = (less _ (and_first _ _ h), above_keys k es (and_second _ _ h))
 
-  rising_keys : (es : List (K × X)) → T (is_sorted R es) → IsRising R (mapped (λ e. e.0) es)
+  -- the keys of sorted entries rise
+  pub rising_keys : (es : List (K × X)) → T (is_sorted R es) → IsRising R (mapped (λ e. e.0) es)
   rising_keys [] h = tt
   rising_keys (e ∷ es) h = (above_keys e.0 es (and_first _ _ h), rising_keys es (and_second _ _ h))
 
@@ -46,7 +48,8 @@ module _ {K X : Type 0} {R : K → K → Ordering} (o : IsTotalOrder R) where
   pub got : (q : K) (es : List (K × X)) → map.get (map.from_entries {R = R} es) q ≡ lookup (eq_by_cmp R q) es
   got q es = map.get-from_entries o es q ∙ find_lookup R q es
 
-  there : (q : K) (es : List (K × X)) → map.contains_key (map.from_entries {R = R} es) q ≡ has R q (keys_of es)
+  -- and the keys that the entries have
+  pub there : (q : K) (es : List (K × X)) → map.contains_key (map.from_entries {R = R} es) q ≡ has R q (keys_of es)
   there q es = ap is_some (got q es) ∙ is_some-lookup (eq_by_cmp R q) es
 
   -- where a look-up finds something else at one key, the map has it there

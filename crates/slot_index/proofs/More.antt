@@ -16,7 +16,8 @@ use Rattle.slot_index.specs.Keys.{key_cmp, key_cmp-total, key_cmp-IsAntisymmetri
 use Rattle.slot_index.specs.Counts.{Counts, HaveOwners, count_of, counts_of, raised, lowered}
 use Rattle.slot_index.specs.Counted.{with_more, IsCounted}
 use Rattle.slot_index.proofs.Mapped.{got, keys_ordered, len_ordered}
-use Rattle.slot_index.proofs.Owners.{one_if, HaveOwners-empty, HaveOwners-with_count, same_counts, count_of-raised, count_of-lowered}
+use Rattle.slot_index.proofs.Passing.{one_if}
+use Rattle.slot_index.proofs.Owners.{HaveOwners-empty, HaveOwners-with_count, same_counts, count_of-raised, count_of-lowered}
 
 -- to show something of a triple q and k: at q ≡ k, and where they differ
 at_key : (P : Key → Bool → Type 0) (k q : Key) → P k true → (same_key q k ≡ false → P q false) → P q (same_key q k)
@@ -208,7 +209,7 @@ owner_alone false n e = refl
 pub alone : (keys : List Key) (more : Counts) (k : Key) → count_of more k ≡ 0 → has key_cmp k keys ≡ (count_of (with_more keys more) k == 1)
 alone keys more k none = owner_alone (has key_cmp k keys) (count_of more k) none ∙ ap (λ n. n == 1) (sym (count_of-with_more keys more k))
 
-none_counted : (k : Key) → count_of map.empty k ≡ 0
+none_counted : (k : Key) → count_of {R = key_cmp} map.empty k ≡ 0
 none_counted k = ap (λ v. unwrap_or v 0) (map.get-empty key_cmp k)
 
 pub IsCounted-empty : IsCounted [] (counts_of [])

@@ -1,5 +1,5 @@
--- Counts that are raised and lowered, triple by triple.
-use Rattle.std.proofs.Common.{◌≡◌, ℕ, zero, suc, ◌+◌, ◌-◌, ◌<◌, Bool, true, false, cond, List, [], ◌∷◌, Option, Some, None, is_some, unwrap_or, fold, refl, sym, ◌∙◌, ap, subst, arith, true≢false}
+-- Counts of triples of slots: what holds of all counts, at the order of keys, and what the code does to them.
+use Rattle.std.proofs.Common.{◌≡◌, ℕ, ◌+◌, ◌-◌, Bool, true, false, cond, List, [], ◌∷◌, Option, None, is_some, unwrap_or, fold, refl, sym, ◌∙◌, ap, arith, true≢false}
 use Rattle.std.specs.FinMap as map
 use Rattle.std.specs.Map.{lookup}
 use Rattle.std.proofs.lemmas.List.Sums.{sum_by-cons}
@@ -8,56 +8,24 @@ use Rattle.slot_index.specs.declared.key.Key.{Key}
 use Rattle.slot_index.specs.Keys.{key_cmp, key_cmp-total, key_cmp-IsAntisymmetric, same_key, times}
 use Rattle.slot_index.specs.Counts.{Counts, counts_of, count_of, with_count, raised, lowered, HaveOwners}
 use Rattle.slot_index.proofs.Mapped.{changed, got}
-
--- a test as a number
-abbrev pub one_if : Bool → ℕ
-one_if b = cond b 1 0
-
--- what the map has at a triple with this count
-abbrev pub kept : ℕ → Option ℕ
-kept zero = None
-kept (suc n) = Some (suc n)
-
-pub kept_some : (n : ℕ) → 0 < n → kept n ≡ Some n
-kept_some zero h = absurd (omega arith)
-kept_some (suc n) h = refl
-
-unwrap_kept : (n : ℕ) → unwrap_or (kept n) 0 ≡ n
-unwrap_kept zero = refl
-unwrap_kept (suc n) = refl
+use Rattle.slot_index.proofs.Passing.{one_if}
+use Rattle.slot_index.proofs.Raising as raising
+use Rattle.slot_index.proofs.Raising.{kept}
 
 get-with_count : (counts : Counts) (t : Key) (n : ℕ) (q : Key) → map.get (with_count counts t n) q ≡ cond (same_key q t) (kept n) (map.get counts q)
-get-with_count counts t zero q = map.get-remove key_cmp-total counts t q
-get-with_count counts t (suc n) q = map.get-insert key_cmp-total counts t (suc n) q
-
-count_of-with_count : (counts : Counts) (t : Key) (n : ℕ) (q : Key) → count_of (with_count counts t n) q ≡ cond (same_key q t) n (count_of counts q)
-count_of-with_count counts t n q = ap (λ v. unwrap_or v 0) (get-with_count counts t n q) ∙ by (same_key q t) (map.get counts q)
-  where
-    by : (b : Bool) (v : Option ℕ) → unwrap_or (cond b (kept n) v) 0 ≡ cond b n (unwrap_or v 0)
-    by true v = unwrap_kept n
-    by false v = refl
-
--- an entry, if there is one, counts something
-abbrev IsOwned : Option ℕ → Type 0
-IsOwned v = is_some v ≡ true → 0 < unwrap_or v 0
+get-with_count = raising.get-with_count key_cmp-total
 
 pub HaveOwners-with_count : (counts : Counts) (t : Key) (n : ℕ) → HaveOwners counts → HaveOwners (with_count counts t n)
-HaveOwners-with_count counts t n h q = subst IsOwned (sym (get-with_count counts t n q)) (by (same_key q t) n (map.get counts q) (h q))
-  where
-    by : (b : Bool) (n : ℕ) (v : Option ℕ) → IsOwned v → IsOwned (cond b (kept n) v)
-    by true zero v h some = absurd (true≢false (sym some))
-    by true (suc n) v h some = omega arith
-    by false n v h some = h some
+HaveOwners-with_count = raising.HaveOwners-with_count key_cmp-total
 
--- where each stored triple has an owner, the counts fix the map
 pub same_counts : (m n : Counts) → HaveOwners m → HaveOwners n → ((q : Key) → count_of m q ≡ count_of n q) → m ≡ n
-same_counts m n hm hn e = map.same_map key_cmp-total key_cmp-IsAntisymmetric m n (λ q. alike (map.get m q) (map.get n q) (hm q) (hn q) (e q))
-  where
-    alike : (v w : Option ℕ) → IsOwned v → IsOwned w → unwrap_or v 0 ≡ unwrap_or w 0 → v ≡ w
-    alike None None hv hw e = refl
-    alike None (Some y) hv hw e = let some : 0 < y = hw refl in absurd (omega arith)
-    alike (Some x) None hv hw e = let some : 0 < x = hv refl in absurd (omega arith)
-    alike (Some x) (Some y) hv hw e = ap Some e
+same_counts = raising.same_counts key_cmp-total key_cmp-IsAntisymmetric
+
+pub count_of-raised : (counts : Counts) (t q : Key) → count_of (raised counts t) q ≡ count_of counts q + one_if (same_key q t)
+count_of-raised = raising.count_of-raised key_cmp-total
+
+pub count_of-lowered : (counts : Counts) (t q : Key) → count_of (lowered counts t) q ≡ count_of counts q - one_if (same_key q t)
+count_of-lowered = raising.count_of-lowered key_cmp-total
 
 -- where a look-up finds another count at one triple, the map has this count
 pub written : (t : Key) (n : ℕ) (w : Option ℕ) (es fs : List (Key × ℕ)) → w ≡ kept n → ((q : Key) → lookup (same_key q) fs ≡ cond (same_key t q) w (lookup (same_key q) es)) → counts_of fs ≡ with_count (counts_of es) t n
@@ -89,24 +57,8 @@ not_lowered t es absent =
     ] refl
 
 -- the empty map has no triple without an owner
-pub HaveOwners-empty : HaveOwners map.empty
+pub HaveOwners-empty : HaveOwners {R = key_cmp} map.empty
 HaveOwners-empty t there = absurd (true≢false (sym there ∙ ap is_some (map.get-empty key_cmp t)))
-
-pub count_of-raised : (counts : Counts) (t q : Key) → count_of (raised counts t) q ≡ count_of counts q + one_if (same_key q t)
-count_of-raised counts t q =
-    count_of-with_count counts t (count_of counts t + 1) q
-    ∙ elim (same_key q t) as (λ b. same_key q t ≡ b → cond b (count_of counts t + 1) (count_of counts q) ≡ count_of counts q + one_if b) [
-      | true ↦ λ e. ap (λ v. unwrap_or v 0 + 1) (map.get_tied key_cmp-total counts q t (equal _ e))
-      | false ↦ λ e. omega arith
-    ] refl
-
-pub count_of-lowered : (counts : Counts) (t q : Key) → count_of (lowered counts t) q ≡ count_of counts q - one_if (same_key q t)
-count_of-lowered counts t q =
-    count_of-with_count counts t (count_of counts t - 1) q
-    ∙ elim (same_key q t) as (λ b. same_key q t ≡ b → cond b (count_of counts t - 1) (count_of counts q) ≡ count_of counts q - one_if b) [
-      | true ↦ λ e. ap (λ v. unwrap_or v 0 - 1) (map.get_tied key_cmp-total counts q t (equal _ e))
-      | false ↦ λ e. omega arith
-    ] refl
 
 pub times-cons : (q t : Key) (ts : List Key) → times q (t ∷ ts) ≡ one_if (same_key q t) + times q ts
 times-cons q t ts = sum_by-cons (λ x. cond (same_key q x) 1 0) t ts

@@ -1,10 +1,33 @@
--- The stored triples, with the number of entities that own each.
+-- How many owners each key of a map has, and the stored triples with the number of entities that own each.
 use Rattle.std.specs.Prelude.{◌≡◌, ℕ, zero, suc, ◌+◌, ◌-◌, ◌<◌, true, List, unwrap_or}
 use Rattle.std.specs.Coded.{Coded, coded_ℕ}
 use Rattle.std.specs.FinMap as map
+use Rattle.std.specs.declared.cmp.Ordering.{Ordering}
 use Rattle.slot_index.specs.declared.key.Key.{Key}
 use Rattle.slot_index.specs.contracts.key.Key as key
 use Rattle.slot_index.specs.Keys.{key_cmp}
+
+module _ {K : Type 0} {R : K → K → Ordering} where
+  -- how many own a key: none where it isn't stored
+  abbrev pub count_of : map.FinMap R ℕ → K → ℕ
+  count_of counts k = unwrap_or (map.get counts k) 0
+
+  -- the counts with another count of one key, which is stored only where the count isn't 0
+  abbrev pub with_count : map.FinMap R ℕ → K → ℕ → map.FinMap R ℕ
+  with_count counts k zero = map.remove counts k
+  with_count counts k (suc n) = map.insert counts k (suc n)
+
+  -- with one owner more of a key
+  abbrev pub raised : map.FinMap R ℕ → K → map.FinMap R ℕ
+  raised counts k = with_count counts k (count_of counts k + 1)
+
+  -- with one owner less of a key
+  abbrev pub lowered : map.FinMap R ℕ → K → map.FinMap R ℕ
+  lowered counts k = with_count counts k (count_of counts k - 1)
+
+  -- each stored key has an owner
+  abbrev pub HaveOwners : map.FinMap R ℕ → Type 0
+  HaveOwners counts = (k : K) → map.contains_key counts k ≡ true → 0 < count_of counts k
 
 -- the count of each stored triple
 abbrev pub Counts : Type 0
@@ -17,24 +40,3 @@ counts_code = map.code (key.the_row).coded coded_ℕ
 -- triples and their counts as a map
 abbrev pub counts_of : List (Key × ℕ) → Counts
 counts_of entries = map.from_entries entries
-
--- how many entities own a triple: none where it isn't stored
-abbrev pub count_of : Counts → Key → ℕ
-count_of counts t = unwrap_or (map.get counts t) 0
-
--- the counts with another count of one triple, which is stored only where the count isn't 0
-abbrev pub with_count : Counts → Key → ℕ → Counts
-with_count counts t zero = map.remove counts t
-with_count counts t (suc n) = map.insert counts t (suc n)
-
--- with one owner more of a triple
-abbrev pub raised : Counts → Key → Counts
-raised counts t = with_count counts t (count_of counts t + 1)
-
--- with one owner less of a triple
-abbrev pub lowered : Counts → Key → Counts
-lowered counts t = with_count counts t (count_of counts t - 1)
-
--- each stored triple has an owner
-abbrev pub HaveOwners : Counts → Type 0
-HaveOwners counts = (t : Key) → map.contains_key counts t ≡ true → 0 < count_of counts t

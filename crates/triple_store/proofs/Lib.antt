@@ -7,7 +7,6 @@ pub mod Keyed
 pub mod Lines
 pub mod Listed
 pub mod Live
-pub mod Mapped
 pub mod Matched
 pub mod Ordered
 pub mod Owners

@@ -24,7 +24,8 @@ use Rattle.triple_store.specs.Slots as slots
 use Rattle.triple_store.specs.Stored.{image}
 use Rattle.triple_store.proofs.Imaged.{among, find-pushed, find-pushed_none, pushed_same}
 use Rattle.triple_store.proofs.Keyed.{has_key, sum-has}
-use Rattle.triple_store.proofs.Owners.{get-with_count, kept, same_triple}
+use Rattle.slot_index.proofs.Raising.{kept}
+use Rattle.triple_store.proofs.Owners.{get-with_count, same_triple}
 
 -- three slots with the texts of a triple stand for it
 pub tells : (p : Pool) (r : Texts) (k : Key) (t : Triple) → HasTriple p r k t → triple_at p r k ≡ t

@@ -25,7 +25,7 @@ use Rattle.triple_store.specs.Counts.{Counts, HaveOwners, count_of}
 use Rattle.triple_store.specs.Slots.{HasTexts, HasTriple, triple_at, triple_of}
 use Rattle.triple_store.specs.Stored.{HasKey, IsStored, counts_in, image, is_key}
 use Rattle.triple_store.proofs.Live.{AreLive, count_image, live_counted}
-use Rattle.triple_store.proofs.Mapped.{got}
+use Rattle.slot_index.proofs.Mapped.{got}
 
 -- two triples of slots with the same texts are one
 pub one_of_texts : (pool : Pool) (region : Texts) → LiesIn pool region → (a b : Key) (texts : TripleText) → HasTexts pool region a texts → HasTexts pool region b texts → a ≡ b

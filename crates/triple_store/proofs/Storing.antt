@@ -124,7 +124,7 @@ pub still_there : (c : KeyCounts) (k l : Key) → keyed.HaveOwners c → map.con
 still_there c k l owned there = stored_counted (keyed.raised c k) l (omega (arith, keyed_owners.count_of-raised c k l, owned l there))
 
 pub now_there : (c : KeyCounts) (k : Key) → map.contains_key (keyed.raised c k) k ≡ true
-now_there c k = stored_counted (keyed.raised c k) k (omega (arith, keyed_owners.count_of-raised c k k, ap (λ b. keyed_owners.one_if b) (ap is_eq (tied_itself key_cmp-total k))))
+now_there c k = stored_counted (keyed.raised c k) k (omega (arith, keyed_owners.count_of-raised c k k, ap one_if (ap is_eq (tied_itself key_cmp-total k))))
 
 -- what held the terms lets go of them again
 pub keeps_let_go : (p q u : Pool) (r s v : Texts) (k : Key) → LiesIn p r → KeepsTexts p r q s → LetGo q s u v k → ((x : ℕ) → count_at u x ≡ count_at p x) → KeepsTexts p r u v

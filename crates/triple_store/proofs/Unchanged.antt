@@ -33,7 +33,7 @@ use Rattle.triple_store.proofs.Distinct.{AreDistinct, as_many, length-distinct}
 use Rattle.triple_store.proofs.Imaged.{keys-pushed, pushed}
 use Rattle.triple_store.proofs.Keyed.{has_key, keys_rising}
 use Rattle.triple_store.proofs.Live.{key_same}
-use Rattle.triple_store.proofs.Mapped.{there}
+use Rattle.slot_index.proofs.Mapped.{there}
 use Rattle.triple_store.proofs.Storing.{counts_kept, keeps_triple, live_stored}
 
 -- ---- no triples

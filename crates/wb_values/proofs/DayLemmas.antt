@@ -9,7 +9,7 @@ use Rattle.wb_values.specs.declared.calendar.Calendar.TheVariants.{Julian, Grego
 use Rattle.wb_values.specs.declared.calendar.CalendarDate.{CalendarDate}
 use Rattle.wb_values.specs.Calendar.{has_day, gregorian_date_of, IsDate}
 use Rattle.wb_values.proofs.CalendarLemmas.{gregorian_date_of_there, only_same_day}
-use Rattle.wb_values.specs.GregorianDay.{astronomical_year, january_first, first_of, gregorian_day, is_converted, is_undated, IsDated, MeansDay, long_year, converted, kept}
+use Rattle.wb_values.specs.GregorianDay.{astronomical_year, january_first, first_date_in, gregorian_day, is_converted, is_undated, IsDated, MeansDay, long_year, converted, kept}
 
 is_dated : (written : CalendarDate) → is_undated written ≡ false → IsDated written
 is_dated written e = record {
@@ -33,16 +33,16 @@ by_choice P true x y p q = p refl
 by_choice P false x y p q = q refl
 
 -- a date of some calendar has a month and a day, where 0 is read as the first
-first_month : (written : CalendarDate) → IsDated written → IsInRange 1 12 (first_of written).month
+first_month : (written : CalendarDate) → IsDated written → IsInRange 1 12 (first_date_in written).month
 first_month written here =
     by_choice (λ d. IsInRange 1 12 d.month) (nat_eq written.month 0) _ _
     (λ _. (omega arith, omega arith)) (λ e. (grind (arith, nat_tests), here.month))
 
-first_day : (written : CalendarDate) → 1 ≤ (first_of written).day
+first_day : (written : CalendarDate) → 1 ≤ (first_date_in written).day
 first_day written =
     by_choice (λ d. 1 ≤ d.day) (nat_eq written.month 0) _ _ (λ _. omega arith) (λ e. grind (arith, nat_tests))
 
-first_year : (written : CalendarDate) → (first_of written).year ≡ astronomical_year written.year
+first_year : (written : CalendarDate) → (first_date_in written).year ≡ astronomical_year written.year
 first_year written =
     by_choice (λ d. d.year ≡ astronomical_year written.year) (nat_eq written.month 0) _ _ (λ _. refl) (λ _. refl)
 
@@ -60,7 +60,7 @@ astronomical_from year h =
     (omega (arith, signed_arith, unsigned_abs-parts year)) (omega (arith, signed_arith, unsigned_abs-parts year))
 
 -- the calendar has the date, where its month has that many days
-is_date : (calendar : Calendar) (written : CalendarDate) → IsDated written → unsigned_abs written.year ≤ 9999 → has_day calendar (first_of written) ≡ true → IsDate calendar (first_of written)
+is_date : (calendar : Calendar) (written : CalendarDate) → IsDated written → unsigned_abs written.year ≤ 9999 → has_day calendar (first_date_in written) ≡ true → IsDate calendar (first_date_in written)
 is_date calendar written here short e = record {
   year_from = rw first_year (astronomical_from written.year short);
   month_in = first_month written here;
@@ -76,26 +76,26 @@ is_short written precision true e = grind (arith, nat_tests)
 is_short written precision false e = cc
 
 -- a converted date is from the year -9997 on
-first_low : (written : CalendarDate) → unsigned_abs written.year ≤ 9998 → neg_ℤ (pos 9998) ≤ℤ (first_of written).year
+first_low : (written : CalendarDate) → unsigned_abs written.year ≤ 9998 → neg_ℤ (pos 9998) ≤ℤ (first_date_in written).year
 first_low written short = rw first_year (either_low (int_lt (pos 0) written.year) written.year (written.year +ℤ pos 1) (omega (arith, signed_arith, unsigned_abs-parts written.year)) (omega (arith, signed_arith, unsigned_abs-parts written.year)))
 
 -- which way each choice went, of those that find the day
 found_by : (undated long conv : Bool) (written : CalendarDate) (precision : ℕ) (julian : Bool) (day : CalendarDate) → is_undated written ≡ undated → nat_lt 9999 (unsigned_abs written.year) ≡ long → is_converted written precision julian ≡ conv
-    → cond undated None (cond long (Some (january_first written)) (cond conv (cond (has_day Julian (first_of written)) (Some (gregorian_date_of (first_of written))) None) (cond (has_day Gregorian (first_of written)) (Some (first_of written)) None))) ≡ Some day → MeansDay written precision julian day
+    → cond undated None (cond long (Some (january_first written)) (cond conv (cond (has_day Julian (first_date_in written)) (Some (gregorian_date_of (first_date_in written))) None) (cond (has_day Gregorian (first_date_in written)) (Some (first_date_in written)) None))) ≡ Some day → MeansDay written precision julian day
 found_by true long conv written precision julian day u l k e = cc
 found_by false true conv written precision julian day u l k e =
     long_year (is_dated written u) (grind (arith, nat_tests)) (sym (same_Some _ _ e))
 found_by false false true written precision julian day u l k e =
     let dated = is_dated written u in
     let short = is_short written precision julian k in
-    let g = cond_some (has_day Julian (first_of written)) _ day e in
+    let g = cond_some (has_day Julian (first_date_in written)) _ day e in
     let date = is_date Julian written dated (omega arith) g.0 in
-    let there = gregorian_date_of_there (first_of written) date (first_low written short) in
+    let there = gregorian_date_of_there (first_date_in written) date (first_low written short) in
     converted dated k date (rw (← g.1) there.0) (rw (← g.1) there.1)
 found_by false false false written precision julian day u l k e =
     let dated = is_dated written u in
     let short : unsigned_abs written.year ≤ 9999 = grind (arith, nat_tests) in
-    let g = cond_some (has_day Gregorian (first_of written)) _ day e in
+    let g = cond_some (has_day Gregorian (first_date_in written)) _ day e in
     kept dated short k (is_date Gregorian written dated short g.0) (sym g.1)
 
 -- the day that is found is meant
@@ -110,7 +110,7 @@ meant_is_found written precision julian day (long_year dated long e) =
 meant_is_found written precision julian day (converted dated k first there same) =
     let short = is_short written precision julian k in
     let test : nat_lt 9999 (unsigned_abs written.year) ≡ false = grind (arith, nat_tests) in
-    rw (not_undated written dated, test, k, has_its_day Julian (first_of written) first) (ap Some (only_same_day (first_of written) day (first_low written short) there same))
+    rw (not_undated written dated, test, k, has_its_day Julian (first_date_in written) first) (ap Some (only_same_day (first_date_in written) day (first_low written short) there same))
 meant_is_found written precision julian day (kept dated short k there e) =
     let test : nat_lt 9999 (unsigned_abs written.year) ≡ false = grind (arith, nat_tests) in
-    rw (not_undated written dated, test, k, has_its_day Gregorian (first_of written) there, e)
+    rw (not_undated written dated, test, k, has_its_day Gregorian (first_date_in written) there, e)

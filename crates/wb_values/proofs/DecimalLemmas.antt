@@ -2,13 +2,13 @@
 use Rattle.std.proofs.Common.{◌≡◌, ℕ, suc, ◌+◌, ◌<◌, Bool, true, false, not, ◌||◌, cond, nat_eq, nat_lt, IsTrue, List, [], ◌∷◌, ◌++◌, length, take, drop, get_or, Option, Some, None, refl, sym, ap, ◌∙◌, ◌↔◌, arith, add-one}
 use Rattle.std.proofs.Math.Seq.{take-append_seam, drop-append-add, drop-cons}
 use Rattle.std.proofs.lemmas.Bool.Decides.{nat_tests}
-use Rattle.std.proofs.lemmas.Bool.{false≢true}
+use Rattle.std.proofs.lemmas.Bool.{false≢true, and_parts}
 use Rattle.std.proofs.lemmas.List.{append-nil, take-append-drop, length-append}
 use Rattle.std.proofs.lemmas.List.Quantifiers.{position-Some}
 use Rattle.std.specs.Char.{is_ascii_digit}
 use Rattle.std.specs.List.{list_all, position, position_or_len}
 use Rattle.wb_values.specs.Decimal.{is_numeral, has_numerals, is_unsigned_decimal, is_decimal, IsSign, no_sign, plus_sign, minus_sign, IsFraction, no_fraction, point_digits, IsDecimal}
-use Rattle.wb_values.proofs.WrittenLemmas.{both, first_place}
+use Rattle.wb_values.proofs.WrittenLemmas.{first_place}
 
 -- a byte is a point
 abbrev is_point : ℕ → Bool
@@ -29,7 +29,7 @@ unsigned_by text (Some point) e h =
     let here = position-Some is_point text point 0 e in
     let mark : get_or text point 0 ≡ 46 = grind (arith, nat_tests, here.1) in
     let lt : point < length text = here.0 in
-    let parts = both (is_numeral (take point text)) (is_numeral (drop (point + 1) text)) h in
+    let parts = and_parts (is_numeral (take point text)) (is_numeral (drop (point + 1) text)) h in
     let next : drop point text ≡ 46 ∷ drop (point + 1) text = rw (add-one) (drop-cons text point 0 lt ∙ ap (λ b. b ∷ drop (suc point) text) mark) in
     record {
       whole = take point text;
@@ -62,24 +62,24 @@ digit_no_point x h = grind (arith, nat_tests)
 no_point : (xs : List ℕ) → list_all is_ascii_digit xs ≡ true → list_all (λ x. not (is_point x)) xs ≡ true
 no_point [] h = refl
 no_point (x ∷ xs) h =
-    let n = both (is_ascii_digit x) (list_all is_ascii_digit xs) h in
+    let n = and_parts (is_ascii_digit x) (list_all is_ascii_digit xs) h in
     let other : not (is_point x) ≡ true = digit_no_point x n.0 in
     rw (other, no_point xs n.1)
 
 no_place : (p : ℕ → Bool) (xs : List ℕ) → list_all (λ x. not (p x)) xs ≡ true → position_or_len p xs ≡ length xs
 no_place p [] none = refl
 no_place p (x ∷ xs) none =
-    let n = both (not (p x)) (list_all (λ x. not (p x)) xs) none in
+    let n = and_parts (not (p x)) (list_all (λ x. not (p x)) xs) none in
     rw n.0 (omega (arith, no_place p xs n.1))
 
 unsigned_complete : (whole fraction : List ℕ) → is_numeral whole ≡ true → IsFraction fraction → is_unsigned_decimal (whole ++ fraction) ≡ true
 unsigned_complete whole fraction w no_fraction =
-    let n = no_point whole (both _ (list_all is_ascii_digit whole) w).1 in
+    let n = no_point whole (and_parts _ (list_all is_ascii_digit whole) w).1 in
     let place = no_place is_point whole n in
     let past : nat_lt (length whole) (length whole) ≡ false = grind (arith, nat_tests) in
     rw (append-nil whole, place, past) w
 unsigned_complete whole fraction w (point_digits digits d) =
-    let n = no_point whole (both _ (list_all is_ascii_digit whole) w).1 in
+    let n = no_point whole (and_parts _ (list_all is_ascii_digit whole) w).1 in
     let place = first_place is_point whole 46 digits n refl in
     let within : nat_lt (length whole) (length (whole ++ (46 ∷ digits))) ≡ true = grind (arith, nat_tests, length-append whole (46 ∷ digits)) in
     let front = take-append_seam whole (46 ∷ digits) in
@@ -89,8 +89,8 @@ unsigned_complete whole fraction w (point_digits digits d) =
 no_sign_complete : (whole fraction : List ℕ) → is_numeral whole ≡ true → IsFraction fraction → is_decimal (whole ++ fraction) ≡ true
 no_sign_complete [] fraction w f = absurd (false≢true w)
 no_sign_complete (x ∷ xs) fraction w f =
-    let digits = (both _ (list_all is_ascii_digit (x ∷ xs)) w).1 in
-    let first = (both (is_ascii_digit x) (list_all is_ascii_digit xs) digits).0 in
+    let digits = (and_parts _ (list_all is_ascii_digit (x ∷ xs)) w).1 in
+    let first = (and_parts (is_ascii_digit x) (list_all is_ascii_digit xs) digits).0 in
     let other : (nat_eq x 43 || nat_eq x 45) ≡ false = grind (arith, nat_tests) in
     rw other (unsigned_complete (x ∷ xs) fraction w f)
 

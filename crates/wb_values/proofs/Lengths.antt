@@ -6,7 +6,7 @@ use Rattle.std.specs.Fmt.{digits, digits_onto, digit_glyph, decimal}
 use Rattle.wb_values.specs.declared.calendar.CalendarDate.{CalendarDate}
 use Rattle.wb_values.specs.declared.literal.TimeText.{TimeText}
 use Rattle.wb_values.specs.declared.literal.TimeText.TheVariants.{DateTime, Plain}
-use Rattle.wb_values.specs.Literal.{zero_padded, sign_text, date_time_text, meant_time, literal_of, time_literal}
+use Rattle.wb_values.specs.Literal.{zero_padded, sign_text, date_time_text, meant_time, literal_meant, time_literal}
 use Rattle.wb_values.proofs.LiteralLemmas.{meant_sound}
 
 -- a number in decimal has at most 64 digits
@@ -48,7 +48,7 @@ abbrev pub literal_text : TimeText → List ℕ
 literal_text (DateTime text) = text
 literal_text (Plain text) = text
 
-short_by : (text : List ℕ) (precision : ℕ) (julian : Bool) (meant : Option (CalendarDate × List ℕ)) → meant_time text precision julian ≡ meant → length (literal_text (literal_of text meant)) ≤ length text + 210
+short_by : (text : List ℕ) (precision : ℕ) (julian : Bool) (meant : Option (CalendarDate × List ℕ)) → meant_time text precision julian ≡ meant → length (literal_text (literal_meant text meant)) ≤ length text + 210
 short_by text precision julian None e = omega arith
 short_by text precision julian (Some (day, clock)) e =
     omega (arith, date_time_short day clock, clock_short text precision julian day clock e)

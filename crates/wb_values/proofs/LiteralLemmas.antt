@@ -8,23 +8,24 @@ use Rattle.wb_values.specs.declared.calendar.CalendarDate.{CalendarDate}
 use Rattle.std.proofs.lemmas.Option.{none-some}
 use Rattle.wb_values.specs.declared.literal.TimeText.{TimeText}
 use Rattle.wb_values.specs.GregorianDay.{gregorian_day, MeansDay}
-use Rattle.wb_values.specs.Written.{written_time, IsWritten}
-use Rattle.wb_values.specs.Literal.{zero_padded, sign_text, date_time_text, meant_time, literal_of, time_literal, IsLiteral, date_time, plain, IsOnlyLiteral}
+use Rattle.wb_values.specs.Written.{written_time, IsWrittenTime}
+use Rattle.wb_values.specs.Literal.{zero_padded, sign_text, date_time_text, meant_time, literal_meant, time_literal, IsLiteral, date_time, plain, IsOnlyLiteral}
 use Rattle.wb_values.proofs.DayLemmas.{found_is_meant, meant_is_found}
-use Rattle.wb_values.proofs.WrittenLemmas.{chained, mapped, written_sound, written_complete}
+use Rattle.digits.proofs.Choices.{chained, mapped}
+use Rattle.wb_values.proofs.WrittenLemmas.{written_sound, written_complete}
 
-pub four_digits : (n : ℕ) → styled_decimal (format_spec 32 0 4 4 18446744073709551615) n ≡ zero_padded 4 n
+pub padded_to_four : (n : ℕ) → styled_decimal (format_spec 32 0 4 4 18446744073709551615) n ≡ zero_padded 4 n
 unfolding padded_integral char_count
-four_digits n = simp (sub-zero, append-nil)
+padded_to_four n = simp (sub-zero, append-nil)
 
-pub two_digits : (n : ℕ) → styled_decimal (format_spec 32 0 4 2 18446744073709551615) n ≡ zero_padded 2 n
+pub padded_to_two : (n : ℕ) → styled_decimal (format_spec 32 0 4 2 18446744073709551615) n ≡ zero_padded 2 n
 unfolding padded_integral char_count
-two_digits n = simp (sub-zero, append-nil)
+padded_to_two n = simp (sub-zero, append-nil)
 
 pub date_time_text_is : (date : CalendarDate) (clock sign : List ℕ) → sign ≡ sign_text date.year → sign ++ (zero_padded 4 (unsigned_abs date.year) ++ ((45 ∷ []) ++ (zero_padded 2 date.month ++ ((45 ∷ []) ++ (zero_padded 2 date.day ++ ((84 ∷ []) ++ clock)))))) ≡ date_time_text date clock
 date_time_text_is date clock sign e = rw e (simp append_assoc)
 
-pub meant_sound : (text : List ℕ) (precision : ℕ) (julian : Bool) (day : CalendarDate) (clock : List ℕ) → meant_time text precision julian ≡ Some (day, clock) → (written : CalendarDate) × IsWritten text written clock × MeansDay written precision julian day
+pub meant_sound : (text : List ℕ) (precision : ℕ) (julian : Bool) (day : CalendarDate) (clock : List ℕ) → meant_time text precision julian ≡ Some (day, clock) → (written : CalendarDate) × IsWrittenTime text written clock × MeansDay written precision julian day
 meant_sound text precision julian day clock e =
     let found = chained _ (written_time text) (day, clock) e in
     let m = mapped _ (gregorian_day found.0.0 precision julian) (day, clock) found.2 in
@@ -35,12 +36,12 @@ meant_sound text precision julian day clock e =
       found_is_meant found.0.0 precision julian day (m.1 ∙ ap Some here),
     )
 
-meant_complete : (text : List ℕ) (precision : ℕ) (julian : Bool) (written : CalendarDate) (clock : List ℕ) (day : CalendarDate) → IsWritten text written clock → MeansDay written precision julian day → meant_time text precision julian ≡ Some (day, clock)
+meant_complete : (text : List ℕ) (precision : ℕ) (julian : Bool) (written : CalendarDate) (clock : List ℕ) (day : CalendarDate) → IsWrittenTime text written clock → MeansDay written precision julian day → meant_time text precision julian ≡ Some (day, clock)
 meant_complete text precision julian written clock day there means =
     rw (written_complete text written clock there, meant_is_found written precision julian day means)
 
 -- the literal, by what the text means
-literal_by : (text : List ℕ) (precision : ℕ) (julian : Bool) (meant : Option (CalendarDate × List ℕ)) → meant_time text precision julian ≡ meant → IsLiteral text precision julian (literal_of text meant)
+literal_by : (text : List ℕ) (precision : ℕ) (julian : Bool) (meant : Option (CalendarDate × List ℕ)) → meant_time text precision julian ≡ meant → IsLiteral text precision julian (literal_meant text meant)
 literal_by text precision julian None e =
     plain (λ written clock day there means. absurd (none-some (day, clock) (sym e ∙ meant_complete text precision julian written clock day there means))) refl
 literal_by text precision julian (Some (day, clock)) e =
@@ -49,8 +50,8 @@ literal_by text precision julian (Some (day, clock)) e =
 
 only_by : (text : List ℕ) (precision : ℕ) (julian : Bool) (literal : TimeText) → IsLiteral text precision julian literal → literal ≡ time_literal text precision julian
 only_by text precision julian literal (date_time written clock day there means e) =
-    e ∙ sym (ap (literal_of text) (meant_complete text precision julian written clock day there means))
-only_by text precision julian literal (plain none e) = e ∙ sym (ap (literal_of text) (no_meaning (meant_time text precision julian) refl))
+    e ∙ sym (ap (literal_meant text) (meant_complete text precision julian written clock day there means))
+only_by text precision julian literal (plain none e) = e ∙ sym (ap (literal_meant text) (no_meaning (meant_time text precision julian) refl))
   where
     no_meaning : (meant : Option (CalendarDate × List ℕ)) → meant_time text precision julian ≡ meant → meant_time text precision julian ≡ None
     no_meaning None m = m

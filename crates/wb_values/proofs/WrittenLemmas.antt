@@ -1,45 +1,19 @@
 -- The parts of a time's text: the numbers that its digits write, and that the reading of the parts finds just them.
-use Rattle.std.proofs.Common.{◌≡◌, ℕ, ◌+◌, ◌-◌, ◌*◌, ◌<◌, ◌≤◌, ◌^◌, inl, inr, Bool, true, false, not, ◌&&◌, cond, nat_eq, List, [], ◌∷◌, ◌++◌, length, take, drop, get_or, Option, Some, None, option_map, option_and_then, ℤ, refl, sym, ap, ◌∙◌, arith, add-one}
-use Rattle.std.proofs.Math.Nat.{pow-le-pow_right}
+use Rattle.std.proofs.Common.{◌≡◌, ℕ, ◌-◌, ◌<◌, inl, inr, Bool, true, not, ◌&&◌, nat_eq, List, [], ◌∷◌, ◌++◌, length, take, drop, get_or, Some, ℤ, refl, sym, ap, ◌∙◌, arith}
 use Rattle.std.proofs.Math.ListN.{drop_of_length-le}
 use Rattle.std.proofs.Math.Seq.{take-append_seam, drop-append_seam, drop-append-add}
 use Rattle.std.proofs.lemmas.Bool.Decides.{nat_tests}
-use Rattle.std.proofs.lemmas.Bool.{false≢true, cases_lt}
+use Rattle.std.proofs.lemmas.Bool.{false≢true, cases_lt, and_parts}
 use Rattle.std.proofs.lemmas.List.{take-append-drop, length-append}
 use Rattle.std.proofs.lemmas.List.Folds.{list_all-append}
 use Rattle.std.proofs.lemmas.List.Sums.{split_at_first, passes_at_first}
 use Rattle.std.specs.Char.{is_ascii_digit}
 use Rattle.std.specs.List.{list_all, position_or_len}
+use Rattle.digits.specs.Number.{decimal_value, two_digits}
+use Rattle.digits.proofs.Choices.{guarded, mapped, chained}
+use Rattle.digits.proofs.Pairs.{pair_are}
 use Rattle.wb_values.specs.declared.calendar.CalendarDate.{CalendarDate}
-use Rattle.wb_values.specs.Written.{decimal_value, two_digits, is_clock, is_year, signed, signed_year, date_in_year, written_date, date_part, clock_part, written_time, IsWrittenDate, IsWritten}
-
--- one more place holds ten times as much
-pub more_places : (i value digit : ℕ) → value < 10 ^ i → digit < 10 → 10 * value + digit < 10 ^ (i + 1)
-more_places i value digit low one = rw add-one (omega arith)
-
--- up to 15 places hold less than sixteen
-pub few_places : (i n value : ℕ) → value < 10 ^ i → i ≤ n → n ≤ 16 → value < 10 ^ 16
-few_places i n value low here all = omega (arith, pow-le-pow_right {n = 10} (omega arith) {i = i} {j = 16} (omega arith))
-
--- what a guard, a map and a chain that give a value say
-guarded : {A : Type 0} (b : Bool) (o : Option A) (y : A) → cond b o None ≡ Some y → (b ≡ true) × (o ≡ Some y)
-guarded true o y e = (refl, e)
-guarded false o y e = absurd (none_some y e)
-  where
-    none_some : {A : Type 0} (y : A) → None ≡ Some y → ⊥
-    none_some y e = cc
-
-pub mapped : {A B : Type 0} (f : A → B) (o : Option A) (y : B) → option_map f o ≡ Some y → (x : A) × (o ≡ Some x) × (f x ≡ y)
-mapped f None y e = cc
-mapped f (Some x) y e = (x, refl, cc)
-
-pub chained : {A B : Type 0} (f : A → Option B) (o : Option A) (y : B) → option_and_then f o ≡ Some y → (x : A) × (o ≡ Some x) × (f x ≡ Some y)
-chained f None y e = cc
-chained f (Some x) y e = (x, refl, e)
-
-pub both : (a b : Bool) → (a && b) ≡ true → (a ≡ true) × (b ≡ true)
-both true b e = (refl, e)
-both false b e = absurd (false≢true e)
+use Rattle.wb_values.specs.Written.{is_clock, is_year, signed, signed_year, date_in_year, written_date, date_part, clock_part, written_time, IsWrittenDate, IsWrittenTime}
 
 -- a sign and a year, from a text that has them
 record IsSignedYear (text : List ℕ) (year : ℤ) : Type 0 where
@@ -76,7 +50,7 @@ month_and_day_sound year (a ∷ m₁ ∷ m₂ ∷ b ∷ d₁ ∷ []) date e = cc
 month_and_day_sound year (a ∷ m₁ ∷ m₂ ∷ b ∷ d₁ ∷ d₂ ∷ more ∷ rest) date e = cc
 month_and_day_sound year (a ∷ m₁ ∷ m₂ ∷ b ∷ d₁ ∷ d₂ ∷ []) date e =
     let g = guarded ((nat_eq a 45) && (nat_eq b 45)) _ date e in
-    let dashes = both (nat_eq a 45) (nat_eq b 45) g.0 in
+    let dashes = and_parts (nat_eq a 45) (nat_eq b 45) g.0 in
     let month = chained _ (two_digits m₁ m₂) date g.1 in
     let day = mapped _ (two_digits d₁ d₂) date month.2 in
     let first : a ≡ 45 = grind (arith, nat_tests, dashes.0) in
@@ -127,7 +101,7 @@ position_in text h = elim (cases_lt (position_or_len is_t text) (length text)) [
 ]
 
 -- what is read from a text stands there
-pub written_sound : (text : List ℕ) (date : CalendarDate) (clock : List ℕ) → written_time text ≡ Some (date, clock) → IsWritten text date clock
+pub written_sound : (text : List ℕ) (date : CalendarDate) (clock : List ℕ) → written_time text ≡ Some (date, clock) → IsWrittenTime text date clock
 written_sound text date clock e =
     let g = guarded (is_clock (clock_part text)) _ (date, clock) e in
     let m = mapped _ (written_date (date_part text)) (date, clock) g.1 in
@@ -146,18 +120,15 @@ written_sound text date clock e =
 pub first_place : (p : ℕ → Bool) (xs : List ℕ) (y : ℕ) (ys : List ℕ) → list_all (λ x. not (p x)) xs ≡ true → p y ≡ true → position_or_len p (xs ++ (y ∷ ys)) ≡ length xs
 first_place p [] y ys none here = rw here
 first_place p (x ∷ xs) y ys none here =
-    let n = both (not (p x)) (list_all (λ x. not (p x)) xs) none in
+    let n = and_parts (not (p x)) (list_all (λ x. not (p x)) xs) none in
     rw n.0 (omega (arith, first_place p xs y ys n.1 here))
 
 digits_hold_no_t : (xs : List ℕ) → list_all is_ascii_digit xs ≡ true → list_all (λ x. not (is_t x)) xs ≡ true
 digits_hold_no_t [] h = refl
 digits_hold_no_t (x ∷ xs) h =
-    let n = both (is_ascii_digit x) (list_all is_ascii_digit xs) h in
+    let n = and_parts (is_ascii_digit x) (list_all is_ascii_digit xs) h in
     let other : not (is_t x) ≡ true = digit_no_t x n.0 in
     rw (other, digits_hold_no_t xs n.1)
-
-two_digits_are : (a b n : ℕ) → two_digits a b ≡ Some n → (is_ascii_digit a ≡ true) × (is_ascii_digit b ≡ true)
-two_digits_are a b n e = both _ _ (guarded (is_ascii_digit a && is_ascii_digit b) (Some (10 * (a - 48) + (b - 48))) n e).0
 
 sign_no_t : (sign n : ℕ) (year : ℤ) → signed sign n ≡ Some year → not (is_t sign) ≡ true
 sign_no_t sign n year e = grind (arith, nat_tests)
@@ -165,9 +136,9 @@ sign_no_t sign n year e = grind (arith, nat_tests)
 -- a date has no `T`
 date_no_t : (text : List ℕ) (date : CalendarDate) → IsWrittenDate text date → list_all (λ x. not (is_t x)) text ≡ true
 date_no_t text date r =
-    let m = two_digits_are r.m₁ r.m₂ date.month r.month in
-    let d = two_digits_are r.d₁ r.d₂ date.day r.day in
-    let digits : list_all (λ x. not (is_t x)) r.digits ≡ true = digits_hold_no_t r.digits (both _ (list_all is_ascii_digit r.digits) r.is_year).1 in
+    let m = pair_are r.m₁ r.m₂ date.month r.month in
+    let d = pair_are r.d₁ r.d₂ date.day r.day in
+    let digits : list_all (λ x. not (is_t x)) r.digits ≡ true = digits_hold_no_t r.digits (and_parts _ (list_all is_ascii_digit r.digits) r.is_year).1 in
     rw (r.is, list_all-append (λ x. not (is_t x)) r.digits (45 ∷ r.m₁ ∷ r.m₂ ∷ 45 ∷ r.d₁ ∷ r.d₂ ∷ []), sign_no_t r.sign _ _ r.year, digits, digit_no_t r.m₁ m.0, digit_no_t r.m₂ m.1, digit_no_t r.d₁ d.0, digit_no_t r.d₂ d.1)
 
 -- a text that stands for a date is read as it
@@ -181,7 +152,7 @@ date_complete text date r =
     rw (r.is, year, day, r.is_year, r.year, r.month, r.day)
 
 -- what stands in a text is read from it
-pub written_complete : (text : List ℕ) (date : CalendarDate) (clock : List ℕ) → IsWritten text date clock → written_time text ≡ Some (date, clock)
+pub written_complete : (text : List ℕ) (date : CalendarDate) (clock : List ℕ) → IsWrittenTime text date clock → written_time text ≡ Some (date, clock)
 written_complete text date clock r =
     let place : position_or_len is_t (r.date ++ (84 ∷ clock)) ≡ length r.date = first_place is_t r.date 84 clock (date_no_t r.date date r.is_date) refl in
     let front : date_part (r.date ++ (84 ∷ clock)) ≡ r.date = rw place (take-append_seam r.date (84 ∷ clock)) in

@@ -19,8 +19,8 @@ abbrev pub january_first : CalendarDate → CalendarDate
 january_first written = record { year = astronomical_year written.year; month = 1; day = 1 }
 
 -- a month of 0 is January and its first day, and a day of 0 the first
-abbrev pub first_of : CalendarDate → CalendarDate
-first_of written =
+abbrev pub first_date_in : CalendarDate → CalendarDate
+first_date_in written =
     if written.month == 0 then january_first written
     else record { year = astronomical_year written.year; month = written.month; day = if written.day == 0 then 1 else written.day }
 
@@ -38,8 +38,8 @@ gregorian_day written precision julian =
     if is_undated written then None
     else (if nat_lt 9999 (unsigned_abs written.year) then Some (january_first written)
     else (if is_converted written precision julian
-    then (if has_day Julian (first_of written) then Some (gregorian_date_of (first_of written)) else None)
-    else if_there Gregorian (first_of written)))
+    then (if has_day Julian (first_date_in written) then Some (gregorian_date_of (first_date_in written)) else None)
+    else if_there Gregorian (first_date_in written)))
 
 -- a date of some calendar: its year is not 0, its month at most 12 and its day at most 31
 pub record IsDated (written : CalendarDate) : Type 0 where
@@ -51,7 +51,7 @@ pub record IsDated (written : CalendarDate) : Type 0 where
 -- a date that is converted is the same day in the Julian calendar; and every other date is a Gregorian one already
 pub data MeansDay (written : CalendarDate) (precision : ℕ) (julian : Bool) (day : CalendarDate) : Type 0 where
   long_year : IsDated written → 9999 < unsigned_abs written.year → day ≡ january_first written → MeansDay written precision julian day
-  converted : IsDated written → IsTrue (is_converted written precision julian) → IsDate Julian (first_of written)
-      → IsDate Gregorian day → IsSameDay (first_of written) day → MeansDay written precision julian day
+  converted : IsDated written → IsTrue (is_converted written precision julian) → IsDate Julian (first_date_in written)
+      → IsDate Gregorian day → IsSameDay (first_date_in written) day → MeansDay written precision julian day
   kept : IsDated written → unsigned_abs written.year ≤ 9999 → IsFalse (is_converted written precision julian)
-      → IsDate Gregorian (first_of written) → day ≡ first_of written → MeansDay written precision julian day
+      → IsDate Gregorian (first_date_in written) → day ≡ first_date_in written → MeansDay written precision julian day

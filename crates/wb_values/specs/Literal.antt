@@ -5,7 +5,7 @@ use Rattle.wb_values.specs.declared.calendar.CalendarDate.{CalendarDate}
 use Rattle.wb_values.specs.declared.literal.TimeText.{TimeText}
 use Rattle.wb_values.specs.declared.literal.TimeText.TheVariants.{DateTime, Plain}
 use Rattle.wb_values.specs.GregorianDay.{gregorian_day, MeansDay}
-use Rattle.wb_values.specs.Written.{written_time, IsWritten}
+use Rattle.wb_values.specs.Written.{written_time, IsWrittenTime}
 
 -- the digits of n, padded with zeros in front
 abbrev pub zero_padded : ℕ → ℕ → List ℕ
@@ -26,20 +26,20 @@ meant_time text precision julian =
     option_and_then (λ time. option_map (λ day. (day, time.1)) (gregorian_day time.0 precision julian)) (written_time text)
 
 -- a date and time, or the text as it is
-abbrev pub literal_of : List ℕ → Option (CalendarDate × List ℕ) → TimeText
-literal_of text None = Plain text
-literal_of text (Some (day, clock)) = DateTime (date_time_text day clock)
+abbrev pub literal_meant : List ℕ → Option (CalendarDate × List ℕ) → TimeText
+literal_meant text None = Plain text
+literal_meant text (Some (day, clock)) = DateTime (date_time_text day clock)
 
 -- the literal of a time's text: a date and time where it means a day, and else the text as it is
 abbrev pub time_literal : List ℕ → ℕ → Bool → TimeText
-time_literal text precision julian = literal_of text (meant_time text precision julian)
+time_literal text precision julian = literal_meant text (meant_time text precision julian)
 
 -- the literal of a time's text, by its parts: where the text writes a date that means a day, that day and the clock as
 -- they stand in xsd:dateTime; and else the text
 pub data IsLiteral (text : List ℕ) (precision : ℕ) (julian : Bool) (literal : TimeText) : Type 0 where
-  date_time : (written : CalendarDate) (clock : List ℕ) (day : CalendarDate) → IsWritten text written clock → MeansDay written precision julian day
+  date_time : (written : CalendarDate) (clock : List ℕ) (day : CalendarDate) → IsWrittenTime text written clock → MeansDay written precision julian day
       → literal ≡ DateTime (date_time_text day clock) → IsLiteral text precision julian literal
-  plain : ((written : CalendarDate) (clock : List ℕ) (day : CalendarDate) → IsWritten text written clock → ¬ (MeansDay written precision julian day))
+  plain : ((written : CalendarDate) (clock : List ℕ) (day : CalendarDate) → IsWrittenTime text written clock → ¬ (MeansDay written precision julian day))
       → literal ≡ Plain text → IsLiteral text precision julian literal
 
 -- it is a literal of the text, and the text has no other

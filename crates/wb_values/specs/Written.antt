@@ -1,26 +1,19 @@
 -- The text of a time: a sign, 1 to 16 digits of the year, `-MM-DDT`, `hh:mm:ss` and `Z`.
-use Rattle.std.specs.Prelude.{◌≡◌, ℕ, ◌+◌, ◌-◌, ◌*◌, Bool, false, ◌&&◌, ◌==◌, nat_lt, nat_le, if◌then◌else◌, List, [], ◌∷◌, ◌++◌, length, take, drop, fold, Option, Some, None, option_map, option_and_then, IsTrue, ℤ, pos, neg_ℤ}
+use Rattle.std.specs.Prelude.{◌≡◌, ℕ, ◌-◌, Bool, false, ◌&&◌, ◌==◌, nat_lt, nat_le, if◌then◌else◌, List, [], ◌∷◌, ◌++◌, length, take, drop, Option, Some, None, option_map, option_and_then, IsTrue, ℤ, pos, neg_ℤ}
 use Rattle.std.specs.Char.{is_ascii_digit}
 use Rattle.std.specs.Option.{option_map_or}
 use Rattle.std.specs.List.{list_all, before_first, after_first}
+use Rattle.digits.specs.Number.{decimal_value, two_digits}
 use Rattle.wb_values.specs.declared.calendar.CalendarDate.{CalendarDate}
 
--- the number that decimal digits write
-abbrev pub decimal_value : List ℕ → ℕ
-decimal_value digits = fold (λ n digit. 10 * n + (digit - 48)) 0 digits
-
--- the number that two decimal digits write
-abbrev pub two_digits : ℕ → ℕ → Option ℕ
-two_digits tens ones = if is_ascii_digit tens && is_ascii_digit ones then Some (10 * (tens - 48) + (ones - 48)) else None
-
 -- two decimal digits that write a number below n
-abbrev pub is_below : ℕ → ℕ → ℕ → Bool
-is_below n tens ones = option_map_or (λ value. nat_lt value n) (two_digits tens ones) false
+abbrev pub are_below : ℕ → ℕ → ℕ → Bool
+are_below n tens ones = option_map_or (λ value. nat_lt value n) (two_digits tens ones) false
 
 -- `hh:mm:ssZ`, with hours to 23, minutes and seconds to 59
 abbrev pub is_clock : List ℕ → Bool
 is_clock (h₁ ∷ h₂ ∷ colon ∷ m₁ ∷ m₂ ∷ point ∷ s₁ ∷ s₂ ∷ zone ∷ []) =
-    (colon == 58) && (point == 58) && (zone == 90) && is_below 24 h₁ h₂ && is_below 60 m₁ m₂ && is_below 60 s₁ s₂
+    (colon == 58) && (point == 58) && (zone == 90) && are_below 24 h₁ h₂ && are_below 60 m₁ m₂ && are_below 60 s₁ s₂
 is_clock _ = false
 
 -- 1 to 16 decimal digits
@@ -75,7 +68,7 @@ pub record IsWrittenDate (text : List ℕ) (written : CalendarDate) : Type 0 whe
   pub is : text ≡ sign ∷ (digits ++ (45 ∷ m₁ ∷ m₂ ∷ 45 ∷ d₁ ∷ d₂ ∷ []))
 
 -- a text is a date, `T` and a clock
-pub record IsWritten (text : List ℕ) (written : CalendarDate) (clock : List ℕ) : Type 0 where
+pub record IsWrittenTime (text : List ℕ) (written : CalendarDate) (clock : List ℕ) : Type 0 where
   pub date : List ℕ
   pub is_date : IsWrittenDate date written
   pub is_clock : IsTrue (is_clock clock)

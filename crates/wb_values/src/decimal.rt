@@ -3,7 +3,7 @@
 ghost use Rattle.std.specs.Prelude.{◌≡◌, ◌↔◌, ◌==◌, position, IsTrue};
 ghost use Rattle.wb_values.specs.Decimal.{is_decimal, is_numeral, is_unsigned_decimal, IsDecimal};
 
-use crate::digits::are_digits;
+use digits::are_digits;
 
 /// Whether a text is `[+-]?[0-9]+(\.[0-9]+)?`: a quantity's amount that `xsd:decimal` takes.
 pub fn is_decimal(text: &str) -> bool

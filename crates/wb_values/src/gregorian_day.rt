@@ -1,7 +1,7 @@
 // Which day of the proleptic Gregorian calendar a written date means.
 
 ghost use Rattle.std.specs.Prelude.{◌≡◌, ◌≢◌, ◌≤◌, pos, unsigned_abs};
-ghost use Rattle.wb_values.specs.GregorianDay.{astronomical_year, first_of, gregorian_day, is_converted, is_undated};
+ghost use Rattle.wb_values.specs.GregorianDay.{astronomical_year, first_date_in, gregorian_day, is_converted, is_undated};
 
 use crate::calendar::{Calendar, CalendarDate, gregorian_date};
 
@@ -33,7 +33,7 @@ pub(crate) fn gregorian_day(
             day: 1,
         });
     }
-    let date = first_of(written);
+    let date = first_date_in(written);
     if is_converted(written, precision, julian) {
         return if Calendar::Julian.has_day(date) {
             Some(gregorian_date(date))
@@ -62,8 +62,8 @@ fn astronomical_year(written: i64) -> i64
     if written > 0 { written } else { written + 1 }
 }
 
-fn first_of(written: CalendarDate) -> CalendarDate
-    ensures { result ≡ first_of written }
+fn first_date_in(written: CalendarDate) -> CalendarDate
+    ensures { result ≡ first_date_in written }
 {
     let year = astronomical_year(written.year);
     let CalendarDate { month, day, .. } = written;

@@ -4,12 +4,11 @@
 //!
 //! `written` reads the text of a time, `calendar` counts the days of the Julian and the Gregorian
 //! calendar, `gregorian_day` finds the day that a written date means, and `literal` writes it;
-//! `decimal` tests amounts, and `digits` is what both read digits with; `point` writes points.
+//! `decimal` tests amounts, and `point` writes points.
 #![tactic(auto)]
 
 mod calendar;
 mod decimal;
-mod digits;
 mod gregorian_day;
 mod laws;
 mod literal;

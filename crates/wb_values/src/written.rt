@@ -1,12 +1,10 @@
 // The date and the clock that the text of a time writes.
 
-ghost use Rattle.std.specs.Prelude.{◌≡◌, ◌<◌, ◌≤◌, ◌^◌, length, option_map, IsTrue};
-ghost use Rattle.std.specs.Char.{is_ascii_digit};
-ghost use Rattle.std.specs.List.{list_all};
-ghost use Rattle.wb_values.specs.Written.{two_digits, is_below, is_clock, date_in_year, is_year, decimal_value, signed_year, written_date, written_time};
+ghost use Rattle.std.specs.Prelude.{◌≡◌, option_map};
+ghost use Rattle.wb_values.specs.Written.{are_below, is_clock, date_in_year, is_year, signed_year, written_date, written_time};
 
 use crate::calendar::CalendarDate;
-use crate::digits::are_digits;
+use digits::{are_digits, decimal_value, two_digits};
 
 /// The date as the text has it, with no year 0 between the years -1 and 1, and the clock `hh:mm:ssZ`.
 pub(crate) fn written_time(text: &str) -> Option<(CalendarDate, &str)>
@@ -60,45 +58,22 @@ fn is_year(digits: &[u8]) -> bool
     !digits.is_empty() && digits.len() <= 16 && are_digits(digits)
 }
 
-fn decimal_value(digits: &[u8]) -> u64
-    requires short { length digits.now ≤ 16 }
-    requires digits { IsTrue (list_all is_ascii_digit digits.now) }
-    ensures value { result ≡ decimal_value digits.now }
-    ensures bound { result < 10 ^ 16 }
-{
-    let mut value = 0u64;
-    for digit in digits {
-        value = 10 * value + u64::from(*digit - b'0');
-    }
-    value
-}
-
 fn is_clock(text: &[u8]) -> bool
     ensures { result ≡ is_clock text.now }
 {
     match text {
         [h1, h2, b':', m1, m2, b':', s1, s2, b'Z'] => {
-            is_below(24, *h1, *h2) && is_below(60, *m1, *m2) && is_below(60, *s1, *s2)
+            are_below(24, *h1, *h2) && are_below(60, *m1, *m2) && are_below(60, *s1, *s2)
         }
         _ => false,
     }
 }
 
-fn is_below(limit: u8, tens: u8, ones: u8) -> bool
-    ensures { result ≡ is_below limit tens ones }
+fn are_below(limit: u8, tens: u8, ones: u8) -> bool
+    ensures { result ≡ are_below limit tens ones }
 {
     match two_digits(tens, ones) {
         Some(value) => value < limit,
         None => false,
-    }
-}
-
-fn two_digits(tens: u8, ones: u8) -> Option<u8>
-    ensures { result ≡ two_digits tens ones }
-{
-    if tens.is_ascii_digit() && ones.is_ascii_digit() {
-        Some(10 * (tens - b'0') + (ones - b'0'))
-    } else {
-        None
     }
 }

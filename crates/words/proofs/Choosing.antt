@@ -6,7 +6,7 @@ use Rattle.std.proofs.lemmas.Slice.Eq.{bytes_eq-Decides}
 use Rattle.std.specs.List.{AllByRecursion as Each}
 use Rattle.words.specs.Items.{Item, is_value, item}
 use Rattle.words.specs.Options.{Choices, horizon_in, limit_in, nothing_chosen, terms_in, with_export, with_flag, with_horizon, with_item, with_items, with_limit, with_place, with_side, with_state, with_terms, with_value}
-use Rattle.words.specs.Grammar.{IsSetOnce, Say, SaysOnce, has_value, is_flag, is_item, said}
+use Rattle.words.specs.Grammar.{IsSetOnce, Say, SaysOnce, has_value, is_flag, is_item, values_behind}
 
 pub and_left : (a b : Bool) → (a && b) ≡ true → a ≡ true
 and_left true b is = refl
@@ -30,13 +30,13 @@ FlagOn true (x ∷ xs) end = ⊥
 -- the items lead from these choices to those
 record From (c : Choices) (items : List Item) (d : Choices) : Type 0 where
   known : Each (λ (i : Item). is_item i.name i.value ≡ true) items
-  place : GoesOn (λ text. Some text) c.place (said (codes "--from") items) d.place
-  limit : GoesOn limit_in c.limit (said (codes "--max-bytes") items) d.limit
-  terms : GoesOn terms_in c.terms (said (codes "--max-terms") items) d.terms
-  horizon : GoesOn horizon_in c.horizon (said (codes "--horizon") items) d.horizon
-  export : FlagOn c.export (said (codes "--export") items) d.export
-  state : FlagOn c.state (said (codes "--state") items) d.state
-  side : FlagOn c.side (said (codes "--side") items) d.side
+  place : GoesOn (λ text. Some text) c.place (values_behind (codes "--from") items) d.place
+  limit : GoesOn limit_in c.limit (values_behind (codes "--max-bytes") items) d.limit
+  terms : GoesOn terms_in c.terms (values_behind (codes "--max-terms") items) d.terms
+  horizon : GoesOn horizon_in c.horizon (values_behind (codes "--horizon") items) d.horizon
+  export : FlagOn c.export (values_behind (codes "--export") items) d.export
+  state : FlagOn c.state (values_behind (codes "--state") items) d.state
+  side : FlagOn c.side (values_behind (codes "--side") items) d.side
 
 none_more : {A : Type 0} (read : List ℕ → Option A) (v : Option A) → GoesOn read v [] v
 none_more read None = refl
@@ -220,9 +220,9 @@ ended_flag true end goes = sym goes
 module _ (c : Choices) (items : List Item) (d : Choices) (later : (e : Choices) → From e items d → with_items e items ≡ Some d) where
   place_made : (text : List ℕ) → is_value text ≡ true → From c (item (codes "--from") (Some text) ∷ items) d → with_items c (item (codes "--from") (Some text) ∷ items) ≡ Some d
   place_made text fit f =
-      let less : Freed (λ t. Some t) c.place text (said (codes "--from") items) d.place = value_less (λ t. Some t) c.place text (said (codes "--from") items) d.place f.place in
+      let less : Freed (λ t. Some t) c.place text (values_behind (codes "--from") items) d.place = value_less (λ t. Some t) c.place text (values_behind (codes "--from") items) d.place f.place in
       let same : text ≡ less.v = some_is text less.v less.is in
-      let goes : GoesOn (λ t. Some t) (Some text) (said (codes "--from") items) d.place = subst (λ v. GoesOn (λ t. Some t) (Some v) (said (codes "--from") items) d.place) (sym same) less.goes in
+      let goes : GoesOn (λ t. Some t) (Some text) (values_behind (codes "--from") items) d.place = subst (λ v. GoesOn (λ t. Some t) (Some v) (values_behind (codes "--from") items) d.place) (sym same) less.goes in
       let made : with_item c (codes "--from") (Some text) ≡ Some (record c { place = Some text }) =
       ap (λ v. cond (not v) None (with_place c text)) fit ∙ ap (λ (o : Option (List ℕ)). cond (is_none o) (Some (record c { place = Some text })) None) less.none in
       ap (option_and_then (λ e. with_items e items)) made
@@ -233,7 +233,7 @@ module _ (c : Choices) (items : List Item) (d : Choices) (later : (e : Choices) 
 
   limit_made : (text : List ℕ) → is_value text ≡ true → From c (item (codes "--max-bytes") (Some text) ∷ items) d → with_items c (item (codes "--max-bytes") (Some text) ∷ items) ≡ Some d
   limit_made text fit f =
-      let less : Freed limit_in c.limit text (said (codes "--max-bytes") items) d.limit = value_less limit_in c.limit text (said (codes "--max-bytes") items) d.limit f.limit in
+      let less : Freed limit_in c.limit text (values_behind (codes "--max-bytes") items) d.limit = value_less limit_in c.limit text (values_behind (codes "--max-bytes") items) d.limit f.limit in
       let made : with_item c (codes "--max-bytes") (Some text) ≡ Some (record c { limit = Some less.v }) =
       ap (λ v. cond (not v) None (with_limit c (limit_in text))) fit ∙ ap (with_limit c) less.is ∙ ap (λ (o : Option ℕ). cond (is_none o) (Some (record c { limit = Some less.v })) None) less.none in
       ap (option_and_then (λ e. with_items e items)) made
@@ -241,7 +241,7 @@ module _ (c : Choices) (items : List Item) (d : Choices) (later : (e : Choices) 
 
   terms_made : (text : List ℕ) → is_value text ≡ true → From c (item (codes "--max-terms") (Some text) ∷ items) d → with_items c (item (codes "--max-terms") (Some text) ∷ items) ≡ Some d
   terms_made text fit f =
-      let less : Freed terms_in c.terms text (said (codes "--max-terms") items) d.terms = value_less terms_in c.terms text (said (codes "--max-terms") items) d.terms f.terms in
+      let less : Freed terms_in c.terms text (values_behind (codes "--max-terms") items) d.terms = value_less terms_in c.terms text (values_behind (codes "--max-terms") items) d.terms f.terms in
       let made : with_item c (codes "--max-terms") (Some text) ≡ Some (record c { terms = Some less.v }) =
       ap (λ v. cond (not v) None (with_terms c (terms_in text))) fit ∙ ap (with_terms c) less.is ∙ ap (λ (o : Option ℕ). cond (is_none o) (Some (record c { terms = Some less.v })) None) less.none in
       ap (option_and_then (λ e. with_items e items)) made
@@ -249,7 +249,7 @@ module _ (c : Choices) (items : List Item) (d : Choices) (later : (e : Choices) 
 
   horizon_made : (text : List ℕ) → is_value text ≡ true → From c (item (codes "--horizon") (Some text) ∷ items) d → with_items c (item (codes "--horizon") (Some text) ∷ items) ≡ Some d
   horizon_made text fit f =
-      let less : Freed horizon_in c.horizon text (said (codes "--horizon") items) d.horizon = value_less horizon_in c.horizon text (said (codes "--horizon") items) d.horizon f.horizon in
+      let less : Freed horizon_in c.horizon text (values_behind (codes "--horizon") items) d.horizon = value_less horizon_in c.horizon text (values_behind (codes "--horizon") items) d.horizon f.horizon in
       let made : with_item c (codes "--horizon") (Some text) ≡ Some (record c { horizon = Some less.v }) =
       ap (λ v. cond (not v) None (with_horizon c (horizon_in text))) fit ∙ ap (with_horizon c) less.is ∙ ap (λ (o : Option ℕ). cond (is_none o) (Some (record c { horizon = Some less.v })) None) less.none in
       ap (option_and_then (λ e. with_items e items)) made
@@ -257,19 +257,19 @@ module _ (c : Choices) (items : List Item) (d : Choices) (later : (e : Choices) 
 
   export_made : From c (item (codes "--export") None ∷ items) d → with_items c (item (codes "--export") None ∷ items) ≡ Some d
   export_made f =
-      let less = flag_less c.export None (said (codes "--export") items) d.export f.export in
+      let less = flag_less c.export None (values_behind (codes "--export") items) d.export f.export in
       ap (λ b. option_and_then (λ e. with_items e items) (cond b None (Some (record c { export = true })))) less.0
       ∙ later (record c { export = true }) (record { known = f.known.1; place = f.place; limit = f.limit; terms = f.terms; horizon = f.horizon; export = less.1; state = f.state; side = f.side })
 
   state_made : From c (item (codes "--state") None ∷ items) d → with_items c (item (codes "--state") None ∷ items) ≡ Some d
   state_made f =
-      let less = flag_less c.state None (said (codes "--state") items) d.state f.state in
+      let less = flag_less c.state None (values_behind (codes "--state") items) d.state f.state in
       ap (λ b. option_and_then (λ e. with_items e items) (cond b None (Some (record c { state = true })))) less.0
       ∙ later (record c { state = true }) (record { known = f.known.1; place = f.place; limit = f.limit; terms = f.terms; horizon = f.horizon; export = f.export; state = less.1; side = f.side })
 
   side_made : From c (item (codes "--side") None ∷ items) d → with_items c (item (codes "--side") None ∷ items) ≡ Some d
   side_made f =
-      let less = flag_less c.side None (said (codes "--side") items) d.side f.side in
+      let less = flag_less c.side None (values_behind (codes "--side") items) d.side f.side in
       ap (λ b. option_and_then (λ e. with_items e items) (cond b None (Some (record c { side = true })))) less.0
       ∙ later (record c { side = true }) (record { known = f.known.1; place = f.place; limit = f.limit; terms = f.terms; horizon = f.horizon; export = f.export; state = f.state; side = less.1 })
 

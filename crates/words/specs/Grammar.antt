@@ -34,9 +34,9 @@ is_item name None = is_flag name
 is_item name (Some value) = has_value name && is_value value
 
 -- the values that stand behind a name, one for each time that it stands there
-abbrev pub said : List ℕ → List Item → List (Option (List ℕ))
-said name [] = []
-said name (i ∷ is) = cond (bytes_eq i.name name) (i.value ∷ said name is) (said name is)
+abbrev pub values_behind : List ℕ → List Item → List (Option (List ℕ))
+values_behind name [] = []
+values_behind name (i ∷ is) = cond (bytes_eq i.name name) (i.value ∷ values_behind name is) (values_behind name is)
 
 -- a value stands there at most once, and says this
 abbrev pub SaysOnce : {A : Type 0} → (List ℕ → Option A) → List (Option (List ℕ)) → Option A → Type 0
@@ -54,13 +54,13 @@ IsSetOnce (one ∷ next ∷ others) wanted = ⊥
 -- the items say these choices
 pub record Say (items : List Item) (c : Choices) : Type 0 where
   pub known : Each (λ (i : Item). is_item i.name i.value ≡ true) items
-  pub place : SaysOnce (λ text. Some text) (said (codes "--from") items) c.place
-  pub limit : SaysOnce limit_in (said (codes "--max-bytes") items) c.limit
-  pub terms : SaysOnce terms_in (said (codes "--max-terms") items) c.terms
-  pub horizon : SaysOnce horizon_in (said (codes "--horizon") items) c.horizon
-  pub export : IsSetOnce (said (codes "--export") items) c.export
-  pub state : IsSetOnce (said (codes "--state") items) c.state
-  pub side : IsSetOnce (said (codes "--side") items) c.side
+  pub place : SaysOnce (λ text. Some text) (values_behind (codes "--from") items) c.place
+  pub limit : SaysOnce limit_in (values_behind (codes "--max-bytes") items) c.limit
+  pub terms : SaysOnce terms_in (values_behind (codes "--max-terms") items) c.terms
+  pub horizon : SaysOnce horizon_in (values_behind (codes "--horizon") items) c.horizon
+  pub export : IsSetOnce (values_behind (codes "--export") items) c.export
+  pub state : IsSetOnce (values_behind (codes "--state") items) c.state
+  pub side : IsSetOnce (values_behind (codes "--side") items) c.side
 
 -- the words are `replay` and such items, in any order
 pub record IsReplay (words : List (List ℕ)) (c : Choices) : Type 0 where

@@ -1,22 +1,15 @@
 -- What is gathered over the ids of the records is what is gathered over their entries.
-use Rattle.std.proofs.Common.{refl, ◌∙◌, ap, ◌≡◌, Bool, true, false, T, ◌&&◌, List, [], ◌∷◌, ◌++◌, Option, Some, map, Ordering, Less, Equal, Greater}
+use Rattle.std.proofs.Common.{refl, ◌∙◌, ap, ◌≡◌, true, false, T, List, [], ◌∷◌, ◌++◌, Option, Some, map, Ordering, Less, Equal, Greater}
 use Rattle.std.specs.List.{flat_map}
 use Rattle.std.specs.Ordering.{eq_by_cmp, is_eq, is_lt, ordering_reverse}
 use Rattle.std.specs.Cmp.{IsTotalOrder, eq_by_cmp_equiv}
 use Rattle.std.specs.FinMap as fin
 use Rattle.std.specs.FinMap.Entries.{find, is_sorted, below_all}
+use Rattle.slot_index.proofs.Mapped.{and_first, and_second}
 use Rattle.entity_model.specs.declared.id.EntityId.{EntityId}
 use Rattle.entity_model.specs.EntityId.{entity_cmp, entity_cmp_total}
 use Rattle.entity_state.specs.declared.record.Record.{Record}
 use Rattle.replay_model.specs.Records.{Bytes, Records}
-
-first : (a b : Bool) → T (a && b) → T a
-first true b h = tt
-first false b h = h
-
-second : (a b : Bool) → T (a && b) → T b
-second true b h = h
-second false b h = absurd h
 
 module _ {K X B : Type 0} {R : K → K → Ordering} (o : IsTotalOrder R) (g : K → Option X → List B) where
   -- a key above another isn't equal to it
@@ -31,15 +24,15 @@ module _ {K X B : Type 0} {R : K → K → Ordering} (o : IsTotalOrder R) (g : K
       flat_map (λ e. g e.0 (find R e.0 ((k, v) ∷ es))) others ≡ flat_map (λ e. g e.0 (find R e.0 es)) others
   past k v es [] below = refl
   past k v es (e ∷ others) below =
-      let other : eq_by_cmp R e.0 k ≡ false = apart k e.0 (first (is_lt (R k e.0)) (below_all R k others) below) in
-      rw (other, past k v es others (second (is_lt (R k e.0)) (below_all R k others) below)) refl
+      let other : eq_by_cmp R e.0 k ≡ false = apart k e.0 (and_first (is_lt (R k e.0)) (below_all R k others) below) in
+      rw (other, past k v es others (and_second (is_lt (R k e.0)) (below_all R k others) below)) refl
 
   found : (es : List (K × X)) → T (is_sorted R es) → flat_map (λ e. g e.0 (find R e.0 es)) es ≡ flat_map (λ e. g e.0 (Some e.1)) es
   found [] sorted = refl
   found (e ∷ es) sorted =
       let here : eq_by_cmp R e.0 e.0 ≡ true = (eq_by_cmp_equiv o).refl e.0 in
-      let below = first (below_all R e.0 es) (is_sorted R es) sorted in
-      let rest = second (below_all R e.0 es) (is_sorted R es) sorted in
+      let below = and_first (below_all R e.0 es) (is_sorted R es) sorted in
+      let rest = and_second (below_all R e.0 es) (is_sorted R es) sorted in
       rw (here, past e.0 e.1 es es below, found es rest) refl
 
   over_keys : (h : K → List B) (es : List (K × X)) → flat_map h (map (λ (e : K × X). e.0) es) ≡ flat_map (λ e. h e.0) es

@@ -68,9 +68,9 @@ some_is : (o : Option Bytes) → is_some o ≡ true → o ≡ Some (unwrap_or o 
 some_is None h = absurd (true≢false (sym h))
 some_is (Some v) h = refl
 
-abbrev content_of : Option (Held Bytes) → Bytes
-content_of None = []
-content_of (Some h) = h.content
+abbrev content_held : Option (Held Bytes) → Bytes
+content_held None = []
+content_held (Some h) = h.content
 
 module _ (m : Meaning Triple) (st : Store) (r : Texts) (kept : KeptRecords) (h : IsKept m st r kept) where
   abbrev slot_term : ℕ → Option Term
@@ -140,7 +140,7 @@ module _ (m : Meaning Triple) (st : Store) (r : Texts) (kept : KeptRecords) (h :
   page_by x hb (Some hk) e is =
       let at : piece_at kept x ≡ Some hk.content.piece = ap piece_held e in
       let live : is_some (beside st r hk.content.piece) ≡ true = h.held.live x hk.content.piece at in
-      (hk.content.piece, at, sym (live_beside st.pool r hk.content.piece live) ∙ some_is (beside st r hk.content.piece) live ∙ ap (λ z. Some z) (ap content_of is))
+      (hk.content.piece, at, sym (live_beside st.pool r hk.content.piece live) ∙ some_is (beside st r hk.content.piece) live ∙ ap (λ z. Some z) (ap content_held is))
 
   page_there : (x : EntityId) (piece : Piece) (found : Option (Held Kept)) → (kept_of kept x).held ≡ found → piece_held found ≡ Some piece → (hb : Held Bytes) × ((record_of (seen st r kept) x).held ≡ Some hb)
   page_there x piece None e is = absurd (true≢false (sym (ap is_some is)))

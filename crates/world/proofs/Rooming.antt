@@ -39,7 +39,8 @@ use Rattle.world.specs.Keeping.{KeptRecords, record_with, seen}
 use Rattle.world.specs.Meaning.{meaning}
 use Rattle.world.specs.Roomed.{HasRoom, room_with, triples_of_reply}
 use Rattle.world.proofs.Owning.{countable}
-use Rattle.world.proofs.Values.{rising_keys, values_len}
+use Rattle.slot_index.proofs.Mapped.{rising_keys}
+use Rattle.world.proofs.Values.{values_len}
 
 -- a triple is stored where it has an owner
 stored : (counts : Counts) (t : Triple) → HaveOwners counts → map.contains_key counts t ≡ nat_lt 0 (count_of counts t)

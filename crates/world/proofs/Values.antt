@@ -1,39 +1,15 @@
 -- A map with other values at its keys.
-use Rattle.std.proofs.Common.{◌≡◌, Bool, true, false, cond, ◌&&◌, T, List, [], ◌∷◌, Option, Some, None, Ordering, Less, Equal, Greater, is_lt, is_some, length, refl, sym, ◌∙◌, ap}
+use Rattle.std.proofs.Common.{◌≡◌, Bool, true, false, cond, List, [], ◌∷◌, Option, Some, None, is_some, length, refl, sym, ◌∙◌, ap}
 use Rattle.std.specs.Prelude.{map as mapped}
 use Rattle.std.specs.FinMap as map
 use Rattle.std.specs.FinMap.{find}
-use Rattle.std.specs.FinMap.Entries.{is_sorted, below_all}
 use Rattle.std.specs.Ordering.{eq_by_cmp}
 use Rattle.std.proofs.lemmas.List.{length-map}
-use Rattle.rising.specs.Rising.{Above, IsRising}
 use Rattle.rising.proofs.Rising.{same_rising}
+use Rattle.slot_index.proofs.Mapped.{rising_keys}
 use Rattle.entity_model.specs.declared.id.EntityId.{EntityId}
 use Rattle.entity_model.specs.EntityId.{entity_cmp, entity_cmp_total, entity_cmp_same}
 use Rattle.world.specs.Keeping.{with_values}
-
-first : (a b : Bool) → T (a && b) → T a
-first true b h = tt
-first false b h = h
-
-second : (a b : Bool) → T (a && b) → T b
-second true b h = h
-second false b h = absurd h
-
-less : (r : Ordering) → T (is_lt r) → r ≡ Less
-less Less h = refl
-less Equal h = absurd h
-less Greater h = absurd h
-
-module _ {K X : Type 0} (R : K → K → Ordering) where
-  above_keys : (k : K) (es : List (K × X)) → T (below_all R k es) → Above R k (mapped (λ e. e.0) es)
-  above_keys k [] h = tt
-  above_keys k (e ∷ es) h = (less _ (first _ _ h), above_keys k es (second _ _ h))
-
-  -- the keys of sorted entries rise
-  pub rising_keys : (es : List (K × X)) → T (is_sorted R es) → IsRising R (mapped (λ e. e.0) es)
-  rising_keys [] h = tt
-  rising_keys (e ∷ es) h = (above_keys e.0 es (first _ _ h), rising_keys es (second _ _ h))
 
 module _ {X Y : Type 0} where
   -- the value that comes of one, if there is one

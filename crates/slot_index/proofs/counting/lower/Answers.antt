@@ -1,7 +1,8 @@
 -- A count above 1 is written through, and else the triple is taken out.
 use Rattle.std.proofs.Common.{◌-◌, Some, ◌∙◌, sym, ap, is_some, arith}
 use Rattle.slot_index.specs.Counts.{counts_of, with_count}
-use Rattle.slot_index.proofs.Owners.{found, kept_some, written, taken_out, not_lowered}
+use Rattle.slot_index.proofs.Owners.{found, written, taken_out, not_lowered}
+use Rattle.slot_index.proofs.Raising.{kept_some}
 use Rattle.slot_index.proofs.counting.lower.Goals as goal
 
 pub returns-in-Some : goal.returns-in-Some

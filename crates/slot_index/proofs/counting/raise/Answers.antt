@@ -1,7 +1,8 @@
 -- A count that is there is written through, and a new one is put in.
 use Rattle.std.proofs.Common.{◌+◌, Some, None, ◌∙◌, sym, ap, is_some, arith}
 use Rattle.slot_index.specs.Counts.{counts_of, with_count}
-use Rattle.slot_index.proofs.Owners.{found, kept_some, written}
+use Rattle.slot_index.proofs.Owners.{found, written}
+use Rattle.slot_index.proofs.Raising.{kept_some}
 use Rattle.slot_index.proofs.counting.raise.Goals as goal
 
 pub overflow_add-count : goal.overflow_add-count

@@ -1,7 +1,7 @@
 use Rattle.std.proofs.Common.{◌≡◌, ◌++◌, [], ◌∷◌, ◌∙◌, ap, w64, to_z-of_z, FitsSigned, rules, string_bytes, unsigned_abs}
 use Rattle.std.specs.Fmt.{styled_decimal}
 use Rattle.wb_values.specs.Literal.{sign_text}
-use Rattle.wb_values.proofs.LiteralLemmas.{four_digits, two_digits, date_time_text_is}
+use Rattle.wb_values.proofs.LiteralLemmas.{padded_to_four, padded_to_two, date_time_text_is}
 use Rattle.wb_values.proofs.literal.date_time_text.Goals as goal
 use Rattle.wb_values.proofs.literal.date_time_text.Goals.{then-date-lt0, else-date-lt0}
 
@@ -15,4 +15,4 @@ returns c =
       | then-date-lt0 w ↦ ap (λ s. s.now) w.sign-is ∙ rw (rw year at w.if-date-lt0.true)
       | else-date-lt0 w ↦ ap (λ s. s.now) w.sign-is ∙ rw (rw year at w.if-date-lt0.false)
     ] in
-    c.from_string.ensures ∙ written ∙ rw (c.in_ok-text.ensures.bytes, c.laid_out.ensures, c.laid_out-2.ensures, c.laid_out-3.ensures, four_digits, two_digits, two_digits, c.unsigned_abs-year.ensures.value ∙ ap unsigned_abs year) (date_time_text_is date c.args.clock.now _ sign)
+    c.from_string.ensures ∙ written ∙ rw (c.in_ok-text.ensures.bytes, c.laid_out.ensures, c.laid_out-2.ensures, c.laid_out-3.ensures, padded_to_four, padded_to_two, padded_to_two, c.unsigned_abs-year.ensures.value ∙ ap unsigned_abs year) (date_time_text_is date c.args.clock.now _ sign)

@@ -1,6 +1,6 @@
 use Rattle.std.proofs.Common.{◌≡◌, ◌<◌, ◌^◌, take}
-use Rattle.wb_values.specs.Written.{decimal_value}
-use Rattle.wb_values.proofs.written.decimal_value.Given as goal
+use Rattle.digits.specs.Number.{decimal_value}
+use Rattle.digits.proofs.number.decimal_value.Given as goal
 
 abbrev pub invariant-loop-digit : goal.invariant-loop-digit
 invariant-loop-digit l = record {

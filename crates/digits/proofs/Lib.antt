@@ -1,0 +1,4 @@
+pub mod Choices
+pub mod Decimals
+pub mod Pairs
+pub mod Places
