@@ -28,7 +28,7 @@ pub record Passed (members rest : List Member) (flags : List Bool) (seen : BTree
   pub flagged : reverse flags ≡ lasts (members_of passed)
   pub are_seen : (key : Bor (List ℕ)) → has seen key ≡ has_key key.now (members_of passed)
 
-pub member_view-is : (m : Member) → member_view m ≡ (m.key, json_view m.value)
+pub member_view-is : (m : Member) → member_view m ≡ (m.key.now, json_view m.value)
 member_view-is m = search (rules, the_lemmas)
 
 cond_or : (b c : Bool) → cond b true c ≡ (b || c)
@@ -36,14 +36,14 @@ cond_or true c = refl
 cond_or false c = refl
 
 -- one member more in front of those passed
-has_key-first : (key : List ℕ) (m : Member) (ms : List Member) → has_key key (members_of (m ∷ ms)) ≡ (bytes_eq m.key key || has_key key (members_of ms))
+has_key-first : (key : List ℕ) (m : Member) (ms : List Member) → has_key key (members_of (m ∷ ms)) ≡ (bytes_eq m.key.now key || has_key key (members_of ms))
 has_key-first key m ms = ap (λ p. bytes_eq p.0 key || has_key key (members_of ms)) (member_view-is m)
 
 rest-is : (members before : List Member) (m : Member) (rest passed : List Member) → rest ≡ before ++ m ∷ [] → members ≡ rest ++ passed → members ≡ before ++ m ∷ passed
 rest-is members before m rest passed e is = is ∙ ap (λ r. r ++ passed) e ∙ append_assoc before (m ∷ []) passed
 
-pub passed_more : (members before rest : List Member) (m : Member) (flags : List Bool) (flag : Bool) (seen new : BTreeSet (Bor (List ℕ))) (key : Bor (List ℕ))
-    → Passed members rest flags seen → rest ≡ before ++ m ∷ [] → key.now ≡ m.key → flag ≡ not (has seen key)
+passed_more : (members before rest : List Member) (m : Member) (flags : List Bool) (flag : Bool) (seen new : BTreeSet (Bor (List ℕ))) (key : Bor (List ℕ))
+    → Passed members rest flags seen → rest ≡ before ++ m ∷ [] → key.now ≡ m.key.now → flag ≡ not (has seen key)
     → ((q : Bor (List ℕ)) → has new q ≡ cond (is_eq (slice_cmp nat_cmp key.now q.now)) true (has seen q)) → Passed members before (flags ++ flag ∷ []) new
 passed_more members before rest m flags flag seen new key p e same flag_is update =
     let known : has seen key ≡ has_key (member_view m).0 (members_of p.passed) =
@@ -53,7 +53,7 @@ passed_more members before rest m flags flag seen new key p e same flag_is updat
       is = rest-is members before m rest p.passed e p.is;
       flagged = reverse-append flags (flag ∷ []) ∙ ap (λ b. b ∷ reverse flags) (flag_is ∙ ap not known) ∙ ap (λ bs. not (has_key (member_view m).0 (members_of p.passed)) ∷ bs) p.flagged;
       are_seen = λ q. update q ∙ ap (λ b. cond b true (has seen q)) (is_eq-slice_cmp key.now q.now) ∙ ap (λ b. cond (bytes_eq key.now q.now) true b) (p.are_seen q)
-          ∙ ap (λ k. cond (bytes_eq k q.now) true (has_key q.now (members_of p.passed))) same ∙ cond_or (bytes_eq m.key q.now) (has_key q.now (members_of p.passed)) ∙ sym (has_key-first q.now m p.passed);
+          ∙ ap (λ k. cond (bytes_eq k q.now) true (has_key q.now (members_of p.passed))) same ∙ cond_or (bytes_eq m.key.now q.now) (has_key q.now (members_of p.passed)) ∙ sym (has_key-first q.now m p.passed);
     }
 
 -- where nothing is left, all are flagged
@@ -67,5 +67,10 @@ ends-at zero (y ∷ []) x e = refl
 ends-at zero (y ∷ z ∷ xs) x e = absurd (omega (arith, e))
 ends-at (suc n) (y ∷ xs) x e = ap (λ r. y ∷ r) (ends-at n xs x (omega (arith, e)))
 
-pub last-there : {A : Type 0} (xs : List A) (x : A) → 1 ≤ length xs → x ≡ get_or xs (length xs - 1) x → xs ≡ take (length xs - 1) xs ++ x ∷ []
-last-there xs x some is = ends-at (length xs - 1) xs x (omega (arith, some)) ∙ ap (λ y. take (length xs - 1) xs ++ y ∷ []) (sym is)
+-- the last member of those left goes over to those passed
+pub passed_last : (members rest : List Member) (none : Member) (flags : List Bool) (flag : Bool) (seen new : BTreeSet (Bor (List ℕ))) (key : Bor (List ℕ))
+    → Passed members rest flags seen → 1 ≤ length rest → key.now ≡ (get_or rest (length rest - 1) none).key.now → flag ≡ not (has seen key)
+    → ((q : Bor (List ℕ)) → has new q ≡ cond (is_eq (slice_cmp nat_cmp key.now q.now)) true (has seen q)) → Passed members (take (length rest - 1) rest) (flags ++ flag ∷ []) new
+passed_last members rest none flags flag seen new key p some same flag_is update =
+    passed_more members (take (length rest - 1) rest) rest (get_or rest (length rest - 1) none) flags flag seen new key p
+    (ends-at (length rest - 1) rest none (omega (arith, some))) same flag_is update

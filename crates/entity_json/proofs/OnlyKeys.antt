@@ -72,18 +72,18 @@ two-keys (p ∷ xs) k t e = at (has_key p.0 (with_last xs k t)) refl (λ more. t
     at false h behind = let s = some-entry xs k t in ap (λ es. sole ((p.0, p.1) ∷ es)) s.2
 
 -- the same of the members of an object
-last-is : (items before : List Member) (m : Member) → items ≡ before ++ m ∷ [] → pairs_of (map member_view items) ≡ with_last (map member_view before) m.key (json_view m.value)
+last-is : (items before : List Member) (m : Member) → items ≡ before ++ m ∷ [] → pairs_of (map member_view items) ≡ with_last (map member_view before) m.key.now (json_view m.value)
 last-is items before m e =
     ap (λ ms. pairs_of (map member_view ms)) e ∙ ap pairs_of (map-append member_view before (m ∷ []) ∙ ap (λ v. map member_view before ++ v ∷ []) (member_view-is m))
 
-pub only-none : (t : Tree) (items before : List Member) (m : Member) (key : List ℕ) (b : Bool) → t ≡ object (pairs_of (map member_view items)) → items ≡ before ++ m ∷ [] → key ≡ m.key
+pub only-none : (t : Tree) (items before : List Member) (m : Member) (key : List ℕ) (b : Bool) → t ≡ object (pairs_of (map member_view items)) → items ≡ before ++ m ∷ [] → key ≡ m.key.now
     → b ≡ has_other_key key (pairs_of (map member_view before)) → b ≡ true → only_of t ≡ None
 only-none t items before m key b t_is e same b_is more =
     ap only_of t_is ∙ ap (λ ps. sole (entries ps)) (last-is items before m e)
-    ∙ two-keys (map member_view before) m.key (json_view m.value) (ap (λ k. has_other_key k (pairs_of (map member_view before))) (sym same) ∙ sym b_is ∙ more)
+    ∙ two-keys (map member_view before) m.key.now (json_view m.value) (ap (λ k. has_other_key k (pairs_of (map member_view before))) (sym same) ∙ sym b_is ∙ more)
 
-pub only-some : (t : Tree) (items before : List Member) (m : Member) (key : List ℕ) (b : Bool) → t ≡ object (pairs_of (map member_view items)) → items ≡ before ++ m ∷ [] → key ≡ m.key
+pub only-some : (t : Tree) (items before : List Member) (m : Member) (key : List ℕ) (b : Bool) → t ≡ object (pairs_of (map member_view items)) → items ≡ before ++ m ∷ [] → key ≡ m.key.now
     → b ≡ has_other_key key (pairs_of (map member_view before)) → b ≡ false → only_of t ≡ Some (json_view m.value)
 only-some t items before m key b t_is e same b_is none =
     ap only_of t_is ∙ ap (λ ps. sole (entries ps)) (last-is items before m e)
-    ∙ ap sole (one-key (map member_view before) m.key (json_view m.value) (ap (λ k. has_other_key k (pairs_of (map member_view before))) (sym same) ∙ sym b_is ∙ none))
+    ∙ ap sole (one-key (map member_view before) m.key.now (json_view m.value) (ap (λ k. has_other_key k (pairs_of (map member_view before))) (sym same) ∙ sym b_is ∙ none))

@@ -7,6 +7,7 @@ ghost use Rattle.entity_json.specs.Document.{own_document};
 
 use crate::fault::DocumentFault;
 use crate::page::{Page, page_of};
+use bumpalo::Bump;
 use entity_model::{Document, EntityId, Unfit};
 use json_spell::read;
 use std::alloc::Global;
@@ -43,6 +44,7 @@ pub fn document<'a>(
     if bytes.len() > PAGE_LIMIT {
         return Err(DocumentFault::Unfit(Unfit::Large));
     }
-    let json = read(alloc, bytes)?;
+    let arena = Bump::new(alloc);
+    let json = read(&arena, bytes)?;
     own_document(id, page_of(alloc, &json)?)
 }

@@ -17,7 +17,7 @@ use std::alloc::Global;
 
 // How many members a map may have for each key to be looked for in the members that follow. With more of them that
 // would take too long, and the keys are put into a set.
-const FEW: usize = 8;
+const FEW: usize = 32;
 
 // Reads one value of an array, by its place from 0, and puts what it is at the end of `out`.
 pub trait ItemReader<'a, T: Drop> {
@@ -27,7 +27,7 @@ pub trait ItemReader<'a, T: Drop> {
         &self,
         alloc: Global,
         place: usize,
-        json: &Json<'a>,
+        json: &Json<'_, 'a>,
         out: &mut List<T>,
     ) -> Result<(), PartFault>
         ensures { Makes result out.new (reads self.now (place, json_view json.now) out.old) };
@@ -37,7 +37,12 @@ pub trait ItemReader<'a, T: Drop> {
 pub trait EntryReader<'a, T: Drop> {
     ghost reads: { Self → Items ℕ × Tree → Items T → Option (Items T) };
 
-    fn read(&self, alloc: Global, entry: &Member<'a>, out: &mut List<T>) -> Result<(), PartFault>
+    fn read(
+        &self,
+        alloc: Global,
+        entry: &Member<'_, 'a>,
+        out: &mut List<T>,
+    ) -> Result<(), PartFault>
         ensures { Makes result out.new (reads self.now (member_view entry.now) out.old) };
 }
 
@@ -45,7 +50,7 @@ pub trait EntryReader<'a, T: Drop> {
 pub fn each_item<'a, T: Drop, R: ItemReader<'a, T>>(
     alloc: Global,
     reader: &R,
-    items: &[Json<'a>],
+    items: &[Json<'_, 'a>],
     out: &mut List<T>,
 ) -> Result<(), PartFault>
     ensures { Makes result out.new (steps (R.reads reader.now) (numbered 0 (map json_view items.now)) out.old) }
@@ -60,7 +65,7 @@ pub fn each_item<'a, T: Drop, R: ItemReader<'a, T>>(
 pub fn each_found_item<'a, T: Drop, R: ItemReader<'a, T>>(
     alloc: Global,
     reader: &R,
-    items: Option<&[Json<'a>]>,
+    items: Option<&[Json<'_, 'a>]>,
     out: &mut List<T>,
 ) -> Result<(), PartFault>
     ensures { Makes result out.new (steps (R.reads reader.now) (numbered 0 (found_items items.entry)) out.old) }
@@ -75,14 +80,14 @@ pub fn each_found_item<'a, T: Drop, R: ItemReader<'a, T>>(
 fn each_of_few<'a, T: Drop, R: EntryReader<'a, T>>(
     alloc: Global,
     reader: &R,
-    members: &[Member<'a>],
+    members: &[Member<'_, 'a>],
     out: &mut List<T>,
 ) -> Result<(), PartFault>
     ensures { Makes result out.new (steps (R.reads reader.now) (entries (pairs_of (map member_view members.now))) out.old) }
 {
     let mut left = members;
     while let [member, rest @ ..] = left {
-        if !has_key(rest, member.key.as_str()) {
+        if !has_key(rest, member.key) {
             reader.read(alloc, member, out)?;
         }
         left = rest;
@@ -94,7 +99,7 @@ fn each_of_few<'a, T: Drop, R: EntryReader<'a, T>>(
 fn each_of_many<'a, T: Drop, R: EntryReader<'a, T>>(
     alloc: Global,
     reader: &R,
-    members: &[Member<'a>],
+    members: &[Member<'_, 'a>],
     out: &mut List<T>,
 ) -> Result<(), PartFault>
     ensures { Makes result out.new (steps (R.reads reader.now) (entries (pairs_of (map member_view members.now))) out.old) }
@@ -114,7 +119,7 @@ fn each_of_many<'a, T: Drop, R: EntryReader<'a, T>>(
 pub fn each_found_entry<'a, T: Drop, R: EntryReader<'a, T>>(
     alloc: Global,
     reader: &R,
-    members: Option<&[Member<'a>]>,
+    members: Option<&[Member<'_, 'a>]>,
     out: &mut List<T>,
 ) -> Result<(), PartFault>
     ensures { Makes result out.new (steps (R.reads reader.now) (found_entries members.entry) out.old) }

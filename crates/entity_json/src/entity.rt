@@ -27,10 +27,10 @@ fn kind_of_type(name: &str) -> Option<IdKind>
 
 // The kind of the entity whose page it is.
 #[tactic(auto, unfolding(crate::specs::Reading::Pages::page_kind))]
-fn page_kind(json: &Json<'_>) -> Result<IdKind, PartFault>
+fn page_kind(json: &Json<'_, '_>) -> Result<IdKind, PartFault>
     ensures { Finds result (page_kind (json_view json.now)) }
 {
-    match kind_of_type(text_at(json, "type")?.as_str()) {
+    match kind_of_type(text_at(json, "type")?) {
         Some(kind) => Ok(kind),
         None => Err(PartFault::Shape),
     }
@@ -40,7 +40,7 @@ fn page_kind(json: &Json<'_>) -> Result<IdKind, PartFault>
 fn datatype_by_kind<'a>(
     alloc: Global,
     kind: IdKind,
-    json: &Json<'a>,
+    json: &Json<'_, 'a>,
 ) -> Result<Option<Piece<'a>>, PartFault>
     ensures { Finds result (datatype_by_kind kind (json_view json.now)) }
 {
@@ -54,7 +54,7 @@ fn datatype_by_kind<'a>(
 fn links_by_kind<'a>(
     alloc: Global,
     kind: IdKind,
-    json: &Json<'a>,
+    json: &Json<'_, 'a>,
 ) -> Result<List<Link<'a>>, PartFault>
     ensures { Finds result (links_by_kind kind (json_view json.now)) }
 {
@@ -66,7 +66,7 @@ fn links_by_kind<'a>(
 
 // An item or a property.
 #[tactic(auto, unfolding(crate::specs::Reading::Pages::entity_of))]
-pub fn entity_of<'a>(alloc: Global, json: &Json<'a>) -> Result<Entity<'a>, PartFault>
+pub fn entity_of<'a>(alloc: Global, json: &Json<'_, 'a>) -> Result<Entity<'a>, PartFault>
     ensures { Finds result (entity_of (json_view json.now)) }
 {
     let kind = page_kind(json)?;

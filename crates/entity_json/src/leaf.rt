@@ -10,11 +10,14 @@ ghost use Rattle.entity_json.specs.Leaves.{text_of, number_of, list_of, text_at,
 use crate::part::PartFault;
 use entity_model::{EntityId, IdKind};
 use json_spell::Json;
-use rdf_term::Piece;
+use rdf_term::{Piece, Text};
 use std::alloc::Global;
 
 // The member with the name.
-pub fn member_at<'m, 'a>(json: &'m Json<'a>, name: &str) -> Result<&'m Json<'a>, PartFault>
+pub fn member_at<'m, 'b, 'a>(
+    json: &'m Json<'b, 'a>,
+    name: &str,
+) -> Result<&'m Json<'b, 'a>, PartFault>
     ensures { FindsBy (λ value. json_view value.now) result (member_of name.now (json_view json.now)) }
 {
     match json.get(name) {
@@ -24,41 +27,57 @@ pub fn member_at<'m, 'a>(json: &'m Json<'a>, name: &str) -> Result<&'m Json<'a>,
 }
 
 // A text.
-pub fn text_of<'m, 'a>(json: &'m Json<'a>) -> Result<&'m Piece<'a>, PartFault>
+pub fn text_of<'m>(json: &'m Json<'_, '_>) -> Result<&'m str, PartFault>
     ensures { FindsBy (λ text. text.now) result (text_of (json_view json.now)) }
 {
     match json {
         Json::Str(text) => Ok(text),
+        Json::Made(text) => Ok(text),
+        _ => Err(PartFault::Shape),
+    }
+}
+
+// A copy of a text, which borrows it where it is a part of the page.
+pub fn copy_text<'a>(alloc: Global, json: &Json<'_, 'a>) -> Result<Piece<'a>, PartFault>
+    ensures { Finds result (text_of (json_view json.now)) }
+{
+    match json {
+        Json::Str(text) => Ok(Piece::borrowed(text)),
+        Json::Made(text) => Ok(Piece::owned(Text::new(alloc, text)?)),
         _ => Err(PartFault::Shape),
     }
 }
 
 // The values of an array.
-pub fn list_of<'m, 'a>(json: &'m Json<'a>) -> Result<&'m [Json<'a>], PartFault>
+pub fn list_of<'m, 'b, 'a>(json: &'m Json<'b, 'a>) -> Result<&'m [Json<'b, 'a>], PartFault>
     ensures { FindsBy (λ items. map json_view items.now) result (list_of (json_view json.now)) }
 {
     match json {
-        Json::Items(items) => Ok(items.as_slice()),
+        Json::Items(items) => Ok(items),
         _ => Err(PartFault::Shape),
     }
 }
 
 // The member with the name that is a text.
-pub fn text_at<'m, 'a>(json: &'m Json<'a>, name: &str) -> Result<&'m Piece<'a>, PartFault>
+pub fn text_at<'m>(json: &'m Json<'_, '_>, name: &str) -> Result<&'m str, PartFault>
     ensures { FindsBy (λ text. text.now) result (text_at name.now (json_view json.now)) }
 {
     text_of(member_at(json, name)?)
 }
 
 // A copy of the member with the name that is a text.
-pub fn copy_text_at<'a>(alloc: Global, json: &Json<'a>, name: &str) -> Result<Piece<'a>, PartFault>
+pub fn copy_text_at<'a>(
+    alloc: Global,
+    json: &Json<'_, 'a>,
+    name: &str,
+) -> Result<Piece<'a>, PartFault>
     ensures { Finds result (text_at name.now (json_view json.now)) }
 {
-    Ok(text_at(json, name)?.copy(alloc)?)
+    copy_text(alloc, member_at(json, name)?)
 }
 
 // A number, as it is spelled.
-pub fn number_of<'m, 'a>(json: &'m Json<'a>) -> Result<&'m Piece<'a>, PartFault>
+pub fn number_of<'a>(json: &Json<'_, 'a>) -> Result<&'a str, PartFault>
     ensures { FindsBy (λ text. text.now) result (number_of (json_view json.now)) }
 {
     match json {
@@ -68,56 +87,51 @@ pub fn number_of<'m, 'a>(json: &'m Json<'a>) -> Result<&'m Piece<'a>, PartFault>
 }
 
 // The member with the name that is a number.
-pub fn number_at<'m, 'a>(json: &'m Json<'a>, name: &str) -> Result<&'m Piece<'a>, PartFault>
+pub fn number_at<'a>(json: &Json<'_, 'a>, name: &str) -> Result<&'a str, PartFault>
     ensures { FindsBy (λ text. text.now) result (number_at name.now (json_view json.now)) }
 {
     number_of(member_at(json, name)?)
 }
 
-// A copy of the member with the name that is a number.
-pub fn copy_number_at<'a>(
-    alloc: Global,
-    json: &Json<'a>,
-    name: &str,
-) -> Result<Piece<'a>, PartFault>
+// The member with the name that is a number, as a part of the page.
+pub fn copy_number_at<'a>(json: &Json<'_, 'a>, name: &str) -> Result<Piece<'a>, PartFault>
     ensures { Finds result (number_at name.now (json_view json.now)) }
 {
-    Ok(number_at(json, name)?.copy(alloc)?)
+    Ok(Piece::borrowed(number_at(json, name)?))
 }
 
 // A copy of the member with the name that is a text and may be missing.
 pub fn optional_text_at<'a>(
     alloc: Global,
-    json: &Json<'a>,
+    json: &Json<'_, 'a>,
     name: &str,
 ) -> Result<Option<Piece<'a>>, PartFault>
     ensures { Finds result (optional_text_at name.now (json_view json.now)) }
 {
     match json.get(name) {
         None => Ok(None),
-        Some(value) => Ok(Some(text_of(value)?.copy(alloc)?)),
+        Some(value) => Ok(Some(copy_text(alloc, value)?)),
     }
 }
 
-// A copy of the member with the name that is a number and may be missing or null.
+// The member with the name that is a number, as a part of the page, and may be missing or null.
 pub fn nullable_number_at<'a>(
-    alloc: Global,
-    json: &Json<'a>,
+    json: &Json<'_, 'a>,
     name: &str,
 ) -> Result<Option<Piece<'a>>, PartFault>
     ensures { Finds result (nullable_number_at name.now (json_view json.now)) }
 {
     match json.get(name) {
         None | Some(Json::Null) => Ok(None),
-        Some(value) => Ok(Some(number_of(value)?.copy(alloc)?)),
+        Some(value) => Ok(Some(Piece::borrowed(number_of(value)?))),
     }
 }
 
 // The values of the array with the name, which may be missing.
-pub fn optional_list_at<'m, 'a>(
-    json: &'m Json<'a>,
+pub fn optional_list_at<'m, 'b, 'a>(
+    json: &'m Json<'b, 'a>,
     name: &str,
-) -> Result<Option<&'m [Json<'a>]>, PartFault>
+) -> Result<Option<&'m [Json<'b, 'a>]>, PartFault>
     ensures { FindsBy found_items result (optional_list_at name.now (json_view json.now)) }
 {
     match json.get(name) {
@@ -127,10 +141,10 @@ pub fn optional_list_at<'m, 'a>(
 }
 
 // The member with the name that is the text of an id.
-pub fn id_at(json: &Json<'_>, name: &str) -> Result<EntityId, PartFault>
+pub fn id_at(json: &Json<'_, '_>, name: &str) -> Result<EntityId, PartFault>
     ensures { Finds result (id_at name.now (json_view json.now)) }
 {
-    match EntityId::read(text_at(json, name)?.as_str()) {
+    match EntityId::read(text_at(json, name)?) {
         Some(id) => Ok(id),
         None => Err(PartFault::Shape),
     }
@@ -150,8 +164,8 @@ pub fn id_of_kind(kind: IdKind, text: &str) -> Result<EntityId, PartFault>
 }
 
 // The member with the name that is the text of an id of the kind.
-pub fn id_of_kind_at(kind: IdKind, json: &Json<'_>, name: &str) -> Result<EntityId, PartFault>
+pub fn id_of_kind_at(kind: IdKind, json: &Json<'_, '_>, name: &str) -> Result<EntityId, PartFault>
     ensures { Finds result (id_of_kind_at kind name.now (json_view json.now)) }
 {
-    id_of_kind(kind, text_at(json, name)?.as_str())
+    id_of_kind(kind, text_at(json, name)?)
 }

@@ -14,10 +14,10 @@ use rdf_term::List;
 use std::alloc::Global;
 
 // A badge: the id of an item.
-fn badge_of(json: &Json<'_>) -> Result<EntityId, PartFault>
+fn badge_of(json: &Json<'_, '_>) -> Result<EntityId, PartFault>
     ensures { Finds result (badge_of (json_view json.now)) }
 {
-    id_of_kind(IdKind::Q, text_of(json)?.as_str())
+    id_of_kind(IdKind::Q, text_of(json)?)
 }
 
 struct BadgeReader;
@@ -29,7 +29,7 @@ impl<'a> ItemReader<'a, EntityId> for BadgeReader {
         &self,
         _alloc: Global,
         _place: usize,
-        json: &Json<'a>,
+        json: &Json<'_, 'a>,
         out: &mut List<EntityId>,
     ) -> Result<(), PartFault> {
         out.push(badge_of(json)?)?;
@@ -39,7 +39,7 @@ impl<'a> ItemReader<'a, EntityId> for BadgeReader {
 
 // The badges under the name, which may be missing.
 #[tactic(auto, unfolding(crate::specs::Reading::Links::badges_at))]
-fn badges_at(alloc: Global, json: &Json<'_>, name: &str) -> Result<List<EntityId>, PartFault>
+fn badges_at(alloc: Global, json: &Json<'_, '_>, name: &str) -> Result<List<EntityId>, PartFault>
     ensures { Finds result (badges_at name.now (json_view json.now)) }
 {
     let items = optional_list_at(json, name)?;
@@ -50,7 +50,7 @@ fn badges_at(alloc: Global, json: &Json<'_>, name: &str) -> Result<List<EntityId
 
 // A link.
 #[tactic(auto, unfolding(crate::specs::Reading::Links::link_of))]
-fn link_of<'a>(alloc: Global, json: &Json<'a>) -> Result<Link<'a>, PartFault>
+fn link_of<'a>(alloc: Global, json: &Json<'_, 'a>) -> Result<Link<'a>, PartFault>
     ensures { Finds result (link_of (json_view json.now)) }
 {
     let site = copy_text_at(alloc, json, "site")?;
@@ -71,7 +71,7 @@ impl<'a> EntryReader<'a, Link<'a>> for LinkReader {
     fn read(
         &self,
         alloc: Global,
-        entry: &Member<'a>,
+        entry: &Member<'_, 'a>,
         out: &mut List<Link<'a>>,
     ) -> Result<(), PartFault> {
         out.push(link_of(alloc, &entry.value)?)?;
@@ -81,7 +81,11 @@ impl<'a> EntryReader<'a, Link<'a>> for LinkReader {
 
 // The links of the map under the name.
 #[tactic(auto, unfolding(crate::specs::Reading::Links::links_at))]
-pub fn links_at<'a>(alloc: Global, json: &Json<'a>, name: &str) -> Result<List<Link<'a>>, PartFault>
+pub fn links_at<'a>(
+    alloc: Global,
+    json: &Json<'_, 'a>,
+    name: &str,
+) -> Result<List<Link<'a>>, PartFault>
     ensures { Finds result (links_at name.now (json_view json.now)) }
 {
     let entries = map_at(json, name)?;

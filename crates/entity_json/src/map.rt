@@ -13,12 +13,12 @@ use std::alloc::Global;
 use std::collections::BTreeSet;
 
 // Whether some member has the key.
-pub fn has_key(members: &[Member<'_>], key: &str) -> bool
+pub fn has_key(members: &[Member<'_, '_>], key: &str) -> bool
     ensures { result ≡ has_key key.now (pairs_of (map member_view members.now)) }
 {
     let mut left = members;
     while let [member, rest @ ..] = left {
-        if member.key.as_str() == key {
+        if member.key == key {
             return true;
         }
         left = rest;
@@ -27,12 +27,12 @@ pub fn has_key(members: &[Member<'_>], key: &str) -> bool
 }
 
 // Whether some member has another key.
-fn has_other_key(members: &[Member<'_>], key: &str) -> bool
+fn has_other_key(members: &[Member<'_, '_>], key: &str) -> bool
     ensures { result ≡ has_other_key key.now (pairs_of (map member_view members.now)) }
 {
     let mut left = members;
     while let [member, rest @ ..] = left {
-        if member.key.as_str() != key {
+        if member.key != key {
             return true;
         }
         left = rest;
@@ -40,27 +40,34 @@ fn has_other_key(members: &[Member<'_>], key: &str) -> bool
     false
 }
 
+// The key of a member.
+fn key_of<'b>(member: &Member<'b, '_>) -> &'b str
+    ensures { result.now ≡ member.now.key.now }
+{
+    member.key
+}
+
 // Of each member, whether its key doesn't come again. The flag of the first member is at the end, where it is taken first.
-pub fn last_flags(alloc: Global, members: &[Member<'_>]) -> Result<Vec<bool>, OutOfMemory>
+pub fn last_flags(alloc: Global, members: &[Member<'_, '_>]) -> Result<Vec<bool>, OutOfMemory>
     ensures { IfOk result (λ flags. reverse flags.items ≡ lasts (pairs_of (map member_view members.now))) }
 {
     let mut seen = BTreeSet::new(alloc);
     let mut flags = Vec::new(alloc);
     let mut rest = members;
     while let [before @ .., member] = rest {
-        flags.push(seen.insert(member.key.as_str())?)?;
+        flags.push(seen.insert(key_of(member))?)?;
         rest = before;
     }
     Ok(flags)
 }
 
 // The members of a map; an empty array is the empty map.
-fn map_of<'m, 'a>(json: &'m Json<'a>) -> Result<Option<&'m [Member<'a>]>, PartFault>
+fn map_of<'m, 'b, 'a>(json: &'m Json<'b, 'a>) -> Result<Option<&'m [Member<'b, 'a>]>, PartFault>
     ensures { FindsBy found_entries result (map_of (Some (json_view json.now))) }
 {
     match json {
-        Json::Members(members) => Ok(Some(members.as_slice())),
-        Json::Items(items) => match items.as_slice() {
+        Json::Members(members) => Ok(Some(members)),
+        Json::Items(items) => match items {
             [] => Ok(None),
             [_, ..] => Err(PartFault::Shape),
         },
@@ -69,7 +76,10 @@ fn map_of<'m, 'a>(json: &'m Json<'a>) -> Result<Option<&'m [Member<'a>]>, PartFa
 }
 
 // The members of the map with the name, which may be missing.
-pub fn map_at<'m, 'a>(json: &'m Json<'a>, name: &str) -> Result<Option<&'m [Member<'a>]>, PartFault>
+pub fn map_at<'m, 'b, 'a>(
+    json: &'m Json<'b, 'a>,
+    name: &str,
+) -> Result<Option<&'m [Member<'b, 'a>]>, PartFault>
     ensures { FindsBy found_entries result (map_at name.now (json_view json.now)) }
 {
     match json.get(name) {
@@ -79,16 +89,16 @@ pub fn map_at<'m, 'a>(json: &'m Json<'a>, name: &str) -> Result<Option<&'m [Memb
 }
 
 // The value of an object's only key.
-pub fn only_of<'m, 'a>(json: &'m Json<'a>) -> Result<&'m Json<'a>, PartFault>
+pub fn only_of<'m, 'b, 'a>(json: &'m Json<'b, 'a>) -> Result<&'m Json<'b, 'a>, PartFault>
     ensures { FindsBy (λ value. json_view value.now) result (only_of (json_view json.now)) }
 {
     let Json::Members(members) = json else {
         return Err(PartFault::Shape);
     };
-    let [before @ .., last] = members.as_slice() else {
+    let Some((last, before)) = members.split_last() else {
         return Err(PartFault::Shape);
     };
-    if has_other_key(before, last.key.as_str()) {
+    if has_other_key(before, last.key) {
         return Err(PartFault::Shape);
     }
     Ok(&last.value)

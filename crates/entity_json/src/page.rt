@@ -23,7 +23,7 @@ pub struct Page<'a> {
 
 // The page of an item or a property.
 #[tactic(auto, unfolding(crate::specs::Reading::Pages::entity_page))]
-fn entity_page<'a>(alloc: Global, json: &Json<'a>) -> Result<Page<'a>, PartFault>
+fn entity_page<'a>(alloc: Global, json: &Json<'_, 'a>) -> Result<Page<'a>, PartFault>
     ensures { Finds result (entity_page (json_view json.now)) }
 {
     let entity = entity_of(alloc, json)?;
@@ -35,7 +35,7 @@ fn entity_page<'a>(alloc: Global, json: &Json<'a>) -> Result<Page<'a>, PartFault
 
 // The page of a redirect.
 #[tactic(auto, unfolding(crate::specs::Reading::Pages::redirect_page))]
-fn redirect_page<'a>(json: &Json<'a>) -> Result<Page<'a>, PartFault>
+fn redirect_page<'a>(json: &Json<'_, 'a>) -> Result<Page<'a>, PartFault>
     ensures { Finds result (redirect_page (json_view json.now)) }
 {
     let id = id_at(json, "entity")?;
@@ -48,7 +48,7 @@ fn redirect_page<'a>(json: &Json<'a>) -> Result<Page<'a>, PartFault>
 
 // The page that a value is: a redirect, where it has a member of that name.
 #[tactic(auto, unfolding(crate::specs::Reading::Pages::page_at))]
-fn page_at<'a>(alloc: Global, json: &Json<'a>) -> Result<Page<'a>, PartFault>
+fn page_at<'a>(alloc: Global, json: &Json<'_, 'a>) -> Result<Page<'a>, PartFault>
     ensures { Finds result (page_at (json_view json.now)) }
 {
     match json.get("redirect") {
@@ -59,7 +59,7 @@ fn page_at<'a>(alloc: Global, json: &Json<'a>) -> Result<Page<'a>, PartFault>
 
 // Where the page stands: the only entity, where entities are there.
 #[tactic(auto, unfolding(crate::specs::Reading::Pages::place_of))]
-fn place_of<'m, 'a>(json: &'m Json<'a>) -> Result<&'m Json<'a>, PartFault>
+fn place_of<'m, 'b, 'a>(json: &'m Json<'b, 'a>) -> Result<&'m Json<'b, 'a>, PartFault>
     ensures { FindsBy (λ value. json_view value.now) result (place_of (json_view json.now)) }
 {
     match json.get("entities") {
@@ -70,7 +70,7 @@ fn place_of<'m, 'a>(json: &'m Json<'a>) -> Result<&'m Json<'a>, PartFault>
 
 // The page of a text's value.
 #[tactic(auto, unfolding(crate::specs::Reading::Pages::page_of))]
-pub fn page_of<'a>(alloc: Global, json: &Json<'a>) -> Result<Page<'a>, PartFault>
+pub fn page_of<'a>(alloc: Global, json: &Json<'_, 'a>) -> Result<Page<'a>, PartFault>
     ensures { Finds result (page_of (json_view json.now)) }
 {
     page_at(alloc, place_of(json)?)

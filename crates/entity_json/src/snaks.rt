@@ -1,13 +1,15 @@
 // Snaks, and maps of lists of them.
 
-ghost use Rattle.std.specs.Prelude.{◌≡◌, Some};
+ghost use Rattle.std.specs.Prelude.{◌≡◌, Some, []};
+ghost use Rattle.std.specs.Option.{unwrap_or};
 ghost use Rattle.json_spell.specs.View.{json_view, member_view};
 ghost use Rattle.entity_json.specs.Finds.{Finds, Makes};
+ghost use Rattle.entity_json.specs.Leaves.{text_of};
 ghost use Rattle.entity_json.specs.Snaks.{value_type};
 ghost use Rattle.entity_json.specs.Reading.Snaks.{datatype_of, content_named, snak_content, snak_of, snak_step, snaks_step, snaks_at};
 
 use crate::each::{EntryReader, ItemReader, each_found_entry, each_item};
-use crate::leaf::{id_of_kind, list_of, member_at, text_at, text_of};
+use crate::leaf::{copy_text, id_of_kind, list_of, member_at, text_at};
 use crate::map::map_at;
 use crate::part::PartFault;
 use crate::values::value_of;
@@ -16,15 +18,26 @@ use json_spell::{Json, Member};
 use rdf_term::{List, Piece, Text};
 use std::alloc::Global;
 
+// The text that a value is, or the empty one.
+fn text_or_empty<'m>(json: &'m Json<'_, '_>) -> &'m str
+    ensures { result.now ≡ unwrap_or (text_of (json_view json.now)) [] }
+{
+    match json {
+        Json::Str(text) => text,
+        Json::Made(text) => text,
+        _ => "",
+    }
+}
+
 // The type of the data value, or the empty text where there is none.
 #[tactic(auto, unfolding(crate::specs::Snaks::value_type))]
-fn value_type<'m>(json: &'m Json<'_>) -> &'m str
+fn value_type<'m>(json: &'m Json<'_, '_>) -> &'m str
     ensures { result.now ≡ value_type (json_view json.now) }
 {
     match json.get("datavalue") {
         Some(data) => match data.get("type") {
-            Some(Json::Str(text)) => text.as_str(),
-            _ => "",
+            Some(data_type) => text_or_empty(data_type),
+            None => "",
         },
         None => "",
     }
@@ -32,21 +45,21 @@ fn value_type<'m>(json: &'m Json<'_>) -> &'m str
 
 // The datatype, which may be missing.
 #[tactic(auto, unfolding(crate::specs::Reading::Snaks::datatype_of))]
-fn datatype_of<'a>(alloc: Global, json: &Json<'a>) -> Result<Piece<'a>, PartFault>
+fn datatype_of<'a>(alloc: Global, json: &Json<'_, 'a>) -> Result<Piece<'a>, PartFault>
     ensures { Finds result (datatype_of (json_view json.now)) }
 {
     match json.get("datatype") {
-        Some(datatype) => Ok(text_of(datatype)?.copy(alloc)?),
+        Some(datatype) => copy_text(alloc, datatype),
         None => Ok(Piece::owned(Text::new(alloc, value_type(json))?)),
     }
 }
 
 // What is said of the value.
 #[tactic(auto, unfolding(crate::specs::Reading::Snaks::snak_content))]
-fn snak_content<'a>(alloc: Global, json: &Json<'a>) -> Result<Content<'a>, PartFault>
+fn snak_content<'a>(alloc: Global, json: &Json<'_, 'a>) -> Result<Content<'a>, PartFault>
     ensures { Finds result (snak_content (json_view json.now)) }
 {
-    let named = text_at(json, "snaktype")?.as_str();
+    let named = text_at(json, "snaktype")?;
     if named == "value" {
         return Ok(Content::Value(value_of(alloc, member_at(json, "datavalue")?)?));
     }
@@ -76,11 +89,11 @@ pub fn snak_of<'a>(
     key: &str,
     property: EntityId,
     place: usize,
-    json: &Json<'a>,
+    json: &Json<'_, 'a>,
 ) -> Result<Snak<'a>, PartFault>
     ensures { Finds result (snak_of key.now property place (json_view json.now)) }
 {
-    if text_at(json, "property")?.as_str() != key {
+    if text_at(json, "property")? != key {
         return Err(PartFault::Shape);
     }
     let place = small_place(place)?;
@@ -108,7 +121,7 @@ impl<'a> ItemReader<'a, Snak<'a>> for SnakReader<'_> {
         &self,
         alloc: Global,
         place: usize,
-        json: &Json<'a>,
+        json: &Json<'_, 'a>,
         out: &mut List<Snak<'a>>,
     ) -> Result<(), PartFault> {
         out.push(snak_of(alloc, self.key, self.property, place, json)?)?;
@@ -125,10 +138,10 @@ impl<'a> EntryReader<'a, Snak<'a>> for SnaksReader {
     fn read(
         &self,
         alloc: Global,
-        entry: &Member<'a>,
+        entry: &Member<'_, 'a>,
         out: &mut List<Snak<'a>>,
     ) -> Result<(), PartFault> {
-        let key = entry.key.as_str();
+        let key = entry.key;
         let property = id_of_kind(IdKind::P, key)?;
         let reader = SnakReader { key, property };
         each_item(alloc, &reader, list_of(&entry.value)?, out)
@@ -137,7 +150,11 @@ impl<'a> EntryReader<'a, Snak<'a>> for SnaksReader {
 
 // The snaks of the map under the name.
 #[tactic(auto, unfolding(crate::specs::Reading::Snaks::snaks_at))]
-pub fn snaks_at<'a>(alloc: Global, json: &Json<'a>, name: &str) -> Result<List<Snak<'a>>, PartFault>
+pub fn snaks_at<'a>(
+    alloc: Global,
+    json: &Json<'_, 'a>,
+    name: &str,
+) -> Result<List<Snak<'a>>, PartFault>
     ensures { Finds result (snaks_at name.now (json_view json.now)) }
 {
     let entries = map_at(json, name)?;

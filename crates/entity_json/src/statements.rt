@@ -5,11 +5,11 @@ ghost use Rattle.std.specs.Char.{is_ascii_alphanumeric};
 ghost use Rattle.std.specs.List.{list_all};
 ghost use Rattle.json_spell.specs.View.{json_view, member_view};
 ghost use Rattle.entity_model.specs.Reference.{is_hash};
-ghost use Rattle.entity_json.specs.Finds.{Finds, FindsBy, Makes};
+ghost use Rattle.entity_json.specs.Finds.{Finds, Makes};
 ghost use Rattle.entity_json.specs.Reading.Statements.{rank_named, reference_of, reference_step, references_at, rank_of, statement_id, main_of, statement_of, statement_step, statements_step, statements_at};
 
 use crate::each::{EntryReader, ItemReader, each_found_entry, each_found_item, each_item};
-use crate::leaf::{id_of_kind, list_of, member_at, optional_list_at, text_at};
+use crate::leaf::{copy_text_at, id_of_kind, list_of, member_at, optional_list_at, text_at};
 use crate::map::map_at;
 use crate::part::PartFault;
 use crate::snaks::{snak_of, snaks_at};
@@ -47,15 +47,15 @@ fn is_hash(text: &str) -> bool
 
 // A reference.
 #[tactic(auto, unfolding(crate::specs::Reading::Statements::reference_of))]
-fn reference_of<'a>(alloc: Global, json: &Json<'a>) -> Result<Reference<'a>, PartFault>
+fn reference_of<'a>(alloc: Global, json: &Json<'_, 'a>) -> Result<Reference<'a>, PartFault>
     ensures { Finds result (reference_of (json_view json.now)) }
 {
     let hash = text_at(json, "hash")?;
-    if !is_hash(hash.as_str()) {
+    if !is_hash(hash) {
         return Err(PartFault::Shape);
     }
+    let hash = copy_text_at(alloc, json, "hash")?;
     let snaks = snaks_at(alloc, json, "snaks")?;
-    let hash = hash.copy(alloc)?;
     Ok(Reference { hash, snaks })
 }
 
@@ -68,7 +68,7 @@ impl<'a> ItemReader<'a, Reference<'a>> for ReferenceReader {
         &self,
         alloc: Global,
         _place: usize,
-        json: &Json<'a>,
+        json: &Json<'_, 'a>,
         out: &mut List<Reference<'a>>,
     ) -> Result<(), PartFault> {
         out.push(reference_of(alloc, json)?)?;
@@ -80,7 +80,7 @@ impl<'a> ItemReader<'a, Reference<'a>> for ReferenceReader {
 #[tactic(auto, unfolding(crate::specs::Reading::Statements::references_at))]
 fn references_at<'a>(
     alloc: Global,
-    json: &Json<'a>,
+    json: &Json<'_, 'a>,
     name: &str,
 ) -> Result<List<Reference<'a>>, PartFault>
     ensures { Finds result (references_at name.now (json_view json.now)) }
@@ -93,10 +93,10 @@ fn references_at<'a>(
 
 // The rank of a statement.
 #[tactic(auto, unfolding(crate::specs::Reading::Statements::rank_of))]
-fn rank_of(json: &Json<'_>) -> Result<Rank, PartFault>
+fn rank_of(json: &Json<'_, '_>) -> Result<Rank, PartFault>
     ensures { Finds result (rank_of (json_view json.now)) }
 {
-    match rank_named(text_at(json, "rank")?.as_str()) {
+    match rank_named(text_at(json, "rank")?) {
         Some(rank) => Ok(rank),
         None => Err(PartFault::Shape),
     }
@@ -104,10 +104,10 @@ fn rank_of(json: &Json<'_>) -> Result<Rank, PartFault>
 
 // The id of a statement, which isn't empty.
 #[tactic(auto, unfolding(crate::specs::Reading::Statements::statement_id))]
-fn statement_id<'m, 'a>(json: &'m Json<'a>) -> Result<&'m Piece<'a>, PartFault>
-    ensures { FindsBy (λ text. text.now) result (statement_id (json_view json.now)) }
+fn statement_id<'a>(alloc: Global, json: &Json<'_, 'a>) -> Result<Piece<'a>, PartFault>
+    ensures { Finds result (statement_id (json_view json.now)) }
 {
-    let id = text_at(json, "id")?;
+    let id = copy_text_at(alloc, json, "id")?;
     if id.as_bytes().is_empty() {
         return Err(PartFault::Shape);
     }
@@ -120,7 +120,7 @@ fn main_of<'a>(
     alloc: Global,
     key: &str,
     property: EntityId,
-    json: &Json<'a>,
+    json: &Json<'_, 'a>,
 ) -> Result<Snak<'a>, PartFault>
     ensures { Finds result (main_of key.now property (json_view json.now)) }
 {
@@ -133,15 +133,14 @@ fn statement_of<'a>(
     alloc: Global,
     key: &str,
     property: EntityId,
-    json: &Json<'a>,
+    json: &Json<'_, 'a>,
 ) -> Result<Statement<'a>, PartFault>
     ensures { Finds result (statement_of key.now property (json_view json.now)) }
 {
     let rank = rank_of(json)?;
-    let id = statement_id(json)?;
+    let id = statement_id(alloc, json)?;
     let qualifiers = snaks_at(alloc, json, "qualifiers")?;
     let references = references_at(alloc, json, "references")?;
-    let id = id.copy(alloc)?;
     let main = main_of(alloc, key, property, json)?;
     Ok(Statement {
         id,
@@ -167,7 +166,7 @@ impl<'a> ItemReader<'a, Statement<'a>> for StatementReader<'_> {
         &self,
         alloc: Global,
         _place: usize,
-        json: &Json<'a>,
+        json: &Json<'_, 'a>,
         out: &mut List<Statement<'a>>,
     ) -> Result<(), PartFault> {
         out.push(statement_of(alloc, self.key, self.property, json)?)?;
@@ -184,10 +183,10 @@ impl<'a> EntryReader<'a, Statement<'a>> for StatementsReader {
     fn read(
         &self,
         alloc: Global,
-        entry: &Member<'a>,
+        entry: &Member<'_, 'a>,
         out: &mut List<Statement<'a>>,
     ) -> Result<(), PartFault> {
-        let key = entry.key.as_str();
+        let key = entry.key;
         let property = id_of_kind(IdKind::P, key)?;
         let reader = StatementReader { key, property };
         each_item(alloc, &reader, list_of(&entry.value)?, out)
@@ -198,7 +197,7 @@ impl<'a> EntryReader<'a, Statement<'a>> for StatementsReader {
 #[tactic(auto, unfolding(crate::specs::Reading::Statements::statements_at))]
 pub fn statements_at<'a>(
     alloc: Global,
-    json: &Json<'a>,
+    json: &Json<'_, 'a>,
     name: &str,
 ) -> Result<List<Statement<'a>>, PartFault>
     ensures { Finds result (statements_at name.now (json_view json.now)) }

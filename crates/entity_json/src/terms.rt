@@ -15,7 +15,11 @@ use std::alloc::Global;
 
 // A text and its language, with the text under the name.
 #[tactic(auto, unfolding(crate::specs::Reading::Terms::tagged_under))]
-pub fn tagged_under<'a>(alloc: Global, json: &Json<'a>, name: &str) -> Result<Tagged<'a>, PartFault>
+pub fn tagged_under<'a>(
+    alloc: Global,
+    json: &Json<'_, 'a>,
+    name: &str,
+) -> Result<Tagged<'a>, PartFault>
     ensures { Finds result (tagged_under name.now (json_view json.now)) }
 {
     let language = copy_text_at(alloc, json, "language")?;
@@ -31,7 +35,7 @@ impl<'a> EntryReader<'a, Tagged<'a>> for LabelReader {
     fn read(
         &self,
         alloc: Global,
-        entry: &Member<'a>,
+        entry: &Member<'_, 'a>,
         out: &mut List<Tagged<'a>>,
     ) -> Result<(), PartFault> {
         out.push(tagged_under(alloc, &entry.value, "value")?)?;
@@ -48,7 +52,7 @@ impl<'a> ItemReader<'a, Tagged<'a>> for AliasReader {
         &self,
         alloc: Global,
         _place: usize,
-        json: &Json<'a>,
+        json: &Json<'_, 'a>,
         out: &mut List<Tagged<'a>>,
     ) -> Result<(), PartFault> {
         out.push(tagged_under(alloc, json, "value")?)?;
@@ -65,7 +69,7 @@ impl<'a> EntryReader<'a, Tagged<'a>> for AliasesReader {
     fn read(
         &self,
         alloc: Global,
-        entry: &Member<'a>,
+        entry: &Member<'_, 'a>,
         out: &mut List<Tagged<'a>>,
     ) -> Result<(), PartFault> {
         each_item(alloc, &AliasReader, list_of(&entry.value)?, out)
@@ -76,7 +80,7 @@ impl<'a> EntryReader<'a, Tagged<'a>> for AliasesReader {
 #[tactic(auto, unfolding(crate::specs::Reading::Terms::labels_at))]
 pub fn labels_at<'a>(
     alloc: Global,
-    json: &Json<'a>,
+    json: &Json<'_, 'a>,
     name: &str,
 ) -> Result<List<Tagged<'a>>, PartFault>
     ensures { Finds result (labels_at name.now (json_view json.now)) }
@@ -91,7 +95,7 @@ pub fn labels_at<'a>(
 #[tactic(auto, unfolding(crate::specs::Reading::Terms::aliases_at))]
 pub fn aliases_at<'a>(
     alloc: Global,
-    json: &Json<'a>,
+    json: &Json<'_, 'a>,
     name: &str,
 ) -> Result<List<Tagged<'a>>, PartFault>
     ensures { Finds result (aliases_at name.now (json_view json.now)) }

@@ -9,8 +9,8 @@ ghost use Rattle.entity_json.specs.Finds.{Finds};
 ghost use Rattle.entity_json.specs.Reading.Values.{numbered_type, numeric_id, numbered_entity, entity_value, time_of, quantity_of, globe_of, value_of_type, value_of};
 
 use crate::leaf::{
-    copy_number_at, copy_text_at, member_at, nullable_number_at, number_at, optional_text_at,
-    text_at, text_of,
+    copy_number_at, copy_text, copy_text_at, member_at, nullable_number_at, number_at,
+    optional_text_at, text_at, text_of,
 };
 use crate::number::{is_whole, small_of};
 use crate::part::PartFault;
@@ -72,44 +72,44 @@ fn numeric_id(alloc: Global, numbered: NumberedType, spelling: &str) -> Result<T
 
 // The id of an entity that is given by its type and number.
 #[tactic(auto, unfolding(crate::specs::Reading::Values::numbered_entity))]
-fn numbered_entity(alloc: Global, json: &Json<'_>) -> Result<Text, PartFault>
+fn numbered_entity(alloc: Global, json: &Json<'_, '_>) -> Result<Text, PartFault>
     ensures { Finds result (numbered_entity (json_view json.now)) }
 {
     let word = text_at(json, "entity-type")?;
-    let Some(numbered) = numbered_type(word.as_str()) else {
+    let Some(numbered) = numbered_type(word) else {
         return Err(PartFault::Shape);
     };
     let spelling = number_at(json, "numeric-id")?;
-    numeric_id(alloc, numbered, spelling.as_str())
+    numeric_id(alloc, numbered, spelling)
 }
 
 // The id of an entity, by its text where that is there.
 #[tactic(auto, unfolding(crate::specs::Reading::Values::entity_value))]
-fn entity_value<'a>(alloc: Global, json: &Json<'a>) -> Result<Piece<'a>, PartFault>
+fn entity_value<'a>(alloc: Global, json: &Json<'_, 'a>) -> Result<Piece<'a>, PartFault>
     ensures { Finds result (entity_value (json_view json.now)) }
 {
     let Some(id) = json.get("id") else {
         return Ok(Piece::owned(numbered_entity(alloc, json)?));
     };
     let text = text_of(id)?;
-    if !is_entity_text(text.as_str()) {
+    if !is_entity_text(text) {
         return Err(PartFault::Shape);
     }
-    Ok(text.copy(alloc)?)
+    copy_text(alloc, id)
 }
 
 // A point in time.
 #[tactic(auto, unfolding(crate::specs::Reading::Values::time_of))]
-fn time_of<'a>(alloc: Global, json: &Json<'a>) -> Result<TimeParts<'a>, PartFault>
+fn time_of<'a>(alloc: Global, json: &Json<'_, 'a>) -> Result<TimeParts<'a>, PartFault>
     ensures { Finds result (time_of (json_view json.now)) }
 {
     let time = copy_text_at(alloc, json, "time")?;
     let calendar = copy_text_at(alloc, json, "calendarmodel")?;
-    let precision_text = copy_number_at(alloc, json, "precision")?;
+    let precision_text = copy_number_at(json, "precision")?;
     let Some(precision) = small_of(precision_text.as_str()) else {
         return Err(PartFault::Shape);
     };
-    let timezone = copy_number_at(alloc, json, "timezone")?;
+    let timezone = copy_number_at(json, "timezone")?;
     if !is_whole(timezone.as_bytes()) {
         return Err(PartFault::Shape);
     }
@@ -124,7 +124,7 @@ fn time_of<'a>(alloc: Global, json: &Json<'a>) -> Result<TimeParts<'a>, PartFaul
 
 // A number with its unit and bounds.
 #[tactic(auto, unfolding(crate::specs::Reading::Values::quantity_of))]
-fn quantity_of<'a>(alloc: Global, json: &Json<'a>) -> Result<QuantityParts<'a>, PartFault>
+fn quantity_of<'a>(alloc: Global, json: &Json<'_, 'a>) -> Result<QuantityParts<'a>, PartFault>
     ensures { Finds result (quantity_of (json_view json.now)) }
 {
     let amount = copy_text_at(alloc, json, "amount")?;
@@ -141,12 +141,12 @@ fn quantity_of<'a>(alloc: Global, json: &Json<'a>) -> Result<QuantityParts<'a>, 
 
 // A point on a globe.
 #[tactic(auto, unfolding(crate::specs::Reading::Values::globe_of))]
-fn globe_of<'a>(alloc: Global, json: &Json<'a>) -> Result<GlobeParts<'a>, PartFault>
+fn globe_of<'a>(alloc: Global, json: &Json<'_, 'a>) -> Result<GlobeParts<'a>, PartFault>
     ensures { Finds result (globe_of (json_view json.now)) }
 {
-    let latitude = copy_number_at(alloc, json, "latitude")?;
-    let longitude = copy_number_at(alloc, json, "longitude")?;
-    let precision = nullable_number_at(alloc, json, "precision")?;
+    let latitude = copy_number_at(json, "latitude")?;
+    let longitude = copy_number_at(json, "longitude")?;
+    let precision = nullable_number_at(json, "precision")?;
     let globe = copy_text_at(alloc, json, "globe")?;
     Ok(GlobeParts {
         latitude,
@@ -158,11 +158,11 @@ fn globe_of<'a>(alloc: Global, json: &Json<'a>) -> Result<GlobeParts<'a>, PartFa
 
 // A value of the type; one of a type that isn't named here may be anything.
 #[tactic(auto, unfolding(crate::specs::Reading::Values::value_of_type))]
-fn value_of_type<'a>(alloc: Global, kind: &str, json: &Json<'a>) -> Result<Value<'a>, PartFault>
+fn value_of_type<'a>(alloc: Global, kind: &str, json: &Json<'_, 'a>) -> Result<Value<'a>, PartFault>
     ensures { Finds result (value_of_type kind.now (json_view json.now)) }
 {
     if kind == "string" {
-        return Ok(Value::Str(text_of(json)?.copy(alloc)?));
+        return Ok(Value::Str(copy_text(alloc, json)?));
     }
     if kind == "wikibase-entityid" {
         return Ok(Value::Entity(entity_value(alloc, json)?));
@@ -184,10 +184,10 @@ fn value_of_type<'a>(alloc: Global, kind: &str, json: &Json<'a>) -> Result<Value
 
 // A data value.
 #[tactic(auto, unfolding(crate::specs::Reading::Values::value_of))]
-pub fn value_of<'a>(alloc: Global, json: &Json<'a>) -> Result<Value<'a>, PartFault>
+pub fn value_of<'a>(alloc: Global, json: &Json<'_, 'a>) -> Result<Value<'a>, PartFault>
     ensures { Finds result (value_of (json_view json.now)) }
 {
     let kind = text_at(json, "type")?;
     let value = member_at(json, "value")?;
-    value_of_type(alloc, kind.as_str(), value)
+    value_of_type(alloc, kind, value)
 }

@@ -25,13 +25,13 @@ map-guard : {A B : Type 0} (f : A → B) (b : Bool) (a : A) → option_map f (co
 map-guard f true a = refl
 map-guard f false a = refl
 
-member_view-is : (m : Member) → member_view m ≡ (m.key, json_view m.value)
+member_view-is : (m : Member) → member_view m ≡ (m.key.now, json_view m.value)
 member_view-is m = search (rules, the_lemmas)
 
-pub found-last : (name : List ℕ) (ms : List Member) → option_map (λ m. json_view m.value) (find (λ m. bytes_eq m.key name) (reverse ms)) ≡ last_member name (pairs_of (map member_view ms))
+pub found-last : (name : List ℕ) (ms : List Member) → option_map (λ m. json_view m.value) (find (λ m. bytes_eq m.key.now name) (reverse ms)) ≡ last_member name (pairs_of (map member_view ms))
 found-last name [] = refl
 found-last name (m ∷ ms) =
-    let test : Member → Bool = λ n. bytes_eq n.key name in
+    let test : Member → Bool = λ n. bytes_eq n.key.now name in
     let value : Member → Tree = λ n. json_view n.value in
     ap (λ l. option_map value (find test l)) (reverse-append (m ∷ []) ms)
     ∙ ap (option_map value) (find-push test (reverse ms) m)

@@ -1,4 +1,5 @@
 pub mod Tree
+pub mod Content
 pub mod View
 pub mod Grammar
 pub mod Number

@@ -19,14 +19,15 @@ pairs_of (p ∷ ps) = pair p.0 p.1 (pairs_of ps)
 abbrev pub json_step : Json-F Tree (List ℕ × Tree) → Tree
 json_step Json-F.Null = null
 json_step (Json-F.Bool b) = boolean b
-json_step (Json-F.Number spelling) = number spelling
-json_step (Json-F.Str content) = string content
-json_step (Json-F.Items values) = array (trees_of values.items)
-json_step (Json-F.Members members) = object (pairs_of members.items)
+json_step (Json-F.Number spelling) = number spelling.now
+json_step (Json-F.Str content) = string content.now
+json_step (Json-F.Made content) = string content.now
+json_step (Json-F.Items values) = array (trees_of values.now)
+json_step (Json-F.Members members) = object (pairs_of members.now)
 
 -- one member, with the tree of its value
 abbrev pub member_step : Member-F Tree (List ℕ × Tree) → List ℕ × Tree
-member_step m = (m.key, m.value)
+member_step m = (m.key.now, m.value)
 
 -- the tree of a value
 abbrev pub json_view : Json → Tree

@@ -7,7 +7,6 @@ ghost use Rattle.json_spell.specs.Parses.{Parses};
 
 use crate::bytes::{before, is_digit, skip_digits, utf8};
 use crate::fault::JsonFault;
-use rdf_term::Piece;
 
 fn after_minus(bytes: &[u8]) -> &[u8]
     ensures rest { result.now ≡ skip_one is_minus bytes.now }
@@ -82,8 +81,8 @@ fn after_number(bytes: &[u8]) -> Option<&[u8]>
 
 // The number at the front, as it is spelled, and what follows it.
 #[tactic(auto, unfolding(crate::specs::Reading::number_at))]
-pub(crate) fn read_number<'a>(bytes: &'a [u8]) -> Result<(Piece<'a>, &'a [u8]), JsonFault>
-    ensures read { Parses (λ p. (p.0, p.1.now)) result (number_at bytes.now) }
+pub(crate) fn read_number<'a>(bytes: &'a [u8]) -> Result<(&'a str, &'a [u8]), JsonFault>
+    ensures read { Parses (λ p. (p.0.now, p.1.now)) result (number_at bytes.now) }
     ensures no_longer { IfOk result (λ p. length p.1.now ≤ length bytes.now) }
 {
     let Some(rest) = after_number(bytes) else {
@@ -92,5 +91,5 @@ pub(crate) fn read_number<'a>(bytes: &'a [u8]) -> Result<(Piece<'a>, &'a [u8]), 
     let Some(spelling) = utf8(before(bytes, rest)) else {
         return Err(JsonFault::NotJson);
     };
-    Ok((Piece::borrowed(spelling), rest))
+    Ok((spelling, rest))
 }

@@ -7,16 +7,16 @@ use crate::deep::is_deep;
 use crate::fault::JsonFault;
 use crate::json::Json;
 use crate::value::read_spaced;
-use std::alloc::Global;
+use bumpalo::Bump;
 
 // How many levels arrays and objects may nest.
 const LEVELS: usize = 64;
 
 // The value of a whole text that nests no deeper than allowed.
-fn read_whole<'a>(alloc: Global, bytes: &'a [u8]) -> Result<Json<'a>, JsonFault>
+fn read_whole<'b, 'a: 'b>(arena: &'b Bump, bytes: &'a [u8]) -> Result<Json<'b, 'a>, JsonFault>
     ensures { Tells bytes.now result }
 {
-    let (json, rest) = read_spaced(alloc, LEVELS, bytes)?;
+    let (json, rest) = read_spaced(arena, LEVELS, bytes)?;
     if !rest.is_empty() {
         return Err(JsonFault::NotJson);
     }
@@ -42,10 +42,10 @@ fn fault_of(bytes: &[u8], fault: JsonFault) -> JsonFault
 /// A string may not escape a surrogate alone. Where, outside of strings, the `[` and `{` up to some byte exceed the
 /// `]` and `}` by more than 64, the answer is `Deep`, whatever else the bytes are; a string there starts and ends at
 /// `"`, and in it a `\` passes over the next byte.
-pub fn read<'a>(alloc: Global, bytes: &'a [u8]) -> Result<Json<'a>, JsonFault>
+pub fn read<'b, 'a: 'b>(arena: &'b Bump, bytes: &'a [u8]) -> Result<Json<'b, 'a>, JsonFault>
     ensures { Answers bytes.now result }
 {
-    match read_whole(alloc, bytes) {
+    match read_whole(arena, bytes) {
         Ok(json) => Ok(json),
         Err(fault) => Err(fault_of(bytes, fault)),
     }

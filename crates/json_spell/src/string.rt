@@ -4,13 +4,48 @@ ghost use Rattle.std.specs.Prelude.{◌≡◌, ◌≤◌, ◌<◌, ◌^◌, IsTr
 ghost use Rattle.std.specs.Char.{digit_value};
 ghost use Rattle.json_spell.specs.Text.{short_escape, code_unit, is_high_surrogate, is_low_surrogate};
 ghost use Rattle.json_spell.specs.Reading.{before, run_at, low_half, unicode_at, escape_at, content_at};
+ghost use Rattle.json_spell.specs.Content.{content_bytes};
+ghost use Rattle.json_spell.specs.Tree.{string};
+ghost use Rattle.json_spell.specs.View.{json_view};
 ghost use Rattle.json_spell.specs.Parses.{Parses};
 
 use crate::bytes::{after_byte, before, next, skip_unescaped, text_of, utf8};
 use crate::fault::JsonFault;
+use crate::json::Json;
 use crate::runs::skip_plain;
-use rdf_term::{Piece, Text};
-use std::alloc::Global;
+use bumpalo::Bump;
+use bumpalo::collections::into_bump_str;
+
+// The content of a string, its escapes replaced by their characters: a part of the text, or in the arena.
+#[derive(Clone, Copy)]
+pub(crate) enum Content<'b, 'a> {
+    Source(&'a str),
+    Arena(&'b str),
+}
+
+impl<'b, 'a: 'b> Content<'b, 'a> {
+    // The value that is a string of this content.
+    #[inline(always)]
+    pub(crate) fn value(self) -> Json<'b, 'a>
+        ensures { json_view result ≡ string (content_bytes self.entry) }
+    {
+        match self {
+            Content::Source(text) => Json::Str(text),
+            Content::Arena(text) => Json::Made(text),
+        }
+    }
+
+    // The name that has this content.
+    #[inline(always)]
+    pub(crate) fn name(self) -> &'b str
+        ensures { result.now ≡ content_bytes self.entry }
+    {
+        match self {
+            Content::Source(text) => text,
+            Content::Arena(text) => text,
+        }
+    }
+}
 
 // What a letter after a backslash stands for.
 #[tactic(auto, unfolding(crate::specs::Text::short_escape))]
@@ -95,7 +130,7 @@ fn read_escape(bytes: &[u8]) -> Option<(char, &[u8])>
 }
 
 // Puts the bytes up to the next quotation mark, backslash or control character to the content, and gives what follows.
-fn push_run<'a>(content: &mut String, bytes: &'a [u8]) -> Result<&'a [u8], JsonFault>
+fn push_run<'b, 'a>(content: &mut String<&'b Bump>, bytes: &'a [u8]) -> Result<&'a [u8], JsonFault>
     ensures read { Parses (λ rest. rest.now) result (run_at bytes.now) }
     ensures pushed { IfOk result (λ rest. string_bytes content.new ≡ string_bytes content.old ++ before rest.now bytes.now) }
     ensures no_longer { IfOk result (λ rest. length rest.now ≤ length bytes.now) }
@@ -110,11 +145,11 @@ fn push_run<'a>(content: &mut String, bytes: &'a [u8]) -> Result<&'a [u8], JsonF
 
 // The content of a string after its opening quotation mark, copied, and what follows the closing one.
 #[tactic(auto, using(crate::proofs::ContentSteps::content_steps))]
-fn read_content(alloc: Global, bytes: &[u8]) -> Result<(Text, &[u8]), JsonFault>
-    ensures read { Parses (λ p. (p.0, p.1.now)) result (content_at bytes.now) }
+fn read_content<'b, 'a>(arena: &'b Bump, bytes: &'a [u8]) -> Result<(&'b str, &'a [u8]), JsonFault>
+    ensures read { Parses (λ p. (p.0.now, p.1.now)) result (content_at bytes.now) }
     ensures no_longer { IfOk result (λ p. length p.1.now ≤ length bytes.now) }
 {
-    let mut content = String::new(alloc);
+    let mut content = String::new(arena);
     let mut left = bytes;
     loop {
         let rest = push_run(&mut content, left)?;
@@ -122,7 +157,7 @@ fn read_content(alloc: Global, bytes: &[u8]) -> Result<(Text, &[u8]), JsonFault>
             return Err(JsonFault::NotJson);
         };
         if byte == b'"' {
-            return Ok((Text::from_string(content), rest));
+            return Ok((into_bump_str(content), rest));
         }
         if byte != b'\\' {
             return Err(JsonFault::NotJson);
@@ -150,8 +185,11 @@ fn read_plain<'a>(bytes: &'a [u8]) -> Option<(&'a str, &'a [u8])>
 // The content of any string after its opening quotation mark, and what follows the closing one. It is copied only where
 // the string has an escape.
 #[inline(never)]
-fn read_any_string<'a>(alloc: Global, bytes: &'a [u8]) -> Result<(Piece<'a>, &'a [u8]), JsonFault>
-    ensures read { Parses (λ p. (p.0, p.1.now)) result (content_at bytes.now) }
+fn read_any_string<'b, 'a>(
+    arena: &'b Bump,
+    bytes: &'a [u8],
+) -> Result<(Content<'b, 'a>, &'a [u8]), JsonFault>
+    ensures read { Parses (λ p. (content_bytes p.0, p.1.now)) result (content_at bytes.now) }
     ensures no_longer { IfOk result (λ p. length p.1.now ≤ length bytes.now) }
 {
     let end = skip_unescaped(bytes);
@@ -159,24 +197,24 @@ fn read_any_string<'a>(alloc: Global, bytes: &'a [u8]) -> Result<(Piece<'a>, &'a
         let Some(run) = utf8(before(bytes, end)) else {
             return Err(JsonFault::NotJson);
         };
-        return Ok((Piece::borrowed(run), rest));
+        return Ok((Content::Source(run), rest));
     }
-    let (content, rest) = read_content(alloc, bytes)?;
-    Ok((Piece::owned(content), rest))
+    let (content, rest) = read_content(arena, bytes)?;
+    Ok((Content::Arena(content), rest))
 }
 
 // The content of a string after its opening quotation mark, and what follows the closing one. Most strings are ASCII
 // without an escape, so these are tried first.
 #[inline(always)]
-pub(crate) fn read_string<'a>(
-    alloc: Global,
+pub(crate) fn read_string<'b, 'a>(
+    arena: &'b Bump,
     bytes: &'a [u8],
-) -> Result<(Piece<'a>, &'a [u8]), JsonFault>
-    ensures read { Parses (λ p. (p.0, p.1.now)) result (content_at bytes.now) }
+) -> Result<(Content<'b, 'a>, &'a [u8]), JsonFault>
+    ensures read { Parses (λ p. (content_bytes p.0, p.1.now)) result (content_at bytes.now) }
     ensures no_longer { IfOk result (λ p. length p.1.now ≤ length bytes.now) }
 {
     match read_plain(bytes) {
-        Some((content, rest)) => Ok((Piece::borrowed(content), rest)),
-        None => read_any_string(alloc, bytes),
+        Some((content, rest)) => Ok((Content::Source(content), rest)),
+        None => read_any_string(arena, bytes),
     }
 }

@@ -12,15 +12,15 @@ use crate::fault::JsonFault;
 use crate::json::{Json, Member};
 use crate::number::read_number;
 use crate::string::read_string;
-use rdf_term::Piece;
-use std::alloc::Global;
+use bumpalo::Bump;
+use bumpalo::collections::into_bump_slice;
 
 // How many members an object that has some gets room for at first: as many as most objects of a page have.
 const ROOM: usize = 6;
 
 // A literal name.
 #[tactic(auto, unfolding(crate::specs::Reading::literal_at))]
-fn read_literal<'a>(bytes: &'a [u8]) -> Option<(Json<'a>, &'a [u8])>
+fn read_literal<'b, 'a>(bytes: &'a [u8]) -> Option<(Json<'b, 'a>, &'a [u8])>
     ensures read { option_map (λ p. (json_view p.0, p.1.now)) result ≡ literal_at bytes.now }
     ensures no_longer { IfSome result (λ p. length p.1.now ≤ length bytes.now) }
 {
@@ -36,7 +36,7 @@ fn read_literal<'a>(bytes: &'a [u8]) -> Option<(Json<'a>, &'a [u8])>
 
 // A literal name or a number.
 #[tactic(auto, unfolding(crate::specs::Reading::scalar_at))]
-fn read_scalar<'a>(bytes: &'a [u8]) -> Result<(Json<'a>, &'a [u8]), JsonFault>
+fn read_scalar<'b, 'a>(bytes: &'a [u8]) -> Result<(Json<'b, 'a>, &'a [u8]), JsonFault>
     ensures read { Parses (λ p. (json_view p.0, p.1.now)) result (scalar_at bytes.now) }
     ensures no_longer { IfOk result (λ p. length p.1.now ≤ length bytes.now) }
 {
@@ -48,39 +48,42 @@ fn read_scalar<'a>(bytes: &'a [u8]) -> Result<(Json<'a>, &'a [u8]), JsonFault>
 }
 
 // A name with white space around it.
-fn read_name<'a>(alloc: Global, bytes: &'a [u8]) -> Result<(Piece<'a>, &'a [u8]), JsonFault>
-    ensures read { Parses (λ p. (p.0, p.1.now)) result (spaced name_at bytes.now) }
+#[inline(always)]
+fn read_name<'b, 'a: 'b>(arena: &'b Bump, bytes: &'a [u8]) -> Result<(&'b str, &'a [u8]), JsonFault>
+    ensures read { Parses (λ p. (p.0.now, p.1.now)) result (spaced name_at bytes.now) }
     ensures no_longer { IfOk result (λ p. length p.1.now ≤ length bytes.now) }
 {
     let Some(rest) = after_byte(skip_ws(bytes), b'"') else {
         return Err(JsonFault::NotJson);
     };
-    let (name, rest) = read_string(alloc, rest)?;
-    Ok((name, skip_ws(rest)))
+    let (content, rest) = read_string(arena, rest)?;
+    Ok((content.name(), skip_ws(rest)))
 }
 
 // A value with white space around it. Here and below, an array or object that opens where no level is left is Deep.
 #[cycle(read)]
-pub(crate) fn read_spaced<'a>(
-    alloc: Global,
+#[inline(always)]
+pub(crate) fn read_spaced<'b, 'a: 'b>(
+    arena: &'b Bump,
     levels: usize,
     bytes: &'a [u8],
-) -> Result<(Json<'a>, &'a [u8]), JsonFault>
+) -> Result<(Json<'b, 'a>, &'a [u8]), JsonFault>
     ensures read { Parses (λ p. (json_view p.0, p.1.now)) result (spaced value_at bytes.now) }
     ensures no_longer { IfOk result (λ p. length p.1.now ≤ length bytes.now) }
     ensures nests { IfOk result (λ p. Nests levels (json_view p.0)) }
 {
-    let (json, rest) = read_value(alloc, levels, skip_ws(bytes))?;
+    let (json, rest) = read_value(arena, levels, skip_ws(bytes))?;
     Ok((json, skip_ws(rest)))
 }
 
 // A value.
 #[cycle(read)]
-fn read_value<'a>(
-    alloc: Global,
+#[inline(never)]
+fn read_value<'b, 'a: 'b>(
+    arena: &'b Bump,
     levels: usize,
     bytes: &'a [u8],
-) -> Result<(Json<'a>, &'a [u8]), JsonFault>
+) -> Result<(Json<'b, 'a>, &'a [u8]), JsonFault>
     ensures read { Parses (λ p. (json_view p.0, p.1.now)) result (value_at bytes.now) }
     ensures no_longer { IfOk result (λ p. length p.1.now ≤ length bytes.now) }
     ensures nests { IfOk result (λ p. Nests levels (json_view p.0)) }
@@ -90,21 +93,21 @@ fn read_value<'a>(
     };
     match byte {
         b'"' => {
-            let (content, rest) = read_string(alloc, rest)?;
-            Ok((Json::Str(content), rest))
+            let (content, rest) = read_string(arena, rest)?;
+            Ok((content.value(), rest))
         }
         b'[' => {
             if levels == 0 {
                 return Err(JsonFault::Deep);
             }
-            let (items, rest) = read_items(alloc, levels - 1, rest)?;
+            let (items, rest) = read_items(arena, levels - 1, rest)?;
             Ok((Json::Items(items), rest))
         }
         b'{' => {
             if levels == 0 {
                 return Err(JsonFault::Deep);
             }
-            let (members, rest) = read_members(alloc, levels - 1, rest)?;
+            let (members, rest) = read_members(arena, levels - 1, rest)?;
             Ok((Json::Members(members), rest))
         }
         _ => read_scalar(bytes),
@@ -113,29 +116,29 @@ fn read_value<'a>(
 
 // The values of an array, after its opening bracket.
 #[cycle(read)]
-fn read_items<'a>(
-    alloc: Global,
+fn read_items<'b, 'a: 'b>(
+    arena: &'b Bump,
     levels: usize,
     bytes: &'a [u8],
-) -> Result<(Vec<Json<'a>>, &'a [u8]), JsonFault>
-    ensures read { Parses (λ p. (trees_of (map json_view p.0.items), p.1.now)) result
+) -> Result<(&'b [Json<'b, 'a>], &'a [u8]), JsonFault>
+    ensures read { Parses (λ p. (trees_of (map json_view p.0.now), p.1.now)) result
         (list_by no_trees 0x5D values_at bytes.now) }
     ensures no_longer { IfOk result (λ p. length p.1.now ≤ length bytes.now) }
-    ensures nests { IfOk result (λ p. AllNest levels (trees_of (map json_view p.0.items))) }
+    ensures nests { IfOk result (λ p. AllNest levels (trees_of (map json_view p.0.now))) }
 {
-    let mut items = Vec::new(alloc);
+    let mut items = Vec::new(arena);
     if let Some(rest) = after_byte(skip_ws(bytes), b']') {
-        return Ok((items, rest));
+        return Ok((into_bump_slice(items), rest));
     }
     let mut left = bytes;
     loop {
-        let (item, rest) = read_spaced(alloc, levels, left)?;
+        let (item, rest) = read_spaced(arena, levels, left)?;
         items.push(item)?;
         let Some((byte, rest)) = next(rest) else {
             return Err(JsonFault::NotJson);
         };
         if byte == b']' {
-            return Ok((items, rest));
+            return Ok((into_bump_slice(items), rest));
         }
         if byte != b',' {
             return Err(JsonFault::NotJson);
@@ -146,48 +149,49 @@ fn read_items<'a>(
 
 // A member of an object.
 #[cycle(read)]
-fn read_member<'a>(
-    alloc: Global,
+#[inline(always)]
+fn read_member<'b, 'a: 'b>(
+    arena: &'b Bump,
     levels: usize,
     bytes: &'a [u8],
-) -> Result<(Member<'a>, &'a [u8]), JsonFault>
+) -> Result<(Member<'b, 'a>, &'a [u8]), JsonFault>
     ensures read { Parses (λ p. (member_view p.0, p.1.now)) result (member_by value_at bytes.now) }
     ensures no_longer { IfOk result (λ p. length p.1.now ≤ length bytes.now) }
     ensures nests { IfOk result (λ p. Nests levels (member_view p.0).1) }
 {
-    let (key, rest) = read_name(alloc, bytes)?;
+    let (key, rest) = read_name(arena, bytes)?;
     let Some(rest) = after_byte(rest, b':') else {
         return Err(JsonFault::NotJson);
     };
-    let (value, rest) = read_spaced(alloc, levels, rest)?;
+    let (value, rest) = read_spaced(arena, levels, rest)?;
     Ok((Member { key, value }, rest))
 }
 
 // The members of an object, after its opening brace.
 #[cycle(read)]
-fn read_members<'a>(
-    alloc: Global,
+fn read_members<'b, 'a: 'b>(
+    arena: &'b Bump,
     levels: usize,
     bytes: &'a [u8],
-) -> Result<(Vec<Member<'a>>, &'a [u8]), JsonFault>
-    ensures read { Parses (λ p. (pairs_of (map member_view p.0.items), p.1.now)) result
+) -> Result<(&'b [Member<'b, 'a>], &'a [u8]), JsonFault>
+    ensures read { Parses (λ p. (pairs_of (map member_view p.0.now), p.1.now)) result
         (list_by no_pairs 0x7D members_at bytes.now) }
     ensures no_longer { IfOk result (λ p. length p.1.now ≤ length bytes.now) }
-    ensures nests { IfOk result (λ p. MembersNest levels (pairs_of (map member_view p.0.items))) }
+    ensures nests { IfOk result (λ p. MembersNest levels (pairs_of (map member_view p.0.now))) }
 {
     if let Some(rest) = after_byte(skip_ws(bytes), b'}') {
-        return Ok((Vec::new(alloc), rest));
+        return Ok((into_bump_slice(Vec::new(arena)), rest));
     }
-    let mut members = Vec::with_capacity(alloc, ROOM)?;
+    let mut members = Vec::with_capacity(arena, ROOM)?;
     let mut left = bytes;
     loop {
-        let (member, rest) = read_member(alloc, levels, left)?;
+        let (member, rest) = read_member(arena, levels, left)?;
         members.push(member)?;
         let Some((byte, rest)) = next(rest) else {
             return Err(JsonFault::NotJson);
         };
         if byte == b'}' {
-            return Ok((members, rest));
+            return Ok((into_bump_slice(members), rest));
         }
         if byte != b',' {
             return Err(JsonFault::NotJson);

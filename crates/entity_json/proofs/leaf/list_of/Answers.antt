@@ -9,5 +9,5 @@ use Rattle.entity_json.proofs.leaf.list_of.Goals as goal
 
 pub returns-in-Items : goal.returns-in-Items
 returns-in-Items c =
-    let view : json_view c.args.json.now ≡ array (trees_of (map json_view c.in-Items.items.items)) = ap json_view c.in-Items.is ∙ search (rules, the_lemmas) in
-    ap list_of view ∙ ap Some (items-trees (map json_view c.in-Items.items.items)) ∙ ap (λ xs. Some (map json_view xs)) (sym c.as_slice.ensures.value)
+    let view : json_view c.args.json.now ≡ array (trees_of (map json_view c.in-Items.items.now)) = ap json_view c.in-Items.is ∙ search (rules, the_lemmas) in
+    ap list_of view ∙ ap Some (items-trees (map json_view c.in-Items.items.now))

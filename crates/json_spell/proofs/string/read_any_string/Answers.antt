@@ -26,4 +26,4 @@ returns-in-Some-clause-read c =
     let run_is : c.before-in-Some.result.now ≡ before (skip is_unescaped s) s = c.before-in-Some.ensures ∙ ap (λ q. before q s) c.skip_unescaped-end.ensures.rest in
     let closes : skip is_unescaped s ≡ 0x22 ∷ rest = sym c.skip_unescaped-end.ensures.rest ∙ after_byte-sound 0x22 c.skip_unescaped-end.result.now rest (sym c.in-Some.ensures.rest) in
     content_at-closed s (skip is_unescaped s) rest (run_at-some s (ap is_utf8 (sym run_is) ∙ c.in-Some-utf8.ensures.1)) closes
-    ∙ ap (λ q. Some (q, rest)) (sym run_is ∙ sym c.in-Some-utf8.ensures.0 ∙ sym c.borrowed.ensures)
+    ∙ ap (λ q. Some (q, rest)) (sym run_is ∙ sym c.in-Some-utf8.ensures.0)

@@ -17,7 +17,7 @@ returns-then-byte-eq34-clause-read c =
     let left = c.loop-content.left.now in
     let rest_is : c.in_ok-rest.rest.now ≡ 0x22 ∷ c.in-Some.rest.now = c.in-Some.ensures ∙ ap (λ b. b ∷ c.in-Some.rest.now) c.if-byte-eq34.true in
     content_so-closed (string_bytes c.loop-content.content) left c.args.bytes.now _ _ c.in-Some.rest.now c.loop-content.invariant.same
-    (content_at-closed left c.in_ok-rest.rest.now c.in-Some.rest.now c.in_ok-rest.ensures.read rest_is) (c.from_string.ensures ∙ c.in_ok-rest.ensures.pushed)
+    (content_at-closed left c.in_ok-rest.rest.now c.in-Some.rest.now c.in_ok-rest.ensures.read rest_is) (c.into_bump_str.ensures ∙ c.in_ok-rest.ensures.pushed)
 
 pub returns-then-byte-ne92-clause-read : goal.returns-then-byte-ne92-clause-read
 returns-then-byte-ne92-clause-read c =

@@ -87,6 +87,7 @@ read_items-returns-in_default-next-clause-read t c =
 
 pub read_items-returns-then-byte-eq93-clause-read : goal.read_items-returns-then-byte-eq93-clause-read
 read_items-returns-then-byte-eq93-clause-read t c =
+    let kept = c.into_bump_slice-then-byte-eq93 in
     let xs = map json_view c.loop-items.items.items in
     let left = c.loop-items.left.now in
     let bytes = c.args.bytes.now in
@@ -94,7 +95,7 @@ read_items-returns-then-byte-eq93-clause-read t c =
     let opened = list_by-open no_trees 93 values_at bytes c.skip_ws.result.now c.skip_ws.ensures.rest c.after_byte.ensures.rest c.in_default.is in
     let no_separator : (c.in-Some-next.byte == 0x2C) ≡ false = grind (arith, nat_tests, c.if-byte-eq93.true) in
     let is_close : (c.in-Some-next.byte == 93) ≡ true = grind (arith, nat_tests, c.if-byte-eq93.true) in
-    let all = trees-onto (map json_view c.push.new.self.items) ∙ ap (λ ys. onto tree ys no_trees) (map-pushed json_view c.loop-items.items.items c.push.new.self.items c.in_ok-item.item c.in_ok-push.ensures.items) in
+    let all = trees-onto (map json_view kept.result.now) ∙ ap (λ ys. onto tree ys no_trees) (map-pushed json_view c.loop-items.items.items kept.result.now c.in_ok-item.item (kept.ensures ∙ c.in_ok-push.ensures.items)) in
     opened ∙ so-closed (spaced value_at) tree no_trees 93 values_at values_at-is xs left bytes (json_view c.in_ok-item.item) c.in_ok-item.rest.now c.in-Some-next.byte c.in-Some-next.rest.now same c.in_ok-item.ensures.read c.in-Some-next.ensures no_separator is_close
     ∙ ap (λ l. Some (l, c.in-Some-next.rest.now)) (sym all)
 
@@ -146,6 +147,7 @@ read_members-returns-in_default-next-clause-read t c =
 
 pub read_members-returns-then-byte-eq125-clause-read : goal.read_members-returns-then-byte-eq125-clause-read
 read_members-returns-then-byte-eq125-clause-read t c =
+    let kept = c.into_bump_slice-then-byte-eq125 in
     let xs = map member_view c.loop-members.members.items in
     let left = c.loop-members.left.now in
     let bytes = c.args.bytes.now in
@@ -153,7 +155,7 @@ read_members-returns-then-byte-eq125-clause-read t c =
     let opened = list_by-open no_pairs 125 members_at bytes c.skip_ws.result.now c.skip_ws.ensures.rest c.after_byte.ensures.rest c.in_default.is in
     let no_separator : (c.in-Some-next.byte == 0x2C) ≡ false = grind (arith, nat_tests, c.if-byte-eq125.true) in
     let is_close : (c.in-Some-next.byte == 125) ≡ true = grind (arith, nat_tests, c.if-byte-eq125.true) in
-    let all = pairs-onto (map member_view c.push.new.self.items) ∙ ap (λ ys. onto add_pair ys no_pairs) (map-pushed member_view c.loop-members.members.items c.push.new.self.items c.in_ok-member.member c.in_ok-push.ensures.items) in
+    let all = pairs-onto (map member_view kept.result.now) ∙ ap (λ ys. onto add_pair ys no_pairs) (map-pushed member_view c.loop-members.members.items kept.result.now c.in_ok-member.member (kept.ensures ∙ c.in_ok-push.ensures.items)) in
     opened ∙ so-closed (member_by value_at) add_pair no_pairs 125 members_at members_at-is xs left bytes (member_view c.in_ok-member.member) c.in_ok-member.rest.now c.in-Some-next.byte c.in-Some-next.rest.now same c.in_ok-member.ensures.read c.in-Some-next.ensures no_separator is_close
     ∙ ap (λ l. Some (l, c.in-Some-next.rest.now)) (sym all)
 
@@ -189,12 +191,14 @@ read_value-returns-in_default-byte-clause-nests t c = scalar-nests c.args.levels
 
 pub read_items-returns-then-byte-eq93-clause-nests : goal.read_items-returns-then-byte-eq93-clause-nests
 read_items-returns-then-byte-eq93-clause-nests t c =
-    let all = map-pushed json_view c.loop-items.items.items c.push.new.self.items c.in_ok-item.item c.in_ok-push.ensures.items in
+    let kept = c.into_bump_slice-then-byte-eq93 in
+    let all = map-pushed json_view c.loop-items.items.items kept.result.now c.in_ok-item.item (kept.ensures ∙ c.in_ok-push.ensures.items) in
     subst (λ (ys : List Tree). AllNest c.args.levels (trees_of ys)) (sym all)
     (all-push c.args.levels (map json_view c.loop-items.items.items) (json_view c.in_ok-item.item) c.loop-items.invariant.nest c.in_ok-item.ensures.nests)
 
 pub read_members-returns-then-byte-eq125-clause-nests : goal.read_members-returns-then-byte-eq125-clause-nests
 read_members-returns-then-byte-eq125-clause-nests t c =
-    let all = map-pushed member_view c.loop-members.members.items c.push.new.self.items c.in_ok-member.member c.in_ok-push.ensures.items in
+    let kept = c.into_bump_slice-then-byte-eq125 in
+    let all = map-pushed member_view c.loop-members.members.items kept.result.now c.in_ok-member.member (kept.ensures ∙ c.in_ok-push.ensures.items) in
     subst (λ (ys : List (List ℕ × Tree)). MembersNest c.args.levels (pairs_of ys)) (sym all)
     (members-push c.args.levels (map member_view c.loop-members.members.items) (member_view c.in_ok-member.member) c.loop-members.invariant.nest c.in_ok-member.ensures.nests)

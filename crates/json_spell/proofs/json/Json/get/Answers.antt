@@ -1,7 +1,5 @@
 -- The search from the end finds the last member.
-use Rattle.std.proofs.Common.{◌≡◌, map, reverse, option_map, sym, ap, ◌∙◌, rules}
-use Rattle.std.specs.List.{find}
-use Rattle.std.specs.Str.{bytes_eq}
+use Rattle.std.proofs.Common.{◌≡◌, map, option_map, sym, ap, ◌∙◌, rules}
 use Rattle.json_spell.specs.declared.json.Json.{the_lemmas}
 use Rattle.json_spell.specs.Tree.{object, member_of}
 use Rattle.json_spell.specs.View.{json_view, member_view, pairs_of}
@@ -10,15 +8,13 @@ use Rattle.json_spell.proofs.json.Json.get.Goals as goal
 
 pub returns-in_err-member : goal.returns-in_err-member
 returns-in_err-member c =
-    let view : json_view c.args.self.now ≡ object (pairs_of (map member_view c.in-Members.members.items)) = ap json_view c.in-Members.is ∙ search (rules, the_lemmas) in
+    let view : json_view c.args.self.now ≡ object (pairs_of (map member_view c.in-Members.members.now)) = ap json_view c.in-Members.is ∙ search (rules, the_lemmas) in
     rw c.from_residual.ensures
     (ap (option_map (λ m. json_view m.value)) c.in_err-member.ensures
-    ∙ ap (λ ms. option_map (λ m. json_view m.value) (find (λ m. bytes_eq m.key c.args.key.now) (reverse ms))) c.deref.ensures.value
-    ∙ found-last c.args.key.now c.in-Members.members.items ∙ sym (ap (member_of c.args.key.now) view))
+    ∙ found-last c.args.key.now c.in-Members.members.now ∙ sym (ap (member_of c.args.key.now) view))
 
 pub returns : goal.returns
 returns c =
-    let view : json_view c.args.self.now ≡ object (pairs_of (map member_view c.in-Members.members.items)) = ap json_view c.in-Members.is ∙ search (rules, the_lemmas) in
+    let view : json_view c.args.self.now ≡ object (pairs_of (map member_view c.in-Members.members.now)) = ap json_view c.in-Members.is ∙ search (rules, the_lemmas) in
     ap (option_map (λ m. json_view m.value)) c.in_ok-member.ensures
-    ∙ ap (λ ms. option_map (λ m. json_view m.value) (find (λ m. bytes_eq m.key c.args.key.now) (reverse ms))) c.deref.ensures.value
-    ∙ found-last c.args.key.now c.in-Members.members.items ∙ sym (ap (member_of c.args.key.now) view)
+    ∙ found-last c.args.key.now c.in-Members.members.now ∙ sym (ap (member_of c.args.key.now) view)

@@ -1,7 +1,7 @@
 use Rattle.std.proofs.Common.{◌≡◌, ◌≤◌, length}
 use Rattle.json_spell.specs.Grammar.{is_ws}
 use Rattle.json_spell.specs.Reading.{skip}
-use Rattle.json_spell.proofs.bytes.skip_ws.Given as goal
+use Rattle.json_spell.proofs.bytes.skip_ws_slowly.Given as goal
 
 abbrev pub invariant-loop-left : goal.invariant-loop-left
 invariant-loop-left l = (skip is_ws l.left ≡ skip is_ws l.bytes) × (length l.left ≤ length l.bytes)
