@@ -38,14 +38,12 @@ impl<S: TripleSink> TripleSink for Munged<S> {
         predicate: &TermRef<'_>,
         object: &TermRef<'_>,
     ) -> Result<(), OutOfMemory> {
-        match self.page.verdict(subject, predicate, object) {
-            Verdict::Moved => {
-                let entity = TermRef::Id(Prefix::Wd, self.page.id);
-                emit_named(alloc, &entity, predicate, object, &mut self.inner)
-            }
-            Verdict::Dropped => Ok(()),
-            Verdict::Kept => emit_named(alloc, subject, predicate, object, &mut self.inner),
-        }
+        let subject = match self.page.verdict(subject, predicate, object) {
+            Verdict::Moved => TermRef::Id(Prefix::Wd, self.page.id),
+            Verdict::Dropped => return Ok(()),
+            Verdict::Kept => *subject,
+        };
+        emit_named(alloc, &subject, predicate, object, &mut self.inner)
     }
 }
 

@@ -105,7 +105,18 @@ impl Page {
         ensures { result ≡ repeats_label self.now.id (meant_triple subject.now predicate.now object.now) }
     {
         let _object = object;
-        is_other_name(predicate) && is_iri_of(subject, self.entity.as_str())
+        is_other_name(predicate) && self.is_entity(subject)
+    }
+
+    // Whether the term is the entity.
+    #[tactic(auto, using(crate::proofs::Joined::same_text))]
+    fn is_entity(&self, term: &TermRef<'_>) -> bool
+        ensures { result ≡ is_iri_of (entity_iri self.now.id) (meant term.now) }
+    {
+        match term {
+            TermRef::Id(Prefix::Wd, id) if *id == self.id => true,
+            _ => is_iri_of(term, self.entity.as_str()),
+        }
     }
 }
 

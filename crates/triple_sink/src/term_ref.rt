@@ -173,6 +173,7 @@ fn write_named(front: &str, name: &str, out: &mut Vec<u8>) -> Result<(), OutOfMe
 
 // Appends an IRI in its brackets.
 #[tactic(auto, using(rdf_term::proofs::Utf8Texts::iri_utf8, rdf_term::proofs::Appending::still_front, std::proofs::lemmas::List::append_assoc))]
+#[inline(always)]
 fn write_iri(iri: &str, out: &mut Vec<u8>) -> Result<(), OutOfMemory>
     ensures text { Appends out.old.items out.new.items (in_brackets iri.now) result }
     ensures utf8 { IsUtf8 (in_brackets iri.now) }
