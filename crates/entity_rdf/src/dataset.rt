@@ -41,7 +41,7 @@ fn emit_page<S: TripleSink>(setting: Setting, id: EntityId, out: &mut S) -> Resu
     emit_class(setting.alloc, &dataset, Resource::Dataset, out)?;
     let entity = TermRef::Id(Prefix::Wd, id);
     emit_about(setting.alloc, &dataset, Predicate::About, &entity, out)?;
-    let license = TermRef::Iri(Resource::PublicDomain.text());
+    let license = TermRef::Resource(Resource::PublicDomain);
     emit_about(setting.alloc, &dataset, Predicate::License, &license, out)?;
     emit_format(setting, &dataset, out)
 }

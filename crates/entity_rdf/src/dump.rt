@@ -10,6 +10,7 @@ ghost use Rattle.munger.specs.Munging.{munge, munged};
 ghost use Rattle.munger.specs.Short.{HasShortLabels};
 ghost use Rattle.entity_rdf.specs.Dump.{dump};
 
+use crate::room::room;
 use crate::walk::emit_dump;
 use entity_model::{Document, EntityId};
 use munger::{Munged, Page};
@@ -107,7 +108,8 @@ fn munged_texts(
 ) -> Result<TripleTexts, OutOfMemory>
     ensures { IfOk result (λ texts. texts ≡ flat_map (munged id) (dump setting.version id rev document.now)) }
 {
-    munge_into(setting, id, rev, document, TripleTexts::new(setting.alloc))
+    let texts = TripleTexts::with_room(setting.alloc, room(document))?;
+    munge_into(setting, id, rev, document, texts)
 }
 
 // The sink with what it keeps of what is left of each triple of the dump.

@@ -2,7 +2,8 @@
 //!
 //! `about` has what a page says of its entity, `dataset` what it says of itself, `property` what a property's page says of
 //! its predicates, and `statements` what its statements say; `walk` puts the rules together. `dump` has what a walk
-//! makes, of the dump and of what munging leaves of it, as sets and as texts, and `laws` what holds of the rules.
+//! makes, of the dump and of what munging leaves of it, as sets and as texts, `room` how much room the texts get at
+//! first, and `laws` what holds of the rules.
 #![tactic(auto)]
 
 mod about;
@@ -10,6 +11,7 @@ mod dataset;
 mod dump;
 mod laws;
 mod property;
+mod room;
 mod statements;
 mod walk;
 

@@ -19,3 +19,7 @@ not_joined front back text none = by (bytes_eq (front ++ back) text) refl
     by : (b : Bool) → bytes_eq (front ++ back) text ≡ b → false ≡ b
     by true e = absurd (none back (sym ((bytes_eq-Decides (front ++ back) text).0 e)))
     by false e = refl
+
+-- a text is the same as itself
+pub same_text : (text : List ℕ) → bytes_eq text text ≡ true
+same_text text = (bytes_eq-Decides text text).1 refl

@@ -15,16 +15,22 @@ is_moved predicate =
     is_predicate Version predicate || is_predicate DateModified predicate || is_predicate Statements predicate
     || is_predicate Sitelinks predicate || is_predicate Identifiers predicate
 
+-- the class of items, of statements or of references
+abbrev pub is_untold : Term → Bool
+is_untold class = is_resource Item class || is_resource Statement class || is_resource Reference class
+
 -- the type of an item, a statement or a reference
 abbrev pub has_untold_type : Triple → Bool
-has_untold_type triple =
-    is_predicate RdfType triple.predicate
-    && (is_resource Item triple.object || is_resource Statement triple.object || is_resource Reference triple.object)
+has_untold_type triple = is_predicate RdfType triple.predicate && is_untold triple.object
 
--- a label of the entity that stands under skos:prefLabel or schema:name too
+-- skos:prefLabel and schema:name, which say again what rdfs:label says
+abbrev pub is_other_name : Term → Bool
+is_other_name predicate = is_predicate PrefLabel predicate || is_predicate Name predicate
+
+-- a label of the entity under another name
 abbrev pub repeats_label : EntityId → Triple → Bool
 repeats_label id triple =
-    is_iri_of (entity_iri id) triple.subject && (is_predicate PrefLabel triple.predicate || is_predicate Name triple.predicate)
+    is_iri_of (entity_iri id) triple.subject && is_other_name triple.predicate
 
 -- of the dataset's triples some are moved to the entity and the others dropped; then untold types and repeated labels are dropped
 abbrev pub verdict : EntityId → Triple → Verdict

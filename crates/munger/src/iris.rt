@@ -17,6 +17,8 @@ pub(crate) fn is_iri_of(term: &TermRef<'_>, iri: &str) -> bool
     ensures { result ≡ is_iri_of iri.now (meant term.now) }
 {
     match term {
+        TermRef::Predicate(word) => word.text() == iri,
+        TermRef::Resource(word) => word.text() == iri,
         TermRef::Named(prefix, name) => is_joined(prefix.text(), name, iri),
         TermRef::Id(prefix, id) => is_id_behind(prefix.text(), *id, iri),
         TermRef::Iri(text) => *text == iri,

@@ -1,9 +1,13 @@
 // The sink that munges what it hands on.
 
+ghost use Rattle.std.specs.Prelude.{◌≡◌, [], ◌∷◌, OnOk};
 ghost use Rattle.std.specs.List.{flat_map};
+ghost use Rattle.triple_sink.specs.Gains.{Gains};
+ghost use Rattle.triple_sink.specs.TermRef.{meant_triple};
 ghost use Rattle.munger.specs.Munging.{munged};
+ghost use Rattle.munger.specs.Naming.{named_triple};
 
-use crate::naming::named;
+use crate::naming::{is_blank, named};
 use crate::verdict::{Page, Verdict};
 use rdf_term::OutOfMemory;
 use rdf_vocabulary::Prefix;
@@ -37,9 +41,25 @@ impl<S: TripleSink> TripleSink for Munged<S> {
         let subject = match self.page.verdict(subject, predicate, object) {
             Verdict::Moved => TermRef::Id(Prefix::Wd, self.page.id),
             Verdict::Dropped => return Ok(()),
-            Verdict::Kept => named(subject),
+            Verdict::Kept => *subject,
         };
-        self.inner
-            .emit(alloc, &subject, &named(predicate), &named(object))
+        emit_named(alloc, &subject, predicate, object, &mut self.inner)
     }
+}
+
+// Hands on the triple with its blank nodes named. Most triples have none, and their terms are handed on as they are.
+fn emit_named<S: TripleSink>(
+    alloc: Global,
+    subject: &TermRef<'_>,
+    predicate: &TermRef<'_>,
+    object: &TermRef<'_>,
+    out: &mut S,
+) -> Result<(), OutOfMemory>
+    ensures gains { OnOk result (Gains S.items S.keeps out.old out.new (named_triple (meant_triple subject.now predicate.now object.now) ∷ [])) }
+    ensures stays { S.rest out.new ≡ S.rest out.old }
+{
+    if is_blank(subject) || is_blank(predicate) || is_blank(object) {
+        return out.emit(alloc, &named(subject), &named(predicate), &named(object));
+    }
+    out.emit(alloc, subject, predicate, object)
 }

@@ -1,10 +1,12 @@
 // What becomes of a triple.
 
 ghost use Rattle.std.specs.Prelude.{◌≡◌, ◌++◌, IfOk};
+ghost use Rattle.rdf_vocabulary.specs.Predicate.{predicate_term};
 ghost use Rattle.rdf_vocabulary.specs.Prefix.{prefix_text};
+ghost use Rattle.rdf_vocabulary.specs.Resource.{resource_term};
 ghost use Rattle.triple_sink.specs.TermRef.{meant, meant_triple};
-ghost use Rattle.munger.specs.Iris.{dataset_iri, entity_iri, is_data, is_iri_of};
-ghost use Rattle.munger.specs.Verdict.{has_untold_type, is_moved};
+ghost use Rattle.munger.specs.Iris.{dataset_iri, entity_iri, is_data, is_iri_of, is_predicate};
+ghost use Rattle.munger.specs.Verdict.{has_untold_type, is_moved, is_other_name, is_untold};
 
 use crate::iris::{is_iri_of, is_predicate, is_resource};
 use entity_model::EntityId;
@@ -103,8 +105,18 @@ impl Page {
         ensures { result ≡ repeats_label self.now.id (meant_triple subject.now predicate.now object.now) }
     {
         let _object = object;
-        (is_predicate(predicate, Predicate::PrefLabel) || is_predicate(predicate, Predicate::Name))
-            && is_iri_of(subject, self.entity.as_str())
+        is_other_name(predicate) && self.is_entity(subject)
+    }
+
+    // Whether the term is the entity.
+    #[tactic(auto, using(crate::proofs::Joined::same_text))]
+    fn is_entity(&self, term: &TermRef<'_>) -> bool
+        ensures { result ≡ is_iri_of (entity_iri self.now.id) (meant term.now) }
+    {
+        match term {
+            TermRef::Id(Prefix::Wd, id) if *id == self.id => true,
+            _ => is_iri_of(term, self.entity.as_str()),
+        }
     }
 }
 
@@ -112,11 +124,31 @@ impl Page {
 fn is_moved(predicate: &TermRef<'_>) -> bool
     ensures { result ≡ is_moved (meant predicate.now) }
 {
-    is_predicate(predicate, Predicate::Version)
-        || is_predicate(predicate, Predicate::DateModified)
-        || is_predicate(predicate, Predicate::Statements)
-        || is_predicate(predicate, Predicate::Sitelinks)
-        || is_predicate(predicate, Predicate::Identifiers)
+    match predicate {
+        TermRef::Predicate(word) => moves(*word),
+        _ => {
+            is_predicate(predicate, Predicate::Version)
+                || is_predicate(predicate, Predicate::DateModified)
+                || is_predicate(predicate, Predicate::Statements)
+                || is_predicate(predicate, Predicate::Sitelinks)
+                || is_predicate(predicate, Predicate::Identifiers)
+        }
+    }
+}
+
+// Whether the dataset's triples with a word are moved.
+#[tactic(auto, unfolding(rdf_vocabulary::specs::Predicate::predicate_text))]
+fn moves(word: Predicate) -> bool
+    ensures { result ≡ is_moved (predicate_term word) }
+{
+    matches!(
+        word,
+        Predicate::Version
+            | Predicate::DateModified
+            | Predicate::Statements
+            | Predicate::Sitelinks
+            | Predicate::Identifiers
+    )
 }
 
 // Whether the triple has a type that isn't told.
@@ -124,10 +156,71 @@ fn has_untold_type(subject: &TermRef<'_>, predicate: &TermRef<'_>, object: &Term
     ensures { result ≡ has_untold_type (meant_triple subject.now predicate.now object.now) }
 {
     let _subject = subject;
-    is_predicate(predicate, Predicate::RdfType)
-        && (is_resource(object, Resource::Item)
-            || is_resource(object, Resource::Statement)
-            || is_resource(object, Resource::Reference))
+    is_type(predicate) && is_untold(object)
+}
+
+// Whether the predicate says the type of a node.
+fn is_type(predicate: &TermRef<'_>) -> bool
+    ensures { result ≡ is_predicate Predicate.RdfType (meant predicate.now) }
+{
+    match predicate {
+        TermRef::Predicate(word) => tells_type(*word),
+        _ => is_predicate(predicate, Predicate::RdfType),
+    }
+}
+
+// Whether the word says the type of a node.
+#[tactic(auto, unfolding(rdf_vocabulary::specs::Predicate::predicate_text))]
+fn tells_type(word: Predicate) -> bool
+    ensures { result ≡ is_predicate Predicate.RdfType (predicate_term word) }
+{
+    matches!(word, Predicate::RdfType)
+}
+
+// Whether the term is a type that isn't told.
+fn is_untold(class: &TermRef<'_>) -> bool
+    ensures { result ≡ is_untold (meant class.now) }
+{
+    match class {
+        TermRef::Resource(word) => is_untold_word(*word),
+        _ => {
+            is_resource(class, Resource::Item)
+                || is_resource(class, Resource::Statement)
+                || is_resource(class, Resource::Reference)
+        }
+    }
+}
+
+// Whether the word is a type that isn't told.
+#[tactic(auto, unfolding(rdf_vocabulary::specs::Resource::resource_text))]
+fn is_untold_word(word: Resource) -> bool
+    ensures { result ≡ is_untold (resource_term word) }
+{
+    matches!(
+        word,
+        Resource::Item | Resource::Statement | Resource::Reference
+    )
+}
+
+// Whether the predicate is another name of `rdfs:label`.
+fn is_other_name(predicate: &TermRef<'_>) -> bool
+    ensures { result ≡ is_other_name (meant predicate.now) }
+{
+    match predicate {
+        TermRef::Predicate(word) => names_again(*word),
+        _ => {
+            is_predicate(predicate, Predicate::PrefLabel)
+                || is_predicate(predicate, Predicate::Name)
+        }
+    }
+}
+
+// Whether the word is another name of `rdfs:label`.
+#[tactic(auto, unfolding(rdf_vocabulary::specs::Predicate::predicate_text))]
+fn names_again(word: Predicate) -> bool
+    ensures { result ≡ is_other_name (predicate_term word) }
+{
+    matches!(word, Predicate::PrefLabel | Predicate::Name)
 }
 
 // Whether the namespace is that of the datasets.

@@ -149,7 +149,7 @@ pub fn emit_no_value<S: TripleSink>(
         (no_value_triple (meant subject.now) property ∷ [])) }
     ensures stays { S.rest out.new ≡ S.rest out.old }
 {
-    let predicate = TermRef::Iri(Predicate::RdfType.text());
+    let predicate = TermRef::Predicate(Predicate::RdfType);
     let class = TermRef::Id(Prefix::Wdno, property);
     out.emit(alloc, subject, &predicate, &class)
 }

@@ -70,7 +70,7 @@ fn emit_head<S: TripleSink>(
     let claim = TermRef::Id(Prefix::P, statement.property);
     out.emit(alloc, entity, &claim, node)?;
     emit_class(alloc, node, Resource::Statement, out)?;
-    let rank = TermRef::Iri(rank_resource(statement.rank).text());
+    let rank = TermRef::Resource(rank_resource(statement.rank));
     emit_about(alloc, node, Predicate::Rank, &rank, out)?;
     if best {
         emit_class(alloc, node, Resource::BestRank, out)?;

@@ -2,12 +2,16 @@
 use Rattle.rdf_term.specs.declared.term.Term.{Term}
 use Rattle.rdf_term.specs.declared.term.Term.TheVariants as T
 use Rattle.rdf_term.specs.declared.triple.Triple.{Triple}
+use Rattle.rdf_vocabulary.specs.Predicate.{predicate_term}
 use Rattle.rdf_vocabulary.specs.Prefix.{id_term, prefixed}
+use Rattle.rdf_vocabulary.specs.Resource.{resource_term}
 use Rattle.triple_sink.specs.declared.term_ref.TermRef.{TermRef}
-use Rattle.triple_sink.specs.declared.term_ref.TermRef.TheVariants.{Named, Id, Iri, Blank, Plain, Lang, Typed}
+use Rattle.triple_sink.specs.declared.term_ref.TermRef.TheVariants.{Predicate, Resource, Named, Id, Iri, Blank, Plain, Lang, Typed}
 
 -- the term
 abbrev pub meant : TermRef → Term
+meant (Predicate word) = predicate_term word
+meant (Resource word) = resource_term word
 meant (Named prefix name) = prefixed prefix name.now
 meant (Id prefix id) = id_term prefix id
 meant (Iri iri) = T.Iri iri.now

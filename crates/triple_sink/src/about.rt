@@ -23,8 +23,7 @@ pub fn emit_about<S: TripleSink>(
     ensures gains { OnOk result (Gains S.items S.keeps out.old out.new (about (meant subject.now) predicate (meant object.now) ∷ [])) }
     ensures stays { S.rest out.new ≡ S.rest out.old }
 {
-    let predicate = TermRef::Iri(predicate.text());
-    out.emit(alloc, subject, &predicate, object)
+    out.emit(alloc, subject, &TermRef::Predicate(predicate), object)
 }
 
 /// Hands on the class of a node. What the sink holds after `OutOfMemory` isn't said.
@@ -41,7 +40,7 @@ pub fn emit_class<S: TripleSink>(
         alloc,
         node,
         Predicate::RdfType,
-        &TermRef::Iri(class.text()),
+        &TermRef::Resource(class),
         out,
     )
 }

@@ -12,12 +12,17 @@ ghost use Rattle.triple_sink.specs.TermRef.{meant};
 use entity_model::{EntityId, IdKind};
 use itoa::Buffer;
 use rdf_term::{OutOfMemory, Term, Text, is_tag, write_quoted};
-use rdf_vocabulary::Prefix;
+use rdf_vocabulary::{Predicate, Prefix, Resource};
 use std::alloc::Global;
 
-/// A term of RDF that borrows its texts, or an IRI by its namespace and what stands behind that.
+/// A term of RDF that borrows its texts, or an IRI by its word in the vocabulary, or by its namespace and what stands
+/// behind that.
 #[derive(Clone, Copy, Debug)]
 pub enum TermRef<'a> {
+    /// The IRI of a predicate of the dump.
+    Predicate(Predicate),
+    /// The IRI of a class of the dump, a rank or the licence.
+    Resource(Resource),
     /// The IRI of a name in a namespace.
     Named(Prefix, &'a str),
     /// The IRI of an entity's id in a namespace.
@@ -65,6 +70,8 @@ impl<'a> TermRef<'a> {
         ensures { IfOk result (λ term. term ≡ meant self.now) }
     {
         match self {
+            TermRef::Predicate(word) => word.term(alloc),
+            TermRef::Resource(word) => word.term(alloc),
             TermRef::Named(prefix, name) => prefix.term(alloc, name),
             TermRef::Id(prefix, id) => id_term(alloc, *prefix, *id),
             TermRef::Iri(iri) => Ok(Term::Iri(Text::new(alloc, iri)?)),
@@ -89,6 +96,8 @@ impl<'a> TermRef<'a> {
         ensures utf8 { IsUtf8 (term_text (meant self.now)) }
     {
         match self {
+            TermRef::Predicate(word) => write_iri(word.text(), out),
+            TermRef::Resource(word) => write_iri(word.text(), out),
             TermRef::Named(prefix, name) => write_named(prefix.text(), name, out),
             TermRef::Id(prefix, id) => write_id(*prefix, *id, out),
             TermRef::Iri(iri) => write_iri(iri, out),
@@ -164,6 +173,7 @@ fn write_named(front: &str, name: &str, out: &mut Vec<u8>) -> Result<(), OutOfMe
 
 // Appends an IRI in its brackets.
 #[tactic(auto, using(rdf_term::proofs::Utf8Texts::iri_utf8, rdf_term::proofs::Appending::still_front, std::proofs::lemmas::List::append_assoc))]
+#[inline(always)]
 fn write_iri(iri: &str, out: &mut Vec<u8>) -> Result<(), OutOfMemory>
     ensures text { Appends out.old.items out.new.items (in_brackets iri.now) result }
     ensures utf8 { IsUtf8 (in_brackets iri.now) }

@@ -13,6 +13,9 @@ use std::alloc::Global;
 use std::marker::Model;
 use triple_sink::{TermRef, TripleSink};
 
+// How many bytes the texts of a triple have at least, mostly.
+const TRIPLE_BYTES: usize = 128;
+
 /// Triples by the canonical texts of their terms, in the order in which they came. Contracts see the triples.
 #[derive(Debug, Drop)]
 pub struct TripleTexts {
@@ -42,6 +45,16 @@ impl TripleTexts {
             bytes: Vec::new(alloc),
             places: Vec::new(alloc),
         }
+    }
+
+    /// No triples, with room for texts of this many bytes in all.
+    pub fn with_room(alloc: Global, bytes: usize) -> Result<TripleTexts, OutOfMemory>
+        ensures { IfOk result (λ texts. texts ≡ []) }
+    {
+        Ok(TripleTexts {
+            places: Vec::with_capacity(alloc, bytes / TRIPLE_BYTES)?,
+            bytes: Vec::with_capacity(alloc, bytes)?,
+        })
     }
 
     /// The number of triples.

@@ -52,13 +52,13 @@ fn emit_time_parts<S: TripleSink>(
     ensures gains { OnOk result (Gains S.items S.keeps out.old out.new (time_triples (meant node.now) time.now)) }
     ensures stays { S.rest out.new ≡ S.rest out.old }
 {
-    let value = TermRef::Iri(Predicate::TimeValue.text());
+    let value = TermRef::Predicate(Predicate::TimeValue);
     emit_time(alloc, node, &value, time, out)?;
     let precision = time.precision_text.as_str();
     emit_integer(alloc, node, Predicate::TimePrecision, precision, out)?;
     let timezone = time.timezone.as_str();
     emit_integer(alloc, node, Predicate::TimeTimezone, timezone, out)?;
-    let calendar = TermRef::Iri(Predicate::TimeCalendarModel.text());
+    let calendar = TermRef::Predicate(Predicate::TimeCalendarModel);
     emit_iri(alloc, node, &calendar, time.calendar.as_str(), out)
 }
 
@@ -72,7 +72,7 @@ fn emit_quantity_parts<S: TripleSink>(
     ensures gains { OnOk result (Gains S.items S.keeps out.old out.new (quantity_triples (meant node.now) quantity.now)) }
     ensures stays { S.rest out.new ≡ S.rest out.old }
 {
-    let amount = TermRef::Iri(Predicate::QuantityAmount.text());
+    let amount = TermRef::Predicate(Predicate::QuantityAmount);
     emit_amount(alloc, node, &amount, quantity.amount.as_str(), out)?;
     emit_unit(alloc, node, quantity.unit.as_str(), out)?;
     let (upper, lower) = (quantity.upper.as_ref(), quantity.lower.as_ref());
@@ -94,7 +94,7 @@ fn emit_bound<S: TripleSink>(
 {
     match bound {
         Some(bound) => {
-            let predicate = TermRef::Iri(predicate.text());
+            let predicate = TermRef::Predicate(predicate);
             emit_amount(alloc, node, &predicate, bound.as_str(), out)
         }
         None => Ok(()),
@@ -113,7 +113,7 @@ fn emit_unit<S: TripleSink>(
         (about (meant node.now) Predicate.QuantityUnit (unit_term unit.now) ∷ [])) }
     ensures stays { S.rest out.new ≡ S.rest out.old }
 {
-    let predicate = TermRef::Iri(Predicate::QuantityUnit.text());
+    let predicate = TermRef::Predicate(Predicate::QuantityUnit);
     if unit == "1" {
         return out.emit(alloc, node, &predicate, &TermRef::Named(Prefix::Wd, "Q199"));
     }
@@ -135,7 +135,7 @@ fn emit_globe_parts<S: TripleSink>(
     let longitude = globe.longitude.as_str();
     emit_double(alloc, node, Predicate::GeoLongitude, longitude, out)?;
     emit_precision(alloc, node, globe.precision.as_ref(), out)?;
-    let predicate = TermRef::Iri(Predicate::GeoGlobe.text());
+    let predicate = TermRef::Predicate(Predicate::GeoGlobe);
     emit_iri(alloc, node, &predicate, globe.globe.as_str(), out)
 }
 
