@@ -1,7 +1,8 @@
 // The dump of a small document, which no output shows. The crate `cases` tries whole pages.
 
 use entity_model::{Document, Entity, EntityId, MappingVersion, Tagged};
-use entity_rdf::dump_triples;
+use entity_rdf::{direct_triples, dump_triples};
+use munger::munge;
 use rdf_term::{List, Piece, write_triple};
 use std::alloc::Global;
 use std::process::Abort;
@@ -9,7 +10,7 @@ use std::str;
 use std::test::Fail;
 use triple_sink::Setting;
 
-// Checks the lines of the dump of Q1 at revision 5.
+// Checks the lines of the dump of Q1 at revision 5, and that what munging leaves of it is made without it too.
 fn check_dump(
     rt: &(impl Abort + Alloc<A = Global>),
     document: &Document,
@@ -26,6 +27,8 @@ fn check_dump(
         write_triple(triple, &mut text)?;
     }
     assert_eq!(rt; str::from_utf8(text.as_slice()), Ok(want));
+    let direct = direct_triples(setting, id, 5, document)?;
+    assert!(rt; direct.items() == munge(rt.alloc(), id, &dump)?.items());
     Ok(())
 }
 

@@ -13,6 +13,8 @@ mod folders;
 #[cfg(test)]
 mod horizons;
 #[cfg(test)]
+mod indexes;
+#[cfg(test)]
 mod munged;
 #[cfg(test)]
 mod names;
@@ -26,3 +28,5 @@ mod ranks;
 mod regions;
 #[cfg(test)]
 mod streams;
+#[cfg(test)]
+mod terms;

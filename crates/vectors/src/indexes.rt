@@ -1,0 +1,99 @@
+// Keys that come to a set in blocks and go from it.
+
+ghost use Rattle.std.specs.Prelude.{◌≡◌, ◌<◌};
+
+use block_index::{BlockIndex, Steps};
+use slot_index::Key;
+use std::alloc::Global;
+use std::marker::Brand;
+use std::process::Abort;
+use std::sync::ledger::{Blank, Ledger};
+use std::test::Fail;
+
+// A number comes (`+`) or goes (`-`), whether the set is another one then, and what it has of the numbers from 1 to 2.
+const CALLS: &str = "+ 3 true |
++ 1 true | 1
++ 2 true | 1 2
++ 2 false | 1 2
++ 0 true | 1 2
+- 2 true | 1
+- 2 false | 1
+- 1 true |
+- 3 true |
+- 0 true |";
+
+// The key of a number.
+fn key(number: u32) -> Key {
+    Key {
+        first: 0,
+        second: number,
+        third: 0,
+    }
+}
+
+// Puts a number in or takes it out, and says whether the set is another one then.
+fn call<L: Ledger>(
+    index: &mut BlockIndex<Key>,
+    sign: &str,
+    number: u32,
+    steps: &mut Steps<L>,
+) -> Result<bool, Fail> {
+    if sign == "+" {
+        return Ok(index.insert(key(number), steps)?);
+    }
+    Ok(index.remove(key(number), steps))
+}
+
+// Checks the numbers from 1 to 2.
+fn check_range<L: Ledger>(
+    rt: &impl Abort,
+    index: &BlockIndex<Key>,
+    numbers: &str,
+    steps: &mut Steps<L>,
+) -> Result<(), Fail> {
+    let found = index.range(key(1), key(2), steps)?;
+    assert_eq!(rt;
+        found.len(),
+        numbers.split_whitespace().count(),
+        "{numbers:?}"
+    );
+    for (key, number) in found.as_slice().iter().zip(numbers.split_whitespace()) {
+        assert_eq!(rt; key.second, number.parse::<u32>()?, "{numbers:?}");
+    }
+    Ok(())
+}
+
+// Makes a call, and checks what it answers and leaves.
+fn check_call<L: Ledger>(
+    rt: &impl Abort,
+    index: &mut BlockIndex<Key>,
+    row: &str,
+    steps: &mut Steps<L>,
+) -> Result<(), Fail> {
+    let (sign, rest) = row.split_once(' ').ok_or("a sign")?;
+    let (number, rest) = rest.split_once(' ').ok_or("a number")?;
+    let (answer, numbers) = rest.split_once(" |").ok_or("an answer")?;
+    let changed = call(index, sign, number.parse()?, steps)?;
+    assert_eq!(rt; changed, answer == "true", "{row:?}");
+    check_range(rt, index, numbers, steps)
+}
+
+// Makes all calls in turn.
+fn check_calls<L: Ledger>(rt: &(impl Abort + Alloc<A = Global>), blank: Blank) -> Result<(), Fail>
+    requires name { blank.name ≡ L.name }
+    requires parts { blank.parts ≡ L.parts }
+    requires some { 0 < blank.parts }
+{
+    let mut steps = Steps::<L>::new(blank);
+    let mut index = BlockIndex::new(rt.alloc());
+    for row in CALLS.lines() {
+        check_call(rt, &mut index, row, &mut steps)?;
+    }
+    assert_eq!(rt; (index.len(), index.blocks()), (0, 0));
+    Ok(())
+}
+
+#[test]
+fn keys_come_and_go(rt: HostRuntime) -> Result<(), Fail> {
+    check_calls::<Brand>(&rt, Blank::new(1))
+}

@@ -1,0 +1,44 @@
+// Terms that are made of texts which may not stand as they are.
+
+use rdf_term::{Term, iri, tagged, write_term};
+use std::alloc::Global;
+use std::process::Abort;
+use std::str;
+use std::test::Fail;
+
+// A text, and the IRI that is made of it: what may not stand in an IRI is percent-encoded, and all else stays.
+const IRIS: &str = "a b => <a%20b>
+http://a/ü%2B => <http://a/ü%2B>
+<{|}^`> => <%3C%7B%7C%7D%5E%60%3E>";
+
+// The language of a text, and the literal that is made of both: one without the language, where that is no tag.
+const LANGUAGES: &str = "en => \"x\"@en
+en-GB => \"x\"@en-GB
+en_us => \"x\"
+ => \"x\"";
+
+// Checks how a term is written.
+fn check_term(rt: &(impl Abort + Alloc<A = Global>), term: &Term, want: &str) -> Result<(), Fail> {
+    let mut written = Vec::new(rt.alloc());
+    write_term(term, &mut written)?;
+    assert_eq!(rt; str::from_utf8(written.as_slice()), Ok(want));
+    Ok(())
+}
+
+#[test]
+fn texts_are_iris(rt: HostRuntime) -> Result<(), Fail> {
+    for row in IRIS.lines() {
+        let (text, want) = row.split_once(" => ").ok_or("a row")?;
+        check_term(&rt, &iri(rt.alloc(), text)?, want)?;
+    }
+    Ok(())
+}
+
+#[test]
+fn texts_have_languages(rt: HostRuntime) -> Result<(), Fail> {
+    for row in LANGUAGES.lines() {
+        let (language, want) = row.split_once(" => ").ok_or("a row")?;
+        check_term(&rt, &tagged(rt.alloc(), "x", language)?, want)?;
+    }
+    Ok(())
+}
