@@ -5,6 +5,7 @@ pub mod Fit
 pub mod Laying
 pub mod Means
 pub mod Moving
+pub mod OneVersion
 pub mod Owning
 pub mod Pieced
 pub mod Replacing

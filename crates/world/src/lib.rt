@@ -5,7 +5,7 @@
 //! store of all triples and the region with all texts in step, `remapping` where a held page is mapped anew. `kept` is what is
 //! kept of a page, and `holders` names the entities that hold one, by the version of the mapping that it is mapped by. `versions`
 //! has what they say of each version, and maps the pages of the other one anew. `rows` gives the triples, with or without a copy
-//! of their texts, `applied` says what an application led to, and `laws` what holds of the meaning of pages.
+//! of their texts, `applied` says what an application led to, and `laws` what holds of the meaning of pages and of their versions.
 #![tactic(auto)]
 
 mod applied;
@@ -22,5 +22,5 @@ mod versions;
 mod world;
 
 pub use applied::{Applied, Outcome, WorldFault};
-pub use laws::meaning_is_by_rules;
+pub use laws::{meaning_is_by_rules, versions_follow_the_play};
 pub use world::World;

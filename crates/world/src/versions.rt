@@ -25,9 +25,10 @@ impl World {
         self.pages.mapping()
     }
 
-    /// Sets the version in force. What is held stays mapped as it was.
+    /// Sets the version in force. What is held stays mapped as it was; whatever is named as mapped by version Two is held.
     pub fn set_mapping(&mut self, version: MappingVersion)
-        ensures { self.new ≡ record self.old { mapping = version } }
+        ensures set { self.new ≡ record self.old { mapping = version } }
+        ensures holders { AreHolders self.new.second self.new.replay.played.records }
     {
         self.pages.set_mapping(version);
     }
