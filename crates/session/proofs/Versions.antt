@@ -1,63 +1,37 @@
 -- By which versions all that is held is mapped, after each step.
-use Rattle.std.proofs.Common.{◌≡◌, ◌∙◌, refl, sym, ap, subst, ℕ, suc, ◌<◌, Bool, true, false, cond, List, [], ◌∷◌, length, filter, Option, None, Some, IfSome, Result, Ok, Err, is_some, arith}
+use Rattle.std.proofs.Common.{◌≡◌, ◌∙◌, refl, sym, ap, subst, ℕ, suc, ◌<◌, Bool, true, false, cond, List, [], ◌∷◌, length, filter, Option, None, Some, IfSome, is_some, arith}
 use Rattle.std.specs.FinMap as map
 use Rattle.rdf_term.specs.Order.{triple_cmp}
 use Rattle.entity_model.specs.declared.id.EntityId.{EntityId}
-use Rattle.entity_model.specs.declared.event.Event.{Event}
 use Rattle.entity_model.specs.declared.mapping.MappingVersion.{MappingVersion}
 use Rattle.entity_state.specs.declared.record.Held.{Held}
-use Rattle.entity_state.specs.declared.record.Record.{Record}
-use Rattle.entity_state.specs.State.{is_deleted, state_after}
-use Rattle.side_output.specs.declared.entry.Cause.{Cause}
 use Rattle.revisions.specs.Revisions.{Contents}
-use Rattle.replay_model.specs.Explained.{is_fetching}
-use Rattle.replay_model.specs.Play.{held_after_fetch, record_after}
 use Rattle.replay_model.specs.Records.{Bytes, Records, record_of}
 use Rattle.replay_model.specs.ReplayState.{ReplayState}
 use Rattle.replay_model.specs.Union.{triples_held, union}
 use Rattle.replay_model.specs.Versions.{all_by, is_holder, meaning_by}
-use Rattle.replay_model.proofs.Versions.{all-drop, all-keep, all-put, union-all}
-use Rattle.world.specs.Applying.{Applies, outcome_of_reply}
+use Rattle.replay_model.proofs.Versions.{union-all}
+use Rattle.world.specs.Applying.{Applies}
 use Rattle.world.specs.Meaning.{meaning}
 use Rattle.world.specs.Roomed.{HasRoom, room_with}
 use Rattle.world.specs.WorldState.{WorldState, first_of, next_stale, remapped, second_after, stale, triples_anew, triples_of}
 use Rattle.world.specs.declared.applied.Applied.{Applied}
-use Rattle.world.specs.declared.applied.Outcome.{Outcome}
-use Rattle.world.specs.declared.applied.Outcome.TheVariants.{Same, Dropped}
+use Rattle.world.proofs.OneVersion.{applied_by_one}
 use Rattle.session.specs.Remapping.{HoldsWithin, IsFullOfStale, KeepsVersion, Mapped, held_triples, mapped_by, mapped_in, remapped_in, remapped_some}
 
 -- where every page is mapped by one version, the triples of all that is held are the union by this version
 pub all_held_by : (version : MappingVersion) (mapped : Mapped) (records : Records) → mapped ≡ mapped_by version records → held_triples mapped records ≡ union triple_cmp (meaning version) records
 all_held_by version mapped records is = ap (λ (m : Mapped). held_triples m records) is ∙ union-all meaning version records triple_cmp
 
--- what an application leads to, by whether it fetches
-abbrev outcome_by : Bool → Bool → Result Bytes Cause → Outcome
-outcome_by fetching deleting reply = cond fetching (outcome_of_reply reply) (cond deleting Dropped Same)
-
--- a page that comes is mapped by the version by which all others are
-put_by : (version : MappingVersion) (records : Records) (x : EntityId) (r : Record Bytes) (fetching deleting : Bool) (rev : ℕ) (reply : Result Bytes Cause) →
-    r.held ≡ cond fetching (held_after_fetch rev reply (record_of records x).held) (cond deleting None (record_of records x).held) →
-    all_by version (map.insert records x r) ≡ second_after (outcome_by fetching deleting reply) version x (all_by version records)
-put_by version records x r true deleting rev (Ok bytes) is = all-put version records x r (ap is_some is)
-put_by version records x r true deleting rev (Err cause) is = all-keep version records x r (ap is_some is)
-put_by version records x r false true rev reply is = all-drop version records x r (ap is_some is)
-put_by version records x r false false rev reply is = all-keep version records x r (ap is_some is)
-
 -- after an application every page is mapped by the version by which all were
 pub applies-versions : (contents : Option Contents) (directory : List ℕ) (old new : WorldState) (applied : Applied) → Applies contents directory old.replay new.replay applied → new.mapping ≡ old.mapping →
     new.second ≡ second_after applied.outcome old.mapping applied.event.entity old.second → KeepsVersion (mapped_in old) (mapped_in new) old.replay.played.records new.replay.played.records
 applies-versions contents directory old new applied a same second version is =
-    let e : Event = applied.event in
     let records : Records = old.replay.played.records in
-    let after : Record Bytes = record_after (λ q r. a.reply) e (record_of records e.entity) in
     let mapping : old.mapping ≡ version = ap (λ (m : Mapped). m.version) is in
-    let put : all_by version (map.insert records e.entity after) ≡ second_after applied.outcome version e.entity (all_by version records) =
-    put_by version records e.entity after (is_fetching old.replay e) (is_deleted (state_after (record_of records e.entity).state e).mode) (state_after (record_of records e.entity).state e).rev a.reply refl
-    ∙ ap (λ (o : Outcome). second_after o version e.entity (all_by version records)) (sym a.outcome) in
-    let now : new.second ≡ all_by version new.replay.played.records =
-    second ∙ ap (λ v. second_after applied.outcome v e.entity old.second) mapping ∙ ap (λ (m : Mapped). second_after applied.outcome version e.entity m.second) is
-    ∙ sym put ∙ ap (λ (w : ReplayState). all_by version w.played.records) (sym a.new_is) in
-    ap (λ v. record { version = v; second = new.second }) (same ∙ mapping) ∙ ap (λ xs. record { version = version; second = xs }) now
+    let one : old.second ≡ all_by old.mapping records = ap (λ (m : Mapped). m.second) is ∙ ap (λ v. all_by v records) (sym mapping) in
+    ap (λ xs. record { version = new.mapping; second = xs }) (applied_by_one contents directory old new applied a same second one)
+    ∙ ap (λ v. mapped_by v new.replay.played.records) (same ∙ mapping)
 
 -- what has room has it where nothing of it changes
 pub holds_still : (room : ℕ) (old new : WorldState) → new.replay.played.records ≡ old.replay.played.records → mapped_in new ≡ mapped_in old → HoldsWithin room old → HoldsWithin room new

@@ -1,13 +1,13 @@
 // A drill: a replay of deliveries and pages that are made from its size, and its summary.
 
-ghost use Rattle.std.specs.Prelude.{◌≡◌, ◌≤◌, [], IfErr, OnOk};
-ghost use Rattle.entity_model.specs.declared.mapping.MappingVersion.{MappingVersion};
+ghost use Rattle.std.specs.Prelude.{◌≡◌, ◌≤◌, IfErr, OnOk};
 ghost use Rattle.replay_model.specs.ReplayState.{nothing_delivered};
 ghost use Rattle.transcript.specs.Printing.{output};
 ghost use Rattle.drill_replay.specs.Playing.{IsByFirst};
 ghost use Rattle.session.specs.Drilling.{DrillStopped, HasDrilled};
 ghost use Rattle.words.specs.Plan.{greatest_size};
 
+use crate::remapping::begin_by_first;
 use drill_replay::{run_drill, summary_lines};
 use std::alloc::Global;
 use transcript::{Unwritten, print_lines};
@@ -27,13 +27,12 @@ pub fn drill<K: Sink>(
 ) -> Result<(), Unwritten>
     requires size { (1 ≤ size) × (size ≤ greatest_size) }
     requires world { world.old.replay ≡ nothing_delivered }
-    requires mapping { world.old.mapping ≡ MappingVersion.One }
-    requires second { world.old.second ≡ [] }
     ensures ok { OnOk result (HasDrilled size (output K.Sink out.old) (output K.Sink out.new) world.new.replay) }
     ensures first { IsByFirst world.new }
     ensures most { K.most_faults out.new ≡ K.most_faults out.old }
     ensures err { IfErr result (λ why. DrillStopped why size (output K.Sink out.old) (output K.Sink out.new) world.new.replay) }
 {
+    begin_by_first(world);
     let size = take_size(alloc, size)?;
     world.set_room(ROOM);
     let summary = run_drill(alloc, size, world)?;

@@ -1,11 +1,23 @@
-// Another version of the mapping comes into force, and what is held is mapped anew.
+// The first version of the mapping is in force at the beginning; where another comes into force, what is held is mapped anew.
 
 ghost use Rattle.std.specs.Prelude.{◌≡◌, ℕ, IfErr, OnErr, OnOk};
+ghost use Rattle.replay_model.specs.ReplayState.{nothing_delivered};
+ghost use Rattle.drill_replay.specs.Playing.{IsByFirst};
 ghost use Rattle.session.specs.Remapping.{HoldsWithin, IsLeftStale, mapped_by, mapped_in, remapped_some};
 
 use crate::stop::Unapplied;
 use entity_model::MappingVersion;
 use world::{World, WorldFault};
+
+// Puts the first version of the mapping in force in a world to which nothing was delivered, so that it holds no page that is mapped by
+// another.
+pub fn begin_by_first(world: &mut World)
+    requires world { world.old.replay ≡ nothing_delivered }
+    ensures replay { world.new.replay ≡ nothing_delivered }
+    ensures first { IsByFirst world.new }
+{
+    world.set_mapping(MappingVersion::One);
+}
 
 // Puts a version of the mapping in force, and maps all that is held by it, the page of the least entity first.
 pub fn take_mapping(version: MappingVersion, world: &mut World) -> Result<(), Unapplied>

@@ -1,7 +1,7 @@
 // A replay: the lines of the input, the end, and the sections that are asked for.
 
-ghost use Rattle.std.specs.Prelude.{◌≡◌, ◌≤◌, [], IfErr, IfSome, OnOk};
-ghost use Rattle.entity_model.specs.declared.mapping.MappingVersion.{MappingVersion};
+ghost use Rattle.std.specs.Prelude.{◌≡◌, ◌≤◌, IfErr, IfSome, OnOk};
+ghost use Rattle.drill_replay.specs.Playing.{IsByFirst};
 ghost use Rattle.replay_model.specs.ReplayState.{nothing_delivered, nothing_delivered_within};
 ghost use Rattle.transcript.specs.Sections.{chosen};
 ghost use Rattle.session.specs.Counts.{HasGoneOn};
@@ -13,6 +13,7 @@ ghost use Rattle.session.specs.Sections.{sections_of};
 ghost use Rattle.words.specs.Options.{limit_of, terms_of};
 
 use crate::delivering::take_end;
+use crate::remapping::begin_by_first;
 use crate::stop::Stop;
 use crate::taking::take_lines;
 use revisions::Revisions;
@@ -22,7 +23,7 @@ use words::{Arguments, ReplayOptions, take_arguments};
 use world::World;
 use wq_io::{Sink, Source};
 
-// Sets the horizon, takes the values of the options, the lines and the end, and prints.
+// Begins by the first version of the mapping, sets the horizon, takes the values of the options, the lines and the end, and prints.
 pub fn replay<S: Source, R: Revisions, K: Sink>(
     alloc: Global,
     options: &ReplayOptions<'_>,
@@ -32,8 +33,6 @@ pub fn replay<S: Source, R: Revisions, K: Sink>(
     world: &mut World,
 ) -> Result<(), Stop>
     requires world { world.old.replay ≡ nothing_delivered }
-    requires mapping { world.old.mapping ≡ MappingVersion.One }
-    requires second { world.old.second ≡ [] }
     ensures ok { OnOk result (Ending (run_of (R.contents revisions.old) options.now)
         (moment S.Source R.Revisions K.Sink events.old revisions.old out.old (world_at_start options.now))
         (moment S.Source R.Revisions K.Sink events.new revisions.new out.new world.new)) }
@@ -45,6 +44,7 @@ pub fn replay<S: Source, R: Revisions, K: Sink>(
     ensures held { HoldsWithin (terms_of options.now) world.new }
     ensures source { HasGoneOn R.Revisions revisions.old revisions.new }
 {
+    begin_by_first(world);
     set_horizon(options, world);
     replay_within(alloc, options, events, revisions, out, world)
 }
@@ -52,11 +52,9 @@ pub fn replay<S: Source, R: Revisions, K: Sink>(
 // Sets the horizon that is asked for, if one is.
 fn set_horizon(options: &ReplayOptions<'_>, world: &mut World)
     requires world { world.old.replay ≡ nothing_delivered }
-    requires mapping { world.old.mapping ≡ MappingVersion.One }
-    requires second { world.old.second ≡ [] }
+    requires first { IsByFirst world.old }
     ensures replay { world.new.replay ≡ (world_at_start options.now).replay }
-    ensures mapping { world.new.mapping ≡ MappingVersion.One }
-    ensures second { world.new.second ≡ [] }
+    ensures first { IsByFirst world.new }
 {
     if let Some(micros) = options.horizon() {
         world.set_horizon(micros);
@@ -73,8 +71,7 @@ fn replay_within<S: Source, R: Revisions, K: Sink>(
     world: &mut World,
 ) -> Result<(), Stop>
     requires world { world.old.replay ≡ nothing_delivered_within world.old.replay.buffer.horizon }
-    requires mapping { world.old.mapping ≡ MappingVersion.One }
-    requires second { world.old.second ≡ [] }
+    requires first { IsByFirst world.old }
     ensures ok { OnOk result (Ending (run_of (R.contents revisions.old) options.now)
         (moment S.Source R.Revisions K.Sink events.old revisions.old out.old world.old)
         (moment S.Source R.Revisions K.Sink events.new revisions.new out.new world.new)) }
@@ -113,8 +110,7 @@ fn take_all<S: Source, R: Revisions, K: Sink>(
     world: &mut World,
 ) -> Result<(), Stop>
     requires world { world.old.replay ≡ nothing_delivered_within world.old.replay.buffer.horizon }
-    requires mapping { world.old.mapping ≡ MappingVersion.One }
-    requires second { world.old.second ≡ [] }
+    requires first { IsByFirst world.old }
     requires room { world.old.room ≡ terms_of plan.now }
     requires held { HoldsWithin world.old.room world.old }
     ensures ok { OnOk result (HasReplayed (run_of (R.contents revisions.old) plan.now)

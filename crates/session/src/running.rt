@@ -1,9 +1,8 @@
 // The top call.
 
-ghost use Rattle.std.specs.Prelude.{◌≡◌, ◌⊎◌, ◌↔◌, ℕ, ◌≤◌, [], None, Some, map, string_bytes, IfSome};
+ghost use Rattle.std.specs.Prelude.{◌≡◌, ◌⊎◌, ◌↔◌, ℕ, ◌≤◌, None, Some, map, string_bytes, IfSome};
 ghost use Rattle.wq_io.specs.Streams.{Rose};
 ghost use Rattle.replay_model.specs.ReplayState.{nothing_delivered};
-ghost use Rattle.entity_model.specs.declared.mapping.MappingVersion.{MappingVersion};
 ghost use Rattle.drill_replay.specs.Playing.{IsByFirst};
 ghost use Rattle.session.specs.Drilling.{DrillEnding};
 ghost use Rattle.session.specs.Headline.{Ending, Stopped};
@@ -29,7 +28,8 @@ use wq_io::{Sink, Source};
 /// held anew where a line changes the mapping, and prints at the end what the words ask for; a drill replays
 /// deliveries and pages that are made from its size, and prints its summary.
 ///
-/// `words` are those after the program's name; each line of `events` is one delivery; `revisions` has the pages.
+/// `words` are those after the program's name; each line of `events` is one delivery; `revisions` has the pages; `world` has taken nothing
+/// yet, and a run begins with the first version of the mapping, whichever is in force in it.
 pub fn run<S: Source, R: Revisions, K: Sink>(
     alloc: Global,
     words: &[String],
@@ -39,8 +39,6 @@ pub fn run<S: Source, R: Revisions, K: Sink>(
     world: &mut World,
 ) -> Status
     requires world { world.old.replay ≡ nothing_delivered }
-    requires mapping { world.old.mapping ≡ MappingVersion.One }
-    requires second { world.old.second ≡ [] }
     ensures bad_words { (result ≡ Status.BadWords) ↔ (plan_of (map (λ w. string_bytes w) words.now) ≡ None) }
     ensures untouched { result ≡ Status.BadWords →
         (events.new ≡ events.old) × (revisions.new ≡ revisions.old) × (out.new ≡ out.old) × (world.new ≡ world.old) }

@@ -1,7 +1,7 @@
 // The lines of the input are taken one by one.
 
-ghost use Rattle.std.specs.Prelude.{◌≡◌, ◌⊎◌, [], Ok, Err, IfErr, IfOk, IfSome, OnOk};
-ghost use Rattle.entity_model.specs.declared.mapping.MappingVersion.{MappingVersion};
+ghost use Rattle.std.specs.Prelude.{◌≡◌, ◌⊎◌, Ok, Err, IfErr, IfOk, IfSome, OnOk};
+ghost use Rattle.drill_replay.specs.Playing.{IsByFirst};
 ghost use Rattle.replay_model.specs.ReplayState.{nothing_delivered_within};
 ghost use Rattle.event_line.specs.declared.faults.LineCause.{LineCause};
 ghost use Rattle.event_line.specs.Line.{delivery_of};
@@ -35,8 +35,7 @@ pub fn take_lines<S: Source, R: Revisions, K: Sink>(
     world: &mut World,
 ) -> Result<(), Stop>
     requires world { world.old.replay ≡ nothing_delivered_within world.old.replay.buffer.horizon }
-    requires mapping { world.old.mapping ≡ MappingVersion.One }
-    requires second { world.old.second ≡ [] }
+    requires first { IsByFirst world.old }
     requires room { world.old.room ≡ terms_of plan.now }
     requires held { HoldsWithin world.old.room world.old }
     ensures ok { OnOk result (HasTaken (run_of (R.contents revisions.old) plan.now)

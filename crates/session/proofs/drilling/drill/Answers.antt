@@ -10,7 +10,7 @@ use Rattle.session.proofs.drilling.drill.Goals as goal
 pub returns-in_err-size-clause-err : goal.returns-in_err-size-clause-err
 returns-in_err-size-clause-err g c =
     let p = err_from_is_err_and c.from_residual.result c.from_residual.ensures.1 in
-    rw (p.1, p.2, c.requires.world) (not_begun c.args.size _ _ (nothing_taken c.args.size))
+    rw (p.1, p.2, c.begin_by_first.ensures.replay) (not_begun c.args.size _ _ (nothing_taken c.args.size))
 
 pub returns-in_err-summary-clause-err : goal.returns-in_err-summary-clause-err
 returns-in_err-summary-clause-err g c =
@@ -37,4 +37,4 @@ returns-clause-err g c =
     printed_in_part string_bytes c.as_slice.result.now c.args.size _ _ _ are is c.print_lines.result (rw c.in_ok-size.ensures at c.run_drill.ensures.begun) c.print_lines.ensures
 
 pub set_room-requires : goal.set_room-requires
-set_room-requires g c = rw c.requires.world (len-empty _ _)
+set_room-requires g c = rw c.begin_by_first.ensures.replay (len-empty _ _)

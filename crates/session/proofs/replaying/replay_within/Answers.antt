@@ -15,7 +15,7 @@ pub returns-in_err-arguments-clause-err : goal.returns-in_err-arguments-clause-e
 returns-in_err-arguments-clause-err g c =
     let p = err_from_is_err_and c.from_residual.result c.from_residual.ensures.1 in
     let run : Run = run_of (g.R.Revisions.contents c.args.revisions.now) c.args.options.now in
-    rw (p.1, p.2, c.requires.world, c.requires.mapping, c.requires.second) (inl (inl (inl (stands_at_start run _ _ _ _))))
+    rw (p.1, p.2, c.requires.world, c.requires.first.0, c.requires.first.1) (inl (inl (inl (stands_at_start run _ _ _ _))))
 
 pub returns-in_err-take_all-clause-err : goal.returns-in_err-take_all-clause-err
 returns-in_err-take_all-clause-err g c =

@@ -11,7 +11,7 @@ use Rattle.session.proofs.taking.take_lines.Goals as goal
 pub loop-line-init : goal.loop-line-init
 loop-line-init g c =
     let run : Run = run_of (g.R.Revisions.contents c.args.revisions.now) c.args.plan.now in (
-      rw (c.new-lines.ensures, c.limit.ensures.value, c.requires.world, c.requires.mapping, c.requires.second) (nothing_begun run _ _ _ _),
+      rw (c.new-lines.ensures, c.limit.ensures.value, c.requires.world, c.requires.first.0, c.requires.first.1) (nothing_begun run _ _ _ _),
       record { known = refl; faults = omega arith; misses = omega arith; most = refl },
       refl,
       (refl, refl),
