@@ -1,5 +1,6 @@
 mod Applying
 mod Counting
 pub mod Drills
+mod Rooms
 mod Taking
 mod Versions

@@ -8,6 +8,9 @@ use Rattle.reorder_buffer.specs.declared.taken.Taken.{Taken}
 use Rattle.reorder_buffer.specs.declared.taken.Taken.TheVariants.{New, Repeat, Late}
 use Rattle.replay_model.specs.Acceptance.{accepted, late}
 use Rattle.replay_model.specs.ReplayState.{ReplayState, after_end, after_some, entered, following}
+use Rattle.replay_model.specs.Versions.{meaning_by}
+use Rattle.world.specs.Meaning.{meaning}
+use Rattle.world.specs.Roomed.{HasRoom}
 use Rattle.world.specs.WorldState.{WorldState}
 use Rattle.drill.specs.Drill.{drill}
 use Rattle.drill_replay.specs.declared.playing.Counts.{Counts}
@@ -73,3 +76,12 @@ HasBegun size world = IsPartOf size (drill size) world ⊎ StandsAtEnd size worl
 -- version One of the mapping is in force, and all that is held is mapped by it
 abbrev pub IsByFirst : WorldState → Type 0
 IsByFirst world = (world.mapping ≡ One) × (world.second ≡ [])
+
+-- there is room for so many terms, and what is held has no more different ones
+pub record HasRoomFor (room : ℕ) (world : WorldState) : Type 0 where
+  pub room_is : world.room ≡ room
+  pub within : HasRoom (meaning_by meaning world.second) room world.replay.played.records
+
+-- however much room there was for what is held, there is still
+abbrev pub KeepsRoom : WorldState → WorldState → Type 0
+KeepsRoom old new = (room : ℕ) → HasRoomFor room old → HasRoomFor room new

@@ -4,7 +4,7 @@ ghost use Rattle.std.specs.Prelude.{◌≡◌, ◌⊎◌, ℕ, ◌+◌, ◌*◌,
 ghost use Rattle.entity_model.specs.declared.delivery.Delivery.{Delivery};
 ghost use Rattle.replay_model.specs.ReplayState.{after_due, after_mark, after_some, entered, following, nothing_delivered};
 ghost use Rattle.drill.specs.Drill.{IsSize, drill};
-ghost use Rattle.drill_replay.specs.Playing.{Counted, HasBegun, HasFew, IsAfter, IsByFirst, IsPartOf, answer_of, with_answer};
+ghost use Rattle.drill_replay.specs.Playing.{Counted, HasBegun, HasFew, IsAfter, IsByFirst, IsPartOf, KeepsRoom, answer_of, with_answer};
 ghost use Rattle.drill_replay.specs.Summary.{drilled, replies_of};
 
 use drill::{DrillRevisions, deliveries};
@@ -57,6 +57,7 @@ pub fn play(alloc: Global, size: u32, world: &mut World) -> Result<Counts, OutOf
     ensures ok { OnOk result (world.new.replay ≡ drilled size) }
     ensures begun { HasBegun size world.new.replay }
     ensures first { IsByFirst world.new }
+    ensures room { KeepsRoom world.old world.new }
 {
     let mut counts = Counts::new();
     for done in 0..size {
@@ -86,6 +87,7 @@ fn take_item(
     ensures few { OnOk result (HasFew counts.new (6 * (done + 1))) }
     ensures err { OnErr result (IsPartOf size (drill (done + 1)) world.new.replay) }
     ensures first { IsByFirst world.new }
+    ensures room { KeepsRoom world.old world.new }
 {
     let list = deliveries(alloc, done + 1)?;
     for delivery in list.as_slice() {
@@ -105,6 +107,7 @@ fn take(size: u32, delivery: &Delivery, world: &mut World) -> Result<Option<Take
     ensures err { OnErr result ((ds : List Delivery) → IsAfter size ds world.old.replay → (world.new.replay ≡ world.old.replay)
         ⊎ ((steps : ℕ) × (world.new.replay ≡ after_some (replies_of size) steps (entered (following None (replies_of size) ds) delivery.now)))) }
     ensures first { IsByFirst world.new }
+    ensures room { KeepsRoom world.old world.new }
 {
     match delivery {
         Delivery::Event(event) => Ok(Some(world.take(*event)?)),
@@ -132,6 +135,7 @@ fn apply_due(size: u32, world: &mut World) -> Result<(), OutOfMemory>
     ensures ok { OnOk result (world.new.replay ≡ after_due (replies_of size) world.old.replay) }
     ensures steps { (steps : ℕ) × (world.new.replay ≡ after_some (replies_of size) steps world.old.replay) }
     ensures first { IsByFirst world.new }
+    ensures room { KeepsRoom world.old world.new }
 {
     let mut pages = DrillRevisions::new(size);
     loop {

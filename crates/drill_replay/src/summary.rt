@@ -8,7 +8,7 @@ ghost use Rattle.entity_model.specs.declared.mapping.MappingVersion.TheVariants.
 ghost use Rattle.world.specs.Meaning.{meaning};
 ghost use Rattle.md5.specs.Md5.{md5};
 ghost use Rattle.drill.specs.Drill.{IsSize, drill};
-ghost use Rattle.drill_replay.specs.Playing.{Counted, HasBegun, IsByFirst};
+ghost use Rattle.drill_replay.specs.Playing.{Counted, HasBegun, IsByFirst, KeepsRoom};
 ghost use Rattle.drill_replay.specs.Summary.{digest_line, drilled, kept_in, lines_of, number_line, summary_of, triple_lines};
 
 use crate::playing::{Counts, play};
@@ -42,6 +42,7 @@ pub fn run_drill(alloc: Global, size: u32, world: &mut World) -> Result<Summary,
     ensures ok { OnOk result (world.new.replay ≡ drilled size) }
     ensures begun { HasBegun size world.new.replay }
     ensures first { IsByFirst world.new }
+    ensures room { KeepsRoom world.old world.new }
 {
     let counts = play(alloc, size, world)?;
     summarize(alloc, size, counts, world)

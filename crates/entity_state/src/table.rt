@@ -18,14 +18,15 @@ use indexmap::IndexMap;
 use rdf_term::{List, OutOfMemory};
 use std::alloc::Global;
 use std::collections::BTreeSet;
+use std::hash::RandomState;
 use std::marker::Model;
 use std::mem;
 
-/// The records of entities, by their ids. Contracts see the map from ids to records, the ids in the
-/// order of their places, and the ids that only have room.
+/// The records of entities, by their ids, whose hashes are keyed, since strangers choose the ids. Contracts
+/// see the map from ids to records, the ids in the order of their places, and the ids that only have room.
 #[derive(Drop)]
 pub struct Table<H> {
-    records: IndexMap<EntityId, Record<H>>,
+    records: IndexMap<EntityId, Record<H>, RandomState>,
     promised: BTreeSet<EntityId>,
 }
 
@@ -44,12 +45,12 @@ impl<H> Model for Table<H> {
 }
 
 impl<H: Drop> Table<H> {
-    /// The table without records.
-    pub fn new(alloc: Global) -> Result<Table<H>, OutOfMemory>
+    /// The table without records. The hashes of its ids are keyed by `keys`.
+    pub fn new(alloc: Global, keys: RandomState) -> Result<Table<H>, OutOfMemory>
         ensures { IfOk result (λ table. table ≡ no_records) }
     {
         Ok(Table {
-            records: IndexMap::new(alloc),
+            records: IndexMap::with_hasher(alloc, keys),
             promised: BTreeSet::new(alloc),
         })
     }
@@ -136,7 +137,7 @@ impl<H: Drop> Table<H> {
 /// The ids of all records, in the order of their places.
 fn keys_of<H>(
     alloc: Global,
-    records: &IndexMap<EntityId, Record<H>>,
+    records: &IndexMap<EntityId, Record<H>, RandomState>,
 ) -> Result<Vec<EntityId>, OutOfMemory>
     ensures keys { IfOk result (λ ids. ids.items ≡ keys records.now) }
     ensures distinct { IsUnique (eq_by_cmp entity_cmp) records.now }
@@ -146,7 +147,11 @@ fn keys_of<H>(
 }
 
 /// Puts a record of an entity that has none, where there is room.
-fn insert_new<H: Drop>(records: &mut IndexMap<EntityId, Record<H>>, id: EntityId, value: Record<H>)
+fn insert_new<H: Drop>(
+    records: &mut IndexMap<EntityId, Record<H>, RandomState>,
+    id: EntityId,
+    value: Record<H>,
+)
     requires absent { get (eq_by_cmp entity_cmp) records.old id ≡ None }
     requires room { 0 < spare records.old }
     ensures records { records_of records.new.entries ≡ map.insert (records_of records.old.entries) id value }

@@ -1,5 +1,5 @@
 -- The fetches of a replay, delivery by delivery and event by event, and how a count rises by them.
-use Rattle.std.proofs.Common.{◌≡◌, ℕ, ◌<◌, Bool, true, false, cond, max, min, ◌^◌, ◌-◌, ◌+◌, List, [], ◌∷◌, ◌++◌, None, Some, refl, ◌∙◌, ap, arith, Option}
+use Rattle.std.proofs.Common.{◌≡◌, ℕ, ◌+◌, List, [], ◌∷◌, ◌++◌, None, Some, refl, ◌∙◌, ap, arith, Option}
 use Rattle.entity_model.specs.declared.event.Event.{Event}
 use Rattle.entity_model.specs.declared.delivery.Delivery.{Delivery}
 use Rattle.entity_model.specs.declared.delivery.Delivery.TheVariants.{Event as Told, Watermark, Ask, Mapping}
@@ -40,10 +40,6 @@ fetches-end hz replies ds = ap (λ es. fetches hz replies ds ++ fetches_of_all r
 pub risen_by-risen_by : (m n count : ℕ) → risen_by m (risen_by n count) ≡ risen_by (n + m) count
 risen_by-risen_by m n count = omega arith
 
--- a count that rises not at all, or once
-pub risen_by-none : (count : ℕ) → count < 2 ^ 64 → risen_by 0 count ≡ count
-risen_by-none count fits = omega arith
-
-pub risen_by-more : (made count : ℕ) (fetching : Bool) → risen_by (made + cond fetching 1 0) count ≡ cond fetching (max (risen_by made count) (min (risen_by made count + 1) (2 ^ 64 - 1))) (risen_by made count)
-risen_by-more made count true = omega arith
-risen_by-more made count false = ap (λ n. min n (2 ^ 64 - 1)) (omega arith)
+-- a count that doesn't rise
+pub risen_by-none : (count : ℕ) → risen_by 0 count ≡ count
+risen_by-none count = omega arith

@@ -1,6 +1,6 @@
 -- The replay of a list of deliveries, with a horizon or none, where each fetch gives what a function of the applied event and the
 -- revision says.
-use Rattle.std.specs.Prelude.{ℕ, Bool, false, true, not, cond, List, [], ◌∷◌, ◌++◌, Option, None, Some, Result, Ok, Err, fold, filter, flat_map, min, ◌+◌, ◌-◌, ◌^◌}
+use Rattle.std.specs.Prelude.{ℕ, Bool, false, true, not, cond, List, [], ◌∷◌, ◌++◌, Option, None, Some, Result, Ok, Err, fold, filter, flat_map, max, min, ◌+◌, ◌-◌, ◌^◌}
 use Rattle.std.specs.FinMap as map
 use Rattle.entity_model.specs.declared.event.Event.{Event}
 use Rattle.entity_state.specs.declared.state.State.{State}
@@ -128,6 +128,6 @@ fetches h replies ds = flat_map (fetches_at h replies) (arrivals ds)
 abbrev pub fetches_to_end : Option ℕ → Replies → List Delivery → List Fetch
 fetches_to_end h replies ds = fetches h replies ds ++ fetches_of_all replies (play h replies ds) (newly_due h ds true ds)
 
--- a count in 64 bits that has risen n times and stays at its last value
+-- a count of 64 bits that rose n times: it stays at its last value, and it never falls
 abbrev pub risen_by : ℕ → ℕ → ℕ
-risen_by n count = min (count + n) (2 ^ 64 - 1)
+risen_by n count = max count (min (count + n) (2 ^ 64 - 1))

@@ -12,7 +12,7 @@ use Rattle.side_output.specs.declared.entry.Cause.TheVariants.{Missing, Failed, 
 use Rattle.revisions.specs.Revisions.{Contents, counted}
 use Rattle.reorder_buffer.specs.Buffered.{first_due}
 use Rattle.replay_model.specs.Records.{Bytes, record_of}
-use Rattle.replay_model.specs.Play.{Replies}
+use Rattle.replay_model.specs.Play.{Replies, risen_by}
 use Rattle.replay_model.specs.Replies.{GivesDocument, HasUnfit, failed_events, missing_events, reply_there}
 use Rattle.replay_model.specs.ReplayState.{ReplayState, after_next}
 use Rattle.replay_model.specs.Explained.{AgreeOnApplied, is_fetching, revision_wanted}
@@ -25,7 +25,7 @@ use Rattle.world.specs.WorldState.{WorldState}
 use Rattle.world.specs.declared.applied.Applied.{Applied}
 use Rattle.world.specs.declared.applied.Outcome.{Outcome}
 use Rattle.world.specs.declared.applied.Outcome.TheVariants.{Same, Dropped}
-use Rattle.session.specs.Counts.{Counts, HasCounted, HasCountedWithin, HasGoneOn, RoseBy, risen_by}
+use Rattle.session.specs.Counts.{Counts, HasCounted, HasCountedWithin, HasGoneOn, RoseBy}
 use Rattle.revisions.specs.declared.revisions.Revisions.{Ghosts as RevisionsOf}
 use Rattle.session.specs.Moment.{Setting, Stage, onward, setting, with_mapped}
 use Rattle.session.specs.Remapping.{HasNoRoom, Mapped, mapped_in}
@@ -92,10 +92,7 @@ missing_shown true deleting (Err (NoDocument why)) e misses misses_now faults fa
 missing_shown false true reply e misses misses_now faults faults_now shown more = λ below. omega arith
 missing_shown false false reply e misses misses_now faults faults_now shown more = λ below. omega arith
 
--- a count that rises not at all, and one that rises once more or not
-pub risen_by-none : (count : ℕ) → risen_by 0 count ≡ count
-risen_by-none count = omega arith
-
+-- a count that rises once more or not
 risen_by-more : (made count : ℕ) (fetching : Bool) → cond fetching (counted (risen_by made count)) (risen_by made count) ≡ risen_by (made + cond fetching 1 0) count
 risen_by-more made count true = omega arith
 risen_by-more made count false = ap (λ n. max count (min n (2 ^ 64 - 1))) (omega arith)

@@ -24,6 +24,7 @@ use Rattle.replay_model.specs.Union.{union}
 use Rattle.rdf_term.specs.Pattern.{rows}
 use Rattle.world.specs.Meaning.{meaning}
 use Rattle.replay_model.proofs.Explaining.{Explained-start}
+use Rattle.replay_model.proofs.FetchCounts.{risen_by-none}
 use Rattle.replay_model.proofs.RecordOf.{record_of-empty}
 use Rattle.transcript.specs.declared.write.Unwritten.{Unwritten}
 use Rattle.transcript.specs.Printing.{IsCutShort, Output}
@@ -41,7 +42,7 @@ use Rattle.session.specs.Stops.{HasTaken, StopsWithin}
 use Rattle.session.specs.Taking.{AnswersInPart, AtRest, CutsOff, IsWithin, RemapsInPart, TakesDelivery, TakesInPart, course_after, course_begun, judgement, turn}
 use Rattle.words.specs.Options.{limit_of}
 use Rattle.session.proofs.Deliveries.{asks-push, rest_within}
-use Rattle.session.proofs.Due.{risen_by-none, within_mapped}
+use Rattle.session.proofs.Due.{within_mapped}
 use Rattle.session.proofs.Ends.{halted, interrupted, is_played, left_stale, rose_since}
 use Rattle.session.proofs.Versions.{all_held_by}
 use Rattle.session.proofs.Reading.{IsNextLine, all_read, as_many, bad_line, first_lines, first_with, not_called, nothing_read, nothing_taken_of, over_long, past_limit, read_more, takes_on, whole_read}

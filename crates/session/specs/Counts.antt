@@ -1,7 +1,8 @@
 -- The counts of a source of revisions, and how they rise with a replay.
-use Rattle.std.specs.Prelude.{◌≡◌, ◌⊎◌, ℕ, ◌+◌, ◌-◌, ◌^◌, ◌<◌, ◌≤◌, max, min, List, length}
+use Rattle.std.specs.Prelude.{◌≡◌, ◌⊎◌, ℕ, ◌+◌, ◌-◌, ◌^◌, ◌<◌, ◌≤◌, List, length}
 use Rattle.revisions.specs.declared.revisions.Revisions.{Ghosts as RevisionsOf}
 use Rattle.side_output.specs.declared.entry.Entry.{Entry}
+use Rattle.replay_model.specs.Play.{risen_by}
 use Rattle.replay_model.specs.Replies.{failed_events, missing_events}
 
 -- how many calls a source of revisions had, how many of them found nothing, and how many failed
@@ -13,10 +14,6 @@ pub record Counts : Type 0 where
 -- the counts of a source of revisions
 abbrev pub counts : {R : Type 0} → RevisionsOf R → R → Counts
 counts members revisions = record { calls = members.calls revisions; misses = members.misses revisions; faults = members.faults revisions }
-
--- a count of 64 bits that rose n times: it stays at its last value, and it never falls
-abbrev pub risen_by : ℕ → ℕ → ℕ
-risen_by n count = max count (min (count + n) (2 ^ 64 - 1))
 
 -- a count of 64 bits rose by at least n; at its last value it says nothing
 abbrev pub RoseBy : ℕ → ℕ → ℕ → Type 0

@@ -69,13 +69,13 @@ impl Model for Pages {
 }
 
 impl Pages {
-    /// No record and no entry, and room for so many terms. Version One of the mapping is in force. The store's hashes are keyed
-    /// by `keys`.
+    /// No record and no entry, and room for so many terms. Version One of the mapping is in force. The hashes of the table and
+    /// of the store are keyed by `keys`.
     pub fn new(alloc: Global, keys: RandomState, room: u32) -> Result<Pages, OutOfMemory>
         ensures { IfOk result (λ pages. pages ≡ record { played = nothing_played; room = room; mapping = One; second = [] }) }
     {
         let region = Region::new(alloc)?;
-        let table = Table::new(alloc)?;
+        let table = Table::new(alloc, keys)?;
         Ok(Pages {
             mapping: MappingVersion::One,
             region,

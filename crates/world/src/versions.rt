@@ -1,6 +1,6 @@
 // By which version of the mapping the held pages are mapped, and how one is mapped by another.
 
-ghost use Rattle.std.specs.Prelude.{◌≡◌, ◌<◌, ◌≤◌, ◌+◌, Err, IfOk, IfSome, IsErrOf, OnErr, OnOk, length};
+ghost use Rattle.std.specs.Prelude.{◌≡◌, ◌<◌, ◌≤◌, ◌+◌, None, Err, IfOk, IfSome, IsErrOf, IsOk, OnErr, OnOk, length};
 ghost use Rattle.triple_store.specs.declared.fault.StoreFault.TheVariants.{Full as StoreFull};
 ghost use Rattle.replay_model.specs.Versions.{all_by, meaning_by};
 ghost use Rattle.world.specs.Meaning.{meaning};
@@ -56,7 +56,7 @@ impl World {
     }
 
     /// Maps the held page of the least stale entity by the version in force, and says which entity that is; none where no
-    /// entity is stale, and then nothing changes. Nothing is fetched. After a fault nothing has changed. `Full` is said exactly
+    /// entity is stale, and then nothing changes and no memory is taken. Nothing is fetched. After a fault nothing has changed. `Full` is said exactly
     /// where the new triples, with those of all that is held, have more terms than there is room for.
     pub fn remap_next(&mut self) -> Result<Option<EntityId>, WorldFault>
         ensures ok { OnOk result (self.new ≡ remapped self.old) }
@@ -70,6 +70,7 @@ impl World {
         ensures holders { AreHolders self.new.second self.new.replay.played.records }
         ensures err { OnErr result (self.new ≡ self.old) }
         ensures something { ¬ (IsErrOf result NothingDue) }
+        ensures free { next_stale self.old ≡ None → IsOk result }
     {
         match self.pages.remap_next(self.alloc) {
             Ok(entity) => Ok(entity),
@@ -135,6 +136,7 @@ impl Pages {
         ensures held { HasRoom (meaning_by meaning self.new.second) self.new.room self.new.played.records }
         ensures holders { AreHolders self.new.second self.new.played.records }
         ensures err { OnErr result (self.new ≡ self.old) }
+        ensures free { first_of (stale_by self.old.mapping self.old.second self.old.played.records) ≡ None → IsOk result }
     {
         let Some(id) = self.next_stale() else {
             return Ok(None);

@@ -2,6 +2,7 @@
 use Rattle.std.proofs.Common.{◌+◌, inl, ap, arith}
 use Rattle.world.specs.WorldState.{WorldState}
 use Rattle.drill_replay.proofs.Drills.{part_in}
+use Rattle.drill_replay.proofs.Rooms.{closed, keeps_further}
 use Rattle.drill_replay.proofs.Taking.{drill_begun, drill_ended}
 use Rattle.drill_replay.proofs.playing.play.Goals as goal
 
@@ -20,3 +21,12 @@ returns-clause-begun c =
 pub returns-clause-ok : goal.returns-clause-ok
 returns-clause-ok c =
     drill_ended c.args.size c.loop-done.done c.loop-done.world.replay c.close.new.self.replay c.apply_due.new.world.replay c.loop-done.invariant.after c.loop-done-test.false c.loop-done.auto.done-end (ap (λ (w : WorldState). w.replay) c.close.ensures) c.in_ok-apply_due.ensures.ok
+
+pub returns-in_err-take_item-clause-room : goal.returns-in_err-take_item-clause-room
+returns-in_err-take_item-clause-room c = keeps_further _ _ _ c.loop-done.invariant.room c.take_item.ensures.room
+
+pub returns-in_err-apply_due-clause-room : goal.returns-in_err-apply_due-clause-room
+returns-in_err-apply_due-clause-room c = keeps_further _ _ _ c.loop-done.invariant.room (keeps_further _ _ _ (closed c.loop-done.world c.close.new.self c.close.ensures) c.apply_due.ensures.room)
+
+pub returns-clause-room : goal.returns-clause-room
+returns-clause-room c = keeps_further _ _ _ c.loop-done.invariant.room (keeps_further _ _ _ (closed c.loop-done.world c.close.new.self c.close.ensures) c.apply_due.ensures.room)
