@@ -115,11 +115,12 @@ impl<K: Ranked> BlockIndex<K> {
         Ok(true)
     }
 
-    /// Takes a key out, which takes no memory; false where it wasn't there. At most two neighbouring blocks
-    /// change. It takes at most as many steps as the number of keys has binary digits, and 8 more.
+    /// Takes a key out, which takes no memory; false where it wasn't there, and then nothing has changed. At most two
+    /// neighbouring blocks change. It takes at most as many steps as the number of keys has binary digits, and 8 more.
     pub fn remove<L: Ledger>(&mut self, key: K, steps: &mut Steps<L>) -> bool
         ensures answer { result ≡ has K.cmp key (keys_of self.old) }
         ensures keys { keys_of self.new ≡ remove_key (eq_by_cmp K.cmp key) (keys_of self.old) }
+        ensures same { OnFalse result (self.new ≡ self.old) }
         ensures blocks { ChangesTwo self.old self.new }
         ensures cost { Within (length (keys_of self.old)) 8 steps.old steps.new }
     {
