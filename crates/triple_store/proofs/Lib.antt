@@ -7,6 +7,7 @@ pub mod Keyed
 pub mod Lines
 pub mod Listed
 pub mod Live
+pub mod Marked
 pub mod Matched
 pub mod Ordered
 pub mod Owners

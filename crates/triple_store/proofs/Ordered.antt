@@ -1,8 +1,8 @@
 -- Triples in the order of their texts are the rising list of what they stand for.
-use Rattle.std.proofs.Common.{◌≡◌, ℕ, zero, suc, ◌+◌, ◌<◌, ◌≤◌, Bool, true, false, cond, ◌&&◌, ◌||◌, List, [], ◌∷◌, ◌++◌, length, get_or, filter, count_by, nat_lt, Some, Ordering, Less, Equal, Greater, is_eq, is_lt, refl, sym, ◌∙◌, ap, subst, arith, lt-ltb}
+use Rattle.std.proofs.Common.{◌≡◌, ℕ, zero, suc, ◌+◌, ◌<◌, ◌≤◌, Bool, true, false, cond, ◌&&◌, List, [], ◌∷◌, ◌++◌, length, filter, count_by, nat_lt, Ordering, Less, Equal, Greater, is_eq, is_lt, refl, sym, ◌∙◌, ap, subst, arith, lt-ltb}
 use Rattle.std.specs.Prelude.{map as mapped}
 use Rattle.std.specs.FinMap as map
-use Rattle.std.specs.Cmp.{IsTotalOrder, both_ways}
+use Rattle.std.specs.Cmp.{IsTotalOrder}
 use Rattle.std.specs.FinMap.{IsAntisymmetric}
 use Rattle.std.specs.List.{All, dedup, dedup_from}
 use Rattle.std.specs.List.Sorted.{IsPermutation, IsSorted}
@@ -28,7 +28,6 @@ use Rattle.slot_index.specs.declared.key.Key.{Key}
 use Rattle.slot_index.specs.declared.pattern.SlotPattern.{SlotPattern}
 use Rattle.slot_index.specs.Keys.{key_cmp, key_cmp-total, key_cmp-IsAntisymmetric}
 use Rattle.slot_index.specs.Patterns.{agrees as slots_agree}
-use Rattle.slot_index.specs.Counts.{Counts as KeyCounts}
 use Rattle.slot_index.proofs.Passing.{count-map, count_by-cons, has_counted, one_if}
 use Rattle.triple_texts.specs.declared.triple_text.TripleText.{TripleText}
 use Rattle.triple_store.specs.declared.store.Store.{Store}

@@ -2,7 +2,7 @@
 
 ghost use Rattle.std.specs.Prelude.{◌≡◌, ◌<◌, ◌≤◌, ◌++◌, true, false, List, [], length, take, vec_len, vec_capacity, Err, IfSome, IfNone, IfOk, IsOk, OnOk, OnErr};
 ghost use Rattle.std.specs.List.{AllByRecursion};
-ghost use Rattle.rising.specs.Rising.{IsRising, has, sorted};
+ghost use Rattle.rising.specs.Rising.{IsRising, has};
 ghost use Rattle.rdf_term.specs.declared.triple.Triple.{Triple};
 ghost use Rattle.rdf_term.specs.Fit.{HasFitAndShortTerms};
 ghost use Rattle.rdf_term.specs.Order.{triple_cmp};
@@ -16,39 +16,46 @@ ghost use Rattle.triple_store.specs.Slots.{HasTexts};
 ghost use Rattle.triple_store.specs.Stored.{AreKeysOf, IsStored, KeepsKeys, beside, counts_in, is_key, limit_of};
 
 use crate::fault::StoreFault;
+use crate::keys::{Keys, NOWHERE, in_order, narrowed};
 use crate::store::Store;
 use slot_index::Key;
 use std::collections::BTreeSet;
 use text_region::Region;
 use triple_texts::{TripleText, TripleTexts};
 
-// Places of the old keys where the next one may be, the last used first: a walk over a page comes back to a subject that it
-// left for the nodes of its statements.
-type Places = [usize; 4];
+// How many places of the walk are tried for the next triple: a triple or two may be gone.
+const TRIED: usize = 3;
 
-// Where a triple is looked for first: in the slots of the key before it, and at places of the old keys.
+// How far ahead in the walk a place is looked for, which was found by a search.
+const AHEAD: usize = 64;
+
+// Where a triple is looked for first: from a place of the old keys' walk on, and in the slots of the key before it.
 #[derive(Clone, Copy)]
-struct Near {
+struct Near<'a> {
     last: Option<Key>,
-    places: Places,
+    walk: &'a [u32],
+    next: usize,
 }
 
-// A key that is at hand, and where the next one may be.
+// A key that is at hand, its place among the old ones where it was found there, and where the walk goes on.
 #[derive(Clone, Copy)]
 struct Found {
     key: Key,
-    places: Places,
+    place: u32,
+    next: usize,
 }
 
 impl Store {
-    /// Puts the triples of one owner in the place of those that it had, which its keys tell. What is in both costs its
-    /// look-ups alone. After a fault every triple has the count that it had. Without new triples it always succeeds.
+    /// Puts the triples of one owner in the place of those that it had, which its keys tell; the walk beside these is a hint.
+    /// What is in both costs its comparisons alone where it comes in the order of the walk, and else its look-ups. After a fault
+    /// every triple has the count that it had. Without new triples it always succeeds.
     pub fn exchange(
         &mut self,
         region: &mut Region,
         old: &[Key],
+        walk: &[u32],
         new: &TripleTexts,
-    ) -> Result<Vec<Key>, StoreFault>
+    ) -> Result<Keys, StoreFault>
         requires stored { IsStored self.old region.old }
         requires fit { AllByRecursion HasFitAndShortTerms new.now }
         requires rising { IsRising key_cmp old.now }
@@ -57,7 +64,7 @@ impl Store {
         ensures stored { IsStored self.new region.new }
         ensures ok { OnOk result ((gone : List Triple) → AreKeysOf self.old region.old old.now gone → Exchanges (counts_in self.old region.old) (counts_in self.new region.new) gone new.now) }
         ensures err { OnErr result (counts_in self.new region.new ≡ counts_in self.old region.old) }
-        ensures keys { IfOk result (λ keys. AreKeysOf self.new region.new keys.items new.now) }
+        ensures keys { IfOk result (λ keys. AreKeysOf self.new region.new keys.rising.items new.now) }
         ensures full { result ≡ Err StoreFault.Full → limit_of self.old < room_for (counts_in self.old region.old) new.now }
         ensures within { OnOk result (room_for (counts_in self.old region.old) new.now ≤ limit_of self.old) }
         ensures free { new.now ≡ [] → IsOk result }
@@ -68,15 +75,18 @@ impl Store {
         let Ok(mut keys) = Vec::with_capacity(self.alloc, new.len()) else {
             return Err(StoreFault::OutOfMemory);
         };
-        let taken = self.take_in(region, old, new, &mut keys);
-        sort_keys(&mut keys);
+        let Ok(mut places) = Vec::with_capacity(self.alloc, new.len()) else {
+            return Err(StoreFault::OutOfMemory);
+        };
+        let taken = self.take_in(region, old, walk, new, &mut keys, &mut places);
+        let keys = in_order(self.alloc, old, keys, places.as_slice());
         match taken {
             Ok(()) => {
-                self.remove_beside(region, old, &keys);
+                self.remove_beside(region, old, keys.slices().rising);
                 Ok(keys)
             }
             Err(fault) => {
-                self.remove_beside(region, &keys, old);
+                self.remove_beside(region, keys.slices().rising, old);
                 Err(fault)
             }
         }
@@ -88,8 +98,10 @@ impl Store {
         &mut self,
         region: &mut Region,
         old: &[Key],
+        walk: &[u32],
         new: &TripleTexts,
         keys: &mut Vec<Key>,
+        places: &mut Vec<u32>,
     ) -> Result<(), StoreFault>
         requires stored { IsStored self.old region.old }
         requires fit { AllByRecursion HasFitAndShortTerms new.now }
@@ -98,22 +110,26 @@ impl Store {
         requires countable { (triple : Triple) → has triple_cmp triple new.now ≡ true → count_of (counts_in self.old region.old) triple < 18446744073709551615 }
         requires none { keys.old.items ≡ [] }
         requires room { length new.now ≤ vec_capacity keys.old }
+        requires none_placed { vec_len places.old ≡ 0 }
+        requires room_placed { length new.now ≤ vec_capacity places.old }
         ensures takes { Takes self.old region.old self.new region.new old.now keys.new.items (take (vec_len keys.new) new.now) }
         ensures whole { OnOk result (vec_len keys.new ≡ length new.now) }
         ensures full { result ≡ Err StoreFault.Full → limit_of self.old < room_for (counts_in self.old region.old) new.now }
         ensures free { new.now ≡ [] → IsOk result }
     {
         let mut added = BTreeSet::new(self.alloc);
-        let mut places = [0; 4];
+        let mut next = 0;
         for index in 0..new.len() {
             let texts = new.get(index);
             let near = Near {
                 last: keys.last().copied(),
-                places,
+                walk,
+                next,
             };
             if let Some(found) = self.find_held(region, &texts, near, old, &added) {
                 keys.push_reserved(found.key);
-                places = found.places;
+                places.push_reserved(found.place);
+                next = found.next;
                 continue;
             }
             let key = match self.add(region, &texts) {
@@ -121,6 +137,7 @@ impl Store {
                 Err(fault) => return Err(fault),
             };
             keys.push_reserved(key);
+            places.push_reserved(NOWHERE);
             if added.insert(key).is_err() {
                 return Err(StoreFault::OutOfMemory);
             }
@@ -133,7 +150,7 @@ impl Store {
         &self,
         region: &Region,
         texts: &TripleText<'_>,
-        near: Near,
+        near: Near<'_>,
         old: &[Key],
         added: &BTreeSet<Key>,
     ) -> Option<Found>
@@ -143,41 +160,48 @@ impl Store {
         ensures held { IfSome result (λ found. has key_cmp found.key (old.now ++ added.now.keys) ≡ true) }
         ensures none { IfNone result ((key : TheKey) → HasTexts self.now.pool region.now key texts.now → has key_cmp key (old.now ++ added.now.keys) ≡ false) }
     {
-        let places = near.places;
-        if let Some(found) = self.find_again(region, texts, places, old) {
+        if let Some(found) = self.find_again(region, texts, near, old) {
             return Some(found);
         }
         let key = self.find_key(region, texts, near.last)?;
+        let next = near.next;
         if let Ok(place) = old.binary_search(&key) {
-            let places = with_front(places, 3, place + 1);
-            return Some(Found { key, places });
+            let place = narrowed(place);
+            let next = behind(near.walk, next, place);
+            return Some(Found { key, place, next });
         }
         if added.contains(&key) {
-            Some(Found { key, places })
+            let place = NOWHERE;
+            Some(Found { key, place, next })
         } else {
             None
         }
     }
 
-    // The key of the triple with these texts, where it is at one of the places of the old keys. What stays mostly stands in
-    // their order, so this saves most look-ups.
+    // The key of the triple with these texts, where the walk that the old keys have comes to it next. What stays mostly comes
+    // in the order in which it came before, so this saves most look-ups.
     fn find_again(
         &self,
         region: &Region,
         texts: &TripleText<'_>,
-        places: Places,
+        near: Near<'_>,
         old: &[Key],
     ) -> Option<Found>
         requires stored { IsStored self.now region.now }
         ensures texts { IfSome result (λ found. HasTexts self.now.pool region.now found.key texts.now) }
         ensures there { IfSome result (λ found. has key_cmp found.key old.now ≡ true) }
     {
-        for (from, place) in places.iter().enumerate() {
-            let place = *place;
-            if place < old.len() && self.has_texts(region, old[place], texts) {
+        for past in 0..TRIED {
+            let at = near.next.saturating_add(past);
+            let place = *near.walk.get(at)?;
+            let Some(key) = old.get(place as usize) else {
+                continue;
+            };
+            if self.has_texts(region, *key, texts) {
                 return Some(Found {
-                    key: old[place],
-                    places: with_front(places, from, place + 1),
+                    key: *key,
+                    place,
+                    next: at.saturating_add(1),
                 });
             }
         }
@@ -185,21 +209,13 @@ impl Store {
     }
 }
 
-// The places with another one in front, in the stead of the one that stood at `from`.
-fn with_front(places: Places, from: usize, front: usize) -> Places {
-    let [first, second, third, fourth] = places;
-    match from {
-        0 => [front, second, third, fourth],
-        1 => [front, first, third, fourth],
-        2 => [front, first, second, fourth],
-        _ => [front, first, second, third],
+// Where the walk goes on behind a place that it comes to soon. A hint alone: where it doesn't, it goes on where it stood.
+fn behind(walk: &[u32], next: usize, place: u32) -> usize {
+    for past in 0..AHEAD {
+        let at = next.saturating_add(past);
+        if walk.get(at) == Some(&place) {
+            return at.saturating_add(1);
+        }
     }
-}
-
-// Puts keys in order, each once. It takes no memory.
-fn sort_keys(keys: &mut Vec<Key>)
-    ensures { keys.new.items ≡ sorted key_cmp keys.old.items }
-{
-    keys.sort_unstable();
-    keys.dedup();
+    next
 }

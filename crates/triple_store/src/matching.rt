@@ -1,7 +1,8 @@
 // The stored triples that agree with a pattern.
 
-ghost use Rattle.std.specs.Prelude.{◌≡◌, ◌<◌, ℕ, true, IfNone, IfOk, IfSome};
+ghost use Rattle.std.specs.Prelude.{◌≡◌, ◌+◌, ◌<◌, ℕ, true, length, IfNone, IfOk, IfSome};
 ghost use Rattle.std.specs.FinMap as map;
+ghost use Rattle.block_index.specs.Steps.{Within};
 ghost use Rattle.rdf_term.specs.Pattern.{agrees, agrees_at, rows};
 ghost use Rattle.term_pool.specs.Pool.{LiesIn, count_at, text_at};
 ghost use Rattle.slot_index.specs.declared.key.Key.{Key as TheKey};
@@ -11,9 +12,10 @@ ghost use Rattle.triple_store.specs.Slots.{HasTriple, term_in, triple_at};
 ghost use Rattle.triple_store.specs.Stored.{IsStored, counts_in, is_key};
 
 use crate::store::Store;
-use crate::uncounted::count;
+use block_index::Steps;
 use rdf_term::{OutOfMemory, Pattern, Term, Triple, TripleSet};
 use slot_index::{Key, SlotPattern};
+use std::sync::ledger::Ledger;
 use term_pool::Pool;
 use text_region::Region;
 
@@ -26,21 +28,30 @@ impl Store {
         self.rows(region)?.triples(self.alloc)
     }
 
-    /// The stored triples that agree with the pattern, in memory of their own: those of `matching`, each read from its texts.
-    pub fn matches(&self, region: &Region, pattern: &Pattern) -> Result<TripleSet, OutOfMemory>
+    /// The stored triples that agree with the pattern, in memory of their own: those of `matching`, each read from its texts,
+    /// in as many steps.
+    pub fn matches<L: Ledger>(
+        &self,
+        region: &Region,
+        pattern: &Pattern,
+        steps: &mut Steps<L>,
+    ) -> Result<TripleSet, OutOfMemory>
         requires { IsStored self.now region.now }
         ensures rows { IfOk result (λ set. set ≡ rows (map.keys (counts_in self.now region.now)) pattern.now) }
+        ensures cost { IfOk result (λ set. Within (map.len (counts_in self.now region.now)) (9 + length set) steps.old steps.new) }
     {
-        self.matching(region, pattern)?.triples(self.alloc)
+        self.matching(region, pattern, steps)?.triples(self.alloc)
     }
 
-    /// How many entities own the triple, which takes no memory: three look-ups and one search in one index.
-    pub fn count(&self, region: &Region, triple: &Triple) -> u64
+    /// How many entities own the triple, which takes no memory: three look-ups and one search in one index,
+    /// of at most eight steps more than the number of stored triples has binary digits.
+    pub fn count<L: Ledger>(&self, region: &Region, triple: &Triple, steps: &mut Steps<L>) -> u64
         requires { IsStored self.now region.now }
-        ensures { result ≡ count_of (counts_in self.now region.now) triple.now }
+        ensures count { result ≡ count_of (counts_in self.now region.now) triple.now }
+        ensures cost { Within (map.len (counts_in self.now region.now)) 8 steps.old steps.new }
     {
         match self.key_of(region, triple) {
-            Some(key) => count(&self.index, key),
+            Some(key) => self.index.count(key, steps),
             None => 0,
         }
     }

@@ -41,7 +41,7 @@ impl Store {
         let Ok(texts) = texts_of(self.alloc, patch.adds.items()) else {
             return Err(StoreFault::OutOfMemory);
         };
-        match self.exchange(region, &[], &texts) {
+        match self.exchange(region, &[], &[], &texts) {
             Ok(_keys) => {
                 self.remove_all(region, patch.removes.items());
                 Ok(())

@@ -53,7 +53,7 @@ impl Store {
 
 // Where a key stands in a rising list, or would stand. A place is tried first, so that to look for the keys of a list that
 // has nearly the same ones costs no search.
-fn find_from(keys: &[Key], key: Key, next: usize) -> Result<usize, usize>
+pub(crate) fn find_from(keys: &[Key], key: Key, next: usize) -> Result<usize, usize>
     requires { IsRising key_cmp keys.now }
     ensures bound { IsSearchInRange result (length keys.now) }
     ensures there { is_ok result ≡ has key_cmp key keys.now }

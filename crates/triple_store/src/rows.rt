@@ -81,32 +81,13 @@ impl Store {
         requires { IsStored self.now region.now }
         ensures rows { IfOk result (λ found. found ≡ map.keys (counts_in self.now region.now)) }
     {
-        self.matching(
-            region,
-            &Pattern {
-                subject: None,
-                predicate: None,
-                object: None,
-            },
-        )
+        rows_by::<Brand>(self, region, Blank::new(1))
     }
 
     /// The stored triples that agree with the pattern. A wanted term costs one look-up; then it is one range of one index, and
-    /// the triples of that range, three slices each, are sorted.
-    pub fn matching<'a>(
-        &self,
-        region: &'a Region,
-        pattern: &Pattern,
-    ) -> Result<Rows<'a>, OutOfMemory>
-        requires { IsStored self.now region.now }
-        ensures rows { IfOk result (λ found. found ≡ rows (map.keys (counts_in self.now region.now)) pattern.now) }
-    {
-        matching_by::<Brand>(self, region, pattern, Blank::new(1))
-    }
-
-    /// The same, with its steps in the index counted: at most nine more than the triples that it gives and the binary digits of
-    /// the number of stored triples together.
-    pub fn matching_in_steps<'a, L: Ledger>(
+    /// the triples of that range, three slices each, are sorted. It takes at most nine steps in the index more than the triples
+    /// that it gives and the binary digits of the number of stored triples together.
+    pub fn matching<'a, L: Ledger>(
         &self,
         region: &'a Region,
         pattern: &Pattern,
@@ -159,21 +140,25 @@ impl Store {
     }
 }
 
-// The stored triples that agree with the pattern, where nobody counts the steps.
-fn matching_by<'a, L: Ledger>(
+// All stored triples, which agree with the pattern that is free at each place. Nobody counts the steps.
+fn rows_by<'a, L: Ledger>(
     store: &Store,
     region: &'a Region,
-    pattern: &Pattern,
     blank: Blank,
 ) -> Result<Rows<'a>, OutOfMemory>
     requires stored { IsStored store.now region.now }
     requires name { blank.name ≡ L.name }
     requires parts { blank.parts ≡ L.parts }
     requires some { 0 < blank.parts }
-    ensures { IfOk result (λ found. found ≡ rows (map.keys (counts_in store.now region.now)) pattern.now) }
+    ensures rows { IfOk result (λ found. found ≡ map.keys (counts_in store.now region.now)) }
 {
     let mut steps = Steps::<L>::new(blank);
-    store.matching_in_steps(region, pattern, &mut steps)
+    let free = Pattern {
+        subject: None,
+        predicate: None,
+        object: None,
+    };
+    store.matching(region, &free, &mut steps)
 }
 
 // Sorts triples by the texts of their terms. It takes no memory.

@@ -50,20 +50,3 @@ fn lower_by<L: Ledger>(index: &mut SlotIndex, key: Key, blank: Blank) -> bool
     let mut steps = Steps::<L>::new(blank);
     index.lower(key, &mut steps)
 }
-
-// How many owners a triple has.
-pub(crate) fn count(index: &SlotIndex, key: Key) -> u64
-    ensures { result ≡ count_of index.now key }
-{
-    count_in::<Brand>(index, key, Blank::new(1))
-}
-
-fn count_in<L: Ledger>(index: &SlotIndex, key: Key, blank: Blank) -> u64
-    requires name { blank.name ≡ L.name }
-    requires parts { blank.parts ≡ L.parts }
-    requires some { 0 < blank.parts }
-    ensures { result ≡ count_of index.now key }
-{
-    let mut steps = Steps::<L>::new(blank);
-    index.count(key, &mut steps)
-}

@@ -1,7 +1,6 @@
 -- A held page is mapped anew: what is kept stays in step with store and region.
 use Rattle.std.proofs.Common.{◌≡◌, ◌≢◌, ◌||◌, ℕ, Bool, true, false, cond, List, [], Option, Some, None, is_some, unwrap_or, refl, sym, ◌∙◌, ap, subst, true≢false, ⊎_elim}
 use Rattle.std.specs.FinMap as map
-use Rattle.std.specs.Global.{Vec}
 use Rattle.std.specs.Cmp.{eq_by_cmp_equiv}
 use Rattle.std.specs.List.{list_any}
 use Rattle.std.specs.Ordering.{eq_by_cmp}
@@ -18,6 +17,7 @@ use Rattle.entity_state.specs.Tabled.{Tabled}
 use Rattle.text_region.specs.declared.piece.Piece.{Piece}
 use Rattle.text_region.specs.Region.{Texts}
 use Rattle.slot_index.specs.declared.key.Key.{Key}
+use Rattle.triple_store.specs.declared.keys.Keys.{Keys}
 use Rattle.triple_store.specs.declared.store.Store.{Store}
 use Rattle.triple_store.specs.Counts.{Exchanges}
 use Rattle.triple_store.specs.Stored.{AreKeysOf, IsStored, KeepsKeys, beside, counts_in}
@@ -29,15 +29,15 @@ use Rattle.world.specs.Keeping.{KeptRecords, PieceTexts, held_keys, held_with, k
 use Rattle.world.proofs.Moving.{exchanged_same, kept_here, kept_other, kept_put, keys_same, seen_of, seen_put}
 use Rattle.world.proofs.Pieced.{held_again, id_tells}
 
-piece_same : (h : Option (Held Kept)) (keys : Vec Key) → piece_held (held_keys h keys) ≡ piece_held h
+piece_same : (h : Option (Held Kept)) (keys : Keys) → piece_held (held_keys h keys) ≡ piece_held h
 piece_same None keys = refl
 piece_same (Some h) keys = refl
 
-keys_are : (h : Option (Held Kept)) (keys : Vec Key) → is_some h ≡ true → keys_held (held_keys h keys) ≡ keys.items
+keys_are : (h : Option (Held Kept)) (keys : Keys) → is_some h ≡ true → keys_held (held_keys h keys) ≡ keys.rising.items
 keys_are None keys is = absurd (true≢false (sym is))
 keys_are (Some h) keys is = refl
 
-text_same : (f k : PieceTexts) (h : Option (Held Kept)) (keys : Vec Key) → ((p : Piece) → k p ≡ f p) → held_with k (held_keys h keys) ≡ held_with f h
+text_same : (f k : PieceTexts) (h : Option (Held Kept)) (keys : Keys) → ((p : Piece) → k p ≡ f p) → held_with k (held_keys h keys) ≡ held_with f h
 text_same f k None keys texts = refl
 text_same f k (Some h) keys texts = ap (λ (o : Option Bytes). Some (record { revision = h.revision; content = unwrap_or o [] })) (texts h.content.piece)
 
@@ -54,7 +54,7 @@ put_same records x there = by (map.get records x) refl
         (id_tells y x))
 
 -- a record that is there gets other keys
-pub keys_set : (kept : KeptRecords) (x : EntityId) (b : Record Kept) (h : Held Kept) (keys : Vec Key) (gone n : Record Kept) (one two : KeptRecords)
+pub keys_set : (kept : KeptRecords) (x : EntityId) (b : Record Kept) (h : Held Kept) (keys : Keys) (gone n : Record Kept) (one two : KeptRecords)
     → map.get kept x ≡ Some b → b.held ≡ Some h
     → one ≡ map.insert kept x gone → two ≡ map.insert one x n
     → n ≡ record { state = b.state; held = Some (record { revision = h.revision; content = record { piece = h.content.piece; keys = keys } }); reconciled = b.reconciled }
@@ -85,7 +85,7 @@ room_after t t2 id r is =
     (map.get-insert entity_cmp_total t.records id r id ∙ ap (λ b. cond b (Some r) (map.get t.records id)) ((eq_by_cmp_equiv entity_cmp_total).refl id))
 
 module _ (m m2 : Meaning Triple) (x : EntityId) (agree : (y : EntityId) → y ≢ x → (rev : ℕ) (bytes : Bytes) → m2 y rev bytes ≡ m y rev bytes)
-    (st : Store) (r : Texts) (st2 : Store) (r2 : Texts) (kept : KeptRecords) (keys : Vec Key) (h : IsKept m st r kept)
+    (st : Store) (r : Texts) (st2 : Store) (r2 : Texts) (kept : KeptRecords) (keys : Keys) (h : IsKept m st r kept)
     (there : is_some (kept_of kept x).held ≡ true)
     (texts : (p : Piece) → beside st2 r2 p ≡ beside st r p) where
   abbrev anew : Record Kept
@@ -122,7 +122,7 @@ module _ (m m2 : Meaning Triple) (x : EntityId) (agree : (y : EntityId) → y �
       → old ≡ keys_held (kept_of kept x).held
       → ((gone : List Triple) → AreKeysOf st r old gone → Exchanges (counts_in st r) (counts_in st2 r2) gone ts)
       → KeepsKeys st r st2 r2
-      → AreKeysOf st2 r2 keys.items ts
+      → AreKeysOf st2 r2 keys.rising.items ts
       → ((t : Triple) → has triple_cmp t ts ≡ has triple_cmp t (triples_held m2 x (held_with (beside st r) (kept_of kept x).held)))
       → IsKept m2 st2 r2 (map.insert kept x anew)
   anew_kept old ts stored were exchanges keeps keyed meant =
@@ -136,4 +136,4 @@ module _ (m m2 : Meaning Triple) (x : EntityId) (agree : (y : EntityId) → y �
       (exchanges (triples_kept m (beside st r) kept x) gone))
       keeps
       (subst (λ (ks : List Key). AreKeysOf st2 r2 ks (triples_held m2 x (held_with (beside st2 r2) anew.held))) (sym (keys_are (kept_of kept x).held keys there))
-      (keys_same st2 r2 keys.items ts (triples_held m2 x (held_with (beside st2 r2) anew.held)) same keyed))
+      (keys_same st2 r2 keys.rising.items ts (triples_held m2 x (held_with (beside st2 r2) anew.held)) same keyed))

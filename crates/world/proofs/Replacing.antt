@@ -139,7 +139,7 @@ module _ (m m2 : Meaning Triple) (x : EntityId) (agree : (y : EntityId) → y �
   pub came : IsStored st2 r3
       → old ≡ keys_held (kept_of kept x).held
       → ((gone : List Triple) → AreKeysOf st r1 old gone → Exchanges (counts_in st r1) (counts_in st2 r2) gone ts)
-      → AreKeysOf st2 r2 content.keys.items ts
+      → AreKeysOf st2 r2 content.keys.rising.items ts
       → ((t : Triple) → has triple_cmp t ts ≡ has triple_cmp t (m2 x rev bytes))
       → IsKept m2 st2 r3 (map.insert kept x (with_page state reconciled rev content))
   came stored were exchanges keyed meant =
@@ -149,12 +149,12 @@ module _ (m m2 : Meaning Triple) (x : EntityId) (agree : (y : EntityId) → y �
       let moves : Exchanges (counts_in st r) (counts_in st2 r3) (triples_kept m (beside st r) kept x) (m2 x rev bytes) =
       exchanged_through (counts_in st r) (counts_in st r1) (counts_in st2 r2) (counts_in st2 r3) (triples_kept m (beside st r) kept x) ts (m2 x rev bytes)
       place_counts counts meant (exchanges (triples_kept m (beside st r) kept x) keys) in
-      let new : AreKeysOf st2 r3 content.keys.items (m2 x rev bytes) =
-      keys_moved st2 r2 st2 r3 content.keys.items (m2 x rev bytes) put_kept (keys_same st2 r2 content.keys.items ts (m2 x rev bytes) meant keyed) in
+      let new : AreKeysOf st2 r3 content.keys.rising.items (m2 x rev bytes) =
+      keys_moved st2 r2 st2 r3 content.keys.rising.items (m2 x rev bytes) put_kept (keys_same st2 r2 content.keys.rising.items ts (m2 x rev bytes) meant keyed) in
       replaced m m2 x agree st r st2 r2 r3 kept (with_page state reconciled rev content) h page_middle page_fresh freed stored
       (keeps_through st r r1 st2 r2 r3 place_kept keeps counts put_kept)
       (subst (λ (held : Option (Held Bytes)). Exchanges (counts_in st r) (counts_in st2 r3) (triples_kept m (beside st r) kept x) (triples_held m2 x held)) (sym page_held) moves)
-      (subst (λ (held : Option (Held Bytes)). AreKeysOf st2 r3 content.keys.items (triples_held m2 x held)) (sym page_held) new)
+      (subst (λ (held : Option (Held Bytes)). AreKeysOf st2 r3 content.keys.rising.items (triples_held m2 x held)) (sym page_held) new)
 
 -- a page can't come: all is as it was
 pub kept_refused : (m : Meaning Triple) (st : Store) (r : Texts) (st2 : Store) (r2 : Texts) (kept : KeptRecords) → IsKept m st r kept → IsStored st2 r2 → counts_in st2 r2 ≡ counts_in st r

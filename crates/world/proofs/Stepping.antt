@@ -1,7 +1,6 @@
 -- Pages, store and region stay in step with the entities that hold by each version.
 use Rattle.std.proofs.Common.{◌≡◌, ◌≢◌, ℕ, true, List, [], Option, Some, None, is_some, refl, sym, ◌∙◌, ap, subst}
 use Rattle.std.specs.FinMap as map
-use Rattle.std.specs.Global.{Vec}
 use Rattle.rising.specs.Rising.{has}
 use Rattle.rdf_term.specs.declared.triple.Triple.{Triple}
 use Rattle.rdf_term.specs.Order.{triple_cmp}
@@ -15,6 +14,7 @@ use Rattle.entity_state.specs.declared.record.Record.{Record}
 use Rattle.text_region.specs.declared.piece.Piece.{Piece}
 use Rattle.text_region.specs.Region.{Texts}
 use Rattle.slot_index.specs.declared.key.Key.{Key}
+use Rattle.triple_store.specs.declared.keys.Keys.{Keys}
 use Rattle.triple_store.specs.declared.store.Store.{Store}
 use Rattle.triple_store.specs.Counts.{Exchanges}
 use Rattle.triple_store.specs.Stored.{AreKeysOf, Changes, HasKey, IsStored, KeepsKeys, beside, counts_in}
@@ -31,7 +31,7 @@ use Rattle.world.proofs.ByVersion.{by_drop, by_keep, by_put, meaning_other, move
 use Rattle.world.proofs.Moving.{seen_of}
 use Rattle.world.proofs.Replacing.{came, came_seen, stayed, went, went_seen, with_bytes, with_page}
 
-some_keys : (h : Option (Held Kept)) (keys : Vec Key) → is_some h ≡ true → is_some (held_keys h keys) ≡ true
+some_keys : (h : Option (Held Kept)) (keys : Keys) → is_some h ≡ true → is_some (held_keys h keys) ≡ true
 some_keys None keys is = is
 some_keys (Some h) keys is = refl
 
@@ -79,7 +79,7 @@ module _ (st : Store) (r : Texts) (ids : ByVersion) (kept : KeptRecords) (x : En
         → IsStored st2 r3
         → old ≡ keys_held (kept_of kept x).held
         → ((gone : List Triple) → AreKeysOf st r1 old gone → Exchanges (counts_in st r1) (counts_in st2 r2) gone ts)
-        → AreKeysOf st2 r2 content.keys.items ts
+        → AreKeysOf st2 r2 content.keys.rising.items ts
         → ((t : Triple) → has triple_cmp t ts ≡ has triple_cmp t (meaning v x rev bytes))
         → AreInStep st2 r3 ids2 (map.insert kept x (with_page state reconciled rev content))
     page_step ids2 is stored were exchanges keyed meant =
@@ -120,7 +120,7 @@ module _ (st : Store) (r : Texts) (ids : ByVersion) (kept : KeptRecords) (x : En
     by = by_keep ids kept x (record { state = state; held = (kept_of kept x).held; reconciled = reconciled }) h.by refl;
   }
 
-  module _ (st2 : Store) (r2 : Texts) (keys : Vec Key) (v : MappingVersion)
+  module _ (st2 : Store) (r2 : Texts) (keys : Keys) (v : MappingVersion)
       (there : is_some (kept_of kept x).held ≡ true)
       (texts : (p : Piece) → beside st2 r2 p ≡ beside st r p) where
     -- what is seen after the page was mapped anew
@@ -133,7 +133,7 @@ module _ (st : Store) (r : Texts) (ids : ByVersion) (kept : KeptRecords) (x : En
         → old ≡ keys_held (kept_of kept x).held
         → ((gone : List Triple) → AreKeysOf st r old gone → Exchanges (counts_in st r) (counts_in st2 r2) gone ts)
         → KeepsKeys st r st2 r2
-        → AreKeysOf st2 r2 keys.items ts
+        → AreKeysOf st2 r2 keys.rising.items ts
         → ((t : Triple) → has triple_cmp t ts ≡ has triple_cmp t (triples_held (meaning v) x (held_with (beside st r) (kept_of kept x).held)))
         → AreInStep st2 r2 ids2 (map.insert kept x (with_keys (kept_of kept x) keys))
     again_step ids2 old ts is stored were exchanges keeps keyed meant =

@@ -2,7 +2,6 @@
 use Rattle.std.specs.Prelude.{◌≡◌, List, [], Option, None, Some, unwrap_or}
 use Rattle.std.specs.Prelude.{map as mapped}
 use Rattle.std.specs.FinMap as map
-use Rattle.std.specs.Global.{Vec}
 use Rattle.entity_model.specs.declared.id.EntityId.{EntityId}
 use Rattle.entity_model.specs.EntityId.{entity_cmp}
 use Rattle.entity_state.specs.declared.record.Held.{Held}
@@ -11,6 +10,7 @@ use Rattle.entity_state.specs.Record.{blank}
 use Rattle.text_region.specs.declared.piece.Piece.{Piece}
 use Rattle.text_region.specs.Region.{Texts}
 use Rattle.slot_index.specs.declared.key.Key.{Key}
+use Rattle.triple_store.specs.declared.keys.Keys.{Keys}
 use Rattle.triple_store.specs.declared.store.Store.{Store}
 use Rattle.triple_store.specs.Stored.{Changes, beside}
 use Rattle.replay_model.specs.Records.{Bytes, Records}
@@ -55,14 +55,14 @@ piece_held (Some h) = Some h.content.piece
 -- the keys of the triples of what is held
 abbrev pub keys_held : Option (Held Kept) → List Key
 keys_held None = []
-keys_held (Some h) = h.content.keys.items
+keys_held (Some h) = h.content.keys.rising.items
 
 -- what is held, with other keys
-abbrev pub held_keys : Option (Held Kept) → Vec Key → Option (Held Kept)
+abbrev pub held_keys : Option (Held Kept) → Keys → Option (Held Kept)
 held_keys None keys = None
 held_keys (Some h) keys = Some (record { revision = h.revision; content = record { piece = h.content.piece; keys = keys } })
 
-abbrev pub with_keys : Record Kept → Vec Key → Record Kept
+abbrev pub with_keys : Record Kept → Keys → Record Kept
 with_keys r keys = record { state = r.state; held = held_keys r.held keys; reconciled = r.reconciled }
 
 -- the piece of what an entity holds

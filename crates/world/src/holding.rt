@@ -24,9 +24,8 @@ use crate::holders::{Holders, other};
 use crate::kept::Kept;
 use entity_model::{EntityId, MappingVersion};
 use entity_state::{Held, Mode, Record, Standing, Table};
-use slot_index::Key;
 use text_region::Region;
-use triple_store::{Store, StoreFault};
+use triple_store::{KeySlices, Store, StoreFault};
 
 /// Sets the record of an entity, which holds this page from now on, by the version that it is mapped by. After a fault
 /// nothing has changed.
@@ -66,7 +65,8 @@ pub fn hold(
         holders.take_back(id, version, added);
         return Err(StoreFault::OutOfMemory);
     };
-    match store.exchange(region, keys_of(table, id), &page.triples) {
+    let old = keys_of(table, id);
+    match store.exchange(region, old.rising, old.walk, &page.triples) {
         Ok(keys) => {
             let held = Held {
                 revision: after.state.rev,
@@ -158,7 +158,7 @@ fn drop_held(
     }) }
     ensures limit { limit_of store.new ≡ limit_of store.old }
 {
-    store.release(region, keys_of(table, id));
+    store.release(region, keys_of(table, id).rising);
     replace(store, region, table, id, after, None);
     holders.remove(id, MappingVersion::One);
     holders.remove(id, MappingVersion::Two);
@@ -221,14 +221,14 @@ fn keep_record(table: &mut Table<Kept>, id: EntityId, after: Standing)
 }
 
 /// The keys of the triples of what an entity holds.
-pub fn keys_of(table: &Table<Kept>, id: EntityId) -> &[Key]
-    ensures { result.now ≡ keys_held (kept_of table.now.records id).held }
+pub fn keys_of(table: &Table<Kept>, id: EntityId) -> KeySlices<'_>
+    ensures { result.rising.now ≡ keys_held (kept_of table.now.records id).held }
 {
     let Some(record) = table.get(id) else {
-        return &[];
+        return KeySlices::none();
     };
     match &record.held {
-        Some(held) => held.content.keys.as_slice(),
-        None => &[],
+        Some(held) => held.content.keys.slices(),
+        None => KeySlices::none(),
     }
 }

@@ -1,11 +1,11 @@
 // What is kept of a page that an entity holds.
 
-use slot_index::Key;
 use text_region::Piece;
+use triple_store::Keys;
 
 /// Where the bytes of a document lie in the region, and the keys of its triples in the store.
 #[derive(Debug, Drop)]
 pub struct Kept {
     pub piece: Piece,
-    pub keys: Vec<Key>,
+    pub keys: Keys,
 }

@@ -24,10 +24,9 @@ use entity_json::DocumentFault;
 use entity_model::{EntityId, MappingVersion};
 use entity_state::{Held, Record, Table};
 use rdf_term::OutOfMemory;
-use slot_index::Key;
 use std::alloc::Global;
 use text_region::Region;
-use triple_store::{Store, StoreFault};
+use triple_store::{Keys, Store, StoreFault};
 use triple_texts::TripleTexts;
 
 /// Maps what an entity holds by a version. After a fault nothing has changed.
@@ -61,7 +60,8 @@ pub fn remap(
     let Ok(added) = holders.add(id, version) else {
         return Err(StoreFault::OutOfMemory);
     };
-    match store.exchange(region, keys_of(table, id), &triples) {
+    let old = keys_of(table, id);
+    match store.exchange(region, old.rising, old.walk, &triples) {
         Ok(keys) => {
             set_keys(table, id, keys);
             holders.remove(id, other(version));
@@ -120,7 +120,7 @@ pub fn held_in<'a>(
 }
 
 // Sets the keys of the triples of what an entity holds.
-fn set_keys(table: &mut Table<Kept>, id: EntityId, keys: Vec<Key>)
+fn set_keys(table: &mut Table<Kept>, id: EntityId, keys: Keys)
     requires { is_some (kept_of table.old.records id).held ≡ true }
     ensures { table.new.records ≡ map.insert table.old.records id (with_keys (kept_of table.old.records id) keys) }
 {

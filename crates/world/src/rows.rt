@@ -10,6 +10,7 @@ ghost use Rattle.replay_model.specs.Versions.{meaning_by};
 ghost use Rattle.world.specs.Meaning.{meaning};
 
 use crate::pages::Pages;
+use crate::uncounted::{count, matches, matching};
 use crate::world::World;
 use rdf_term::{OutOfMemory, Pattern, Triple, TripleSet};
 use triple_store::Rows;
@@ -65,14 +66,14 @@ impl Pages {
     pub fn matches(&self, pattern: &Pattern) -> Result<TripleSet, OutOfMemory>
         ensures { IfOk result (λ set. set ≡ rows (union triple_cmp (meaning_by meaning self.now.second) self.now.played.records) pattern.now) }
     {
-        self.store.matches(&self.region, pattern)
+        matches(&self.store, &self.region, pattern)
     }
 
     /// How many entities hold the triple.
     pub fn owners(&self, triple: &Triple) -> u64
         ensures { result ≡ owners triple_cmp (meaning_by meaning self.now.second) self.now.played.records triple.now }
     {
-        self.store.count(&self.region, triple)
+        count(&self.store, &self.region, triple)
     }
 
     // The triples of all that is held.
@@ -86,6 +87,6 @@ impl Pages {
     pub(crate) fn matching(&self, pattern: &Pattern) -> Result<Rows<'_>, OutOfMemory>
         ensures { IfOk result (λ found. found ≡ rows (union triple_cmp (meaning_by meaning self.now.second) self.now.played.records) pattern.now) }
     {
-        self.store.matching(&self.region, pattern)
+        matching(&self.store, &self.region, pattern)
     }
 }

@@ -34,15 +34,15 @@ exchange-requires-clause-countable c =
 pub returns-in-Ok-exchange-clause-step : goal.returns-in-Ok-exchange-clause-step
 returns-in-Ok-exchange-clause-step c = rw c.replace.ensures.records
     (page_step c.args.store.now c.args.region.now c.args.holders.now c.args.table.now.records c.args.id c.requires.step c.place.new.region c.exchange.new.self c.exchange.new.region c.replace.new.region
-    c.args.after.state c.args.after.reconciled c.args.after.state.rev (record { piece = c.in-Ok-place.piece; keys = c.in-Ok-exchange.keys }) c.args.page.bytes c.args.page.triples c.keys_of.result.now c.args.page.version
+    c.args.after.state c.args.after.reconciled c.args.after.state.rev (record { piece = c.in-Ok-place.piece; keys = c.in-Ok-exchange.keys }) c.args.page.bytes c.args.page.triples c.keys_of-old.result.rising.now c.args.page.version
     (rw c.as_slice.ensures at c.in-Ok-place.ensures.ok) c.place.ensures.kept c.place.ensures.counts c.exchange.ensures.keeps c.exchange.ensures.beside c.replace.ensures.counts c.replace.ensures.kept c.replace.ensures.freed
     c.remove.new.self (moves c.args.holders.now c.add.new.self c.remove.new.self c.args.id c.args.page.version c.other.result c.in-Ok.ensures.ok c.other.ensures c.remove.ensures)
-    c.replace.ensures.stored c.keys_of.ensures c.in-Ok-exchange.ensures.ok c.in-Ok-exchange.ensures.keys c.requires.page.meant)
+    c.replace.ensures.stored c.keys_of-old.ensures c.in-Ok-exchange.ensures.ok c.in-Ok-exchange.ensures.keys c.requires.page.meant)
 
 pub returns-in-Ok-exchange-clause-ok : goal.returns-in-Ok-exchange-clause-ok
 returns-in-Ok-exchange-clause-ok c = ap (seen c.exchange.new.self c.replace.new.region) c.replace.ensures.records
     ∙ page_seen c.args.store.now c.args.region.now c.args.holders.now c.args.table.now.records c.args.id c.requires.step c.place.new.region c.exchange.new.self c.exchange.new.region c.replace.new.region
-    c.args.after.state c.args.after.reconciled c.args.after.state.rev (record { piece = c.in-Ok-place.piece; keys = c.in-Ok-exchange.keys }) c.args.page.bytes c.args.page.triples c.keys_of.result.now c.args.page.version
+    c.args.after.state c.args.after.reconciled c.args.after.state.rev (record { piece = c.in-Ok-place.piece; keys = c.in-Ok-exchange.keys }) c.args.page.bytes c.args.page.triples c.keys_of-old.result.rising.now c.args.page.version
     (rw c.as_slice.ensures at c.in-Ok-place.ensures.ok) c.place.ensures.kept c.place.ensures.counts c.exchange.ensures.keeps c.exchange.ensures.beside c.replace.ensures.counts c.replace.ensures.kept c.replace.ensures.freed
 
 pub returns-in-Ok-exchange-clause-within : goal.returns-in-Ok-exchange-clause-within

@@ -29,9 +29,9 @@ exchange-requires-clause-countable c =
 pub returns-in-Ok-exchange-clause-step : goal.returns-in-Ok-exchange-clause-step
 returns-in-Ok-exchange-clause-step c = rw c.set_keys.ensures
     (again_step c.args.store.now c.args.region.now c.args.holders.now c.args.table.now.records c.args.id c.requires.step c.exchange.new.self c.exchange.new.region
-    c.in-Ok-exchange.keys c.args.version c.requires.held c.exchange.ensures.beside c.remove.new.self c.keys_of.result.now c.in-Ok.triples
+    c.in-Ok-exchange.keys c.args.version c.requires.held c.exchange.ensures.beside c.remove.new.self c.keys_of-old.result.rising.now c.in-Ok.triples
     (moves c.args.holders.now c.add.new.self c.remove.new.self c.args.id c.args.version c.other.result c.in-Ok-add.ensures.ok c.other.ensures c.remove.ensures)
-    c.exchange.ensures.stored c.keys_of.ensures c.in-Ok-exchange.ensures.ok c.exchange.ensures.keeps c.in-Ok-exchange.ensures.keys
+    c.exchange.ensures.stored c.keys_of-old.ensures c.in-Ok-exchange.ensures.ok c.exchange.ensures.keeps c.in-Ok-exchange.ensures.keys
     (λ t. sym (has-sorted triple_cmp-total t c.in-Ok.triples) ∙ ap (has triple_cmp t) c.in-Ok.ensures.value))
 
 pub returns-in-Ok-exchange-clause-seen : goal.returns-in-Ok-exchange-clause-seen

@@ -6,26 +6,26 @@ use Rattle.triple_store.proofs.Taking.{whole_taken}
 use Rattle.triple_store.proofs.store.Store.exchange.Goals as goal
 
 pub remove_beside-requires-clause-others : goal.remove_beside-requires-clause-others
-remove_beside-requires-clause-others c = rw (c.deref.ensures.value, c.sort_keys.ensures) (IsRising-sorted key_cmp-total c.take_in-taken.new.keys.items)
+remove_beside-requires-clause-others c = rw (c.slices.ensures, c.in_order-keys.ensures) (IsRising-sorted key_cmp-total c.take_in-taken.new.keys.items)
 
 pub remove_beside-requires-clause-there : goal.remove_beside-requires-clause-there
 remove_beside-requires-clause-there c = had_there _ _ _ _ c.args.old.now _ _ c.requires.stored c.requires.there c.take_in-taken.ensures.takes
 
 pub remove_beside-requires-in-Err-clause-rising : goal.remove_beside-requires-in-Err-clause-rising
-remove_beside-requires-in-Err-clause-rising c = rw (c.deref-in-Err.ensures.value, c.sort_keys.ensures) (IsRising-sorted key_cmp-total c.take_in-taken.new.keys.items)
+remove_beside-requires-in-Err-clause-rising c = rw (c.slices-in-Err.ensures, c.in_order-keys.ensures) (IsRising-sorted key_cmp-total c.take_in-taken.new.keys.items)
 
 pub remove_beside-requires-in-Err-clause-there : goal.remove_beside-requires-in-Err-clause-there
-remove_beside-requires-in-Err-clause-there c = rw (c.deref-in-Err.ensures.value, c.sort_keys.ensures) (keys_there _ _ _ _ c.args.old.now _ _ c.requires.stored c.requires.there c.take_in-taken.ensures.takes)
+remove_beside-requires-in-Err-clause-there c = rw (c.slices-in-Err.ensures, c.in_order-keys.ensures) (keys_there _ _ _ _ c.args.old.now _ _ c.requires.stored c.requires.there c.take_in-taken.ensures.takes)
 
 pub returns-in-Ok-taken-clause-ok : goal.returns-in-Ok-taken-clause-ok
 returns-in-Ok-taken-clause-ok c =
     let all = whole_taken _ _ _ _ c.args.old.now _ c.args.new.now _ c.in-Ok-taken.ensures.whole c.take_in-taken.ensures.takes in
-    exchanged _ _ _ _ c.args.old.now _ c.args.new.now c.requires.stored c.requires.there all _ _ (rw (c.deref.ensures.value, c.sort_keys.ensures) at c.remove_beside.ensures)
+    exchanged _ _ _ _ c.args.old.now _ c.args.new.now c.requires.stored c.requires.there all _ _ (rw (c.slices.ensures, c.in_order-keys.ensures) at c.remove_beside.ensures)
 
 pub returns-in-Ok-taken-clause-keys : goal.returns-in-Ok-taken-clause-keys
 returns-in-Ok-taken-clause-keys c =
     let all = whole_taken _ _ _ _ c.args.old.now _ c.args.new.now _ c.in-Ok-taken.ensures.whole c.take_in-taken.ensures.takes in
-    rw c.sort_keys.ensures (are_keys _ _ _ _ c.args.old.now _ c.args.new.now c.requires.stored c.requires.there all _ _ (rw (c.deref.ensures.value, c.sort_keys.ensures) at c.remove_beside.ensures))
+    rw c.in_order-keys.ensures (are_keys _ _ _ _ c.args.old.now _ c.args.new.now c.requires.stored c.requires.there all _ _ (rw (c.slices.ensures, c.in_order-keys.ensures) at c.remove_beside.ensures))
 
 pub returns-in-Ok-taken-clause-within : goal.returns-in-Ok-taken-clause-within
 returns-in-Ok-taken-clause-within c = room_within _ _ _ _ c.args.old.now _ c.args.new.now c.requires.stored (whole_taken _ _ _ _ c.args.old.now _ c.args.new.now _ c.in-Ok-taken.ensures.whole c.take_in-taken.ensures.takes)
@@ -33,8 +33,8 @@ returns-in-Ok-taken-clause-within c = room_within _ _ _ _ c.args.old.now _ c.arg
 pub returns-in-Ok-taken-clause-keeps : goal.returns-in-Ok-taken-clause-keeps
 returns-in-Ok-taken-clause-keeps c = keeps _ _ _ _ c.args.old.now _ _ c.requires.stored c.requires.there c.take_in-taken.ensures.takes _ _ _ c.remove_beside.ensures
 
-pub returns-in-Err-clause-err : goal.returns-in-Err-clause-err
-returns-in-Err-clause-err c = undone_counts _ _ _ _ c.args.old.now _ _ c.requires.stored c.requires.there c.take_in-taken.ensures.takes _ _ (rw (c.deref-in-Err.ensures.value, c.sort_keys.ensures) at c.remove_beside-in-Err.ensures)
+pub returns-clause-err : goal.returns-clause-err
+returns-clause-err c = undone_counts _ _ _ _ c.args.old.now _ _ c.requires.stored c.requires.there c.take_in-taken.ensures.takes _ _ (rw (c.slices-in-Err.ensures, c.in_order-keys.ensures) at c.remove_beside-in-Err.ensures)
 
-pub returns-in-Err-clause-keeps : goal.returns-in-Err-clause-keeps
-returns-in-Err-clause-keeps c = keeps _ _ _ _ c.args.old.now _ _ c.requires.stored c.requires.there c.take_in-taken.ensures.takes _ _ _ c.remove_beside-in-Err.ensures
+pub returns-clause-keeps : goal.returns-clause-keeps
+returns-clause-keeps c = keeps _ _ _ _ c.args.old.now _ _ c.requires.stored c.requires.there c.take_in-taken.ensures.takes _ _ _ c.remove_beside-in-Err.ensures

@@ -12,6 +12,8 @@ loop-index-preserved-in-Some c =
       takes = rw c.push_reserved.ensures.items (next_held _ _ _ _ c.args.old.now c.loop-index.keys.items c.loop-index.added.keys c.args.new.now c.loop-index.index c.get-texts.result low c.get-texts.ensures c.requires.stored c.requires.there c.loop-index.invariant.takes c.loop-index.invariant.held c.in-Some.found.key c.in-Some.ensures.texts c.in-Some.ensures.held);
       done = omega (arith, c.push_reserved.ensures.len, c.loop-index.invariant.done);
       room = omega (arith, c.push_reserved.ensures.capacity, c.loop-index.invariant.room);
+      placed = omega (arith, c.push_reserved-in-Some.ensures.len, c.loop-index.invariant.placed);
+      room_placed = omega (arith, c.push_reserved-in-Some.ensures.capacity, c.loop-index.invariant.room_placed);
       held = rw c.push_reserved.ensures.items (held_again c.args.old.now c.loop-index.added.keys c.loop-index.keys.items c.loop-index.invariant.held c.in-Some.found.key c.in-Some.ensures.held);
     }
 
@@ -46,5 +48,7 @@ loop-index-preserved c =
       takes = rw c.push_reserved-in-loop-index.ensures.items (next_new _ _ _ _ c.args.old.now c.loop-index.keys.items c.loop-index.added.keys c.args.new.now c.loop-index.index c.get-texts.result low c.get-texts.ensures c.requires.stored c.requires.there c.loop-index.invariant.takes c.loop-index.invariant.held c.in_default.ensures.none _ _ c.in-Ok.key c.in-Ok.ensures.stored c.in-Ok.ensures.ok c.in-Ok.ensures.key c.in-Ok.ensures.kept c.in-Ok.ensures.beside c.in-Ok.ensures.limit);
       done = omega (arith, c.push_reserved-in-loop-index.ensures.len, c.loop-index.invariant.done);
       room = omega (arith, c.push_reserved-in-loop-index.ensures.capacity, c.loop-index.invariant.room);
+      placed = omega (arith, c.push_reserved-in-loop-index-2.ensures.len, c.loop-index.invariant.placed);
+      room_placed = omega (arith, c.push_reserved-in-loop-index-2.ensures.capacity, c.loop-index.invariant.room_placed);
       held = rw (c.push_reserved-in-loop-index.ensures.items, on_ok c.insert.result _ (sym c.is_err.ensures.value ∙ c.if-is_err.false) c.insert.ensures.keys) (held_more c.args.old.now c.loop-index.added.keys c.loop-index.keys.items c.loop-index.invariant.held c.in-Ok.key);
     }

@@ -11,5 +11,7 @@ invariant-loop-index l = record {
   takes : Takes l.initial.self l.initial.region l.self l.region l.old l.keys.items (take l.index l.new);
   done : vec_len l.keys ≡ l.index;
   room : length l.new ≤ vec_capacity l.keys;
+  placed : vec_len l.places ≡ l.index;
+  room_placed : length l.new ≤ vec_capacity l.places;
   held : (key : Key) → has key_cmp key (l.old ++ l.added.keys) ≡ has key_cmp key (l.old ++ l.keys.items);
 }

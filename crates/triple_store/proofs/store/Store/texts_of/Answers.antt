@@ -1,8 +1,8 @@
 -- The texts of one triple more.
-use Rattle.std.proofs.Common.{◌≡◌, ◌<◌, ◌++◌, ◌∙◌, [], ◌∷◌, take, length, get_or, ap, sym, rules, arith}
+use Rattle.std.proofs.Common.{◌<◌, ◌++◌, ◌∙◌, [], ◌∷◌, take, length, get_or, ap, sym, arith}
 use Rattle.std.specs.Prelude.{map as mapped}
 use Rattle.std.proofs.lemmas.List.{map_push, take_more}
-use Rattle.std.proofs.lemmas.List.Elements.{All-push, All-same}
+use Rattle.std.proofs.lemmas.List.Elements.{All-push}
 use Rattle.triple_store.specs.Slots.{HasCanonicalTexts, triple_at, triple_of}
 use Rattle.triple_store.proofs.Ordered.{row_canonical, row_means}
 use Rattle.triple_store.proofs.store.Store.texts_of.Goals as goal

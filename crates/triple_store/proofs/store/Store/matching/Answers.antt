@@ -8,7 +8,7 @@ use Rattle.triple_store.specs.Slots.{HasCanonicalTexts, triple_of}
 use Rattle.triple_store.proofs.Matched.{found_stored, none_matched}
 use Rattle.triple_store.proofs.Ordered.{rows_long, rows_matched, rows_rising}
 use Rattle.triple_store.proofs.Unchanged.{len_image}
-use Rattle.triple_store.proofs.store.Store.matching_in_steps.Goals as goal
+use Rattle.triple_store.proofs.store.Store.matching.Goals as goal
 
 pub returns-in_default : goal.returns-in_default
 returns-in_default g c = record {
