@@ -3,3 +3,5 @@ mod Counting
 pub mod Drills
 mod Taking
 mod Versions
+mod Roomy
+mod NeverFull

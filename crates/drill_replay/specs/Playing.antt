@@ -66,6 +66,13 @@ pub record StandsAtEnd (size : ℕ) (world : ReplayState) : Type 0 where
   pub steps : ℕ
   pub is : world ≡ after_some (replies_of size) steps (after_end (following None (replies_of size) (drill size)))
 
+-- the world has taken the first deliveries of the drill, and this one is the next
+pub record StandsBefore (size : ℕ) (next : Delivery) (world : ReplayState) : Type 0 where
+  pub before : List Delivery
+  pub after : List Delivery
+  pub all : drill size ≡ before ++ next ∷ after
+  pub is : world ≡ following None (replies_of size) before
+
 -- the world of a first part of the drill: each due event was applied whole or not at all
 abbrev pub HasBegun : ℕ → ReplayState → Type 0
 HasBegun size world = IsPartOf size (drill size) world ⊎ StandsAtEnd size world
@@ -73,3 +80,7 @@ HasBegun size world = IsPartOf size (drill size) world ⊎ StandsAtEnd size worl
 -- version One of the mapping is in force, and all that is held is mapped by it
 abbrev pub IsByFirst : WorldState → Type 0
 IsByFirst world = (world.mapping ≡ One) × (world.second ≡ [])
+
+-- there is room for the terms of each drill
+abbrev pub IsRoomy : WorldState → Type 0
+IsRoomy world = 20_000_000 ≤ world.room
