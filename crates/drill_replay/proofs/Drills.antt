@@ -29,7 +29,7 @@ drill-next n =
     ∙ ap (λ l. drill n ++ l) (append-nil (deliveries_of (n + 1)))
 
 -- the deliveries of the items after so many
-rest_of : (m k : ℕ) → (rest : List Delivery) × (drill (m + k) ≡ drill m ++ rest)
+pub rest_of : (m k : ℕ) → (rest : List Delivery) × (drill (m + k) ≡ drill m ++ rest)
 rest_of m zero =
     let same : m + zero ≡ m = omega arith in
     ([], ap drill same ∙ sym (append-nil (drill m)))

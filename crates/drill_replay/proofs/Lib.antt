@@ -4,3 +4,5 @@ pub mod Drills
 mod Rooms
 mod Taking
 mod Versions
+mod Roomy
+mod NeverFull

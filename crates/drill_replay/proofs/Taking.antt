@@ -48,7 +48,7 @@ module _ (n : ℕ) (items : List Delivery) (i : ℕ) where
       ∙ ap (λ l. drill n ++ l) (ap (λ x. take i items ++ x ∷ []) is ∙ sym (take-suc items i d within) ∙ sym (ap (λ k. take k items) (add-one i)))
 
   -- those that are left
-  cut : (d : Delivery) → items ≡ deliveries_of (n + 1) → i < length items → d ≡ get_or items i d → drill (n + 1) ≡ (drill n ++ take i items) ++ d ∷ drop (suc i) items
+  pub cut : (d : Delivery) → items ≡ deliveries_of (n + 1) → i < length items → d ≡ get_or items i d → drill (n + 1) ≡ (drill n ++ take i items) ++ d ∷ drop (suc i) items
   cut d are within is =
       drill-next n
       ∙ ap (λ l. drill n ++ l) (sym are ∙ sym (take-append-drop i items) ∙ ap (λ l. take i items ++ l) (drop-cons items i d within ∙ ap (λ x. x ∷ drop (suc i) items) (sym is)))

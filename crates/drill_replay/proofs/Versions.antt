@@ -16,7 +16,7 @@ no_version true false i = refl
 no_version false true i = refl
 no_version false false i = refl
 
-no_versions : (items : List ℕ) → filter_map mapping_of (flat_map deliveries_of items) ≡ []
+pub no_versions : (items : List ℕ) → filter_map mapping_of (flat_map deliveries_of items) ≡ []
 no_versions [] = refl
 no_versions (i ∷ items) =
     filter_map-append mapping_of (deliveries_of i) (flat_map deliveries_of items)

@@ -69,6 +69,13 @@ pub record StandsAtEnd (size : ℕ) (world : ReplayState) : Type 0 where
   pub steps : ℕ
   pub is : world ≡ after_some (replies_of size) steps (after_end (following None (replies_of size) (drill size)))
 
+-- the world has taken the first deliveries of the drill, and this one is the next
+pub record StandsBefore (size : ℕ) (next : Delivery) (world : ReplayState) : Type 0 where
+  pub before : List Delivery
+  pub after : List Delivery
+  pub all : drill size ≡ before ++ next ∷ after
+  pub is : world ≡ following None (replies_of size) before
+
 -- the world of a first part of the drill: each due event was applied whole or not at all
 abbrev pub HasBegun : ℕ → ReplayState → Type 0
 HasBegun size world = IsPartOf size (drill size) world ⊎ StandsAtEnd size world
@@ -85,3 +92,7 @@ pub record HasRoomFor (room : ℕ) (world : WorldState) : Type 0 where
 -- however much room there was for what is held, there is still
 abbrev pub KeepsRoom : WorldState → WorldState → Type 0
 KeepsRoom old new = (room : ℕ) → HasRoomFor room old → HasRoomFor room new
+
+-- there is room for the terms of each drill
+abbrev pub IsRoomy : WorldState → Type 0
+IsRoomy world = 20_000_000 ≤ world.room

@@ -1,13 +1,20 @@
-// What holds of the deliveries of a drill. The law is the contract of a function that does nothing.
+// What holds of the deliveries of a drill. Each law is the contract of a function that does nothing.
 
-ghost use Rattle.std.specs.Prelude.{◌≡◌, ◌++◌, ℕ, List};
+ghost use Rattle.std.specs.Prelude.{◌≡◌, ◌≤◌, ◌++◌, ℕ, List};
 ghost use Rattle.entity_model.specs.declared.delivery.Delivery.{Delivery};
 ghost use Rattle.entity_model.specs.declared.mapping.MappingVersion.{MappingVersion};
 ghost use Rattle.replay_model.specs.Acceptance.{version_in_force};
-ghost use Rattle.drill.specs.Drill.{drill};
+ghost use Rattle.triple_store.specs.Room.{distinct};
+ghost use Rattle.told_pages.specs.Told.{terms_there};
+ghost use Rattle.drill.specs.Drill.{IsSize, contents_of, drill};
 
 /// The first version of the mapping is in force after all deliveries of a drill, and after each first part of them.
 pub fn drill_is_by_the_first_version()
     ensures whole { (size : ℕ) → version_in_force (drill size) ≡ MappingVersion.One }
     ensures part { (size : ℕ) (before after : List Delivery) → drill size ≡ before ++ after → version_in_force before ≡ MappingVersion.One }
+{}
+
+/// The pages that the deliveries of a drill bring have together no more different terms than its world has room for, 20,000,000.
+pub fn drill_has_room()
+    ensures { (size : ℕ) → IsSize size → distinct (terms_there (contents_of size) (drill size)) ≤ 20_000_000 }
 {}

@@ -4,7 +4,7 @@ ghost use Rattle.std.specs.Prelude.{◌≡◌, ◌⊎◌, ℕ, ◌+◌, ◌*◌,
 ghost use Rattle.entity_model.specs.declared.delivery.Delivery.{Delivery};
 ghost use Rattle.replay_model.specs.ReplayState.{after_due, after_mark, after_some, entered, following, nothing_delivered};
 ghost use Rattle.drill.specs.Drill.{IsSize, drill};
-ghost use Rattle.drill_replay.specs.Playing.{Counted, HasBegun, HasFew, IsAfter, IsByFirst, IsPartOf, KeepsRoom, answer_of, with_answer};
+ghost use Rattle.drill_replay.specs.Playing.{Counted, HasBegun, HasFew, IsAfter, IsByFirst, IsPartOf, IsRoomy, KeepsRoom, StandsBefore, answer_of, with_answer};
 ghost use Rattle.drill_replay.specs.Summary.{drilled, replies_of};
 
 use drill::{DrillRevisions, deliveries};
@@ -53,11 +53,13 @@ pub fn play(alloc: Global, size: u32, world: &mut World) -> Result<Counts, OutOf
     requires size { IsSize size }
     requires world { world.old.replay ≡ nothing_delivered }
     requires first { IsByFirst world.old }
+    requires room { IsRoomy world.old }
     ensures counts { IfOk result (λ counts. Counted (drill size) counts) }
     ensures ok { OnOk result (world.new.replay ≡ drilled size) }
     ensures begun { HasBegun size world.new.replay }
     ensures first { IsByFirst world.new }
-    ensures room { KeepsRoom world.old world.new }
+    ensures room { IsRoomy world.new }
+    ensures within { KeepsRoom world.old world.new }
 {
     let mut counts = Counts::new();
     for done in 0..size {
@@ -82,12 +84,14 @@ fn take_item(
     requires counted { Counted (drill done) counts.old }
     requires few { HasFew counts.old (6 * done) }
     requires first { IsByFirst world.old }
+    requires room { IsRoomy world.old }
     ensures after { OnOk result (IsAfter size (drill (done + 1)) world.new.replay) }
     ensures counted { OnOk result (Counted (drill (done + 1)) counts.new) }
     ensures few { OnOk result (HasFew counts.new (6 * (done + 1))) }
     ensures err { OnErr result (IsPartOf size (drill (done + 1)) world.new.replay) }
     ensures first { IsByFirst world.new }
-    ensures room { KeepsRoom world.old world.new }
+    ensures room { IsRoomy world.new }
+    ensures within { KeepsRoom world.old world.new }
 {
     let list = deliveries(alloc, done + 1)?;
     for delivery in list.as_slice() {
@@ -101,13 +105,16 @@ fn take_item(
 fn take(size: u32, delivery: &Delivery, world: &mut World) -> Result<Option<Taken>, OutOfMemory>
     requires size { IsSize size }
     requires open { world.old.replay.buffer.closed ≡ false }
+    requires next { StandsBefore size delivery.now world.old.replay }
     requires first { IsByFirst world.old }
+    requires room { IsRoomy world.old }
     ensures ok { OnOk result ((ds : List Delivery) → IsAfter size ds world.old.replay → IsAfter size (ds ++ delivery.now ∷ []) world.new.replay) }
     ensures answer { IfOk result (λ answer. answer ≡ answer_of world.old.replay.buffer delivery.now) }
     ensures err { OnErr result ((ds : List Delivery) → IsAfter size ds world.old.replay → (world.new.replay ≡ world.old.replay)
         ⊎ ((steps : ℕ) × (world.new.replay ≡ after_some (replies_of size) steps (entered (following None (replies_of size) ds) delivery.now)))) }
     ensures first { IsByFirst world.new }
-    ensures room { KeepsRoom world.old world.new }
+    ensures room { IsRoomy world.new }
+    ensures within { KeepsRoom world.old world.new }
 {
     match delivery {
         Delivery::Event(event) => Ok(Some(world.take(*event)?)),
@@ -128,22 +135,24 @@ fn raise(mark: &i64, world: &mut World)
     world.raise(*mark);
 }
 
-// Applies all due events, the least first, over the pages of the drill of this size.
+// Applies all due events, the least first, over the pages of the drill of this size. There is room for each of them.
 fn apply_due(size: u32, world: &mut World) -> Result<(), OutOfMemory>
     requires size { IsSize size }
+    requires begun { HasBegun size world.old.replay }
     requires first { IsByFirst world.old }
+    requires room { IsRoomy world.old }
     ensures ok { OnOk result (world.new.replay ≡ after_due (replies_of size) world.old.replay) }
     ensures steps { (steps : ℕ) × (world.new.replay ≡ after_some (replies_of size) steps world.old.replay) }
     ensures first { IsByFirst world.new }
-    ensures room { KeepsRoom world.old world.new }
+    ensures room { IsRoomy world.new }
+    ensures within { KeepsRoom world.old world.new }
 {
     let mut pages = DrillRevisions::new(size);
     loop {
         match world.apply_next(&mut pages, ".") {
             Ok(_) => {}
             Err(WorldFault::Nothing) => return Ok(()),
-            // no proof counts the terms of a drill, so a drill for which there is no room has too little memory
-            Err(WorldFault::Full) => return Err(OutOfMemory),
+            Err(WorldFault::Full) => unreachable!(),
             Err(WorldFault::OutOfMemory) => return Err(OutOfMemory),
         }
     }

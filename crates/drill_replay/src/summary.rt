@@ -8,7 +8,7 @@ ghost use Rattle.entity_model.specs.declared.mapping.MappingVersion.TheVariants.
 ghost use Rattle.world.specs.Meaning.{meaning};
 ghost use Rattle.md5.specs.Md5.{md5};
 ghost use Rattle.drill.specs.Drill.{IsSize, drill};
-ghost use Rattle.drill_replay.specs.Playing.{Counted, HasBegun, IsByFirst, KeepsRoom};
+ghost use Rattle.drill_replay.specs.Playing.{Counted, HasBegun, IsByFirst, IsRoomy, KeepsRoom};
 ghost use Rattle.drill_replay.specs.Summary.{digest_line, drilled, kept_in, lines_of, number_line, summary_of, triple_lines};
 
 use crate::playing::{Counts, play};
@@ -32,17 +32,19 @@ pub struct Summary {
     pub digest: [u8; 16],
 }
 
-/// Runs the drill of this size in an empty world, by version One of the mapping. For each answer the world is that of a first part of the drill, and for a
-/// summary that of all of it.
+/// Runs the drill of this size in an empty world with room for 20,000,000 terms, by version One of the mapping. For each answer the
+/// world is that of a first part of the drill, and for a summary that of all of it. There is always room, so memory alone may be refused.
 pub fn run_drill(alloc: Global, size: u32, world: &mut World) -> Result<Summary, OutOfMemory>
     requires size { IsSize size }
     requires world { world.old.replay ≡ nothing_delivered }
     requires first { IsByFirst world.old }
+    requires room { IsRoomy world.old }
     ensures summary { IfOk result (λ summary. summary ≡ summary_of size) }
     ensures ok { OnOk result (world.new.replay ≡ drilled size) }
     ensures begun { HasBegun size world.new.replay }
     ensures first { IsByFirst world.new }
-    ensures room { KeepsRoom world.old world.new }
+    ensures room { IsRoomy world.new }
+    ensures within { KeepsRoom world.old world.new }
 {
     let counts = play(alloc, size, world)?;
     summarize(alloc, size, counts, world)

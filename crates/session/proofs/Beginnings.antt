@@ -14,10 +14,10 @@ use Rattle.entity_model.specs.declared.mapping.MappingVersion.TheVariants.{One}
 use Rattle.entity_model.specs.Event.{event_cmp}
 use Rattle.event_line.specs.declared.faults.LineCause.{LineCause}
 use Rattle.replay_model.specs.Acceptance.{event_of, events, mapping_of, version_in_force}
-use Rattle.session.specs.Complete.{versions_told}
+use Rattle.told_pages.specs.Told.{versions_told}
 use Rattle.session.specs.Reading.{AreDeliveries, AreFirst, deliveries_of, line_delivers, onto_deliveries}
-use Rattle.session.proofs.Gathered.{in_front, in_rest}
-use Rattle.session.proofs.Named.{AreAmong}
+use Rattle.told_pages.proofs.Gathered.{in_front, in_rest}
+use Rattle.told_pages.proofs.Named.{AreAmong}
 
 -- the deliveries begin with these
 pub record Begins (ds first : List Delivery) : Type 0 where

@@ -1,15 +1,12 @@
 -- Where no event is late and each page is found, nothing is named in the side output.
-use Rattle.std.proofs.Common.{◌≡◌, ℕ, Bool, true, false, cond, not, filter, ◌&&◌, ◌||◌, ◌==◌, nat_lt, nat_le, is_ok, List, [], ◌∷◌, ◌++◌, Option, None, Some, Result, Ok, Err, refl, sym, ◌∙◌, ap, subst, true≢false}
+use Rattle.std.proofs.Common.{◌≡◌, ℕ, Bool, true, false, cond, not, filter, ◌||◌, is_ok, List, [], ◌∷◌, ◌++◌, Option, None, Some, Result, Ok, Err, refl, sym, ◌∙◌, ap, subst, true≢false}
 use Rattle.std.specs.List.{cons_option}
 use Rattle.entity_model.specs.declared.id.EntityId.{EntityId}
 use Rattle.entity_model.specs.declared.event.Event.{Event}
-use Rattle.entity_model.specs.declared.event.Kind.{Kind}
-use Rattle.entity_model.specs.declared.event.Kind.TheVariants.{Edit, Delete, Undelete, ReconcileDeleted, ReconcileKept}
 use Rattle.entity_model.specs.Event.{event_cmp, event_cmp_total, event_cmp_same}
 use Rattle.entity_model.specs.declared.delivery.Delivery.{Delivery}
 use Rattle.entity_model.specs.declared.delivery.Delivery.TheVariants.{Event as Told, Watermark, Ask, Mapping}
-use Rattle.entity_state.specs.declared.state.State.{State}
-use Rattle.entity_state.specs.State.{after_kind, deleted, is_deleted, is_kept, kept, state_after}
+use Rattle.entity_state.specs.State.{is_kept, state_after}
 use Rattle.entity_state.specs.Record.{held_revision, wants}
 use Rattle.entity_state.specs.declared.record.Record.{Record}
 use Rattle.side_output.specs.declared.entry.Cause.{Cause}
@@ -27,16 +24,8 @@ use Rattle.replay_model.specs.Records.{Bytes, record_of}
 use Rattle.replay_model.specs.Replies.{Judgement, reply_there, source_replies}
 use Rattle.replay_model.proofs.Arrivals.{events_passing-push, play-push}
 use Rattle.replay_model.proofs.RecordOf.{entity_of, record-after, record_of-empty}
-use Rattle.session.specs.Complete.{FindsDocument, has_document, keeps_page}
-
--- the state after an event is kept at a revision of which P holds, where P holds of the revision before and of the event's
-pub kept_after : (P : ℕ → Type 0) (k : Kind) (s : State) (r : ℕ) → (is_kept s.mode ≡ true → P s.rev) → (keeps_page k ≡ true → P r) → is_kept (after_kind k s r).mode ≡ true → P (after_kind k s r).rev
-kept_after P Edit s r before now = elim (nat_lt s.rev r) as (λ b. is_kept (cond b (kept r) s).mode ≡ true → P (cond b (kept r) s).rev) [ true ↦ λ _. now refl | false ↦ before ]
-kept_after P Delete s r before now = elim (nat_le s.rev r) as (λ b. is_kept (cond b (deleted r) s).mode ≡ true → P (cond b (deleted r) s).rev) [ true ↦ λ no. absurd (true≢false (sym no)) | false ↦ before ]
-kept_after P Undelete s r before now =
-    elim (nat_lt s.rev r || (s.rev == r && is_deleted s.mode)) as (λ b. is_kept (cond b (kept r) s).mode ≡ true → P (cond b (kept r) s).rev) [ true ↦ λ _. now refl | false ↦ before ]
-kept_after P ReconcileDeleted s r before now = λ no. absurd (true≢false (sym no))
-kept_after P ReconcileKept s r before now = λ _. now refl
+use Rattle.told_pages.proofs.Named.{kept_after}
+use Rattle.session.specs.Complete.{FindsDocument, has_document}
 
 -- a document makes no entry
 no_entry : (e : Event) (r : ℕ) (reply : Result Bytes Cause) → is_ok reply ≡ true → entry_of e r reply ≡ []

@@ -6,8 +6,6 @@ mod Due
 mod Ends
 mod Finding
 mod Fitting
-mod Gathered
-mod Named
 mod Opening
 mod Progress
 mod Reading

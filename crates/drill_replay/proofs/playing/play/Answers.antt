@@ -22,11 +22,11 @@ pub returns-clause-ok : goal.returns-clause-ok
 returns-clause-ok c =
     drill_ended c.args.size c.loop-done.done c.loop-done.world.replay c.close.new.self.replay c.apply_due.new.world.replay c.loop-done.invariant.after c.loop-done-test.false c.loop-done.auto.done-end (ap (λ (w : WorldState). w.replay) c.close.ensures) c.in_ok-apply_due.ensures.ok
 
-pub returns-in_err-take_item-clause-room : goal.returns-in_err-take_item-clause-room
-returns-in_err-take_item-clause-room c = keeps_further _ _ _ c.loop-done.invariant.room c.take_item.ensures.room
+pub returns-in_err-take_item-clause-within : goal.returns-in_err-take_item-clause-within
+returns-in_err-take_item-clause-within c = keeps_further _ _ _ c.loop-done.invariant.within c.take_item.ensures.within
 
-pub returns-in_err-apply_due-clause-room : goal.returns-in_err-apply_due-clause-room
-returns-in_err-apply_due-clause-room c = keeps_further _ _ _ c.loop-done.invariant.room (keeps_further _ _ _ (closed c.loop-done.world c.close.new.self c.close.ensures) c.apply_due.ensures.room)
+pub returns-in_err-apply_due-clause-within : goal.returns-in_err-apply_due-clause-within
+returns-in_err-apply_due-clause-within c = keeps_further _ _ _ c.loop-done.invariant.within (keeps_further _ _ _ (closed c.loop-done.world c.close.new.self c.close.ensures) c.apply_due.ensures.within)
 
-pub returns-clause-room : goal.returns-clause-room
-returns-clause-room c = keeps_further _ _ _ c.loop-done.invariant.room (keeps_further _ _ _ (closed c.loop-done.world c.close.new.self c.close.ensures) c.apply_due.ensures.room)
+pub returns-clause-within : goal.returns-clause-within
+returns-clause-within c = keeps_further _ _ _ c.loop-done.invariant.within (keeps_further _ _ _ (closed c.loop-done.world c.close.new.self c.close.ensures) c.apply_due.ensures.within)

@@ -19,24 +19,24 @@ returns-in-Ask-clause-ok c = rw c.in-Ask.is (λ ds after. ask_after c.args.size 
 pub returns-in-Mapping-clause-ok : goal.returns-in-Mapping-clause-ok
 returns-in-Mapping-clause-ok c = rw c.in-Mapping.is (λ ds after. mapping_after c.args.size ds c.args.world.now.replay c.in-Mapping.field-0 after)
 
-pub returns-in_ok-take-in-Event-clause-room : goal.returns-in_ok-take-in-Event-clause-room
-returns-in_ok-take-in-Event-clause-room c =
+pub returns-in_ok-take-in-Event-clause-within : goal.returns-in_ok-take-in-Event-clause-within
+returns-in_ok-take-in-Event-clause-within c =
     let call = c.in_ok-take-in-Event.ensures in
     keeps_still c.args.world.now c.take.new.self (ap (λ (w : WorldState). w.room) call.rest) (ap (λ (w : WorldState). w.second) call.rest) (ap (λ (w : ReplayState). w.played.records) call.ok)
 
-pub returns-in_err-take-in-Event-clause-room : goal.returns-in_err-take-in-Event-clause-room
-returns-in_err-take-in-Event-clause-room c =
+pub returns-in_err-take-in-Event-clause-within : goal.returns-in_err-take-in-Event-clause-within
+returns-in_err-take-in-Event-clause-within c =
     let same = c.in_err-take-in-Event.ensures.err in
     keeps_still c.args.world.now c.take.new.self (ap (λ (w : WorldState). w.room) same) (ap (λ (w : WorldState). w.second) same) (ap (λ (w : WorldState). w.replay.played.records) same)
 
-pub returns-in_ok-apply_due-in-Watermark-clause-room : goal.returns-in_ok-apply_due-in-Watermark-clause-room
-returns-in_ok-apply_due-in-Watermark-clause-room c = keeps_further _ _ _ (raised _ c.args.world.now c.raise.new.world c.raise.ensures) c.apply_due.ensures.room
+pub returns-in_ok-apply_due-in-Watermark-clause-within : goal.returns-in_ok-apply_due-in-Watermark-clause-within
+returns-in_ok-apply_due-in-Watermark-clause-within c = keeps_further _ _ _ (raised _ c.args.world.now c.raise.new.world c.raise.ensures) c.apply_due.ensures.within
 
-pub returns-in_err-apply_due-in-Watermark-clause-room : goal.returns-in_err-apply_due-in-Watermark-clause-room
-returns-in_err-apply_due-in-Watermark-clause-room c = keeps_further _ _ _ (raised _ c.args.world.now c.raise.new.world c.raise.ensures) c.apply_due.ensures.room
+pub returns-in_err-apply_due-in-Watermark-clause-within : goal.returns-in_err-apply_due-in-Watermark-clause-within
+returns-in_err-apply_due-in-Watermark-clause-within c = keeps_further _ _ _ (raised _ c.args.world.now c.raise.new.world c.raise.ensures) c.apply_due.ensures.within
 
-pub returns-in-Ask-clause-room : goal.returns-in-Ask-clause-room
-returns-in-Ask-clause-room c room before = before
+pub returns-in-Ask-clause-within : goal.returns-in-Ask-clause-within
+returns-in-Ask-clause-within c room before = before
 
-pub returns-in-Mapping-clause-room : goal.returns-in-Mapping-clause-room
-returns-in-Mapping-clause-room c room before = before
+pub returns-in-Mapping-clause-within : goal.returns-in-Mapping-clause-within
+returns-in-Mapping-clause-within c room before = before

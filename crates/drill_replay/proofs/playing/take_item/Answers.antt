@@ -5,8 +5,9 @@ use Rattle.replay_model.specs.ReplayState.{following}
 use Rattle.drill.specs.Drill.{deliveries_of, drill}
 use Rattle.drill_replay.specs.Playing.{Counted}
 use Rattle.drill_replay.specs.Summary.{replies_of}
+use Rattle.drill_replay.proofs.NeverFull.{next_stands}
 use Rattle.drill_replay.proofs.Rooms.{keeps_further}
-use Rattle.drill_replay.proofs.Taking.{anyway, counted, few_more, none_taken, taken, taken_in_part, whole}
+use Rattle.drill_replay.proofs.Taking.{anyway, counted, cut, few_more, none_taken, taken, taken_in_part, whole}
 use Rattle.drill_replay.proofs.playing.take_item.Goals as goal
 
 pub returns-in_err-list-clause-err : goal.returns-in_err-list-clause-err
@@ -29,7 +30,8 @@ loop-delivery-preserved c =
           c.loop-delivery-test.true c.delivery-item.is before.after c.in_ok-answer.ensures.answer c.add.ensures before.counted;
       few = few_more c.in_ok-answer.answer c.loop-delivery.counts c.add.new.self (6 * c.args.done + c.loop-delivery.delivery-index) (6 * c.args.done + (c.loop-delivery.delivery-index + 1)) c.add.ensures (omega arith) before.few;
       first = c.take.ensures.first;
-      room = keeps_further _ _ _ before.room c.take.ensures.room;
+      room = c.take.ensures.room;
+      within = keeps_further _ _ _ before.within c.take.ensures.within;
     }
 
 pub returns-clause-after : goal.returns-clause-after
@@ -43,5 +45,11 @@ returns-clause-counted c =
     let Of : List Delivery → Type 0 = λ ds. Counted ds c.loop-delivery.counts in
     subst Of (whole c.args.done c.as_slice-delivery-items.result.now c.loop-delivery.delivery-index are c.loop-delivery-test.false) c.loop-delivery.invariant.counted
 
-pub returns-in_err-answer-clause-room : goal.returns-in_err-answer-clause-room
-returns-in_err-answer-clause-room c = keeps_further _ _ _ c.loop-delivery.invariant.room c.take.ensures.room
+pub returns-in_err-answer-clause-within : goal.returns-in_err-answer-clause-within
+returns-in_err-answer-clause-within c = keeps_further _ _ _ c.loop-delivery.invariant.within c.take.ensures.within
+
+pub take-requires-clause-next : goal.take-requires-clause-next
+take-requires-clause-next c =
+    let are : c.as_slice-delivery-items.result.now ≡ deliveries_of (c.args.done + 1) = c.as_slice-delivery-items.ensures ∙ c.in_ok-list.ensures in
+    next_stands c.args.size c.args.done _ _ c.delivery-item.result c.loop-delivery.world.replay (omega (arith, c.requires.next))
+    (cut c.args.done c.as_slice-delivery-items.result.now c.loop-delivery.delivery-index c.delivery-item.result are c.loop-delivery-test.true c.delivery-item.is) c.loop-delivery.invariant.after

@@ -1,10 +1,11 @@
 -- Where it is known what the source has, each page that is held or wanted is at a revision that a delivered event names.
-use Rattle.std.proofs.Common.{◌≡◌, ℕ, zero, suc, Bool, true, false, cond, ◌||◌, List, [], ◌∷◌, ◌++◌, Option, None, Some, Result, Ok, Err, refl, sym, ◌∙◌, ap, subst, true≢false, filter, append-nil}
+use Rattle.std.proofs.Common.{◌≡◌, ℕ, zero, suc, Bool, true, false, cond, ◌||◌, ◌&&◌, ◌==◌, nat_lt, nat_le, List, [], ◌∷◌, ◌++◌, Option, None, Some, Result, Ok, Err, refl, sym, ◌∙◌, ap, subst, true≢false, filter}
 use Rattle.std.specs.List.{cons_option}
-use Rattle.std.specs.Option.{option_to_list}
 use Rattle.std.specs.Ordering.{eq_by_cmp}
 use Rattle.entity_model.specs.declared.id.EntityId.{EntityId}
 use Rattle.entity_model.specs.declared.event.Event.{Event}
+use Rattle.entity_model.specs.declared.event.Kind.{Kind}
+use Rattle.entity_model.specs.declared.event.Kind.TheVariants.{Edit, Delete, Undelete, ReconcileDeleted, ReconcileKept}
 use Rattle.entity_model.specs.declared.unfit.Unfit.{Unfit}
 use Rattle.entity_model.specs.declared.delivery.Delivery.{Delivery}
 use Rattle.entity_model.specs.declared.delivery.Delivery.TheVariants.{Event as Told, Watermark, Ask, Mapping}
@@ -12,7 +13,7 @@ use Rattle.entity_model.specs.Event.{event_cmp, event_cmp_total, event_cmp_same}
 use Rattle.entity_state.specs.declared.state.State.{State}
 use Rattle.entity_state.specs.declared.record.Held.{Held}
 use Rattle.entity_state.specs.declared.record.Record.{Record}
-use Rattle.entity_state.specs.State.{is_deleted, is_kept, state_after}
+use Rattle.entity_state.specs.State.{after_kind, deleted, is_deleted, is_kept, kept, state_after}
 use Rattle.entity_state.specs.Record.{held_revision, wants}
 use Rattle.side_output.specs.declared.entry.Cause.{Cause}
 use Rattle.side_output.specs.declared.entry.Cause.TheVariants.{Failed}
@@ -36,9 +37,16 @@ use Rattle.replay_model.specs.Replies.{Judgement, judged, reply_there, source_re
 use Rattle.replay_model.proofs.Arrivals.{events-push}
 use Rattle.replay_model.proofs.Following.{following-delivered}
 use Rattle.replay_model.proofs.RecordOf.{entity_of, record-after, record_of-empty}
-use Rattle.session.specs.Complete.{keeps_page}
-use Rattle.session.specs.Taking.{entered_perhaps}
-use Rattle.session.proofs.Finding.{kept_after}
+use Rattle.told_pages.specs.Told.{keeps_page}
+
+-- the state after an event is kept at a revision of which P holds, where P holds of the revision before and of the event's
+pub kept_after : (P : ℕ → Type 0) (k : Kind) (s : State) (r : ℕ) → (is_kept s.mode ≡ true → P s.rev) → (keeps_page k ≡ true → P r) → is_kept (after_kind k s r).mode ≡ true → P (after_kind k s r).rev
+kept_after P Edit s r before now = elim (nat_lt s.rev r) as (λ b. is_kept (cond b (kept r) s).mode ≡ true → P (cond b (kept r) s).rev) [ true ↦ λ _. now refl | false ↦ before ]
+kept_after P Delete s r before now = elim (nat_le s.rev r) as (λ b. is_kept (cond b (deleted r) s).mode ≡ true → P (cond b (deleted r) s).rev) [ true ↦ λ no. absurd (true≢false (sym no)) | false ↦ before ]
+kept_after P Undelete s r before now =
+    elim (nat_lt s.rev r || (s.rev == r && is_deleted s.mode)) as (λ b. is_kept (cond b (kept r) s).mode ≡ true → P (cond b (kept r) s).rev) [ true ↦ λ _. now refl | false ↦ before ]
+kept_after P ReconcileDeleted s r before now = λ no. absurd (true≢false (sym no))
+kept_after P ReconcileKept s r before now = λ _. now refl
 
 -- an event of these names the revision of the entity, and may say that its page is there
 pub record IsNamed (es : List Event) (x : EntityId) (rev : ℕ) : Type 0 where
@@ -195,13 +203,13 @@ module _ (contents : ℕ → Option Bytes) where
       }
 
       -- the event of the last delivery was delivered
-      last_among : (ds : List Delivery) (d : Delivery) → AreAmong (events (ds ++ d ∷ [])) es → (e : Event) → event_of d ≡ Some e → has event_cmp e es ≡ true
+      pub last_among : (ds : List Delivery) (d : Delivery) → AreAmong (events (ds ++ d ∷ [])) es → (e : Event) → event_of d ≡ Some e → has event_cmp e es ≡ true
       last_among ds d among e is =
           among e (ap (has event_cmp e) (events-push ds d) ∙ has-append event_cmp e (events ds) (cons_option (event_of d) [])
           ∙ or_true (has event_cmp e (events ds)) _ (ap (λ o. has event_cmp e (cons_option o [])) is ∙ has_itself event_cmp_total e []))
 
       -- and so were the others
-      first_among : (ds : List Delivery) (d : Delivery) → AreAmong (events (ds ++ d ∷ [])) es → AreAmong (events ds) es
+      pub first_among : (ds : List Delivery) (d : Delivery) → AreAmong (events (ds ++ d ∷ [])) es → AreAmong (events ds) es
       first_among ds d among e h =
           among e (ap (has event_cmp e) (events-push ds d) ∙ has-append event_cmp e (events ds) (cons_option (event_of d) []) ∙ ap (λ b. b || has event_cmp e (cons_option (event_of d) [])) h)
 
@@ -209,10 +217,6 @@ module _ (contents : ℕ → Option Bytes) where
       following_named hz = by_pushes (λ ds. AreAmong (events ds) es → WorldNamed (following hz replies ds)) (λ among. start_named hz)
           (λ ds d before among. subst WorldNamed (sym (following-delivered hz replies ds d))
           (delivered_named (following hz replies ds) d (last_among ds d among) (before (first_among ds d among))))
-
-      pub perhaps_named : (hz : Option ℕ) (ds : List Delivery) (last : Option Delivery) → AreAmong (events (ds ++ option_to_list last)) es → WorldNamed (entered_perhaps (following hz replies ds) last)
-      perhaps_named hz ds None among = following_named hz ds (subst (λ l. AreAmong (events l) es) (append-nil ds) among)
-      perhaps_named hz ds (Some d) among = entered_named (following hz replies ds) d (last_among ds d among) (following_named hz ds (first_among ds d among))
 
     -- ---- the page that the least due event wants
 
