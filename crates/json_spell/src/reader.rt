@@ -37,7 +37,8 @@ fn fault_of(bytes: &[u8], fault: JsonFault) -> JsonFault
     }
 }
 
-/// The value of a JSON text: RFC 8259, in UTF-8 without a byte order mark.
+/// The value of a JSON text: RFC 8259, in UTF-8 without a byte order mark. What of it isn't a part of the text is put into the
+/// arena.
 ///
 /// A string may not escape a surrogate alone. Where, outside of strings, the `[` and `{` up to some byte exceed the
 /// `]` and `}` by more than 64, the answer is `Deep`, whatever else the bytes are; a string there starts and ends at

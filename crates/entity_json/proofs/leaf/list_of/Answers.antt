@@ -1,5 +1,5 @@
 -- The values of an array are those of the vector.
-use Rattle.std.proofs.Common.{◌≡◌, map, Some, sym, ap, ◌∙◌, rules}
+use Rattle.std.proofs.Common.{◌≡◌, map, Some, ap, ◌∙◌, rules}
 use Rattle.json_spell.specs.declared.json.Json.{the_lemmas}
 use Rattle.json_spell.specs.Tree.{array}
 use Rattle.json_spell.specs.View.{json_view, trees_of}
