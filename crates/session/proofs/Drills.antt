@@ -1,12 +1,18 @@
 -- What the summary of a drill leaves that was printed, or was not printed wholly.
 use Rattle.std.proofs.Common.{◌≡◌, ◌∙◌, refl, ap, subst, ℕ, List, [], ◌∷◌, ◌++◌, map, Result, Ok, Err, OnOk, IfErr, Some}
 use Rattle.std.specs.List.{flat_map}
-use Rattle.replay_model.specs.ReplayState.{ReplayState}
+use Rattle.std.specs.FinMap.{len-empty}
+use Rattle.replay_model.specs.Play.{nothing_played}
+use Rattle.replay_model.specs.ReplayState.{ReplayState, nothing_delivered}
+use Rattle.replay_model.specs.Versions.{meaning_by}
+use Rattle.world.specs.Meaning.{meaning}
+use Rattle.world.specs.WorldState.{WorldState}
+use Rattle.world.proofs.Rooming.{nothing_held}
 use Rattle.transcript.specs.declared.write.Unwritten.{Unwritten}
 use Rattle.transcript.specs.declared.write.Unwritten.TheVariants.{WriteFault as NotWritten, OutOfMemory as Refused}
 use Rattle.transcript.specs.Printing.{Output, Prints}
 use Rattle.transcript.proofs.Parts.{cut_short_at_once}
-use Rattle.drill_replay.specs.Playing.{HasBegun}
+use Rattle.drill_replay.specs.Playing.{HasBegun, HasRoomFor}
 use Rattle.drill_replay.specs.Summary.{drilled, lines_of, summary_of}
 use Rattle.words.specs.declared.plan.Plan.TheVariants.{Drill}
 use Rattle.session.specs.Drilling.{DrillStopped, HasDrilled, summary_text}
@@ -40,3 +46,10 @@ of_plan taken size old new world same ended =
     let is : taken ≡ size = cc in
     let At : ℕ → Type 0 = λ n. HasDrilled n old new world in
     subst At is ended
+
+-- a world to which nothing was delivered has the room that was set
+pub roomy : (room : ℕ) (old new : WorldState) → old.replay ≡ nothing_delivered → new ≡ record old { room = room } → HasRoomFor room new
+roomy room old new nothing is = record {
+  room_is = ap (λ (w : WorldState). w.room) is;
+  within = rw (is, nothing) (nothing_held (meaning_by meaning old.second) nothing_played.records room (len-empty _ _));
+}

@@ -48,6 +48,7 @@ pub fn deliver<R: Revisions, K: Sink>(
     ensures room { world.new.room ≡ world.old.room }
     ensures held { HoldsWithin world.old.room world.old → HoldsWithin world.old.room world.new }
     ensures most { K.most_faults out.new ≡ K.most_faults out.old }
+    ensures later { K.faults out.old ≤ K.faults out.new }
     ensures source { HasGoneOn R.Revisions revisions.old revisions.new }
 {
     match delivery {

@@ -5,6 +5,7 @@ ghost use Rattle.replay_model.specs.ReplayState.{nothing_delivered};
 ghost use Rattle.transcript.specs.Printing.{output};
 ghost use Rattle.drill_replay.specs.Playing.{IsByFirst};
 ghost use Rattle.session.specs.Drilling.{DrillStopped, HasDrilled};
+ghost use Rattle.session.specs.Remapping.{HoldsWithin};
 ghost use Rattle.words.specs.Plan.{greatest_size};
 
 use crate::remapping::begin_by_first;
@@ -29,7 +30,9 @@ pub fn drill<K: Sink>(
     requires world { world.old.replay ≡ nothing_delivered }
     ensures ok { OnOk result (HasDrilled size (output K.Sink out.old) (output K.Sink out.new) world.new.replay) }
     ensures first { IsByFirst world.new }
+    ensures held { HoldsWithin 20000000 world.new }
     ensures most { K.most_faults out.new ≡ K.most_faults out.old }
+    ensures later { K.faults out.old ≤ K.faults out.new }
     ensures err { IfErr result (λ why. DrillStopped why size (output K.Sink out.old) (output K.Sink out.new) world.new.replay) }
 {
     begin_by_first(world);

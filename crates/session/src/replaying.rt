@@ -38,6 +38,7 @@ pub fn replay<S: Source, R: Revisions, K: Sink>(
         (moment S.Source R.Revisions K.Sink events.new revisions.new out.new world.new)) }
     ensures taken { IfSome (S.left events.old) (λ bytes. TakesByNeed (limit_of options.now) bytes (S.left events.new)) }
     ensures most { (S.most_faults events.new ≡ S.most_faults events.old) × (K.most_faults out.new ≡ K.most_faults out.old) }
+    ensures later { (S.faults events.old ≤ S.faults events.new) × (K.faults out.old ≤ K.faults out.new) }
     ensures err { IfErr result (λ stop. Stopped stop (run_of (R.contents revisions.old) options.now)
         (moment S.Source R.Revisions K.Sink events.old revisions.old out.old (world_at_start options.now))
         (moment S.Source R.Revisions K.Sink events.new revisions.new out.new world.new)) }
@@ -77,6 +78,7 @@ fn replay_within<S: Source, R: Revisions, K: Sink>(
         (moment S.Source R.Revisions K.Sink events.new revisions.new out.new world.new)) }
     ensures taken { IfSome (S.left events.old) (λ bytes. TakesByNeed (limit_of options.now) bytes (S.left events.new)) }
     ensures most { (S.most_faults events.new ≡ S.most_faults events.old) × (K.most_faults out.new ≡ K.most_faults out.old) }
+    ensures later { (S.faults events.old ≤ S.faults events.new) × (K.faults out.old ≤ K.faults out.new) }
     ensures err { IfErr result (λ stop. Stopped stop (run_of (R.contents revisions.old) options.now)
         (moment S.Source R.Revisions K.Sink events.old revisions.old out.old world.old)
         (moment S.Source R.Revisions K.Sink events.new revisions.new out.new world.new)) }
@@ -118,12 +120,12 @@ fn take_all<S: Source, R: Revisions, K: Sink>(
         (moment S.Source R.Revisions K.Sink events.new revisions.new out.new world.new)) }
     ensures taken { IfSome (S.left events.old) (λ bytes. TakesByNeed (limit_of plan.now) bytes (S.left events.new)) }
     ensures most { (S.most_faults events.new ≡ S.most_faults events.old) × (K.most_faults out.new ≡ K.most_faults out.old) }
+    ensures later { (S.faults events.old ≤ S.faults events.new) × (K.faults out.old ≤ K.faults out.new) }
     ensures err { IfErr result (λ stop. Stopped stop (run_of (R.contents revisions.old) plan.now)
         (moment S.Source R.Revisions K.Sink events.old revisions.old out.old world.old)
         (moment S.Source R.Revisions K.Sink events.new revisions.new out.new world.new)) }
     ensures held { HoldsWithin world.old.room world.new }
     ensures source { HasGoneOn R.Revisions revisions.old revisions.new }
-    ensures later { OnOk result (K.faults out.old ≤ K.faults out.new) }
 {
     take_lines(alloc, plan, events, revisions, out, world)?;
     take_end(plan.place(), revisions, world)?;

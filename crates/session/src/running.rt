@@ -73,6 +73,9 @@ pub fn run<S: Source, R: Revisions, K: Sink>(
     // All that a drill leaves is mapped by the first version, which is in force.
     ensures drilled_by_first { (size : ℕ) → plan_of (map (λ w. string_bytes w) words.now) ≡ Some (Drill size) → IsByFirst world.new }
 
+    // However a drill ends, what is held has no more different terms than its world has room for.
+    ensures drilled_within { (size : ℕ) → plan_of (map (λ w. string_bytes w) words.now) ≡ Some (Drill size) → HoldsWithin 20000000 world.new }
+
     ensures drilled_alone { (size : ℕ) → plan_of (map (λ w. string_bytes w) words.now) ≡ Some (Drill size) →
         (events.new ≡ events.old) × (revisions.new ≡ revisions.old) }
 
@@ -80,6 +83,7 @@ pub fn run<S: Source, R: Revisions, K: Sink>(
         (result ≡ Status.Ok) ⊎ (result ≡ Status.OutOfMemory) ⊎ Rose (K.faults out.old) (K.faults out.new) }
 
     ensures told { R.contents revisions.new ≡ R.contents revisions.old }
+    ensures later { (S.faults events.old ≤ S.faults events.new) × (K.faults out.old ≤ K.faults out.new) }
     ensures more_faults { R.faults revisions.old ≤ R.faults revisions.new }
     ensures more_misses { R.misses revisions.old ≤ R.misses revisions.new }
     ensures most { (S.most_faults events.new ≡ S.most_faults events.old) × (R.most_faults revisions.new ≡ R.most_faults revisions.old)

@@ -1,6 +1,6 @@
 // The lines of the input are taken one by one.
 
-ghost use Rattle.std.specs.Prelude.{◌≡◌, ◌⊎◌, Ok, Err, IfErr, IfOk, IfSome, OnOk};
+ghost use Rattle.std.specs.Prelude.{◌≡◌, ◌≤◌, ◌⊎◌, Ok, Err, IfErr, IfOk, IfSome, OnOk};
 ghost use Rattle.drill_replay.specs.Playing.{IsByFirst};
 ghost use Rattle.replay_model.specs.ReplayState.{nothing_delivered_within};
 ghost use Rattle.event_line.specs.declared.faults.LineCause.{LineCause};
@@ -43,6 +43,7 @@ pub fn take_lines<S: Source, R: Revisions, K: Sink>(
         (moment S.Source R.Revisions K.Sink events.new revisions.new out.new world.new)) }
     ensures taken { IfSome (S.left events.old) (λ bytes. TakesByNeed (limit_of plan.now) bytes (S.left events.new)) }
     ensures most { (S.most_faults events.new ≡ S.most_faults events.old) × (K.most_faults out.new ≡ K.most_faults out.old) }
+    ensures later { (S.faults events.old ≤ S.faults events.new) × (K.faults out.old ≤ K.faults out.new) }
     ensures room { OnOk result (world.new.room ≡ world.old.room) }
     ensures held { HoldsWithin world.old.room world.new }
     ensures err { IfErr result (λ stop. Stopped stop (run_of (R.contents revisions.old) plan.now)

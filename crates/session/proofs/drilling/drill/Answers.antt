@@ -4,7 +4,9 @@ use Rattle.std.specs.FinMap.{len-empty}
 use Rattle.std.proofs.lemmas.Result.{err_from_is_err_and}
 use Rattle.drill_replay.specs.Summary.{drilled, lines_of, summary_of}
 use Rattle.drill_replay.proofs.Drills.{nothing_taken}
-use Rattle.session.proofs.Drills.{all_printed, not_begun, printed_in_part}
+use Rattle.session.proofs.Drills.{all_printed, not_begun, printed_in_part, roomy}
+use Rattle.replay_model.specs.Play.{nothing_played}
+use Rattle.world.proofs.Rooming.{nothing_held}
 use Rattle.session.proofs.drilling.drill.Goals as goal
 
 pub returns-in_err-size-clause-err : goal.returns-in_err-size-clause-err
@@ -38,3 +40,15 @@ returns-clause-err g c =
 
 pub set_room-requires : goal.set_room-requires
 set_room-requires g c = rw c.begin_by_first.ensures.replay (len-empty _ _)
+
+pub returns-in_err-size-clause-held : goal.returns-in_err-size-clause-held
+returns-in_err-size-clause-held g c = rw c.begin_by_first.ensures.replay (nothing_held _ nothing_played.records _ (len-empty _ _))
+
+pub returns-in_err-summary-clause-held : goal.returns-in_err-summary-clause-held
+returns-in_err-summary-clause-held g c = (c.run_drill.ensures.room 20000000 (roomy 20000000 c.begin_by_first.new.world c.set_room.new.self c.begin_by_first.ensures.replay c.set_room.ensures)).within
+
+pub returns-in_err-lines-clause-held : goal.returns-in_err-lines-clause-held
+returns-in_err-lines-clause-held g c = (c.run_drill.ensures.room 20000000 (roomy 20000000 c.begin_by_first.new.world c.set_room.new.self c.begin_by_first.ensures.replay c.set_room.ensures)).within
+
+pub returns-clause-held : goal.returns-clause-held
+returns-clause-held g c = (c.run_drill.ensures.room 20000000 (roomy 20000000 c.begin_by_first.new.world c.set_room.new.self c.begin_by_first.ensures.replay c.set_room.ensures)).within

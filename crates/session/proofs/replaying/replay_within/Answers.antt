@@ -37,7 +37,7 @@ returns-in_err-print_closing-clause-err g c =
     let between : Moment = moment g.S.Source g.R.Revisions g.K.Sink c.take_all.new.events c.take_all.new.revisions c.take_all.new.out c.take_all.new.world in
     let p = err_from_is_err_and c.from_residual-in_err-print_closing.result c.from_residual-in_err-print_closing.ensures.1 in
     let replayed : HasReplayed run before between = rw (c.in_ok-arguments.ensures, c.set_room.ensures) at c.in_ok-take_all.ensures.ok in
-    rw (p.1, p.2) (broken_off _ run before between _ replayed c.in_ok-take_all.ensures.later (prints_asked _ _ _ _ _ _ _ _ (rw c.in_ok-arguments.ensures at c.sections.ensures) replayed.replay.played.mapped c.in_err-print_closing.ensures))
+    rw (p.1, p.2) (broken_off _ run before between _ replayed c.take_all.ensures.later.1 (prints_asked _ _ _ _ _ _ _ _ (rw c.in_ok-arguments.ensures at c.sections.ensures) replayed.replay.played.mapped c.in_err-print_closing.ensures))
 
 pub set_room-requires : goal.set_room-requires
 set_room-requires g c = rw c.requires.world (len-empty _ _)

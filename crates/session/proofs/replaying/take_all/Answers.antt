@@ -17,9 +17,6 @@ returns-clause-ok g c =
     let applies = rw (c.in_ok-take_lines.ensures.source.known, c.place.ensures, c.in_ok-take_lines.ensures.room ∙ c.requires.room) at c.in_ok-take_end.ensures.ok in
     replayed run before _ taken.deliveries taken.read taken.are (end_taken run.setting taken.deliveries before.stage between.stage _ _ (mapped_in c.take_end.new.world) applies c.take_end.ensures.versions taken.at_rest)
 
-pub returns-clause-later : goal.returns-clause-later
-returns-clause-later g c = c.in_ok-take_lines.ensures.ok.at_rest.later
-
 pub returns-clause-source : goal.returns-clause-source
 returns-clause-source g c = gone-on g.R.Revisions _ _ _ c.in_ok-take_lines.ensures.source c.in_ok-take_end.ensures.source
 

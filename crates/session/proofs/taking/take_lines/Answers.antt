@@ -100,3 +100,15 @@ returns-in_err-deliver-clause-most g c = (c.next.ensures.most ∙ c.loop-line.in
 
 pub returns-in_err-deliver-clause-held : goal.returns-in_err-deliver-clause-held
 returns-in_err-deliver-clause-held g c = (rw c.loop-line.invariant.2 at c.deliver.ensures.held) c.loop-line.invariant.4
+
+pub returns-clause-later : goal.returns-clause-later
+returns-clause-later g c = (omega (arith, c.loop-line.invariant.0.earlier, c.next.ensures.later), c.loop-line.invariant.0.at_rest.later)
+
+pub returns-in_err-number-clause-later : goal.returns-in_err-number-clause-later
+returns-in_err-number-clause-later g c = (omega (arith, c.loop-line.invariant.0.earlier, c.next.ensures.later), c.loop-line.invariant.0.at_rest.later)
+
+pub returns-in_err-delivery-clause-later : goal.returns-in_err-delivery-clause-later
+returns-in_err-delivery-clause-later g c = (omega (arith, c.loop-line.invariant.0.earlier, c.next.ensures.later), c.loop-line.invariant.0.at_rest.later)
+
+pub returns-in_err-deliver-clause-later : goal.returns-in_err-deliver-clause-later
+returns-in_err-deliver-clause-later g c = (omega (arith, c.loop-line.invariant.0.earlier, c.next.ensures.later), omega (arith, c.loop-line.invariant.0.at_rest.later, c.deliver.ensures.later))
