@@ -5,7 +5,7 @@ ghost use Rattle.std.specs.List.{AllByRecursion, flat_map};
 ghost use Rattle.rdf_term.specs.Fit.{HasFitAndShortTerms};
 ghost use Rattle.rising.specs.Rising.{sorted};
 ghost use Rattle.rdf_term.specs.Order.{triple_cmp};
-ghost use Rattle.entity_model.specs.Document.{IsSmall};
+ghost use Rattle.entity_model.specs.Document.{IsDocumentOf, IsSmall};
 ghost use Rattle.munger.specs.Munging.{munge, munged};
 ghost use Rattle.munger.specs.Short.{HasShortLabels};
 ghost use Rattle.entity_rdf.specs.Dump.{dump};
@@ -26,6 +26,7 @@ pub fn dump_triples(
     rev: u64,
     document: &Document,
 ) -> Result<TripleSet, OutOfMemory>
+    requires { IsDocumentOf id document.now }
     ensures value { IfOk result (λ set. set ≡ sorted triple_cmp (dump setting.version id rev document.now)) }
 
     // The terms are fit and short where the document is small, and the labels of blank nodes are always short.
@@ -44,6 +45,7 @@ pub fn direct_triples(
     rev: u64,
     document: &Document,
 ) -> Result<TripleSet, OutOfMemory>
+    requires { IsDocumentOf id document.now }
     ensures value { IfOk result (λ set. set ≡ munge id (sorted triple_cmp (dump setting.version id rev document.now))) }
 
     // The terms are fit and short where the document is small.
@@ -62,6 +64,7 @@ pub fn direct_texts(
     rev: u64,
     document: &Document,
 ) -> Result<TripleTexts, OutOfMemory>
+    requires { IsDocumentOf id document.now }
     ensures value { IfOk result (λ texts. sorted triple_cmp texts ≡ munge id (sorted triple_cmp (dump setting.version id rev document.now))) }
 
     // The terms are fit and short where the document is small.
@@ -78,6 +81,7 @@ fn dump_list(
     rev: u64,
     document: &Document,
 ) -> Result<List<Triple>, OutOfMemory>
+    requires { IsDocumentOf id document.now }
     ensures { IfOk result (λ triples. triples ≡ dump setting.version id rev document.now) }
 {
     let mut triples = List::new(setting.alloc);
@@ -93,6 +97,7 @@ fn munged_list(
     rev: u64,
     document: &Document,
 ) -> Result<List<Triple>, OutOfMemory>
+    requires { IsDocumentOf id document.now }
     ensures { IfOk result (λ triples. triples ≡ flat_map (munged id) (dump setting.version id rev document.now)) }
 {
     munge_into(setting, id, rev, document, List::new(setting.alloc))
@@ -106,6 +111,7 @@ fn munged_texts(
     rev: u64,
     document: &Document,
 ) -> Result<TripleTexts, OutOfMemory>
+    requires { IsDocumentOf id document.now }
     ensures { IfOk result (λ texts. texts ≡ flat_map (munged id) (dump setting.version id rev document.now)) }
 {
     let texts = TripleTexts::with_room(setting.alloc, room(document))?;
@@ -120,6 +126,7 @@ fn munge_into<S: TripleSink + Drop>(
     document: &Document,
     inner: S,
 ) -> Result<S, OutOfMemory>
+    requires { IsDocumentOf id document.now }
     ensures { IfOk result (λ sink. S.items sink ≡ S.items inner ++ flat_map (λ triple. flat_map (S.keeps inner) (munged id triple)) (dump setting.version id rev document.now)) }
 {
     let mut out = Munged {

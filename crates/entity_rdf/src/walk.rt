@@ -2,6 +2,7 @@
 
 ghost use Rattle.std.specs.Prelude.{◌≡◌, OnOk};
 ghost use Rattle.std.specs.List.{flat_map};
+ghost use Rattle.entity_model.specs.Document.{IsDocumentOf};
 ghost use Rattle.sitelinks.specs.Article.{article_triples};
 ghost use Rattle.triple_sink.specs.Gains.{Gains};
 ghost use Rattle.entity_rdf.specs.Dump.{dump, entity_triples, redirect_triples, spoken_triples, text_triples};
@@ -25,6 +26,7 @@ pub fn emit_dump<S: TripleSink>(
     document: &Document,
     out: &mut S,
 ) -> Result<(), OutOfMemory>
+    requires { IsDocumentOf id document.now }
     ensures gains { OnOk result (Gains S.items S.keeps out.old out.new (dump setting.version id rev document.now)) }
     ensures stays { S.rest out.new ≡ S.rest out.old }
 {

@@ -1,22 +1,27 @@
 // The dump of a small document, which no output shows. The crate `cases` tries whole pages.
 
-use entity_model::{Document, Entity, EntityId, MappingVersion, Tagged};
+ghost use Rattle.entity_model.specs.Document.{IsDocumentOf};
+
+use entity_json::document;
+use entity_model::{Document, EntityId, MappingVersion};
 use entity_rdf::{direct_triples, dump_triples};
 use munger::munge;
-use rdf_term::{List, Piece, write_triple};
+use rdf_term::write_triple;
 use std::alloc::Global;
 use std::process::Abort;
 use std::str;
 use std::test::Fail;
 use triple_sink::Setting;
 
-// Checks the lines of the dump of Q1 at revision 5, and that what munging leaves of it is made without it too.
+// Checks the lines of the dump of an entity at revision 5, and that what munging leaves of it is made without it too.
 fn check_dump(
     rt: &(impl Abort + Alloc<A = Global>),
+    id: EntityId,
     document: &Document,
     want: &str,
-) -> Result<(), Fail> {
-    let id = EntityId::read("Q1").ok_or("an id")?;
+) -> Result<(), Fail>
+    requires { IsDocumentOf id document.now }
+{
     let setting = Setting {
         alloc: rt.alloc(),
         version: MappingVersion::One,
@@ -48,29 +53,12 @@ const ITEM: &str = "\
 <https://www.wikidata.org/wiki/Special:EntityData/Q1> <http://www.w3.org/1999/02/22-rdf-syntax-ns#type> <http://schema.org/Dataset> .
 ";
 
-// An item with one label, and nothing else.
-fn labelled_item(alloc: Global, id: EntityId) -> Result<Entity<'static>, Fail> {
-    let label = Tagged {
-        text: Piece::borrowed("a"),
-        language: Piece::borrowed("en"),
-    };
-    let mut labels = List::new(alloc);
-    labels.push(label)?;
-    Ok(Entity {
-        id,
-        datatype: None,
-        modified: None,
-        labels,
-        descriptions: List::new(alloc),
-        aliases: List::new(alloc),
-        statements: List::new(alloc),
-        links: List::new(alloc),
-    })
-}
-
 #[test]
 fn dump_of_an_item(rt: HostRuntime) -> Result<(), Fail> {
     let id = EntityId::read("Q1").ok_or("an id")?;
-    let item = labelled_item(rt.alloc(), id)?;
-    check_dump(&rt, &Document::Entity(item), ITEM)
+    let page = r#"{"type":"item","id":"Q1","labels":{"en":{"language":"en","value":"a"}}}"#;
+    match document(rt.alloc(), id, page.as_bytes()) {
+        Ok(document) => check_dump(&rt, id, &document, ITEM),
+        Err(_) => Err("a document".into()),
+    }
 }

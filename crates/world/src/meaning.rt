@@ -5,7 +5,7 @@ ghost use Rattle.std.specs.List.{AllByRecursion};
 ghost use Rattle.rising.specs.Rising.{sorted};
 ghost use Rattle.rdf_term.specs.Fit.{HasFitAndShortTerms};
 ghost use Rattle.rdf_term.specs.Order.{triple_cmp};
-ghost use Rattle.entity_model.specs.Document.{IsSmall};
+ghost use Rattle.entity_model.specs.Document.{IsDocumentOf, IsSmall};
 ghost use Rattle.world.specs.Meaning.{document_triples};
 
 use entity_model::{Document, EntityId, MappingVersion};
@@ -23,6 +23,7 @@ pub fn document_texts(
     document: &Document,
     version: MappingVersion,
 ) -> Result<TripleTexts, OutOfMemory>
+    requires { IsDocumentOf id document.now }
     ensures value { IfOk result (λ texts. sorted triple_cmp texts ≡ document_triples version id rev document.now) }
     ensures fit { IsSmall document.now → IfOk result (AllByRecursion HasFitAndShortTerms) }
 {

@@ -45,10 +45,10 @@ pub returns-in_err-size-clause-held : goal.returns-in_err-size-clause-held
 returns-in_err-size-clause-held g c = rw c.begin_by_first.ensures.replay (nothing_held _ nothing_played.records _ (len-empty _ _))
 
 pub returns-in_err-summary-clause-held : goal.returns-in_err-summary-clause-held
-returns-in_err-summary-clause-held g c = (c.run_drill.ensures.room 20000000 (roomy 20000000 c.begin_by_first.new.world c.set_room.new.self c.begin_by_first.ensures.replay c.set_room.ensures)).within
+returns-in_err-summary-clause-held g c = (c.run_drill.ensures.within 20000000 (roomy 20000000 c.begin_by_first.new.world c.set_room.new.self c.begin_by_first.ensures.replay c.set_room.ensures)).within
 
 pub returns-in_err-lines-clause-held : goal.returns-in_err-lines-clause-held
-returns-in_err-lines-clause-held g c = (c.run_drill.ensures.room 20000000 (roomy 20000000 c.begin_by_first.new.world c.set_room.new.self c.begin_by_first.ensures.replay c.set_room.ensures)).within
+returns-in_err-lines-clause-held g c = (c.run_drill.ensures.within 20000000 (roomy 20000000 c.begin_by_first.new.world c.set_room.new.self c.begin_by_first.ensures.replay c.set_room.ensures)).within
 
 pub returns-clause-held : goal.returns-clause-held
-returns-clause-held g c = (c.run_drill.ensures.room 20000000 (roomy 20000000 c.begin_by_first.new.world c.set_room.new.self c.begin_by_first.ensures.replay c.set_room.ensures)).within
+returns-clause-held g c = (c.run_drill.ensures.within 20000000 (roomy 20000000 c.begin_by_first.new.world c.set_room.new.self c.begin_by_first.ensures.replay c.set_room.ensures)).within
