@@ -12,19 +12,19 @@ use std::test::Fail;
 use term_pool::{Pool, PoolFault};
 use text_region::Region;
 
-// For a pool of two terms at most: a use more of a term or one less, and how many terms are there then, or that it is full. The
-// same text as an IRI and as a literal are two terms.
-const STEPS: &str = "+ <a> 1
-+ \"a\" 2
-+ <b> full
-+ <a> 2
-- <a> 2
-- \"a\" 1
-+ <b> 2
-+ \"a\" full
-- <a> 1
-- <b> 0
-+ \"a\" 1";
+// For a pool of two terms at most: a use more of a term or one less, how many terms are there then, or that it is full, and
+// whether the term is found. The same text as an IRI and as a literal are two terms.
+const STEPS: &str = "+ <a> 1 there
++ \"a\" 2 there
++ <b> full gone
++ <a> 2 there
+- <a> 2 there
+- \"a\" 1 gone
++ <b> 2 there
++ \"a\" full gone
+- <a> 1 gone
+- <b> 0 gone
++ \"a\" 1 there";
 
 // The term that a text writes.
 fn term_of(alloc: Global, text: &str) -> Result<Term, Fail>
@@ -41,16 +41,27 @@ fn term_of(alloc: Global, text: &str) -> Result<Term, Fail>
     Ok(term)
 }
 
-// Counts a use more, and says whether that was refused since the pool is full.
-fn is_full_for(pool: &mut Pool, region: &mut Region, term: &Term, uses: u64) -> Result<bool, Fail>
+// Counts a use more, and says whether that was refused since the pool is full. A term that was there stays in its slot.
+fn is_full_for(
+    rt: &impl Abort,
+    pool: &mut Pool,
+    region: &mut Region,
+    term: &Term,
+    uses: u64,
+) -> Result<bool, Fail>
     requires lies { LiesIn pool.old region.old }
     requires fit { IsFitAndShort term.now }
     requires few { (slot : ℕ) → count_at pool.old slot ≤ uses }
     ensures lies { LiesIn pool.new region.new }
     ensures few { (slot : ℕ) → count_at pool.new slot ≤ uses + 1 }
 {
+    let before = pool.find(region, term);
     match pool.intern(region, term) {
-        Ok(_) => Ok(false),
+        Ok(slot) => {
+            assert_eq!(rt; before.unwrap_or(slot), slot);
+            assert_eq!(rt; pool.find(region, term), Some(slot));
+            Ok(false)
+        }
         Err(PoolFault::Full) => Ok(true),
         Err(PoolFault::OutOfMemory) => Err("out of memory".into()),
     }
@@ -72,6 +83,7 @@ fn release(pool: &mut Pool, region: &mut Region, term: &Term, uses: u64) -> Resu
 
 // Counts a use more of a term, or one less, and says whether the pool is full for it.
 fn is_full_for_call(
+    rt: &impl Abort,
     pool: &mut Pool,
     region: &mut Region,
     sign: &str,
@@ -85,7 +97,7 @@ fn is_full_for_call(
     ensures few { (slot : ℕ) → count_at pool.new slot ≤ uses + 1 }
 {
     if sign == "+" {
-        return is_full_for(pool, region, term, uses);
+        return is_full_for(rt, pool, region, term, uses);
     }
     release(pool, region, term, uses)?;
     Ok(false)
@@ -105,13 +117,19 @@ fn check_step(
     ensures few { OnOk result ((slot : ℕ) → count_at pool.new slot ≤ uses + 1) }
 {
     let (sign, row) = step.split_once(' ').ok_or("a step")?;
-    let (text, want) = row.split_once(' ').ok_or("a row")?;
+    let (text, row) = row.split_once(' ').ok_or("a row")?;
+    let (want, found) = row.split_once(' ').ok_or("a count")?;
     let term = term_of(rt.alloc(), text)?;
-    if is_full_for_call(pool, region, sign, &term, uses)? {
-        assert_eq!(rt; "full", want, "{step:?}");
-        return Ok(());
+    let full = is_full_for_call(rt, pool, region, sign, &term, uses)?;
+    assert_eq!(rt; full, want == "full", "{step:?}");
+    if !full {
+        assert_eq!(rt; pool.len(), want.parse::<u32>()?, "{step:?}");
     }
-    assert_eq!(rt; pool.len(), want.parse::<u32>()?, "{step:?}");
+    assert_eq!(rt;
+        pool.find(region, &term).is_some(),
+        found == "there",
+        "{step:?}"
+    );
     Ok(())
 }
 
