@@ -1,25 +1,17 @@
 //! Runs the cases of a folder: whole runs of the top call over memory, and what they must show.
 //!
-//! `folder` reads the case files; `sections` takes a case's text apart and `filling` puts the parts of a table's row in; `spelling` makes bytes of the short
-//! forms; `checking` sees that no line of a case goes unseen; `parts` reads what a case gives and expects; `running` makes one run, and `seen` says what it left; `comparing` finds the first
-//! difference; `trying` tries a case, once or with each call failing in turn. `statuses` prints the texts of the statuses. docs/GATE.md says how a case is written.
+//! The crate case_file reads the cases. `running` makes one run, and `seen` says what it left; `comparing` finds the first difference; `trying`
+//! tries a case, once or with each call failing in turn. `statuses` prints the texts of the statuses. docs/GATE.md says how a case is written.
 #![tactic(auto)]
 
-mod checking;
 mod comparing;
-mod filling;
-mod folder;
-mod parts;
 mod running;
-mod sections;
 mod seen;
-mod spelling;
 mod statuses;
 mod trying;
 
 use anyhow::Result;
-use folder::case_files;
-use sections::{Case, cases_of};
+use case_file::{Case, case_files, cases_of};
 use statuses::print_statuses;
 use std::env;
 use std::hash::RandomState;

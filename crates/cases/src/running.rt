@@ -1,7 +1,7 @@
 // One run over memory.
 
-use crate::parts::{Given, Page};
 use anyhow::Result;
+use case_file::{Given, Page};
 use rdf_term::{List, Text};
 use revisions::{MemoryRevisions, RevisionBytes};
 use session::{Status, run};

@@ -1,12 +1,12 @@
 // A case tried: once, with each row of its table, or with each of its calls failing in turn.
 
-use crate::checking::check;
 use crate::comparing::difference;
-use crate::filling::filled;
-use crate::parts::{Expected, Given, Turns, expected_of, given_of, turns_of};
 use crate::running::run_over;
-use crate::sections::Case;
 use anyhow::{Context, Result};
+use case_file::{
+    Case, Expected, Given, Turns, answers, check, expected_of, filled, given_of, pieces_of_reads,
+    pieces_of_writes, questions, turns_of,
+};
 use std::alloc::Global;
 use std::hash::RandomState;
 use std::str;
@@ -178,61 +178,6 @@ fn at_call(alloc: Global, what: &str, call: u64, difference: &str) -> Result<Tri
         runs: call,
         difference: Some(format!(in alloc; "     where it fails: {what} {call}\n{difference}")?),
     })
-}
-
-// What each read gives; the last gives nothing.
-fn pieces_of_reads(alloc: Global, input: &[u8], bytes: usize) -> Result<Vec<Vec<u8>>> {
-    let mut pieces = Vec::new(alloc);
-    if bytes > 0 {
-        for piece in input.chunks(bytes) {
-            pieces.push(Vec::from_slice(alloc, piece)?)?;
-        }
-    }
-    pieces.push(Vec::new(alloc))?;
-    Ok(pieces)
-}
-
-// What each write takes: no write has bytes of two lines.
-fn pieces_of_writes(alloc: Global, out: &[u8], bytes: usize) -> Result<Vec<Vec<u8>>> {
-    let mut pieces = Vec::new(alloc);
-    for line in out.split_inclusive(|byte| *byte == b'\n') {
-        push_pieces(alloc, line, bytes, &mut pieces)?;
-    }
-    Ok(pieces)
-}
-
-// What each write of a line takes.
-fn push_pieces(alloc: Global, line: &[u8], bytes: usize, pieces: &mut Vec<Vec<u8>>) -> Result<()> {
-    if bytes > 0 {
-        for piece in line.chunks(bytes) {
-            pieces.push(Vec::from_slice(alloc, piece)?)?;
-        }
-    }
-    Ok(())
-}
-
-// How many whole lines ask.
-fn questions(input: &[u8]) -> usize {
-    input
-        .split_inclusive(|byte| *byte == b'\n')
-        .filter(|line| line.starts_with(b"{\"ask\"") && line.ends_with(b"\n"))
-        .count()
-}
-
-// The first answers of an output.
-fn answers(alloc: Global, out: &[u8], count: usize) -> Result<Vec<u8>> {
-    let mut answers = Vec::new(alloc);
-    let mut left = count;
-    for line in out.split_inclusive(|byte| *byte == b'\n') {
-        if line.starts_with(b"# ") {
-            if left == 0 || !line.starts_with(b"# ask ") {
-                break;
-            }
-            left -= 1;
-        }
-        answers.extend_from_slice(line)?;
-    }
-    Ok(answers)
 }
 
 // The bytes of a page.

@@ -16,7 +16,7 @@ use Rattle.triple_store.specs.declared.store.Store.{Store}
 use Rattle.triple_store.specs.Counts.{Exchanges, count_of, lowered}
 use Rattle.triple_store.specs.Moves.{Loses}
 use Rattle.triple_store.specs.Slots.{HasTriple, triple_at}
-use Rattle.triple_store.specs.Stored.{AreKeysOf, HasKey, IsStored, beside, counts_in, is_key, limit_of}
+use Rattle.triple_store.specs.Stored.{AreKeysOf, HasKey, IsStored, KeepsKeys, beside, counts_in, is_key, limit_of}
 use Rattle.triple_store.proofs.Live.{key_same, tells}
 use Rattle.triple_store.proofs.Owners.{count_of-lowered, same_triple}
 use Rattle.triple_store.proofs.Removing.{fresh, has_at, one_less}
@@ -29,7 +29,7 @@ each_itself (t ∷ ts) = ap (λ l. t ∷ l) (each_itself ts)
 
 -- no triple has an owner less yet
 pub none_lost : (st : Store) (r : Texts) → IsStored st r → Loses st r st r []
-none_lost st r stored = record { stored = stored; counts = λ t. omega arith; beside = λ piece. refl; limit = refl }
+none_lost st r stored = record { stored = stored; counts = λ t. omega arith; keeps = record { kept = λ key t was some. was }; beside = λ piece. refl; limit = refl }
 
 -- no keys are those of no triples
 pub no_keys : (st : Store) (r : Texts) → AreKeysOf st r [] []
@@ -62,8 +62,8 @@ module _ (st : Store) (r : Texts) (triples : List Triple) (rises : IsRising trip
 
   -- then it has one less
   pub next_lost : (key : Key) (new : Store) (u : Texts) → HasTriple now.pool s key (get_or triples i d) → IsStored new u → counts_in new u ≡ lowered (counts_in now s) (triple_at now.pool s key)
-      → ((piece : Piece) → beside new u piece ≡ beside now s piece) → limit_of new ≡ limit_of now → Loses st r new u (take (i + 1) triples)
-  next_lost key new u has_it after less others limit =
+      → KeepsKeys now s new u → ((piece : Piece) → beside new u piece ≡ beside now s piece) → limit_of new ≡ limit_of now → Loses st r new u (take (i + 1) triples)
+  next_lost key new u has_it after less keeps others limit =
       let t = get_or triples i d in
       let out = fresh triple_cmp-total triples i d low rises in
       let fewer : (q : Triple) → count_of (counts_in new u) q ≡ count_of (counts_in now s) q - one_if (same_triple q t) = λ q.
@@ -73,6 +73,7 @@ module _ (st : Store) (r : Texts) (triples : List Triple) (rises : IsRising trip
       record {
         stored = after;
         counts = λ q. ap (λ b. count_of (counts_in new u) q + one_if b) (has_more q) ∙ one_less (count_of (counts_in now s) q) _ _ _ (same_triple q t) (is_it q) (h.counts q) (fewer q);
+        keeps = record { kept = λ k q was some. keeps.kept k q (h.keeps.kept k q was (omega (arith, fewer q, some))) some };
         beside = λ piece. others piece ∙ h.beside piece;
         limit = limit ∙ h.limit;
       }
@@ -81,6 +82,10 @@ module _ (st : Store) (r : Texts) (triples : List Triple) (rises : IsRising trip
 pub applied : (st : Store) (r : Texts) (mid : Store) (s : Texts) (new : Store) (u : Texts) (adds removes : List Triple) → Exchanges (counts_in st r) (counts_in mid s) [] adds → Loses mid s new u removes
     → Exchanges (counts_in st r) (counts_in new u) removes adds
 applied st r mid s new u adds removes a b = record { counts = λ t. omega (arith, a.counts t, b.counts t) }
+
+-- a triple that has owners behind both keeps its key
+pub both_keep : (st : Store) (r : Texts) (mid : Store) (s : Texts) (new : Store) (u : Texts) (removes : List Triple) → KeepsKeys st r mid s → Loses mid s new u removes → KeepsKeys st r new u
+both_keep st r mid s new u removes a b = record { kept = λ key t was some. b.keeps.kept key t (a.kept key t was (omega (arith, b.counts t, some))) some }
 
 pub still_owned : (st : Store) (r : Texts) (mid : Store) (s : Texts) (adds : List Triple) (t : Triple) → Exchanges (counts_in st r) (counts_in mid s) [] adds → 0 < count_of (counts_in st r) t → 0 < count_of (counts_in mid s) t
 still_owned st r mid s adds t a some = omega (arith, a.counts t, some)

@@ -40,5 +40,6 @@ pub record Takes (old : Store) (before : Texts) (new : Store) (after : Texts) (h
 pub record Loses (old : Store) (before : Texts) (new : Store) (after : Texts) (triples : List Triple) : Type 0 where
   pub stored : IsStored new after
   pub counts : (triple : Triple) → count_of (counts_in new after) triple + one_if (has triple_cmp triple triples) ≡ count_of (counts_in old before) triple
+  pub keeps : KeepsKeys old before new after
   pub beside : (piece : Piece) → beside new after piece ≡ beside old before piece
   pub limit : limit_of new ≡ limit_of old

@@ -10,7 +10,7 @@ ghost use Rattle.text_region.specs.declared.piece.Piece.{Piece as ThePiece};
 ghost use Rattle.triple_store.specs.Counts.{Exchanges, count_of};
 ghost use Rattle.triple_store.specs.Moves.{Loses};
 ghost use Rattle.triple_store.specs.Room.{room_for};
-ghost use Rattle.triple_store.specs.Stored.{IsStored, beside, counts_in, limit_of};
+ghost use Rattle.triple_store.specs.Stored.{IsStored, KeepsKeys, beside, counts_in, limit_of};
 
 use crate::fault::StoreFault;
 use crate::store::Store;
@@ -35,6 +35,7 @@ impl Store {
         ensures full { result ≡ Err StoreFault.Full → limit_of self.old < room_for (counts_in self.old region.old) patch.now.adds }
         ensures within { OnOk result (room_for (counts_in self.old region.old) patch.now.adds ≤ limit_of self.old) }
         ensures free { patch.now.adds ≡ [] → IsOk result }
+        ensures keeps { KeepsKeys self.old region.old self.new region.new }
         ensures beside { (piece : ThePiece) → beside self.new region.new piece ≡ beside self.old region.old piece }
         ensures limit { limit_of self.new ≡ limit_of self.old }
     {

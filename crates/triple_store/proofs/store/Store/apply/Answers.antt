@@ -5,7 +5,7 @@ use Rattle.rdf_term.specs.Order.{triple_cmp}
 use Rattle.triple_store.specs.Counts.{Exchanges}
 use Rattle.triple_store.specs.Moves.{Loses}
 use Rattle.triple_store.specs.Stored.{counts_in}
-use Rattle.triple_store.proofs.Patched.{applied, no_keys, still_owned}
+use Rattle.triple_store.proofs.Patched.{applied, both_keep, no_keys, still_owned}
 use Rattle.triple_store.proofs.store.Store.apply.Goals as goal
 
 pub remove_all-requires-clause-there : goal.remove_all-requires-clause-there
@@ -21,3 +21,7 @@ returns-in-Ok-exchange-clause-ok c =
     (c.in-Ok-exchange.ensures.ok [] (no_keys c.args.self.now c.args.region.now)) in
     applied c.args.self.now c.args.region.now c.exchange.new.self c.exchange.new.region c.remove_all.new.self c.remove_all.new.region c.args.patch.now.adds c.args.patch.now.removes came
     (subst (Loses c.exchange.new.self c.exchange.new.region c.remove_all.new.self c.remove_all.new.region) c.items-in-Ok-exchange.ensures.items c.remove_all.ensures)
+
+pub returns-in-Ok-exchange-clause-keeps : goal.returns-in-Ok-exchange-clause-keeps
+returns-in-Ok-exchange-clause-keeps c =
+    both_keep c.args.self.now c.args.region.now c.exchange.new.self c.exchange.new.region c.remove_all.new.self c.remove_all.new.region _ c.exchange.ensures.keeps c.remove_all.ensures

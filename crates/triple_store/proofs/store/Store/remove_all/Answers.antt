@@ -23,4 +23,4 @@ loop-triple-preserved c =
     next_lost c.args.self.now c.args.region.now c.args.triples.now c.requires.rising c.requires.there c.loop-triple.triple-index c.triple-item.result c.loop-triple-test.true c.loop-triple.self c.loop-triple.region c.loop-triple.invariant
     c.in-Some.key c.remove.new.self c.remove.new.region
     (subst (HasTriple c.loop-triple.self.pool c.loop-triple.region c.in-Some.key) c.triple-item.is c.in-Some.ensures.found)
-    c.remove.ensures.stored c.remove.ensures.lowered c.remove.ensures.beside c.remove.ensures.limit
+    c.remove.ensures.stored c.remove.ensures.lowered c.remove.ensures.keeps c.remove.ensures.beside c.remove.ensures.limit

@@ -1,0 +1,81 @@
+// The first lines in which two texts differ.
+
+use anyhow::Result;
+use std::alloc::Global;
+
+// The first lines that differ, where something is expected.
+pub fn differing_where_told(
+    alloc: Global,
+    what: &str,
+    expected: &Option<Vec<u8>>,
+    found: &[u8],
+) -> Result<Option<String>> {
+    match expected {
+        None => Ok(None),
+        Some(expected) => differing(alloc, what, expected.as_slice(), found),
+    }
+}
+
+// Two numbers that differ, where one is expected.
+pub fn differing_numbers(
+    alloc: Global,
+    what: &str,
+    expected: Option<u64>,
+    found: u64,
+) -> Result<Option<String>> {
+    match expected {
+        Some(number) if number != found => {
+            Ok(Some(format!(in alloc; "     {what}: expected {number}, found {found}")?))
+        }
+        _ => Ok(None),
+    }
+}
+
+// The first lines that differ.
+pub fn differing(
+    alloc: Global,
+    what: &str,
+    expected: &[u8],
+    found: &[u8],
+) -> Result<Option<String>> {
+    if expected == found {
+        return Ok(None);
+    }
+    let place = equal_lines(expected, found);
+    let number = place.saturating_add(1);
+    let expected = line_at(alloc, expected, place)?;
+    let expected = expected.as_str();
+    let found = line_at(alloc, found, place)?;
+    let found = found.as_str();
+    Ok(Some(format!(in alloc;
+        "     {what}, line {number}\n     expected {expected}\n     found    {found}"
+    )?))
+}
+
+// How many lines at the front are equal.
+fn equal_lines(a: &[u8], b: &[u8]) -> usize {
+    let a = a.split_inclusive(|byte| *byte == b'\n');
+    let b = b.split_inclusive(|byte| *byte == b'\n');
+    a.zip(b).take_while(|pair| pair.0 == pair.1).count()
+}
+
+// The line at a place, or that there is none.
+fn line_at(alloc: Global, text: &[u8], place: usize) -> Result<String> {
+    match text.split_inclusive(|byte| *byte == b'\n').nth(place) {
+        Some(line) => printable(alloc, line),
+        None => Ok(String::from_str(alloc, "nothing more")?),
+    }
+}
+
+// A line as a text, as far as it can be shown.
+fn printable(alloc: Global, line: &[u8]) -> Result<String> {
+    let mut text = String::new(alloc);
+    for byte in line.iter().take(400) {
+        match byte {
+            b' '..=b'~' => text.push(char::from(*byte))?,
+            b'\n' => {}
+            _ => text.push_str(format!(in alloc; "\\x{byte:02x}")?.as_str())?,
+        }
+    }
+    Ok(text)
+}
