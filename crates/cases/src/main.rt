@@ -11,7 +11,7 @@ mod statuses;
 mod trying;
 
 use anyhow::Result;
-use case_file::{Case, case_files, cases_of};
+use case_file::{Case, CaseFile, case_files, cases_of};
 use statuses::print_statuses;
 use std::env;
 use std::hash::RandomState;
@@ -37,11 +37,7 @@ fn main(rt: HostRuntime) -> Result<ExitCode> {
         failed: 0,
     };
     for file in case_files(&rt)? {
-        for case in cases_of(rt.alloc(), file.name.as_str(), file.text.as_str())? {
-            if is_wanted(&case, wanted.as_slice()) {
-                tally = try_case(&rt, &case, tally)?;
-            }
-        }
+        tally = try_file(&rt, &file, wanted.as_slice(), tally)?;
     }
     sum_up(&rt, tally)
 }
@@ -57,6 +53,17 @@ fn is_wanted(case: &Case, wanted: &[String]) -> bool {
         || wanted
             .iter()
             .any(|word| case.name.as_str().contains(word.as_str()))
+}
+
+// Tries the cases of a file, those alone that are wanted.
+fn try_file(rt: &HostRuntime, file: &CaseFile, wanted: &[String], tally: Tally) -> Result<Tally> {
+    let mut tally = tally;
+    for case in cases_of(rt.alloc(), file.name.as_str(), file.text.as_str())? {
+        if is_wanted(&case, wanted) {
+            tally = try_case(rt, &case, tally)?;
+        }
+    }
+    Ok(tally)
 }
 
 // Tries a case, and prints its line.
