@@ -89,7 +89,7 @@ pub record HasRoomFor (room : ℕ) (world : WorldState) : Type 0 where
   pub room_is : world.room ≡ room
   pub within : HasRoom (meaning_by meaning world.second) room world.replay.played.records
 
--- however much room there was for what is held, there is still
+-- where what was held was within the room, the room is the same, and what is held is within it
 abbrev pub KeepsRoom : WorldState → WorldState → Type 0
 KeepsRoom old new = (room : ℕ) → HasRoomFor room old → HasRoomFor room new
 

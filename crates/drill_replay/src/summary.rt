@@ -32,8 +32,9 @@ pub struct Summary {
     pub digest: [u8; 16],
 }
 
-/// Runs the drill of this size in an empty world with room for 20,000,000 terms, by version One of the mapping. For each answer the
-/// world is that of a first part of the drill, and for a summary that of all of it. There is always room, so memory alone may be refused.
+/// Runs the drill of this size in an empty world with room for at least 20,000,000 terms, by version One of the mapping. For each answer
+/// the world is that of a first part of the drill, and for a summary that of all of it. There is always room, so memory alone may be
+/// refused.
 pub fn run_drill(alloc: Global, size: u32, world: &mut World) -> Result<Summary, OutOfMemory>
     requires size { IsSize size }
     requires world { world.old.replay ≡ nothing_delivered }

@@ -1,4 +1,4 @@
-// The laws of what is held by more than one version of the mapping.
+// Laws of the versions of the mapping: by which one each held document is mapped, and which union that gives.
 
 ghost use Rattle.std.specs.Prelude.{◌≡◌, ℕ, Bool, List, Option, true};
 ghost use Rattle.std.specs.declared.cmp.Ordering.{Ordering};

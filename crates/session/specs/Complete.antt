@@ -1,4 +1,4 @@
--- Words for what follows where nothing goes wrong: a count that stands still, pages that are there, and their terms.
+-- Words for what follows where nothing goes wrong: a count that stands still, documents that are there, and the triples of an entity.
 use Rattle.std.specs.Prelude.{◌≡◌, ℕ, ◌-◌, ◌^◌, ◌<◌, Bool, true, cond, List, [], Option, is_ok}
 use Rattle.entity_model.specs.declared.id.EntityId.{EntityId}
 use Rattle.entity_model.specs.declared.event.Event.{Event}

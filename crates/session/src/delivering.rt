@@ -1,4 +1,4 @@
-// One delivery is taken, wherever it comes from: what is due is applied, and a question is answered.
+// One delivery of a line is taken, or the end: what is due is applied, a question is answered, and a change of the mapping handed on.
 
 ghost use Rattle.std.specs.Prelude.{◌≡◌, ◌≤◌, ◌∷◌, [], false, IfErr, OnErr, OnOk};
 ghost use Rattle.replay_model.specs.ReplayState.{after_end, after_event, after_mark};

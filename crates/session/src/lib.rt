@@ -1,9 +1,9 @@
 //! The top call: the words are judged, the lines are taken one by one, and what was asked for is printed; or a drill is run.
 //!
 //! `run` is the whole program but for the process around it; `running` has it. `replaying` is a replay and `drilling` a drill.
-//! `delivering` takes one delivery, wherever it comes from, `remapping` a change of the mapping, and `taking` those of the lines. `stop` is why a run stopped, and
-//! `status` how it ended. The words stand in the crate `words`, what is printed in `transcript`, and the replay of a drill in
-//! `drill_replay`. `laws` says what follows from the contract of `run` where nothing goes wrong.
+//! `taking` takes the lines of the input, `delivering` the delivery of a line, and the end, and `remapping` a change of the mapping.
+//! `stop` is why a run stopped, and `status` how it ended. The words stand in the crate `words`, what is printed in `transcript`, and
+//! the replay of a drill in `drill_replay`. `laws` says what follows from the contract of `run` where nothing goes wrong.
 #![tactic(auto)]
 
 mod delivering;

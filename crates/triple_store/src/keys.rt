@@ -98,7 +98,7 @@ fn merged(alloc: Global, old: &[Key], met: &[Key], places: &[u32]) -> Result<Vec
     Ok(keys)
 }
 
-// The old keys that were met and the others.
+// The old keys that were met where the places told them, by marks, and all other keys that were met, in the order in which they were.
 fn split(alloc: Global, old: &[Key], met: &[Key], places: &[u32]) -> Result<Parted, OutOfMemory>
     ensures len { IfOk result (λ parted. length parted.kept.items ≡ length old.now) }
     ensures same { IfOk result (λ parted. (key : TheKey) → has key_cmp key (marked old.now parted.kept.items ++ parted.rest.items) ≡ has key_cmp key met.now) }
