@@ -1,5 +1,6 @@
 pub mod Blocks
 pub mod Class
+pub mod Length
 pub mod Peak
 pub mod Region
 pub mod Shelf

@@ -3,6 +3,7 @@
 ghost use Rattle.std.specs.Prelude.{◌≡◌, ◌+◌, ◌<◌, ◌≤◌, ◌++◌, ◌∷◌, [], length, take, drop, Some, None, OnOk, OnErr, IfOk, IsSome, is_some, count_by, slice_set};
 ghost use Rattle.text_region.specs.Blocks.{block_at, HasFreed, HasPut};
 
+use crate::length::Length;
 use rdf_term::OutOfMemory;
 use std::alloc::Global;
 use std::marker::Model;
@@ -13,7 +14,7 @@ use std::marker::Model;
 pub(crate) struct Shelf {
     size: usize,
     bytes: Vec<u8>,
-    lengths: Vec<Option<u32>>,
+    lengths: Vec<Length>,
     spare: Vec<u32>,
 }
 
@@ -65,7 +66,7 @@ impl Shelf {
         requires { IsSome (block_at self.now.blocks number) }
         ensures { block_at self.now.blocks number ≡ Some result.now }
     {
-        let Some(length) = self.lengths[number as usize] else {
+        let Some(length) = self.lengths[number as usize].get() else {
             unreachable!()
         };
         let start = number as usize * self.size;
@@ -92,7 +93,7 @@ impl Shelf {
         ensures size { self.new.size ≡ self.old.size }
         ensures blocks { HasFreed self.old.blocks self.new.blocks number }
     {
-        self.lengths[number as usize] = None;
+        self.lengths[number as usize] = Length::none();
         self.spare.push_reserved(number);
     }
 
@@ -109,7 +110,7 @@ impl Shelf {
         self.lengths.reserve(1)?;
         self.spare.reserve(made + 1 - self.spare.len())?;
         self.bytes.resize(self.bytes.len() + self.size, 0)?;
-        self.lengths.push_reserved(None);
+        self.lengths.push_reserved(Length::none());
         self.spare.push_reserved(made as u32);
         Ok(())
     }
@@ -127,7 +128,7 @@ impl Shelf {
             unreachable!()
         };
         write_at(&mut self.bytes, number as usize * self.size, text);
-        self.lengths[number as usize] = Some(text.len() as u32);
+        self.lengths[number as usize] = Length::of(text.len() as u32);
         number
     }
 }

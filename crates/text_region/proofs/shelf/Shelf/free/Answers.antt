@@ -23,10 +23,10 @@ pub invariant_of-self : goal.invariant_of-self
 invariant_of-self c =
     let i = c.self.inside in
     let lying = lies_in i.size i.bytes.items i.lengths.items c.args.self.now.blocks c.args.number (ap (λ (s : Shelf). s.blocks) c.self.view_is) c.requires in
-    rw (c.push_reserved.ensures.items, c.push_reserved.ensures.capacity) (shelf_freed i.size i.bytes.items i.lengths.items i.spare.items c.args.number lying.len (vec_capacity i.spare) c.self.invariant lying.is lying.there)
+    rw (c.push_reserved.ensures.items, c.push_reserved.ensures.capacity, c.none.ensures) (shelf_freed i.size i.bytes.items i.lengths.items i.spare.items c.args.number lying.len (vec_capacity i.spare) c.self.invariant lying.is lying.there)
 
 pub returns-clause-blocks : goal.returns-clause-blocks
 returns-clause-blocks c =
     let i = c.self.inside in
-    has_freed c.args.self.now.blocks (blocks_in i.size i.bytes.items (set i.lengths.items c.args.number None)) c.args.number c.requires
-    (blocks_in-free i.size i.bytes.items i.lengths.items c.args.number ∙ ap (λ b. set b c.args.number None) (ap (λ (s : Shelf). s.blocks) c.self.view_is))
+    rw c.none.ensures (has_freed c.args.self.now.blocks (blocks_in i.size i.bytes.items (set i.lengths.items c.args.number None)) c.args.number c.requires
+    (blocks_in-free i.size i.bytes.items i.lengths.items c.args.number ∙ ap (λ b. set b c.args.number None) (ap (λ (s : Shelf). s.blocks) c.self.view_is)))

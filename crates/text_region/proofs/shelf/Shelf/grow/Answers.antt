@@ -17,7 +17,8 @@ bytes c =
     c.in_ok-resize.ensures.items ∙ filled i.bytes.items i.size (c.len-2.result + i.size) i.bytes.len (omega (arith, c.len-2.ensures, i.bytes.ok.0)) i.bytes.ok.0
 
 lengths : (c : goal.After-push_reserved-2) → c.push_reserved.new.self.items ≡ c.self.inside.lengths.items ++ None ∷ []
-lengths c = c.push_reserved.ensures.items ∙ ap (λ l. l ++ None ∷ []) c.reserve.ensures.items
+lengths c =
+    c.push_reserved.ensures.items ∙ ap (λ l. l ++ c.none.result ∷ []) c.reserve.ensures.items ∙ ap (λ length. c.self.inside.lengths.items ++ length ∷ []) c.none.ensures
 
 pub invariant_of-self-2 : goal.invariant_of-self-2
 invariant_of-self-2 c =

@@ -48,7 +48,7 @@ invariant_of-self c =
     let before : IsShelf i.size i.bytes.items i.lengths.items (c.pop.new.self.items ++ c.in-Some.number ∷ []) (vec_capacity i.spare) =
     subst (λ l. IsShelf i.size i.bytes.items i.lengths.items l (vec_capacity i.spare)) (c.pop.ensures.items ∙ ap (λ o. c.pop.new.self.items ++ option_to_list o) c.in-Some.is) c.self.invariant in
     let as_long : length (written i.bytes.items (c.in-Some.number * i.size) c.args.text.now) ≡ length i.bytes.items = ap length (sym (wrote c)) ∙ c.write_at.auto.bytes ∙ ap length c.deref_mut.ensures.value in
-    rw (after c, c.pop.ensures.capacity) (shelf_put i.size i.bytes.items i.lengths.items (written i.bytes.items (c.in-Some.number * i.size) c.args.text.now) c.pop.new.self.items c.in-Some.number (length c.args.text.now) (vec_capacity i.spare) before as_long (short c))
+    rw (after c, c.pop.ensures.capacity, c.of.ensures) (shelf_put i.size i.bytes.items i.lengths.items (written i.bytes.items (c.in-Some.number * i.size) c.args.text.now) c.pop.new.self.items c.in-Some.number (length c.args.text.now) (vec_capacity i.spare) before as_long (short c))
 
 pub returns-clause-there : goal.returns-clause-there
 returns-clause-there c =
@@ -67,6 +67,7 @@ pub returns-clause-blocks : goal.returns-clause-blocks
 returns-clause-blocks c =
     let i = c.self.inside in
     let spare = spare_before i.size i.bytes.items i.lengths.items c.pop.new.self.items i.spare.items c.in-Some.number (vec_capacity i.spare) (c.pop.ensures.items ∙ ap (λ o. c.pop.new.self.items ++ option_to_list o) c.in-Some.is) c.self.invariant in
-    ap (λ b. blocks_in i.size b (set i.lengths.items c.in-Some.number (Some (length c.args.text.now)))) (after c)
+    ap (λ b. blocks_in i.size b (set i.lengths.items c.in-Some.number c.of.result)) (after c)
+    ∙ ap (λ l. blocks_in i.size (written i.bytes.items (c.in-Some.number * i.size) c.args.text.now) (set i.lengths.items c.in-Some.number l)) c.of.ensures
     ∙ blocks_in-put i.size i.bytes.items i.lengths.items c.in-Some.number (c.in-Some.number * i.size) c.args.text.now c.self.invariant.whole c.self.invariant.fits spare.there (short c) refl
     ∙ ap (λ b. set b c.in-Some.number (Some c.args.text.now)) (ap (λ (s : Shelf). s.blocks) c.self.view_is)
