@@ -5,7 +5,7 @@ ghost use Rattle.json_spell.specs.Number.{is_minus, is_sign};
 ghost use Rattle.json_spell.specs.Reading.{skip_one, after_digits, after_int, after_frac, after_exp, after_number, number_at};
 ghost use Rattle.json_spell.specs.Parses.{Parses};
 
-use crate::bytes::{before, is_digit, skip_digits, utf8};
+use crate::bytes::{before, is_digit, skip_digits, text_of};
 use crate::fault::JsonFault;
 
 fn after_minus(bytes: &[u8]) -> &[u8]
@@ -79,7 +79,7 @@ fn after_number(bytes: &[u8]) -> Option<&[u8]>
     after_exp(frac)
 }
 
-// The number at the front, as it is spelled, and what follows it.
+// The number at the front, as it is spelled, and what follows it. Its bytes are ASCII.
 #[tactic(auto, unfolding(crate::specs::Reading::number_at))]
 pub(crate) fn read_number<'a>(bytes: &'a [u8]) -> Result<(&'a str, &'a [u8]), JsonFault>
     ensures read { Parses (λ p. (p.0.now, p.1.now)) result (number_at bytes.now) }
@@ -88,8 +88,6 @@ pub(crate) fn read_number<'a>(bytes: &'a [u8]) -> Result<(&'a str, &'a [u8]), Js
     let Some(rest) = after_number(bytes) else {
         return Err(JsonFault::NotJson);
     };
-    let Some(spelling) = utf8(before(bytes, rest)) else {
-        return Err(JsonFault::NotJson);
-    };
+    let spelling = text_of(before(bytes, rest));
     Ok((spelling, rest))
 }

@@ -6,6 +6,7 @@ ghost use Rattle.revisions.specs.Revisions.{HasCause, IsOtherwiseStill, counted}
 use crate::revisions::{NoRevision, Revisions};
 use std::alloc::Global;
 use std::fs;
+use std::fs::OpenFile;
 use std::io::{ErrorKind, Read};
 use std::rt::Files;
 
@@ -53,12 +54,21 @@ impl<R: Files> Folder<R> {
     fn read(&self, alloc: Global, place: &str, rev: u64) -> Result<Vec<u8>, NoRevision> {
         let path = format!(in alloc; "{place}/{rev}.json").map_err(|_| NoRevision::OutOfMemory)?;
         let file = fs::open(&self.runtime, path.as_str()).map_err(|e| refusal(e.kind()))?;
-        let mut bytes = Vec::new(alloc);
+        let mut bytes = Vec::with_capacity(alloc, room(&file)).map_err(
+            |_| NoRevision::OutOfMemory,
+        )?;
         file.take(LONGEST_READ)
             .read_to_end(&mut bytes)
             .map_err(|e| refusal(e.kind()))?;
         Ok(bytes)
     }
+}
+
+// For how many bytes a file gets room before it is read: its length and one, so that the end shows without more room.
+// The length is a hint. Where it is missing or wrong, the file is read to its end all the same.
+fn room<F: OpenFile>(file: &F) -> usize {
+    let length = file.metadata().map_or(0, |found| found.len());
+    length.saturating_add(1).min(LONGEST_READ) as usize
 }
 
 // Why the file system gave nothing: only a file that isn't there is missing.
