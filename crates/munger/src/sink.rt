@@ -38,12 +38,14 @@ impl<S: TripleSink> TripleSink for Munged<S> {
         predicate: &TermRef<'_>,
         object: &TermRef<'_>,
     ) -> Result<(), OutOfMemory> {
-        let subject = match self.page.verdict(subject, predicate, object) {
-            Verdict::Moved => TermRef::Id(Prefix::Wd, self.page.id),
-            Verdict::Dropped => return Ok(()),
-            Verdict::Kept => *subject,
-        };
-        emit_named(alloc, &subject, predicate, object, &mut self.inner)
+        match self.page.verdict(subject, predicate, object) {
+            Verdict::Moved => {
+                let entity = TermRef::Id(Prefix::Wd, self.page.id);
+                emit_named(alloc, &entity, predicate, object, &mut self.inner)
+            }
+            Verdict::Dropped => Ok(()),
+            Verdict::Kept => emit_named(alloc, subject, predicate, object, &mut self.inner),
+        }
     }
 }
 
@@ -59,7 +61,22 @@ fn emit_named<S: TripleSink>(
     ensures stays { S.rest out.new ≡ S.rest out.old }
 {
     if is_blank(subject) || is_blank(predicate) || is_blank(object) {
-        return out.emit(alloc, &named(subject), &named(predicate), &named(object));
+        return emit_renamed(alloc, subject, predicate, object, out);
     }
     out.emit(alloc, subject, predicate, object)
+}
+
+// Hands on the triple with its blank nodes named. It is apart, so that a triple without one pays for no copy of a term.
+#[inline(never)]
+fn emit_renamed<S: TripleSink>(
+    alloc: Global,
+    subject: &TermRef<'_>,
+    predicate: &TermRef<'_>,
+    object: &TermRef<'_>,
+    out: &mut S,
+) -> Result<(), OutOfMemory>
+    ensures gains { OnOk result (Gains S.items S.keeps out.old out.new (named_triple (meant_triple subject.now predicate.now object.now) ∷ [])) }
+    ensures stays { S.rest out.new ≡ S.rest out.old }
+{
+    out.emit(alloc, &named(subject), &named(predicate), &named(object))
 }
