@@ -1,50 +1,47 @@
--- What is appended to a buffer leaves the triples before it, and makes the one of its texts.
-use Rattle.std.proofs.Common.{◌≡◌, ℕ, ◌+◌, ◌≤◌, List, [], ◌∷◌, ◌++◌, length, take, drop, map, refl, sym, ap, ◌∙◌, append_assoc, arith}
+-- What is appended to a buffer leaves the triples before it, and makes one more.
+use Rattle.std.proofs.Common.{◌≡◌, ℕ, ◌+◌, ◌≤◌, List, [], ◌∷◌, ◌++◌, length, take, drop, map, refl, sym, ap, subst, ◌∙◌, arith}
 use Rattle.std.specs.List.{AllByRecursion}
 use Rattle.std.proofs.Math.Seq.{drop-append_seam, take-append_seam}
-use Rattle.std.proofs.lemmas.List.{append-nil, take-append-le, drop-append-le, length-drop, length-append}
+use Rattle.std.proofs.lemmas.List.{append-nil, take-append-drop, take-append-le, drop-append-le, length-drop, length-append}
 use Rattle.rdf_term.specs.declared.term.Term.{Term}
 use Rattle.rdf_term.specs.declared.triple.Triple.{Triple}
 use Rattle.rdf_term.specs.Text.{term_text}
 use Rattle.rdf_term.specs.Undo.{undo}
 use Rattle.rdf_term.proofs.Texts.{undo-term_text}
+use Rattle.triple_texts.specs.declared.span.Span.{Span}
 use Rattle.triple_texts.specs.declared.place.Place.{Place}
-use Rattle.triple_texts.specs.Places.{IsPlaced, LiesIn, text_in, texts_of, subject_in, predicate_in, object_in, triple_in}
+use Rattle.triple_texts.specs.Places.{IsPlaceOf, IsSpanOf, LiesIn, span_end, text_in, triple_in}
+
+-- a buffer that begins with another is that one with more
+longer : (before after : List ℕ) → take (length before) after ≡ before → after ≡ before ++ drop (length before) after
+longer before after kept = sym (take-append-drop (length before) after) ∙ ap (λ bytes. bytes ++ drop (length before) after) kept
 
 module _ (bytes more : List ℕ) where
   -- a text that lies in the buffer is there when more is appended
-  text_kept : (start len : ℕ) → start + len ≤ length bytes → text_in (bytes ++ more) start len ≡ text_in bytes start len
-  text_kept start len h =
-      ap (take len) (drop-append-le start bytes more (omega arith))
-      ∙ take-append-le len (drop start bytes) more (omega (arith, length-drop start bytes))
+  text_kept : (span : Span) → span_end span ≤ length bytes → text_in (bytes ++ more) span ≡ text_in bytes span
+  text_kept span h =
+      ap (take span.len) (drop-append-le span.start bytes more (omega arith))
+      ∙ take-append-le span.len (drop span.start bytes) more (omega (arith, length-drop span.start bytes))
 
-  -- so are the three of a triple
-  record AreKept (place : Place) : Type 0 where
-    pub subject : subject_in (bytes ++ more) place ≡ subject_in bytes place
-    pub predicate : predicate_in (bytes ++ more) place ≡ predicate_in bytes place
-    pub object : object_in (bytes ++ more) place ≡ object_in bytes place
-
-  are_kept : (place : Place) → LiesIn bytes place → AreKept place
-  are_kept place lies = record {
-    subject = text_kept place.start place.subject (omega (arith, lies.whole));
-    predicate = text_kept (place.start + place.subject) place.predicate (omega (arith, lies.whole));
-    object = text_kept (place.start + place.subject + place.predicate) place.object (omega (arith, lies.whole));
-  }
+  within_more : (span : Span) → span_end span ≤ length bytes → span_end span ≤ length (bytes ++ more)
+  within_more span h = omega (arith, h, length-append bytes more)
 
   triple_kept : (place : Place) → LiesIn bytes place → triple_in (bytes ++ more) place ≡ triple_in bytes place
   triple_kept place lies =
-      let kept = are_kept place lies in
-      λ i. record { subject = undo (kept.subject i); predicate = undo (kept.predicate i); object = undo (kept.object i) }
+      let subject = text_kept place.subject lies.subject_within in
+      let predicate = text_kept place.predicate lies.predicate_within in
+      let object = text_kept place.object lies.object_within in
+      λ i. record { subject = undo (subject i); predicate = undo (predicate i); object = undo (object i) }
 
   lies_kept : (place : Place) → LiesIn bytes place → LiesIn (bytes ++ more) place
-  lies_kept place lies =
-      let kept = are_kept place lies in
-      record {
-        whole = omega (arith, lies.whole, length-append bytes more);
-        subject = rw kept.subject lies.subject;
-        predicate = rw kept.predicate lies.predicate;
-        object = rw kept.object lies.object;
-      }
+  lies_kept place lies = record {
+    subject_within = within_more place.subject lies.subject_within;
+    predicate_within = within_more place.predicate lies.predicate_within;
+    object_within = within_more place.object lies.object_within;
+    subject = rw (text_kept place.subject lies.subject_within) lies.subject;
+    predicate = rw (text_kept place.predicate lies.predicate_within) lies.predicate;
+    object = rw (text_kept place.object lies.object_within) lies.object;
+  }
 
   triples_more : (places : List Place) (place : Place) → AllByRecursion (LiesIn bytes) places → map (triple_in (bytes ++ more)) (places ++ place ∷ []) ≡ map (triple_in bytes) places ++ triple_in (bytes ++ more) place ∷ []
   triples_more [] place all = refl
@@ -56,67 +53,67 @@ module _ (bytes more : List ℕ) where
   lie_more [] place all lies = (lies, tt)
   lie_more (x ∷ places) place all lies = (lies_kept x all.0, lie_more places place all.1 lies)
 
--- a text within others
-there : (whole front text rest : List ℕ) (start len : ℕ) → whole ≡ front ++ (text ++ rest) → start ≡ length front → len ≡ length text → text_in whole start len ≡ text
-there whole front text rest start len w s l =
-    rw (w, s, l) (ap (take (length text)) (drop-append_seam front (text ++ rest)) ∙ take-append_seam text rest)
+-- so is the span of a term's text, in a buffer that begins with this one
+pub span_kept : (before after : List ℕ) (term : Term) (span : Span) → take (length before) after ≡ before → IsSpanOf before term span → IsSpanOf after term span
+span_kept before after term span kept its =
+    let more = drop (length before) after in
+    rw (longer before after kept) (record {
+      within = within_more before more span its.within;
+      is = text_kept before more span its.within ∙ its.is;
+    })
+
+-- and one that begins with a second, which begins with a first, begins with the first
+pub kept_twice : (first second third : List ℕ) → take (length first) second ≡ first → take (length second) third ≡ second → take (length first) third ≡ first
+kept_twice first second third one two =
+    let within : length first ≤ length second = omega (arith, ap length (longer first second one), length-append first (drop (length first) second)) in
+    ap (take (length first)) (longer second third two) ∙ take-append-le (length first) second (drop (length second) third) within ∙ one
+
+-- a text that is appended
+pub appended : (before after text : List ℕ) → after ≡ before ++ text → take (length before) after ≡ before
+appended before after text is = ap (take (length before)) is ∙ take-append_seam before text
+
+pub appended_there : (before after : List ℕ) (term : Term) (span : Span) → after ≡ before ++ term_text term → span.start ≡ length before → span.len ≡ length (term_text term) → IsSpanOf after term span
+appended_there before after term span is start len = rw is (record {
+  within = omega (arith, start, len, length-append before (term_text term));
+  is = rw (start, len) (ap (take (length (term_text term))) (drop-append_seam before (term_text term)) ∙ ap (take (length (term_text term))) (sym (append-nil (term_text term))) ∙ take-append_seam (term_text term) []);
+})
 
 -- the text of a term is canonical
 canonical : (text : List ℕ) (term : Term) → text ≡ term_text term → term_text (undo text) ≡ text
 canonical text term e = ap (λ t. term_text (undo t)) e ∙ ap term_text (undo-term_text term) ∙ sym e
 
-module _ (bytes : List ℕ) (triple : Triple) (place : Place) (placed : IsPlaced bytes triple place) where
-  abbrev pub after : List ℕ
-  after = bytes ++ texts_of triple
-
-  subject_there : subject_in after place ≡ term_text triple.subject
-  subject_there =
-      let s = term_text triple.subject in
-      let p = term_text triple.predicate in
-      let o = term_text triple.object in
-      there after bytes s (p ++ o) place.start place.subject (ap (λ l. bytes ++ l) (append_assoc s p o)) placed.start placed.subject
-
-  predicate_there : predicate_in after place ≡ term_text triple.predicate
-  predicate_there =
-      let s = term_text triple.subject in
-      let p = term_text triple.predicate in
-      let o = term_text triple.object in
-      there after (bytes ++ s) p o (place.start + place.subject) place.predicate
-      (ap (λ l. bytes ++ l) (append_assoc s p o) ∙ sym (append_assoc bytes s (p ++ o)))
-      (omega (arith, placed.start, placed.subject, length-append bytes s)) placed.predicate
-
-  object_there : object_in after place ≡ term_text triple.object
-  object_there =
-      let s = term_text triple.subject in
-      let p = term_text triple.predicate in
-      let o = term_text triple.object in
-      there after (bytes ++ (s ++ p)) o [] (place.start + place.subject + place.predicate) place.object
-      (sym (append_assoc bytes (s ++ p) o) ∙ ap (λ l. (bytes ++ (s ++ p)) ++ l) (sym (append-nil o)))
-      (omega (arith, placed.start, placed.subject, placed.predicate, length-append bytes (s ++ p), length-append s p)) placed.object
-
-  triple_there : triple_in after place ≡ triple
+module _ (bytes : List ℕ) (triple : Triple) (place : Place) (its : IsPlaceOf bytes triple place) where
+  triple_there : triple_in bytes place ≡ triple
   triple_there =
-      let subject = ap undo subject_there ∙ undo-term_text triple.subject in
-      let predicate = ap undo predicate_there ∙ undo-term_text triple.predicate in
-      let object = ap undo object_there ∙ undo-term_text triple.object in
+      let subject = ap undo its.subject.is ∙ undo-term_text triple.subject in
+      let predicate = ap undo its.predicate.is ∙ undo-term_text triple.predicate in
+      let object = ap undo its.object.is ∙ undo-term_text triple.object in
       λ i. record { subject = subject i; predicate = predicate i; object = object i }
 
-  lies_there : LiesIn after place
-  lies_there =
-      let s = term_text triple.subject in
-      let p = term_text triple.predicate in
-      let o = term_text triple.object in
-      record {
-        whole = omega (arith, placed.start, placed.subject, placed.predicate, placed.object, length-append bytes (s ++ p ++ o), length-append (s ++ p) o, length-append s p);
-        subject = canonical (subject_in after place) triple.subject subject_there;
-        predicate = canonical (predicate_in after place) triple.predicate predicate_there;
-        object = canonical (object_in after place) triple.object object_there;
-      }
+  lies_there : LiesIn bytes place
+  lies_there = record {
+    subject_within = its.subject.within;
+    predicate_within = its.predicate.within;
+    object_within = its.object.within;
+    subject = canonical (text_in bytes place.subject) triple.subject its.subject.is;
+    predicate = canonical (text_in bytes place.predicate) triple.predicate its.predicate.is;
+    object = canonical (text_in bytes place.object) triple.object its.object.is;
+  }
 
-  -- the triples with one more, whose texts are appended
-  pub one_more : (places more : List Place) (longer : List ℕ) → longer ≡ after → more ≡ places ++ place ∷ [] → AllByRecursion (LiesIn bytes) places → map (triple_in longer) more ≡ map (triple_in bytes) places ++ triple ∷ []
-  one_more places more longer b p all =
-      rw (b, p) (triples_more bytes (texts_of triple) places place all ∙ ap (λ t. map (triple_in bytes) places ++ t ∷ []) triple_there)
+-- the triples with one more, in a buffer that begins with the one before
+module _ (before after : List ℕ) (triple : Triple) (place : Place) (kept : take (length before) after ≡ before) (its : IsPlaceOf after triple place) (places more : List Place) (pushed : more ≡ places ++ place ∷ []) (all : AllByRecursion (LiesIn before) places) where
+  pub one_more : map (triple_in after) more ≡ map (triple_in before) places ++ triple ∷ []
+  one_more =
+      let rest = drop (length before) after in
+      ap (map (triple_in after)) pushed
+      ∙ ap (λ bytes. map (triple_in bytes) (places ++ place ∷ [])) (longer before after kept)
+      ∙ triples_more before rest places place all
+      ∙ ap (λ bytes. map (triple_in before) places ++ triple_in bytes place ∷ []) (sym (longer before after kept))
+      ∙ ap (λ t. map (triple_in before) places ++ t ∷ []) (triple_there after triple place its)
 
-  pub all_lie : (places more : List Place) (longer : List ℕ) → longer ≡ after → more ≡ places ++ place ∷ [] → AllByRecursion (LiesIn bytes) places → AllByRecursion (LiesIn longer) more
-  all_lie places more longer b p all = rw (b, p) (lie_more bytes (texts_of triple) places place all lies_there)
+  pub all_lie : AllByRecursion (LiesIn after) more
+  all_lie =
+      let rest = drop (length before) after in
+      let is = longer before after kept in
+      let there = subst (λ (bytes : List ℕ). LiesIn bytes place) is (lies_there after triple place its) in
+      rw pushed (subst (λ (bytes : List ℕ). AllByRecursion (LiesIn bytes) (places ++ place ∷ [])) (sym is) (lie_more before rest places place all there))

@@ -1,46 +1,40 @@
 -- The triples whose texts lie in a buffer.
-use Rattle.std.specs.Prelude.{◌≡◌, ℕ, ◌+◌, ◌≤◌, ◌++◌, List, length, take, drop}
+use Rattle.std.specs.Prelude.{◌≡◌, ℕ, ◌+◌, ◌≤◌, List, length, take, drop, slice_get, IfSome}
+use Rattle.rdf_term.specs.declared.term.Term.{Term}
 use Rattle.rdf_term.specs.declared.triple.Triple.{Triple}
 use Rattle.rdf_term.specs.Text.{term_text}
 use Rattle.rdf_term.specs.Undo.{undo}
+use Rattle.triple_texts.specs.declared.span.Span.{Span}
 use Rattle.triple_texts.specs.declared.place.Place.{Place}
 
--- the text of this length from a place on
-abbrev pub text_in : List ℕ → ℕ → ℕ → List ℕ
-text_in bytes start len = take len (drop start bytes)
+-- where a text ends
+abbrev pub span_end : Span → ℕ
+span_end span = span.start + span.len
 
--- the texts of a triple lie one after the other
-abbrev pub subject_in : List ℕ → Place → List ℕ
-subject_in bytes place = text_in bytes place.start place.subject
+-- the text that lies there
+abbrev pub text_in : List ℕ → Span → List ℕ
+text_in bytes span = take span.len (drop span.start bytes)
 
-abbrev pub predicate_in : List ℕ → Place → List ℕ
-predicate_in bytes place = text_in bytes (place.start + place.subject) place.predicate
-
-abbrev pub object_in : List ℕ → Place → List ℕ
-object_in bytes place = text_in bytes (place.start + place.subject + place.predicate) place.object
-
--- where the last of them ends
-abbrev pub place_end : Place → ℕ
-place_end place = place.start + place.subject + place.predicate + place.object
-
--- the triple whose texts they are
+-- the triple whose texts lie at a place
 abbrev pub triple_in : List ℕ → Place → Triple
-triple_in bytes place = record { subject = undo (subject_in bytes place); predicate = undo (predicate_in bytes place); object = undo (object_in bytes place) }
+triple_in bytes place = record { subject = undo (text_in bytes place.subject); predicate = undo (text_in bytes place.predicate); object = undo (text_in bytes place.object) }
 
 -- the texts lie whole in the buffer, and each is the canonical one of its term
 pub record LiesIn (bytes : List ℕ) (place : Place) : Type 0 where
-  pub whole : place_end place ≤ length bytes
-  pub subject : term_text (undo (subject_in bytes place)) ≡ subject_in bytes place
-  pub predicate : term_text (undo (predicate_in bytes place)) ≡ predicate_in bytes place
-  pub object : term_text (undo (object_in bytes place)) ≡ object_in bytes place
+  pub subject_within : span_end place.subject ≤ length bytes
+  pub predicate_within : span_end place.predicate ≤ length bytes
+  pub object_within : span_end place.object ≤ length bytes
+  pub subject : term_text (undo (text_in bytes place.subject)) ≡ text_in bytes place.subject
+  pub predicate : term_text (undo (text_in bytes place.predicate)) ≡ text_in bytes place.predicate
+  pub object : term_text (undo (text_in bytes place.object)) ≡ text_in bytes place.object
 
--- the three texts of a triple
-abbrev pub texts_of : Triple → List ℕ
-texts_of triple = term_text triple.subject ++ term_text triple.predicate ++ term_text triple.object
+-- the text of a term lies there
+pub record IsSpanOf (bytes : List ℕ) (term : Term) (span : Span) : Type 0 where
+  pub within : span_end span ≤ length bytes
+  pub is : text_in bytes span ≡ term_text term
 
--- the place of a triple whose texts are appended to a buffer
-pub record IsPlaced (bytes : List ℕ) (triple : Triple) (place : Place) : Type 0 where
-  pub start : place.start ≡ length bytes
-  pub subject : place.subject ≡ length (term_text triple.subject)
-  pub predicate : place.predicate ≡ length (term_text triple.predicate)
-  pub object : place.object ≡ length (term_text triple.object)
+-- the texts of a triple lie there
+pub record IsPlaceOf (bytes : List ℕ) (triple : Triple) (place : Place) : Type 0 where
+  pub subject : IsSpanOf bytes triple.subject place.subject
+  pub predicate : IsSpanOf bytes triple.predicate place.predicate
+  pub object : IsSpanOf bytes triple.object place.object

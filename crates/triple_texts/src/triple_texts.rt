@@ -1,12 +1,14 @@
 // Triples by their texts.
 
-ghost use Rattle.std.specs.Prelude.{◌≡◌, ◌<◌, ◌++◌, [], length, slice_get, IfSome, IfOk, OnOk};
+ghost use Rattle.std.specs.Prelude.{◌≡◌, ◌<◌, ◌++◌, [], length, take, slice_get, IfSome, IfOk, OnOk, IsTrue};
 ghost use Rattle.rdf_term.specs.Text.{term_text};
 ghost use Rattle.triple_sink.specs.TermRef.{meant, meant_triple};
-ghost use Rattle.triple_texts.specs.Places.{IsPlaced, texts_of};
-ghost use Rattle.triple_texts.specs.Texts.{IsTextOf};
+ghost use Rattle.triple_texts.specs.Places.{IsPlaceOf, IsSpanOf};
+ghost use Rattle.triple_texts.specs.Texts.{AreAlike, IsTextOf};
 
-use crate::place::Place;
+use crate::place::{Likely, Place};
+use crate::same_text::{MARKS, is_text, mark};
+use crate::span::Span;
 use crate::triple_text::TripleText;
 use rdf_term::OutOfMemory;
 use std::alloc::Global;
@@ -21,6 +23,9 @@ const TRIPLE_BYTES: usize = 128;
 pub struct TripleTexts {
     bytes: Vec<u8>,
     places: Vec<Place>,
+    // The number of the last triple by each mark of a subject, and behind these by each mark of a predicate: a text that came
+    // before isn't written again where it is found by them.
+    recent: Vec<u32>,
 }
 
 impl Model for TripleTexts {
@@ -44,6 +49,7 @@ impl TripleTexts {
         TripleTexts {
             bytes: Vec::new(alloc),
             places: Vec::new(alloc),
+            recent: Vec::new(alloc),
         }
     }
 
@@ -51,9 +57,12 @@ impl TripleTexts {
     pub fn with_room(alloc: Global, bytes: usize) -> Result<TripleTexts, OutOfMemory>
         ensures { IfOk result (λ texts. texts ≡ []) }
     {
+        let mut recent = Vec::new(alloc);
+        recent.resize(2 * MARKS, u32::MAX)?;
         Ok(TripleTexts {
             places: Vec::with_capacity(alloc, bytes / TRIPLE_BYTES)?,
             bytes: Vec::with_capacity(alloc, bytes)?,
+            recent,
         })
     }
 
@@ -70,6 +79,36 @@ impl TripleTexts {
         ensures { IfSome (slice_get self.now index) (IsTextOf result) }
     {
         self.places[index].texts(&self.bytes)
+    }
+
+    /// The place of a triple that has the same subject as the one at a place, where one is told without a comparison of texts.
+    pub fn subject_like(&self, index: usize) -> Option<usize>
+        requires { index < length self.now }
+        ensures { IfSome result (λ other. AreAlike (λ triple. triple.subject) self.now other index) }
+    {
+        let place = self.places[index];
+        let number = place.likely.subject as usize;
+        let other = self.places.get(number)?;
+        if other.subject.is(place.subject) {
+            Some(number)
+        } else {
+            None
+        }
+    }
+
+    /// The same for the predicate.
+    pub fn predicate_like(&self, index: usize) -> Option<usize>
+        requires { index < length self.now }
+        ensures { IfSome result (λ other. AreAlike (λ triple. triple.predicate) self.now other index) }
+    {
+        let place = self.places[index];
+        let number = place.likely.predicate as usize;
+        let other = self.places.get(number)?;
+        if other.predicate.is(place.predicate) {
+            Some(number)
+        } else {
+            None
+        }
     }
 }
 
@@ -91,7 +130,13 @@ impl TripleSink for TripleTexts {
         object: &TermRef<'_>,
     ) -> Result<(), OutOfMemory> {
         self.places.reserve(1)?;
-        match append_triple(subject, predicate, object, &mut self.bytes) {
+        let number = u32::try_from(self.places.len()).unwrap_or(u32::MAX);
+        let likely = Likely {
+            subject: recall(&mut self.recent, mark(subject), number),
+            predicate: recall(&mut self.recent, MARKS + mark(predicate), number),
+        };
+        let guess = guessed(&self.places, likely);
+        match append_triple(subject, predicate, object, guess, &mut self.bytes) {
             Ok(place) => {
                 self.places.push_reserved(place);
                 Ok(())
@@ -105,34 +150,98 @@ impl TripleSink for TripleTexts {
     }
 }
 
-// Appends the texts of a triple and gives their place.
+// The number of the last triple by a mark, in the place of which another comes.
+fn recall(recent: &mut [u32], mark: usize, number: u32) -> u32 {
+    if mark < recent.len() {
+        let last = recent[mark];
+        recent[mark] = number;
+        last
+    } else {
+        u32::MAX
+    }
+}
+
+// Triples that are likely to have the same subject and the same predicate, and where the texts of these lie.
+#[derive(Clone, Copy)]
+struct Guess {
+    likely: Likely,
+    subject: Option<Span>,
+    predicate: Option<Span>,
+}
+
+// Where the texts lie of what is likely to be the same.
+fn guessed(places: &[Place], likely: Likely) -> Guess {
+    Guess {
+        likely,
+        subject: places
+            .get(likely.subject as usize)
+            .map(|place| place.subject),
+        predicate: places
+            .get(likely.predicate as usize)
+            .map(|place| place.predicate),
+    }
+}
+
+// Appends the texts of a triple that aren't there yet, and gives their place.
 fn append_triple(
     subject: &TermRef<'_>,
     predicate: &TermRef<'_>,
     object: &TermRef<'_>,
+    guess: Guess,
     bytes: &mut Vec<u8>,
 ) -> Result<Place, OutOfMemory>
-    ensures texts { OnOk result (bytes.new.items ≡ bytes.old.items ++ texts_of (meant_triple subject.now predicate.now object.now)) }
-    ensures place { IfOk result (IsPlaced bytes.old.items (meant_triple subject.now predicate.now object.now)) }
+    ensures kept { OnOk result (take (length bytes.old.items) bytes.new.items ≡ bytes.old.items) }
+    ensures place { IfOk result (IsPlaceOf bytes.new.items (meant_triple subject.now predicate.now object.now)) }
 {
-    let start = bytes.len();
-    let subject = append(subject, bytes)?;
-    let predicate = append(predicate, bytes)?;
+    let subject = put(subject, guess.subject, bytes)?;
+    let predicate = put(predicate, guess.predicate, bytes)?;
     let object = append(object, bytes)?;
     Ok(Place {
-        start,
         subject,
         predicate,
         object,
+        likely: guess.likely,
     })
 }
 
-// Appends a term's text and gives its length.
-fn append(term: &TermRef<'_>, bytes: &mut Vec<u8>) -> Result<u32, OutOfMemory>
-    ensures text { OnOk result (bytes.new.items ≡ bytes.old.items ++ term_text (meant term.now)) }
-    ensures length { IfOk result (λ len. len ≡ length (term_text (meant term.now))) }
+// Where a term's text lies: where it is likely to, or else at the end, where it is appended.
+fn put(term: &TermRef<'_>, near: Option<Span>, bytes: &mut Vec<u8>) -> Result<Span, OutOfMemory>
+    ensures kept { OnOk result (take (length bytes.old.items) bytes.new.items ≡ bytes.old.items) }
+    ensures span { IfOk result (IsSpanOf bytes.new.items (meant term.now)) }
+{
+    if let Some(span) = near {
+        if lies_there(term, span, bytes) {
+            return Ok(span);
+        }
+    }
+    append(term, bytes)
+}
+
+// Whether the term's text lies there.
+fn lies_there(term: &TermRef<'_>, span: Span, bytes: &[u8]) -> bool
+    ensures { IsTrue result → IsSpanOf bytes.now (meant term.now) span }
+{
+    let end = span.start as usize + span.len as usize;
+    end <= bytes.len() && is_text(term, span.text(bytes))
+}
+
+// Appends a term's text and tells where it lies.
+fn append(term: &TermRef<'_>, bytes: &mut Vec<u8>) -> Result<Span, OutOfMemory>
+    ensures kept { OnOk result (take (length bytes.old.items) bytes.new.items ≡ bytes.old.items) }
+    ensures span { IfOk result (IsSpanOf bytes.new.items (meant term.now)) }
 {
     let start = bytes.len();
     term.write(bytes)?;
-    u32::try_from(bytes.len() - start).map_err(|_| OutOfMemory)
+    span_from(start, bytes.len() - start)
+}
+
+// The span of this length from a place on.
+fn span_from(start: usize, len: usize) -> Result<Span, OutOfMemory>
+    ensures start { IfOk result (λ span. span.start ≡ start) }
+    ensures len { IfOk result (λ span. span.len ≡ len) }
+{
+    Ok(Span {
+        start: u32::try_from(start).map_err(|_| OutOfMemory)?,
+        len: u32::try_from(len).map_err(|_| OutOfMemory)?,
+    })
 }

@@ -1,4 +1,4 @@
--- The texts are appended, and the place is theirs.
+-- The texts are there, and the place is theirs.
 use Rattle.std.proofs.Common.{◌≡◌, [], ◌∷◌, ◌++◌, refl, ap, ◌∙◌}
 use Rattle.rdf_term.specs.declared.triple.Triple.{Triple}
 use Rattle.triple_sink.specs.TermRef.{meant_triple}
@@ -12,10 +12,10 @@ places : (c : goal.After-push_reserved) → c.push_reserved.new.self.items ≡ c
 places c = c.push_reserved.ensures.items ∙ ap (λ l. l ++ c.in-Ok.place ∷ []) c.reserve.ensures.items
 
 pub invariant_of-self-in-Ok : goal.invariant_of-self-in-Ok
-invariant_of-self-in-Ok c = all_lie c.self.inside.bytes.items (triple c) c.in-Ok.place c.in-Ok.ensures.place c.self.inside.places.items _ _ c.in-Ok.ensures.texts (places c) c.self.invariant
+invariant_of-self-in-Ok c = all_lie c.self.inside.bytes.items _ (triple c) c.in-Ok.place c.in-Ok.ensures.kept c.in-Ok.ensures.place c.self.inside.places.items _ (places c) c.self.invariant
 
 pub returns-in-Ok-clause-gains : goal.returns-in-Ok-clause-gains
 returns-in-Ok-clause-gains c = (
-  one_more c.self.inside.bytes.items (triple c) c.in-Ok.place c.in-Ok.ensures.place c.self.inside.places.items _ _ c.in-Ok.ensures.texts (places c) c.self.invariant ∙ ap (λ l. l ++ triple c ∷ []) c.self.view_is,
+  one_more c.self.inside.bytes.items _ (triple c) c.in-Ok.place c.in-Ok.ensures.kept c.in-Ok.ensures.place c.self.inside.places.items _ (places c) c.self.invariant ∙ ap (λ l. l ++ triple c ∷ []) c.self.view_is,
   refl,
 )
