@@ -8,7 +8,8 @@ use Rattle.rdf_term.specs.declared.memory.OutOfMemory.{OutOfMemory}
 use Rattle.rdf_term.specs.declared.term.Term.{Term}
 use Rattle.rdf_term.specs.declared.term.Term.TheVariants.{Iri, Blank, Plain, Lang}
 use Rattle.rdf_term.specs.Grammar.{is_label, is_tag}
-use Rattle.rdf_term.specs.Reader.{read, content_of, split_ascii, whole, iri_in, behind, blank_in, typed_in, literal_with, literal_in}
+use Rattle.rdf_term.specs.Reader.{read, content_of, split_ascii, whole, iri_in, behind, blank_in, typed_in, literal_after, literal_with, literal_in, term_after}
+use Rattle.rdf_term.specs.Text.{in_quotes}
 use Rattle.rdf_term.specs.Written.{IsContent, IsWritten, iri, blank, plain, lang, typed, literal_of_type}
 use Rattle.rdf_term.proofs.Pieces.{content_read}
 use Rattle.rdf_term.proofs.Found.{IsRead, read_content}
@@ -95,7 +96,7 @@ typed_written pieces text rest term content h =
     subst (IsWritten (34 ∷ (pieces ++ 34 ∷ 94 ∷ rest))) found.gives
     (subst (λ l. IsWritten (34 ∷ (pieces ++ 34 ∷ 94 ∷ l)) (literal_of_type text found.value)) (sym is) (typed pieces text others.pieces found.value content others.content))
 
-by_suffix : (pieces text : List ℕ) (first : ℕ) (rest : List ℕ) (term : Term) → IsContent Quotes pieces text → (if first == 64 then (if is_tag rest then Some (Lang text rest) else None) else (if first == 94 then typed_in text rest else None)) ≡ Some term → IsWritten (34 ∷ (pieces ++ 34 ∷ first ∷ rest)) term
+by_suffix : (pieces text : List ℕ) (first : ℕ) (rest : List ℕ) (term : Term) → IsContent Quotes pieces text → literal_after text first rest ≡ Some term → IsWritten (in_quotes pieces (first ∷ rest)) term
 by_suffix pieces text first rest term content h = ⊎_elim
     (λ (t : (first == 64) ≡ true). rw (eqb-true first 64 t) (lang_written pieces text rest term content (rw t at h)))
     (λ (f : (first == 64) ≡ false). ⊎_elim
@@ -105,12 +106,12 @@ by_suffix pieces text first rest term content h = ⊎_elim
     (cases_Bool (first == 64))
 
 -- a literal, by what stands behind its closing quote
-suffix_written : (pieces text rest : List ℕ) (term : Term) → IsContent Quotes pieces text → literal_with text rest ≡ Some term → IsWritten (34 ∷ (pieces ++ 34 ∷ rest)) term
+suffix_written : (pieces text rest : List ℕ) (term : Term) → IsContent Quotes pieces text → literal_with text rest ≡ Some term → IsWritten (in_quotes pieces rest) term
 suffix_written pieces text [] term content h =
     let same : Plain text ≡ term = cc in
     subst (IsWritten (34 ∷ (pieces ++ 34 ∷ []))) same (plain pieces text content)
 suffix_written pieces text (x ∷ xs) term content h =
-    let found = comes (λ (p : ℕ × List ℕ). if p.0 == 64 then (if is_tag p.1 then Some (Lang text p.1) else None) else (if p.0 == 94 then typed_in text p.1 else None)) (split_ascii (x ∷ xs)) term h in
+    let found = comes (λ (p : ℕ × List ℕ). literal_after text p.0 p.1) (split_ascii (x ∷ xs)) term h in
     subst (λ l. IsWritten (34 ∷ (pieces ++ 34 ∷ l)) term) (sym (split_is (x ∷ xs) found.value found.is)) (by_suffix pieces text found.value.0 found.value.1 term content found.gives)
 
 literal_written : (rest : List ℕ) (term : Term) → literal_in rest ≡ Some term → IsWritten (34 ∷ rest) term
@@ -119,7 +120,7 @@ literal_written rest term h =
     let content = read_content Quotes rest found.value.0 found.value.1 found.is in
     subst (λ l. IsWritten (34 ∷ l) term) (sym content.is) (suffix_written content.pieces found.value.0 found.value.1 term content.content found.gives)
 
-by_first : (first : ℕ) (rest : List ℕ) (term : Term) → (if first == 60 then option_map Iri (iri_in rest) else (if first == 95 then blank_in rest else (if first == 34 then literal_in rest else None))) ≡ Some term → IsWritten (first ∷ rest) term
+by_first : (first : ℕ) (rest : List ℕ) (term : Term) → term_after first rest ≡ Some term → IsWritten (first ∷ rest) term
 by_first first rest term h = ⊎_elim
     (λ (t : (first == 60) ≡ true). rw (eqb-true first 60 t) (iri_written rest term (rw t at h)))
     (λ (f : (first == 60) ≡ false). ⊎_elim
@@ -134,7 +135,7 @@ by_first first rest term h = ⊎_elim
 read_written : (text : List ℕ) (term : Term) → read text ≡ Some term → IsWritten text term
 unfolding read
 read_written text term h =
-    let found = comes (λ (p : ℕ × List ℕ). if p.0 == 60 then option_map Iri (iri_in p.1) else (if p.0 == 95 then blank_in p.1 else (if p.0 == 34 then literal_in p.1 else None))) (split_ascii text) term h in
+    let found = comes (λ (p : ℕ × List ℕ). term_after p.0 p.1) (split_ascii text) term h in
     subst (λ l. IsWritten l term) (sym (split_is text found.value found.is)) (by_first found.value.0 found.value.1 term found.gives)
 
 pub reads : (text : List ℕ) (term : Term) → (read text ≡ Some term) ↔ IsWritten text term

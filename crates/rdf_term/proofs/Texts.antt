@@ -1,7 +1,8 @@
 -- Different terms have different canonical texts: a text can be undone.
-use Rattle.std.proofs.Common.{◌≡◌, ℕ, List, [], ◌∷◌, ◌++◌, false, refl, sym, ap, ◌∙◌, ⊎_elim, Ordering, Less, Equal, Greater, ne_eqb}
+use Rattle.std.proofs.Common.{◌≡◌, ℕ, List, [], ◌∷◌, ◌++◌, false, refl, sym, ap, ◌∙◌, ⊎_elim, Ordering, Equal, ne_eqb}
 use Rattle.std.specs.FinMap.{IsAntisymmetric, nat_cmp-IsAntisymmetric, slice_cmp-IsAntisymmetric}
 use Rattle.std.specs.Ordering.{ordering_then}
+use Rattle.rising.proofs.Bools.{then_first, then_second}
 use Rattle.rdf_term.specs.declared.term.Term.{Term}
 use Rattle.rdf_term.specs.declared.term.Term.TheVariants.{Iri, Blank, Plain, Lang, Typed}
 use Rattle.rdf_term.specs.declared.triple.Triple.{Triple}
@@ -45,16 +46,6 @@ same_text t u e = sym (undo-term_text t) ∙ ap undo e ∙ undo-term_text u
 -- only equal terms tie
 pub term_cmp-IsAntisymmetric : IsAntisymmetric term_cmp
 term_cmp-IsAntisymmetric t u e = same_text t u (slice_cmp-IsAntisymmetric nat_cmp-IsAntisymmetric (term_text t) (term_text u) e)
-
-then_first : (a b : Ordering) → ordering_then a b ≡ Equal → a ≡ Equal
-then_first Less b e = cc
-then_first Equal b e = refl
-then_first Greater b e = cc
-
-then_second : (a b : Ordering) → ordering_then a b ≡ Equal → b ≡ Equal
-then_second Less b e = cc
-then_second Equal b e = e
-then_second Greater b e = cc
 
 -- only equal triples tie
 pub triple_cmp-IsAntisymmetric : IsAntisymmetric triple_cmp

@@ -7,5 +7,6 @@ pub mod Piece
 pub mod Reader
 pub mod TagReader
 pub mod Text
+pub mod Triple
 pub mod Undo
 pub mod Written

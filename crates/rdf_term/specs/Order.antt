@@ -26,4 +26,6 @@ term_cmp-total = on_total term_text nat_list_cmp_total
 
 -- the order of triples is total
 pub triple_cmp-total : IsTotalOrder triple_cmp
-triple_cmp-total = then_total (on_total (λ triple. triple.subject) term_cmp-total) (then_total (on_total (λ triple. triple.predicate) term_cmp-total) (on_total (λ triple. triple.object) term_cmp-total))
+triple_cmp-total =
+    then_total (on_total (λ triple. triple.subject) term_cmp-total)
+    (then_total (on_total (λ triple. triple.predicate) term_cmp-total) (on_total (λ triple. triple.object) term_cmp-total))

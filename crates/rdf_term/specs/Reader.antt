@@ -32,7 +32,10 @@ after_digit enclosure left value = if nat_lt 1 left then Go (Digits (left - 1) v
 
 -- a character where a digit has to stand
 abbrev pub step_digits : Enclosure → ℕ → ℕ → ℕ → Effect
-step_digits enclosure left value c = if nat_lt 1114111 value then Refuse else (if is_digit c 16 then after_digit enclosure left (value * 16 + digit_value c) else Refuse)
+step_digits enclosure left value c =
+    if nat_lt 1114111 value then Refuse
+    else (if is_digit c 16 then after_digit enclosure left (value * 16 + digit_value c)
+    else Refuse)
 
 -- what a character does
 unfoldable pub step : Enclosure → State → ℕ → Effect
@@ -83,15 +86,34 @@ blank_in text = option_and_then (λ label. if is_label label then Some (Blank la
 abbrev pub typed_in : List ℕ → List ℕ → Option Term
 typed_in text rest = option_map (literal_of_type text) (option_and_then iri_in (option_and_then (behind 60) (behind 94 rest)))
 
+-- the literal of a text whose tag this is
+abbrev pub lang_in : List ℕ → List ℕ → Option Term
+lang_in text tag = if is_tag tag then Some (Lang text tag) else None
+
+-- the literal of a text, by the byte behind its closing quote and what follows: `@` or `^`
+abbrev pub literal_after : List ℕ → ℕ → List ℕ → Option Term
+literal_after text first rest =
+    if first == 64 then lang_in text rest
+    else (if first == 94 then typed_in text rest
+    else None)
+
 -- the literal of a text, by what stands behind its closing quote
 abbrev pub literal_with : List ℕ → List ℕ → Option Term
 literal_with text [] = Some (Plain text)
-literal_with text (x ∷ xs) = option_and_then (λ p. if p.0 == 64 then (if is_tag p.1 then Some (Lang text p.1) else None) else (if p.0 == 94 then typed_in text p.1 else None)) (split_ascii (x ∷ xs))
+literal_with text (x ∷ xs) = option_and_then (λ p. literal_after text p.0 p.1) (split_ascii (x ∷ xs))
 
 -- the literal whose quote stands in front
 abbrev pub literal_in : List ℕ → Option Term
 literal_in text = option_and_then (λ p. literal_with p.0 p.1) (content_of Quotes Between text)
 
+-- the term by its first byte and what follows: `<`, `_` or `"`
+abbrev pub term_after : ℕ → List ℕ → Option Term
+term_after first rest =
+    if first == 60 then option_map Iri (iri_in rest)
+    else (if first == 95 then blank_in rest
+    else (if first == 34 then literal_in rest
+    else None))
+
 -- the term of the whole text
 unfoldable pub read : List ℕ → Option Term
-read text = option_and_then (λ p. if p.0 == 60 then option_map Iri (iri_in p.1) else (if p.0 == 95 then blank_in p.1 else (if p.0 == 34 then literal_in p.1 else None))) (split_ascii text)
+read text = option_and_then (λ p. term_after p.0 p.1) (split_ascii text)

@@ -22,9 +22,13 @@ is_escaped b = (b == 34) || (b == 92) || (b == 10) || (b == 13)
 abbrev pub escaped : List ℕ → List ℕ
 escaped = flat_map escaped_byte
 
+-- what stands between quotes, and what follows it
+abbrev pub in_quotes : List ℕ → List ℕ → List ℕ
+in_quotes content rest = 34 ∷ (content ++ 34 ∷ rest)
+
 -- a text in quotes, and what follows it
 abbrev pub quoted : List ℕ → List ℕ → List ℕ
-quoted text rest = 34 ∷ (escaped text ++ 34 ∷ rest)
+quoted text rest = in_quotes (escaped text) rest
 
 -- an IRI in angle brackets
 abbrev pub in_brackets : List ℕ → List ℕ

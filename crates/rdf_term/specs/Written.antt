@@ -10,6 +10,7 @@ use Rattle.rdf_term.specs.declared.term.Term.{Term}
 use Rattle.rdf_term.specs.declared.term.Term.TheVariants.{Iri, Blank, Plain, Lang, Typed}
 use Rattle.rdf_term.specs.Fit.{xsd_string}
 use Rattle.rdf_term.specs.Grammar.{is_iri_char, is_label, is_tag}
+use Rattle.rdf_term.specs.Text.{in_brackets, in_quotes}
 
 -- what closes a content: `>` or `"`
 abbrev pub closing : Enclosure → ℕ
@@ -62,7 +63,8 @@ pub data IsPiece (enclosure : Enclosure) : List ℕ → List ℕ → Type 0 wher
 -- a content, piece by piece, and the text that it stands for
 pub data IsContent (enclosure : Enclosure) : List ℕ → List ℕ → Type 0 where
   nothing : IsContent enclosure [] []
-  more : (piece meaning pieces text : List ℕ) → IsPiece enclosure piece meaning → IsContent enclosure pieces text → IsContent enclosure (piece ++ pieces) (meaning ++ text)
+  more : (piece meaning pieces text : List ℕ) → IsPiece enclosure piece meaning → IsContent enclosure pieces text
+      → IsContent enclosure (piece ++ pieces) (meaning ++ text)
 
 -- the literal of a text and a datatype
 abbrev pub literal_of_type : List ℕ → List ℕ → Term
@@ -70,8 +72,9 @@ literal_of_type text datatype = if bytes_eq datatype xsd_string then Plain text 
 
 -- the whole text is a term's
 pub data IsWritten : List ℕ → Term → Type 0 where
-  iri : (pieces text : List ℕ) → IsContent Brackets pieces text → IsWritten (60 ∷ (pieces ++ 62 ∷ [])) (Iri text)
+  iri : (pieces text : List ℕ) → IsContent Brackets pieces text → IsWritten (in_brackets pieces) (Iri text)
   blank : (label : List ℕ) → is_label label ≡ true → IsWritten (95 ∷ 58 ∷ label) (Blank label)
-  plain : (pieces text : List ℕ) → IsContent Quotes pieces text → IsWritten (34 ∷ (pieces ++ 34 ∷ [])) (Plain text)
-  lang : (pieces text tag : List ℕ) → IsContent Quotes pieces text → is_tag tag ≡ true → IsWritten (34 ∷ (pieces ++ 34 ∷ 64 ∷ tag)) (Lang text tag)
-  typed : (pieces text others datatype : List ℕ) → IsContent Quotes pieces text → IsContent Brackets others datatype → IsWritten (34 ∷ (pieces ++ 34 ∷ 94 ∷ 94 ∷ 60 ∷ (others ++ 62 ∷ []))) (literal_of_type text datatype)
+  plain : (pieces text : List ℕ) → IsContent Quotes pieces text → IsWritten (in_quotes pieces []) (Plain text)
+  lang : (pieces text tag : List ℕ) → IsContent Quotes pieces text → is_tag tag ≡ true → IsWritten (in_quotes pieces (64 ∷ tag)) (Lang text tag)
+  typed : (pieces text others datatype : List ℕ) → IsContent Quotes pieces text → IsContent Brackets others datatype
+      → IsWritten (in_quotes pieces (94 ∷ 94 ∷ in_brackets others)) (literal_of_type text datatype)

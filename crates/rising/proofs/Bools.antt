@@ -1,5 +1,6 @@
 -- Facts on `Bool` and on the answers of an order.
 use Rattle.std.proofs.Common.{◌≡◌, Bool, true, false, not, ◌&&◌, ◌||◌, Ordering, Less, Equal, Greater, is_eq, refl, sym, ◌∙◌, ap, true≢false}
+use Rattle.std.specs.Ordering.{ordering_then}
 
 -- a test that is true and false proves anything
 pub clash : {G : Type 0} {b : Bool} → b ≡ true → b ≡ false → G
@@ -70,3 +71,14 @@ pub equal : (r : Ordering) → is_eq r ≡ true → r ≡ Equal
 equal Less e = absurd (true≢false (sym e))
 equal Equal e = refl
 equal Greater e = absurd (true≢false (sym e))
+
+-- two orders, one after the other, tie where both do
+pub then_first : (a b : Ordering) → ordering_then a b ≡ Equal → a ≡ Equal
+then_first Less b e = cc
+then_first Equal b e = refl
+then_first Greater b e = cc
+
+pub then_second : (a b : Ordering) → ordering_then a b ≡ Equal → b ≡ Equal
+then_second Less b e = cc
+then_second Equal b e = e
+then_second Greater b e = cc

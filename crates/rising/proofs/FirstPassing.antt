@@ -1,5 +1,5 @@
 -- The first element that passes a test: what a filter has of it, and what is left when it is taken out.
-use Rattle.std.proofs.Common.{◌≡◌, Bool, true, false, not, cond, ◌||◌, List, [], ◌∷◌, None, Some, Ordering, Less, Equal, Greater, filter, find, unwrap_or, is_some, is_eq, refl, sym, ◌∙◌, ap, true≢false}
+use Rattle.std.proofs.Common.{◌≡◌, ◌<◌, Bool, true, false, not, cond, ◌||◌, List, [], ◌∷◌, None, Some, Ordering, Less, Equal, Greater, filter, find, unwrap_or, is_some, is_eq, refl, sym, ◌∙◌, ap, true≢false, length, arith}
 use Rattle.std.specs.Set.{remove_key}
 use Rattle.std.specs.Cmp.{IsTotalOrder}
 use Rattle.std.proofs.lemmas.Cmp.{tied_itself}
@@ -47,6 +47,15 @@ module _ {K : Type 0} (p : K → Bool) where
         | true ↦ λ _. refl
         | false ↦ λ py. ap (λ b. cond (not b) (y ∷ filter (λ x. not (p x)) (remove_key p ys)) (filter (λ x. not (p x)) (remove_key p ys))) py ∙ ap (λ l. y ∷ l) (filter-others ys)
       ] refl
+
+  -- and it is shorter
+  pub shorter_without : (x : K) (xs : List K) → find p xs ≡ Some x → length (remove_key p xs) < length xs
+  shorter_without x [] e = some_is_none x (sym e)
+  shorter_without x (y ∷ ys) e =
+      elim (p y) as (λ b. cond b (Some y) (find p ys) ≡ Some x → length (cond b ys (y ∷ remove_key p ys)) < length (y ∷ ys)) [
+        | true ↦ λ _. omega arith
+        | false ↦ λ e. omega (arith, shorter_without x ys e)
+      ] e
 
   module _ (R : K → K → Ordering) where
     -- what is left was there

@@ -1,7 +1,9 @@
 pub mod Bools
+pub mod Counting
 pub mod Filtering
 pub mod Finding
 pub mod FirstPassing
+pub mod Keys
 pub mod Members
 pub mod Pushes
 pub mod Rising
