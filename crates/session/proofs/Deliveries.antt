@@ -147,15 +147,15 @@ module _ (setting : Setting) (ds : List Delivery) (start : Stage) where
   }
 
   -- a world at rest is where its play is
-  pub rest_within : (now : Stage) → AtRest setting ds start now → IsWithin setting (course_begun ds None start) (λ replies. following (horizon_at start) replies ds) start now
+  pub rest_within : (now : Stage) → AtRest setting ds start now → IsWithin Starved setting (course_begun ds None start) (λ replies. following (horizon_at start) replies ds) start now
   rest_within now at_rest =
-      let There : List Delivery → Type 0 = λ l. IsWithin setting (record (course_after l start) { bytes = said_behind ds start }) (λ replies. following (horizon_at start) replies ds) start now in
-      subst There (sym (append-nil ds)) (within setting (course_after ds start) (λ replies. following (horizon_at start) replies ds) start now now.counts (no_call now.counts) (record { leads = at_rest.leads; steps = 0; is = rest_is now at_rest }))
+      let There : List Delivery → Type 0 = λ l. IsWithin Starved setting (record (course_after l start) { bytes = said_behind ds start }) (λ replies. following (horizon_at start) replies ds) start now in
+      subst There (sym (append-nil ds)) (within Starved setting (course_after ds start) (λ replies. following (horizon_at start) replies ds) start now now.counts (no_call now.counts) (record { leads = at_rest.leads; steps = 0; is = rest_is now at_rest }))
 
   -- a watermark is taken, and some of what is due is applied
-  pub mark_begun : (now : Stage) (counts : Counts) (new : ReplayState) (mapped : Mapped) (m : ℤ) → StaysWithin setting now.counts counts (after_mark now.world m) new → AtRest setting ds start now →
-      IsWithin setting (course_of_mark m) (λ replies. entered (following (horizon_at start) replies ds) (Watermark m)) start (onward (with_mapped now mapped) counts new)
-  mark_begun now counts new mapped m stays at_rest =
+  pub mark_begun : (why : Unapplied) (now : Stage) (counts : Counts) (new : ReplayState) (mapped : Mapped) (m : ℤ) → StaysWithin why setting now.counts counts (after_mark now.world m) new → AtRest setting ds start now →
+      IsWithin why setting (course_of_mark m) (λ replies. entered (following (horizon_at start) replies ds) (Watermark m)) start (onward (with_mapped now mapped) counts new)
+  mark_begun why now counts new mapped m stays at_rest =
       stays (course_of_mark m) (λ replies. entered (following (horizon_at start) replies ds) (Watermark m)) start (with_mapped now mapped) (record {
         leads = mark_leads now mapped m at_rest;
         steps = 0;
@@ -164,9 +164,9 @@ module _ (setting : Setting) (ds : List Delivery) (start : Stage) where
       })
 
   -- the end is taken, and some of what waits is applied
-  pub end_begun : (now : Stage) (counts : Counts) (new : ReplayState) (mapped : Mapped) → StaysWithin setting now.counts counts (after_end now.world) new → AtRest setting ds start now →
-      IsWithin setting (course_to_end ds start) (λ replies. after_end (following (horizon_at start) replies ds)) start (onward (with_mapped now mapped) counts new)
-  end_begun now counts new mapped stays at_rest =
+  pub end_begun : (why : Unapplied) (now : Stage) (counts : Counts) (new : ReplayState) (mapped : Mapped) → StaysWithin why setting now.counts counts (after_end now.world) new → AtRest setting ds start now →
+      IsWithin why setting (course_to_end ds start) (λ replies. after_end (following (horizon_at start) replies ds)) start (onward (with_mapped now mapped) counts new)
+  end_begun why now counts new mapped stays at_rest =
       stays (course_to_end ds start) (λ replies. after_end (following (horizon_at start) replies ds)) start (with_mapped now mapped) (record {
         leads = end_leads now mapped at_rest;
         steps = 0;
@@ -238,10 +238,10 @@ event_cut_off setting e asked now new mapped same same_mapped = inr (inl (
 
 -- a watermark was taken, and some of what is due was applied
 pub mark_cut_off : (why : Unapplied) (setting : Setting) (m : ℤ) (asked : ℕ) (now : Stage) (counts : Counts) (new : ReplayState) (mapped : Mapped) → IsHeldUp why setting new mapped →
-    KeepsVersion now.mapped mapped now.world.played.records new.played.records → StaysWithin setting now.counts counts (after_mark now.world m) new →
+    KeepsVersion now.mapped mapped now.world.played.records new.played.records → StaysWithin why setting now.counts counts (after_mark now.world m) new →
     CutsOff (stop_of_unapplied why) setting (turn asked (Watermark m)) now (onward (with_mapped now mapped) counts new)
 mark_cut_off why setting m asked now counts new mapped held_up keeps stays =
-    inr (inl (why, refl, record { held_up = held_up; output = refl; mapped = keeps; world = λ ds start at_rest. inr (mark_begun setting ds start now counts new mapped m stays at_rest) }))
+    inr (inl (why, refl, record { held_up = held_up; output = refl; mapped = keeps; world = λ ds start at_rest. inr (mark_begun setting ds start why now counts new mapped m stays at_rest) }))
 
 -- a question was answered in part
 pub ask_cut_off : (why : Unwritten) (setting : Setting) (q : Pattern) (asked : ℕ) (now : Stage) (out : Output) → Prints (ask_section asked (rows (held_triples now.mapped now.world.played.records) q)) now.output out (Err why) →

@@ -25,7 +25,9 @@ use Rattle.world.specs.WorldState.{WorldState}
 use Rattle.world.specs.declared.applied.Applied.{Applied}
 use Rattle.world.specs.declared.applied.Outcome.{Outcome}
 use Rattle.world.specs.declared.applied.Outcome.TheVariants.{Same, Dropped}
-use Rattle.session.specs.Counts.{Counts, HasCounted, HasCountedWithin, HasGoneOn, RoseBy}
+use Rattle.session.specs.Counts.{Counts, HasCounted, HasCountedBefore, HasGoneOn, RoseBy}
+use Rattle.session.specs.declared.stop.Unapplied.{Unapplied}
+use Rattle.session.specs.declared.stop.Unapplied.TheVariants.{StoreFull, OutOfMemory}
 use Rattle.revisions.specs.declared.revisions.Revisions.{Ghosts as RevisionsOf}
 use Rattle.session.specs.Moment.{Setting, Stage, onward, setting, with_mapped}
 use Rattle.session.specs.Remapping.{HasNoRoom, Mapped, mapped_in}
@@ -194,20 +196,30 @@ counted_on start now last made more side calls faults misses so_far = record {
   missing = λ below. let earlier : now.misses < 2 ^ 64 - 1 = omega arith in omega (arith, so_far.missing earlier);
 }
 
--- the counts after a call that applied nothing: at most one fetch was made
-pub record Lasts (before now : Counts) : Type 0 where
-  pub calls : (now.calls ≡ before.calls) ⊎ (now.calls ≡ counted before.calls)
+-- the calls after a call that applied nothing: where there was no room one fetch was made, and where memory was refused at most one
+abbrev pub LastCalls : Unapplied → ℕ → ℕ → Type 0
+LastCalls StoreFull before now = now ≡ counted before
+LastCalls OutOfMemory before now = (now ≡ before) ⊎ (now ≡ counted before)
+
+-- the counts after a call that applied nothing
+pub record Lasts (why : Unapplied) (before now : Counts) : Type 0 where
+  pub calls : LastCalls why before.calls now.calls
   pub faults : before.faults ≤ now.faults
   pub misses : before.misses ≤ now.misses
 
-counted_last : (start before now : Counts) (made : ℕ) (side : List Entry) → Lasts before now → HasCounted start before made side → HasCountedWithin start now made side
-counted_last start before now made side last so_far = ⊎_elim
+counted_once : (start before now : Counts) (made : ℕ) (side : List Entry) → now.calls ≡ counted before.calls → before.faults ≤ now.faults → before.misses ≤ now.misses → HasCounted start before made side → HasCounted start now (made + 1) side
+counted_once start before now made side one faults misses so_far =
+    counted_on start before now made (made + 1) side (one ∙ ap counted so_far.calls ∙ risen_by-more made start.calls true) faults misses so_far
+
+counted_last : (why : Unapplied) (start before now : Counts) (made : ℕ) (side : List Entry) → Lasts why before now → HasCounted start before made side → HasCountedBefore why start now made side
+counted_last StoreFull start before now made side last so_far = counted_once start before now made side last.calls last.faults last.misses so_far
+counted_last OutOfMemory start before now made side last so_far = ⊎_elim
     (λ same. inl (counted_on start before now made made side (same ∙ so_far.calls) last.faults last.misses so_far))
-    (λ one. inr (counted_on start before now made (made + 1) side (one ∙ ap counted so_far.calls ∙ risen_by-more made start.calls true) last.faults last.misses so_far))
+    (λ one. inr (counted_once start before now made side one last.faults last.misses so_far))
     last.calls
 
 -- no call was made
-pub no_call : (counts : Counts) → Lasts counts counts
+pub no_call : (counts : Counts) → Lasts OutOfMemory counts counts
 no_call counts = record { calls = inl refl; faults = omega arith; misses = omega arith }
 
 -- no event is left: the last call has made no fetch
@@ -227,9 +239,9 @@ none_due setting before now last old world new goes calls faults misses same non
 })
 
 -- a world that is under way in a play is where some of its due events were applied, after a call that applied nothing too
-pub within : (setting : Setting) (course : Course) (begun : Replies → ReplayState) (start now : Stage) (counts : Counts) → Lasts now.counts counts → IsUnderWay setting course begun start now →
-    IsWithin setting course begun start (onward now counts now.world)
-within setting course begun start now counts last under_way =
+pub within : (why : Unapplied) (setting : Setting) (course : Course) (begun : Replies → ReplayState) (start now : Stage) (counts : Counts) → Lasts why now.counts counts → IsUnderWay setting course begun start now →
+    IsWithin why setting course begun start (onward now counts now.world)
+within why setting course begun start now counts last under_way =
     let honest : (contents : ℕ → Option Bytes) → setting.known ≡ Some contents → AgreeOnApplied now.world under_way.leads.explained.replies (replies_there contents now.world) =
     λ contents is q r h. sym (under_way.leads.explained.honest contents is q r) in
     record {
@@ -244,12 +256,13 @@ within setting course begun start now counts last under_way =
       made = under_way.leads.made;
       fetched = under_way.leads.explained.counts under_way.leads.explained.replies (λ q r h. refl);
       source_fetched = λ contents is. under_way.leads.explained.counts (replies_there contents now.world) (honest contents is);
-      counted = counted_last start.counts now.counts counts under_way.leads.made now.world.played.side last under_way.leads.counted;
+      counted = counted_last why start.counts now.counts counts under_way.leads.made now.world.played.side last under_way.leads.counted;
     }
 
 -- it is so whatever the versions are by which the pages are mapped
-pub within_mapped : (setting : Setting) (course : Course) (begun : Replies → ReplayState) (start now : Stage) (mapped : Mapped) → IsWithin setting course begun start now → IsWithin setting course begun start (with_mapped now mapped)
-within_mapped setting course begun start now mapped x = record {
+pub within_mapped : (why : Unapplied) (setting : Setting) (course : Course) (begun : Replies → ReplayState) (start now : Stage) (mapped : Mapped) → IsWithin why setting course begun start now →
+    IsWithin why setting course begun start (with_mapped now mapped)
+within_mapped why setting course begun start now mapped x = record {
   steps = x.steps;
   replies = x.replies;
   fit = x.fit;
@@ -265,8 +278,8 @@ within_mapped setting course begun start now mapped x = record {
 }
 
 -- an event isn't applied: the world is that before
-pub starved : (setting : Setting) (before now last : Counts) (old world new : ReplayState) → Goes setting before now old world → Lasts now last → new ≡ world → StaysWithin setting before last old new
-starved setting before now last old world new goes lasts same = rw same (λ course begun start s under_way. within setting course begun start (onward s now world) last lasts (goes.leads course begun start s under_way))
+pub starved : (why : Unapplied) (setting : Setting) (before now last : Counts) (old world new : ReplayState) → Goes setting before now old world → Lasts why now last → new ≡ world → StaysWithin why setting before last old new
+starved why setting before now last old world new goes lasts same = rw same (λ course begun start s under_way. within why setting course begun start (onward s now world) last lasts (goes.leads course begun start s under_way))
 
 -- where the world says that there is no room, the store is full
 full_there : (contents : Option Contents) (directory : List ℕ) (room : ℕ) (x : EntityId) (r : ℕ) (bytes : Bytes) → IsReply contents directory x r (Ok bytes) → (there : ℕ → Option Bytes) →

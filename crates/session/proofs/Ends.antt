@@ -185,7 +185,7 @@ interrupted NotWritten run before now between earlier rose stands = (rose_since 
 interrupted Refused run before now between earlier rose stands = inr stands
 
 -- not all that was due was applied
-pub halted : (why : Unapplied) (run : Run) (before now : Moment) → IsHeldUp why run.setting now.stage.world now.stage.mapped → IsStarved run before now → Stopped (stop_of_unapplied why) run before now
+pub halted : (why : Unapplied) (run : Run) (before now : Moment) → IsHeldUp why run.setting now.stage.world now.stage.mapped → IsStarved why run before now → Stopped (stop_of_unapplied why) run before now
 halted NoRoom run before now full stands = inl (full, stands)
 halted Starved run before now held_up stands = inl (inl stands)
 

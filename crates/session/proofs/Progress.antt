@@ -32,6 +32,7 @@ use Rattle.transcript.proofs.Parts.{after_nothing}
 use Rattle.session.specs.declared.stop.Stop.{Stop}
 use Rattle.session.specs.declared.stop.Stop.TheVariants.{BadLine, OutOfMemory}
 use Rattle.session.specs.declared.stop.Unapplied.{Unapplied}
+use Rattle.session.specs.declared.stop.Unapplied.TheVariants.{StoreFull as NoRoom, OutOfMemory as Starved}
 use Rattle.session.specs.Counts.{Counts}
 use Rattle.session.specs.Headline.{IsPlayedAfter, StandsAtMapping, StandsAtQuestion, Stopped}
 use Rattle.session.specs.Moment.{Input, Moment, Run, Setting, Stage, horizon_at, onward, with_mapped, with_output}
@@ -39,7 +40,7 @@ use Rattle.session.specs.Reading.{AreFirst, HasRead, TakesByNeed}
 use Rattle.session.specs.Remapping.{Mapped, held_triples, mapped_by, remapped_some}
 use Rattle.session.specs.Stop.{stop_of_fault}
 use Rattle.session.specs.Stops.{HasTaken, StopsWithin}
-use Rattle.session.specs.Taking.{AnswersInPart, AtRest, CutsOff, IsWithin, RemapsInPart, TakesDelivery, TakesInPart, course_after, course_begun, judgement, turn}
+use Rattle.session.specs.Taking.{AnswersInPart, AtRest, CutsOff, IsUntaken, IsWithin, RemapsInPart, TakesDelivery, TakesInPart, course_after, course_begun, judgement, turn}
 use Rattle.words.specs.Options.{limit_of}
 use Rattle.session.proofs.Deliveries.{asks-push, rest_within}
 use Rattle.session.proofs.Due.{within_mapped}
@@ -111,7 +112,7 @@ module _ (run : Run) (before now : Moment) (reader : Reading) (asked : ℕ) (so_
       rw (append-nil so_far.deliveries) (first_lines (limit_of run.choices) reader now.input.left so_far.deliveries so_far.max so_far.sound before.input.left next left_next reads so_far.read)
 
   -- memory was refused: the world is as it was after the lines so far
-  pub stands : (next : Reading) (input : Input) → ReadsAsNeeded reader next now.input.left input.left → StopsWithin run before (record now { input = input })
+  pub stands : (next : Reading) (input : Input) → ReadsAsNeeded reader next now.input.left input.left → StopsWithin Starved run before (record now { input = input })
   stands next input reads = record {
     deliveries = so_far.deliveries;
     last = None;
@@ -193,29 +194,33 @@ module _ (run : Run) (before now : Moment) (reader : Reading) (asked : ℕ) (so_
           }
 
       -- a delivery wasn't taken wholly, and nothing was printed
-      starves : (why : Unapplied) → TakesInPart why run.setting d now.stage after.stage → StopsWithin run before after
+      starves : (why : Unapplied) → TakesInPart why run.setting d now.stage after.stage → StopsWithin why run before after
       starves why in_part =
           let mapped = in_part.mapped (version_in_force so_far.deliveries) so_far.at_rest.mapped in
           ⊎_elim
-          (λ same. record {
-            deliveries = so_far.deliveries;
-            last = None;
-            within = still same.0 same.1;
-            mapped = mapped;
-            first = first_still next after.input.left is.reads;
-          })
+          (untaken why mapped)
           (λ begun. record { deliveries = so_far.deliveries; last = Some d; within = begun; mapped = mapped; first = first })
           (in_part.world so_far.deliveries before.stage so_far.at_rest)
         where
           Within : Stage → Type 0
-          Within s = IsWithin run.setting (course_begun so_far.deliveries None before.stage) (λ replies. following (horizon_at before.stage) replies so_far.deliveries) before.stage s
+          Within s = IsWithin Starved run.setting (course_begun so_far.deliveries None before.stage) (λ replies. following (horizon_at before.stage) replies so_far.deliveries) before.stage s
 
           still : after.stage.world ≡ now.stage.world → after.stage.counts ≡ now.stage.counts → Within after.stage
           still world counts =
               subst (λ o. Within (with_output after.stage o)) (sym in_part.output)
               (subst (λ w. Within (with_mapped (onward now.stage after.stage.counts w) after.stage.mapped)) (sym world)
               (subst (λ c. Within (with_mapped (onward now.stage c now.stage.world) after.stage.mapped)) (sym counts)
-              (within_mapped _ _ _ _ now.stage after.stage.mapped (rest_within run.setting so_far.deliveries before.stage now.stage so_far.at_rest))))
+              (within_mapped Starved _ _ _ _ now.stage after.stage.mapped (rest_within run.setting so_far.deliveries before.stage now.stage so_far.at_rest))))
+
+          untaken : (why : Unapplied) → after.stage.mapped ≡ mapped_by (version_in_force so_far.deliveries) after.stage.world.played.records → IsUntaken why now.stage after.stage → StopsWithin why run before after
+          untaken NoRoom mapped never = absurd never
+          untaken Starved mapped same = record {
+            deliveries = so_far.deliveries;
+            last = None;
+            within = still same.0 same.1;
+            mapped = mapped;
+            first = first_still next after.input.left is.reads;
+          }
 
       -- not all that is held was mapped anew, and nothing was printed
       remaps : (why : Unapplied) → RemapsInPart why run.setting d now.stage after.stage → StandsAtMapping run before after
@@ -262,7 +267,7 @@ module _ (run : Run) (before now : Moment) (reader : Reading) (asked : ℕ) (so_
       }
 
 -- memory was refused before the first line
-pub stands_at_start : (run : Run) (h : Option ℕ) (input : Input) (output : Output) (counts : Counts) → StopsWithin run (at_start h input output counts) (at_start h input output counts)
+pub stands_at_start : (run : Run) (h : Option ℕ) (input : Input) (output : Output) (counts : Counts) → StopsWithin Starved run (at_start h input output counts) (at_start h input output counts)
 stands_at_start run h input output counts =
     let so_far : Progress run (at_start h input output counts) (at_start h input output counts) (fresh (limit_of run.choices)) 0 = nothing_begun run h input output counts in
     stands run (at_start h input output counts) (at_start h input output counts) (fresh (limit_of run.choices)) 0 so_far (fresh (limit_of run.choices)) input

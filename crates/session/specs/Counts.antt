@@ -4,6 +4,8 @@ use Rattle.revisions.specs.declared.revisions.Revisions.{Ghosts as RevisionsOf}
 use Rattle.side_output.specs.declared.entry.Entry.{Entry}
 use Rattle.replay_model.specs.Play.{risen_by}
 use Rattle.replay_model.specs.Replies.{failed_events, missing_events}
+use Rattle.session.specs.declared.stop.Unapplied.{Unapplied}
+use Rattle.session.specs.declared.stop.Unapplied.TheVariants.{StoreFull, OutOfMemory}
 
 -- how many calls a source of revisions had, how many of them found nothing, and how many failed
 pub record Counts : Type 0 where
@@ -26,9 +28,11 @@ pub record HasCounted (start now : Counts) (made : ℕ) (side : List Entry) : Ty
   pub failed : RoseBy (length (failed_events side)) start.faults now.faults
   pub missing : RoseBy (length (missing_events side)) start.misses now.misses
 
--- the same, and perhaps one fetch more was made, for an event that wasn't applied
-abbrev pub HasCountedWithin : Counts → Counts → ℕ → List Entry → Type 0
-HasCountedWithin start now made side = HasCounted start now made side ⊎ HasCounted start now (made + 1) side
+-- the same where an event wasn't applied: for want of room one fetch more was made, which gave its page, and for want of memory
+-- perhaps one more
+abbrev pub HasCountedBefore : Unapplied → Counts → Counts → ℕ → List Entry → Type 0
+HasCountedBefore StoreFull start now made side = HasCounted start now (made + 1) side
+HasCountedBefore OutOfMemory start now made side = HasCounted start now made side ⊎ HasCounted start now (made + 1) side
 
 -- a source was asked further: its contents and the most calls that ever fail are the same, and no count of what went wrong fell
 pub record HasGoneOn {R : Type 0} (members : RevisionsOf R) (old new : R) : Type 0 where

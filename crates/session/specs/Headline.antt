@@ -30,6 +30,7 @@ use Rattle.transcript.specs.Printing.{IsCutShort, Output}
 use Rattle.words.specs.Options.{limit_of}
 use Rattle.session.specs.declared.stop.Stop.{Stop}
 use Rattle.session.specs.declared.stop.Stop.TheVariants.{BadLine, ReadFault, WriteFault, TooLong, StoreFull, OutOfMemory}
+use Rattle.session.specs.declared.stop.Unapplied.TheVariants.{StoreFull as NoRoom, OutOfMemory as Starved}
 use Rattle.session.specs.Counts.{HasCounted}
 use Rattle.session.specs.Moment.{Moment, Run, Setting, Stage, with_mapped, with_output, horizon_at}
 use Rattle.session.specs.Reading.{AreDeliveries, AreFirst, AreWhole, IsPastLimit, IsRefusedLine}
@@ -165,6 +166,6 @@ Stopped ReadFault run before now = Rose before.input.faults now.input.faults × 
 Stopped WriteFault run before now = Rose before.stage.output.faults now.stage.output.faults × IsInterrupted NotWritten run before now
 Stopped TooLong run before now = StandsAtLimit run before now
 Stopped StoreFull run before now =
-    (IsFull run.setting now.stage.world now.stage.mapped × IsStarved run before now)
+    (IsFull run.setting now.stage.world now.stage.mapped × IsStarved NoRoom run before now)
     ⊎ (IsFullOfStale run.setting.room now.stage.world.played.records now.stage.mapped × StandsAtMapping run before now)
-Stopped OutOfMemory run before now = (IsStarved run before now ⊎ StandsAtMapping run before now) ⊎ IsInterrupted Refused run before now
+Stopped OutOfMemory run before now = (IsStarved Starved run before now ⊎ StandsAtMapping run before now) ⊎ IsInterrupted Refused run before now

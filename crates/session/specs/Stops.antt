@@ -6,6 +6,7 @@ use Rattle.wq_io.specs.Streams.{IsAtEnd}
 use Rattle.entity_model.specs.declared.delivery.Delivery.{Delivery}
 use Rattle.replay_model.specs.Acceptance.{version_in_force}
 use Rattle.replay_model.specs.ReplayState.{after_end, following}
+use Rattle.session.specs.declared.stop.Unapplied.{Unapplied}
 use Rattle.session.specs.Moment.{Moment, Run, horizon_at}
 use Rattle.session.specs.Reading.{AreDeliveries, AreFirst}
 use Rattle.session.specs.Remapping.{mapped_by}
@@ -21,22 +22,22 @@ pub record HasTaken (run : Run) (before now : Moment) : Type 0 where
 
 -- at a line: the world of the first lines of what was taken, of which the last is perhaps a watermark with some of the events that
 -- it makes due; every page is mapped by the version in force
-pub record StopsWithin (run : Run) (before now : Moment) : Type 0 where
+pub record StopsWithin (why : Unapplied) (run : Run) (before now : Moment) : Type 0 where
   pub deliveries : List Delivery
   pub last : Option Delivery
-  pub within : IsWithin run.setting (course_begun deliveries last before.stage) (λ replies. entered_perhaps (following (horizon_at before.stage) replies deliveries) last) before.stage now.stage
+  pub within : IsWithin why run.setting (course_begun deliveries last before.stage) (λ replies. entered_perhaps (following (horizon_at before.stage) replies deliveries) last) before.stage now.stage
   pub mapped : now.stage.mapped ≡ mapped_by (version_in_force deliveries) now.stage.world.played.records
   pub first : AreFirst (limit_of run.choices) before.input.left now.input.left (deliveries ++ option_to_list last)
 
 -- after the last line, the input being read to its end: the world of all lines and the end, with some of the events that the end
 -- makes due; every page is mapped by the version in force
-pub record StopsAtEnd (run : Run) (before now : Moment) : Type 0 where
+pub record StopsAtEnd (why : Unapplied) (run : Run) (before now : Moment) : Type 0 where
   pub deliveries : List Delivery
   pub read : IsAtEnd now.input.left
-  pub within : IsWithin run.setting (course_to_end deliveries before.stage) (λ replies. after_end (following (horizon_at before.stage) replies deliveries)) before.stage now.stage
+  pub within : IsWithin why run.setting (course_to_end deliveries before.stage) (λ replies. after_end (following (horizon_at before.stage) replies deliveries)) before.stage now.stage
   pub mapped : now.stage.mapped ≡ mapped_by (version_in_force deliveries) now.stage.world.played.records
   pub are : IfSome before.input.left (λ bytes. AreDeliveries (limit_of run.choices) bytes deliveries)
 
 -- what stands where memory was refused, or the store was full, while nothing was printed and no page was being mapped anew
-abbrev pub IsStarved : Run → Moment → Moment → Type 0
-IsStarved run before now = StopsWithin run before now ⊎ StopsAtEnd run before now
+abbrev pub IsStarved : Unapplied → Run → Moment → Moment → Type 0
+IsStarved why run before now = StopsWithin why run before now ⊎ StopsAtEnd why run before now

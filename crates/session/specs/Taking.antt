@@ -24,7 +24,7 @@ use Rattle.transcript.specs.Printing.{IsCutShort}
 use Rattle.session.specs.declared.stop.Stop.{Stop}
 use Rattle.session.specs.declared.stop.Unapplied.{Unapplied}
 use Rattle.session.specs.declared.stop.Unapplied.TheVariants.{StoreFull, OutOfMemory}
-use Rattle.session.specs.Counts.{Counts, HasCounted, HasCountedWithin}
+use Rattle.session.specs.Counts.{Counts, HasCounted, HasCountedBefore}
 use Rattle.session.specs.Moment.{Setting, Stage, onward, horizon_at}
 use Rattle.session.specs.Remapping.{HasNoRoom, IsLeftStale, KeepsVersion, Mapped, held_triples, mapped_by, remapped_some}
 use Rattle.session.specs.Stop.{stop_of_unapplied, stop_of_unwritten}
@@ -88,8 +88,8 @@ pub record IsUnderWay (setting : Setting) (course : Course) (begun : Replies →
 -- the world is so many applications of due events after where a play begins them, the least first, with some replies, each a
 -- document of its entity or a reason, and the output has what that play says; where it is known what the source has, with the
 -- replies of what is there and of the events whose fetches failed. The counts rose by the play's fetches without those that due
--- events have still to make, and perhaps by the first of these
-pub record IsWithin (setting : Setting) (course : Course) (begun : Replies → ReplayState) (start now : Stage) : Type 0 where
+-- events have still to make, and by the first of these where there was no room for what it gave; where memory was refused, perhaps
+pub record IsWithin (why : Unapplied) (setting : Setting) (course : Course) (begun : Replies → ReplayState) (start now : Stage) : Type 0 where
   pub steps : ℕ
   pub replies : Replies
   pub fit : (e : Event) (r : ℕ) → GivesDocument judgement e.entity (replies e r)
@@ -102,7 +102,7 @@ pub record IsWithin (setting : Setting) (course : Course) (begun : Replies → R
   pub fetched : made + length (fetches_due replies now.world) ≡ length (course.fetched replies)
   pub source_fetched : (contents : ℕ → Option Bytes) → setting.known ≡ Some contents →
       made + length (fetches_due (replies_there contents now.world) now.world) ≡ length (course.fetched (replies_there contents now.world))
-  pub counted : HasCountedWithin start.counts now.counts made now.world.played.side
+  pub counted : HasCountedBefore why start.counts now.counts made now.world.played.side
 
 -- right after a delivery, if there is one, is taken, before what it makes due is applied
 abbrev pub entered_perhaps : ReplayState → Option Delivery → ReplayState
@@ -145,9 +145,9 @@ IsHeldUp StoreFull setting world mapped = IsFull setting world mapped
 IsHeldUp OutOfMemory setting world mapped = ⊤
 
 -- a due event wasn't applied: where the world was under way in a play, it is so still
-abbrev pub StaysWithin : Setting → Counts → Counts → ReplayState → ReplayState → Type 0
-StaysWithin setting before now old new =
-    (course : Course) (begun : Replies → ReplayState) (start s : Stage) → IsUnderWay setting course begun start (onward s before old) → IsWithin setting course begun start (onward s now new)
+abbrev pub StaysWithin : Unapplied → Setting → Counts → Counts → ReplayState → ReplayState → Type 0
+StaysWithin why setting before now old new =
+    (course : Course) (begun : Replies → ReplayState) (start s : Stage) → IsUnderWay setting course begun start (onward s before old) → IsWithin why setting course begun start (onward s now new)
 
 -- a delivery, and how many questions were asked up to it
 pub record Turn : Type 0 where
@@ -172,6 +172,11 @@ pub record AnswersInPart (why : Unwritten) (t : Turn) (before now : Stage) : Typ
   pub counts : now.counts ≡ before.counts
   pub cut_short : IsCutShort why (ask_section t.asked (rows (held_triples before.mapped before.world.played.records) pattern)) before.output now.output
 
+-- nothing of a delivery was taken, as may be where memory was refused
+abbrev pub IsUntaken : Unapplied → Stage → Stage → Type 0
+IsUntaken StoreFull before now = ⊥
+IsUntaken OutOfMemory before now = (now.world ≡ before.world) × (now.counts ≡ before.counts)
+
 -- an event or a watermark wasn't taken wholly: nothing was printed, and a world that was at rest is as it was, with the counts, or
 -- has taken it, with some of what it makes due; every page is mapped by the version by which it was, if all were by one
 pub record TakesInPart (why : Unapplied) (setting : Setting) (d : Delivery) (before now : Stage) : Type 0 where
@@ -179,8 +184,8 @@ pub record TakesInPart (why : Unapplied) (setting : Setting) (d : Delivery) (bef
   pub output : now.output ≡ before.output
   pub mapped : KeepsVersion before.mapped now.mapped before.world.played.records now.world.played.records
   pub world : (ds : List Delivery) (start : Stage) → AtRest setting ds start before →
-      ((now.world ≡ before.world) × (now.counts ≡ before.counts))
-      ⊎ IsWithin setting (course_begun ds (Some d) start) (λ replies. entered (following (horizon_at start) replies ds) d) start now
+      IsUntaken why before now
+      ⊎ IsWithin why setting (course_begun ds (Some d) start) (λ replies. entered (following (horizon_at start) replies ds) d) start now
 
 -- a change of the mapping wasn't taken wholly: its version is in force, and the pages of some entities, the least first, are mapped
 -- by it; all else is as it was

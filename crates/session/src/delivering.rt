@@ -67,7 +67,7 @@ pub fn take_end<R: Revisions>(
 ) -> Result<(), Unapplied>
     ensures ok { OnOk result (AppliesDue (setting (R.contents revisions.old) directory.now world.old.room)
         (counts R.Revisions revisions.old) (counts R.Revisions revisions.new) (after_end world.old.replay) world.new.replay) }
-    ensures err { OnErr result (StaysWithin (setting (R.contents revisions.old) directory.now world.old.room)
+    ensures err { IfErr result (λ why. StaysWithin why (setting (R.contents revisions.old) directory.now world.old.room)
         (counts R.Revisions revisions.old) (counts R.Revisions revisions.new) (after_end world.old.replay) world.new.replay) }
     ensures held_up { IfErr result (λ why. IsHeldUp why (setting (R.contents revisions.old) directory.now world.old.room) world.new.replay (mapped_in world.new)) }
     ensures room { world.new.room ≡ world.old.room }
@@ -88,7 +88,7 @@ fn take_mark<R: Revisions>(
 ) -> Result<(), Unapplied>
     ensures ok { OnOk result (AppliesDue (setting (R.contents revisions.old) directory.now world.old.room)
         (counts R.Revisions revisions.old) (counts R.Revisions revisions.new) (after_mark world.old.replay mark.now) world.new.replay) }
-    ensures err { OnErr result (StaysWithin (setting (R.contents revisions.old) directory.now world.old.room)
+    ensures err { IfErr result (λ why. StaysWithin why (setting (R.contents revisions.old) directory.now world.old.room)
         (counts R.Revisions revisions.old) (counts R.Revisions revisions.new) (after_mark world.old.replay mark.now) world.new.replay) }
     ensures held_up { IfErr result (λ why. IsHeldUp why (setting (R.contents revisions.old) directory.now world.old.room) world.new.replay (mapped_in world.new)) }
     ensures room { world.new.room ≡ world.old.room }
@@ -129,7 +129,7 @@ fn apply_due<R: Revisions>(
 ) -> Result<(), Unapplied>
     ensures ok { OnOk result (AppliesDue (setting (R.contents revisions.old) directory.now world.old.room)
         (counts R.Revisions revisions.old) (counts R.Revisions revisions.new) world.old.replay world.new.replay) }
-    ensures err { OnErr result (StaysWithin (setting (R.contents revisions.old) directory.now world.old.room)
+    ensures err { IfErr result (λ why. StaysWithin why (setting (R.contents revisions.old) directory.now world.old.room)
         (counts R.Revisions revisions.old) (counts R.Revisions revisions.new) world.old.replay world.new.replay) }
     ensures held_up { IfErr result (λ why. IsHeldUp why (setting (R.contents revisions.old) directory.now world.old.room) world.new.replay (mapped_in world.new)) }
     ensures room { world.new.room ≡ world.old.room }

@@ -1,6 +1,7 @@
 -- One event more, and fewer wait.
 use Rattle.std.proofs.Common.{refl, ap, ◌∙◌, arith, Err, inl, inr, ⊎_elim}
 use Rattle.world.specs.WorldState.{WorldState}
+use Rattle.session.specs.declared.stop.Unapplied.TheVariants.{StoreFull, OutOfMemory}
 use Rattle.session.proofs.Due.{applies-fewer, applies-leads, goes-further, goes-nowhere, gone-on, is_full, none_due, starved}
 use Rattle.session.proofs.Versions.{applies-versions, keeps-further, keeps-still}
 use Rattle.session.proofs.delivering.apply_due.Goals as goal
@@ -35,7 +36,7 @@ returns-in-Err-Nothing-clause-source g c =
 pub returns-in-Err-OutOfMemory-clause-err : goal.returns-in-Err-OutOfMemory-clause-err
 returns-in-Err-OutOfMemory-clause-err g c =
     let call = c.in-Err-OutOfMemory.ensures in
-    starved _ _ _ _ _ _ _ c.loop.invariant.0 (record { calls = ⊎_elim (λ same. inl same) (λ one. inr one.1) call.calls_at_fault; faults = call.more_faults; misses = call.more_misses }) (ap (λ (w : WorldState). w.replay) call.err)
+    starved OutOfMemory _ _ _ _ _ _ _ c.loop.invariant.0 (record { calls = ⊎_elim (λ same. inl same) (λ one. inr one.1) call.calls_at_fault; faults = call.more_faults; misses = call.more_misses }) (ap (λ (w : WorldState). w.replay) call.err)
 
 pub returns-in-Err-OutOfMemory-clause-source : goal.returns-in-Err-OutOfMemory-clause-source
 returns-in-Err-OutOfMemory-clause-source g c =
@@ -45,7 +46,7 @@ returns-in-Err-OutOfMemory-clause-source g c =
 pub returns-in-Err-Full-clause-err : goal.returns-in-Err-Full-clause-err
 returns-in-Err-Full-clause-err g c =
     let call = c.in-Err-Full.ensures in
-    starved _ _ _ _ _ _ _ c.loop.invariant.0 (record { calls = ⊎_elim (λ same. inl same) (λ one. inr one.1) call.calls_at_fault; faults = call.more_faults; misses = call.more_misses }) (ap (λ (w : WorldState). w.replay) call.err)
+    starved StoreFull _ _ _ _ _ _ _ c.loop.invariant.0 (record { calls = call.calls_at_full (ap Err c.in-Err-Full.field-0-is); faults = call.more_faults; misses = call.more_misses }) (ap (λ (w : WorldState). w.replay) call.err)
 
 pub returns-in-Err-Full-clause-held_up : goal.returns-in-Err-Full-clause-held_up
 returns-in-Err-Full-clause-held_up g c =

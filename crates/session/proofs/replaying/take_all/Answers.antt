@@ -35,7 +35,7 @@ returns-in_err-take_end-clause-err g c =
     rw (p.1, p.2) (halted _ run before _ held_up (inr (record {
       deliveries = taken.deliveries;
       read = taken.read;
-      within = end_begun run.setting taken.deliveries before.stage between.stage _ _ (mapped_in c.take_end.new.world) stays taken.at_rest;
+      within = end_begun run.setting taken.deliveries before.stage _ between.stage _ _ (mapped_in c.take_end.new.world) stays taken.at_rest;
       mapped = c.take_end.ensures.versions _ taken.at_rest.mapped;
       are = taken.are;
     })))
