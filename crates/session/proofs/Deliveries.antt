@@ -1,5 +1,5 @@
 -- What a delivery, and the end of the input, make of a world at rest.
-use Rattle.std.proofs.Common.{refl, inl, inr, sym, subst, ap, ◌∙◌, ◌≡◌, ℕ, ◌+◌, ℤ, false, List, [], ◌∷◌, ◌++◌, length, length-append, append-nil, Option, None, Some, Ok, Err, arith}
+use Rattle.std.proofs.Common.{refl, inl, inr, sym, subst, ap, ◌∙◌, ◌≡◌, ℕ, ◌+◌, ◌≤◌, ℤ, false, List, [], ◌∷◌, ◌++◌, length, length-append, append-nil, Option, None, Some, Ok, Err, arith}
 use Rattle.std.specs.List.{filter_map}
 use Rattle.std.proofs.lemmas.List.Elements.{filter_map-append}
 use Rattle.rdf_term.specs.declared.pattern.Pattern.{Pattern}
@@ -8,13 +8,16 @@ use Rattle.wq_io.specs.Streams.{after_known}
 use Rattle.entity_model.specs.declared.event.Event.{Event}
 use Rattle.entity_model.specs.declared.delivery.Delivery.{Delivery}
 use Rattle.entity_model.specs.declared.delivery.Delivery.TheVariants.{Event as Told, Watermark, Ask, Mapping}
+use Rattle.entity_model.specs.declared.id.EntityId.{EntityId}
 use Rattle.entity_model.specs.declared.mapping.MappingVersion.{MappingVersion}
 use Rattle.side_output.specs.declared.entry.Entry.{Entry}
 use Rattle.reorder_buffer.specs.declared.taken.Taken.{Taken}
-use Rattle.reorder_buffer.specs.Buffered.{answer_to}
+use Rattle.reorder_buffer.specs.Buffered.{answer_to, first_due}
+use Rattle.replay_model.proofs.ToldContents.{Each-append}
 use Rattle.replay_model.specs.Acceptance.{mapping_of, version_in_force}
 use Rattle.replay_model.specs.Explained.{AgreeOnApplied}
 use Rattle.replay_model.specs.Records.{Records}
+use Rattle.replay_model.specs.Versions.{all_by}
 use Rattle.replay_model.specs.Play.{Replies}
 use Rattle.replay_model.specs.ReplayState.{ReplayState, after_end, after_event, after_mark, entered, following, taken_entries}
 use Rattle.replay_model.specs.Transcript.{ask_section, asks, pattern_of, said, said_at}
@@ -34,10 +37,12 @@ use Rattle.session.specs.declared.stop.Stop.TheVariants.{OutOfMemory}
 use Rattle.session.specs.declared.stop.Unapplied.{Unapplied}
 use Rattle.session.specs.declared.stop.Unapplied.TheVariants.{OutOfMemory as Starved}
 use Rattle.session.specs.Moment.{Setting, Stage, onward, with_mapped, with_output, horizon_at}
+use Rattle.session.specs.Needed.{HaveRoom, HaveRoomBefore, needed_anew, needed_at, needed_by_due, needed_in, needed_to_end}
 use Rattle.session.specs.Remapping.{IsLeftStale, KeepsVersion, Mapped, held_triples, mapped_by, remapped_some}
 use Rattle.session.specs.Stop.{stop_of_unapplied, stop_of_unwritten}
 use Rattle.session.specs.Taking.{AppliesDue, AtEnd, AtRest, Course, CutsOff, IsHeldUp, IsWithin, Leads, StaysWithin, course_after, course_begun, course_to_end, judgement, said_behind, turn}
 use Rattle.session.proofs.Due.{no_call, within}
+use Rattle.session.proofs.Needed.{all_met, due-none, first_met, needed-end, needed-push, needed-still, needed-watermark, none_left}
 use Rattle.session.proofs.Versions.{all_held_by}
 
 -- one delivery more: how many questions were asked
@@ -66,6 +71,19 @@ module _ (setting : Setting) (ds : List Delivery) (start : Stage) where
   rest_is now at_rest =
       Explained-rests judgement setting.known (course_after ds start).state (course_after ds start).fetched at_rest.leads.made now.world at_rest.leads.explained at_rest.rests
 
+  -- there was room for all that the play needs
+  rest_room : (now : Stage) (at_rest : AtRest setting ds start now) (others : Replies) → AgreeOnApplied now.world at_rest.leads.explained.replies others → HaveRoom setting.room (needed_in (horizon_at start) others ds)
+  rest_room now at_rest others agree =
+      all_met setting.room (needed_by_due (version_in_force ds) others now.world) (needed_in (horizon_at start) others ds) (due-none (version_in_force ds) others now.world at_rest.rests) (at_rest.leads.roomed others agree)
+
+  -- and so it is behind a delivery that needs none, where no event is due
+  still_room : (d : Delivery) (others : Replies) (world : ReplayState) → first_due world.buffer ≡ None → needed_at (horizon_at start) others (record { before = ds; delivery = d }) ≡ [] →
+      HaveRoom setting.room (needed_in (horizon_at start) others ds) →
+      HaveRoomBefore setting.room (needed_by_due (version_in_force (ds ++ d ∷ [])) others world) (needed_in (horizon_at start) others (ds ++ d ∷ []))
+  still_room d others world rests none have =
+      none_left setting.room (needed_by_due (version_in_force (ds ++ d ∷ [])) others world) (needed_in (horizon_at start) others (ds ++ d ∷ [])) (due-none (version_in_force (ds ++ d ∷ [])) others world rests)
+      (subst (HaveRoom setting.room) (sym (needed-still (horizon_at start) others ds d none)) have)
+
   -- where a delivery brings no version, every page is mapped by the version in force after it too
   still_mapped : (before now : Records) (d : Delivery) → mapping_of d ≡ None → (old new : Mapped) → KeepsVersion old new before now → old ≡ mapped_by (version_in_force ds) before → new ≡ mapped_by (version_in_force (ds ++ d ∷ [])) now
   still_mapped before now d none old new keeps is = keeps (version_in_force ds) is ∙ ap (λ v. mapped_by v now) (sym (version-kept ds d none))
@@ -82,6 +100,10 @@ module _ (setting : Setting) (ds : List Delivery) (start : Stage) where
     leads = record {
       made = at_rest.leads.made;
       explained = Explained-event judgement setting.known (horizon_at start) ds at_rest.leads.made now.world at_rest.leads.explained at_rest.rests e;
+      roomed = λ others agree. still_room (Told e) others (after_event now.world e)
+          (Explained-event_rests judgement setting.known (horizon_at start) ds at_rest.leads.made now.world at_rest.leads.explained at_rest.rests e) refl
+          (rest_room now at_rest others
+          (λ q r h. agree q r (applied-event now.world e q (rest_open now at_rest) ∙ h) ∙ ap (λ (replies : Replies). replies q r) (event_replies judgement setting.known (horizon_at start) ds at_rest.leads.made now.world at_rest.leads.explained at_rest.rests e)));
       counted = counted_taking now.counts at_rest.leads.made now.world.played.side (answer_to now.world.buffer e) e at_rest.leads.counted;
       documents = at_rest.leads.documents;
       says = λ others agree. silent now.output.bytes (Told e) others refl (at_rest.leads.says others
@@ -96,11 +118,33 @@ module _ (setting : Setting) (ds : List Delivery) (start : Stage) where
   abbrev course_of_mark : ℤ → Course
   course_of_mark m = course_begun ds (Some (Watermark m)) start
 
+  -- a watermark is taken: there was room for all but what it makes due
+  mark_room : (now : Stage) (m : ℤ) (at_rest : AtRest setting ds start now) (others : Replies) → AgreeOnApplied now.world at_rest.leads.explained.replies others →
+      HaveRoomBefore setting.room (needed_by_due (version_in_force (ds ++ Watermark m ∷ [])) others (after_mark now.world m)) (needed_in (horizon_at start) others (ds ++ Watermark m ∷ []))
+  mark_room now m at_rest others agree =
+      let first : List ℕ = needed_in (horizon_at start) others ds in
+      first_met setting.room (needed_by_due (version_in_force (ds ++ Watermark m ∷ [])) others (after_mark now.world m)) (needed_in (horizon_at start) others (ds ++ Watermark m ∷ [])) first
+      (needed-watermark (horizon_at start) others ds m
+      ∙ ap (λ w. first ++ needed_by_due (version_in_force ds) others (after_mark w m)) (sym (rest_is now at_rest others agree))
+      ∙ ap (λ v. first ++ needed_by_due v others (after_mark now.world m)) (sym (version-kept ds (Watermark m) refl)))
+      (rest_room now at_rest others agree)
+
+  -- the end is taken: there was room for all but what waits
+  end_room : (now : Stage) (at_rest : AtRest setting ds start now) (others : Replies) → AgreeOnApplied now.world at_rest.leads.explained.replies others →
+      HaveRoomBefore setting.room (needed_by_due (version_in_force ds) others (after_end now.world)) (needed_to_end (horizon_at start) others ds)
+  end_room now at_rest others agree =
+      let first : List ℕ = needed_in (horizon_at start) others ds in
+      first_met setting.room (needed_by_due (version_in_force ds) others (after_end now.world)) (needed_to_end (horizon_at start) others ds) first
+      (needed-end (horizon_at start) others ds ∙ ap (λ w. first ++ needed_by_due (version_in_force ds) others (after_end w)) (sym (rest_is now at_rest others agree)))
+      (rest_room now at_rest others agree)
+
   -- a watermark is taken: the world leads to the play with it
   abbrev mark_leads : (now : Stage) (mapped : Mapped) (m : ℤ) → AtRest setting ds start now → Leads setting (course_of_mark m) start (onward (with_mapped now mapped) now.counts (after_mark now.world m))
   mark_leads now mapped m at_rest = record {
     made = at_rest.leads.made;
     explained = Explained-mark judgement setting.known (horizon_at start) ds at_rest.leads.made now.world at_rest.leads.explained at_rest.rests m;
+    roomed = λ others agree. mark_room now m at_rest others
+        (λ q r h. agree q r (applied-mark now.world m q h) ∙ ap (λ (replies : Replies). replies q r) (mark_replies judgement setting.known (horizon_at start) ds at_rest.leads.made now.world at_rest.leads.explained at_rest.rests m));
     counted = at_rest.leads.counted;
     documents = at_rest.leads.documents;
     says = λ others agree. at_rest.leads.says others
@@ -112,17 +156,23 @@ module _ (setting : Setting) (ds : List Delivery) (start : Stage) where
   end_leads now mapped at_rest = record {
     made = at_rest.leads.made;
     explained = Explained-end judgement setting.known (horizon_at start) ds at_rest.leads.made now.world at_rest.leads.explained at_rest.rests;
+    roomed = λ others agree. end_room now at_rest others
+        (λ q r h. agree q r (applied-end now.world q h) ∙ ap (λ (replies : Replies). replies q r) (end_replies judgement setting.known (horizon_at start) ds at_rest.leads.made now.world at_rest.leads.explained at_rest.rests));
     counted = at_rest.leads.counted;
     documents = at_rest.leads.documents;
     says = λ others agree. at_rest.leads.says others
         (λ q r h. agree q r (applied-end now.world q h) ∙ ap (λ (replies : Replies). replies q r) (end_replies judgement setting.known (horizon_at start) ds at_rest.leads.made now.world at_rest.leads.explained at_rest.rests));
   }
 
+  -- every page is mapped by the version in force with the watermark
+  mark_mapped : (now : Stage) (m : ℤ) → AtRest setting ds start now → now.mapped ≡ mapped_by (version_in_force (ds ++ Watermark m ∷ [])) now.world.played.records
+  mark_mapped now m at_rest = still_mapped now.world.played.records now.world.played.records (Watermark m) refl now.mapped now.mapped (λ version is. is) at_rest.mapped
+
   -- a watermark is taken, and what is due is applied
-  pub mark_taken : (now : Stage) (counts : Counts) (new : ReplayState) (mapped : Mapped) (m : ℤ) → AppliesDue setting now.counts counts (after_mark now.world m) new →
+  pub mark_taken : (now : Stage) (counts : Counts) (new : ReplayState) (mapped : Mapped) (m : ℤ) → AppliesDue setting now.mapped now.counts counts (after_mark now.world m) new →
       KeepsVersion now.mapped mapped now.world.played.records new.played.records → AtRest setting ds start now → AtRest setting (ds ++ Watermark m ∷ []) start (onward (with_mapped now mapped) counts new)
   mark_taken now counts new mapped m applies keeps at_rest =
-      let there = applies.leads (course_of_mark m) start (with_mapped now mapped) (mark_leads now mapped m at_rest) in
+      let there = applies.leads (course_of_mark m) start (with_mapped now mapped) (mark_mapped now m at_rest) (mark_leads now mapped m at_rest) in
       record {
         leads = record {
           made = there.made;
@@ -130,6 +180,7 @@ module _ (setting : Setting) (ds : List Delivery) (start : Stage) where
           counted = there.counted;
           documents = there.documents;
           says = λ others agree. silent now.output.bytes (Watermark m) others refl (there.says others agree);
+          roomed = there.roomed;
         };
         rests = applies.rests;
         mapped = still_mapped now.world.played.records new.played.records (Watermark m) refl now.mapped mapped keeps at_rest.mapped;
@@ -137,10 +188,10 @@ module _ (setting : Setting) (ds : List Delivery) (start : Stage) where
       }
 
   -- the end is taken, and what waits is applied
-  pub end_taken : (now : Stage) (counts : Counts) (new : ReplayState) (mapped : Mapped) → AppliesDue setting now.counts counts (after_end now.world) new →
+  pub end_taken : (now : Stage) (counts : Counts) (new : ReplayState) (mapped : Mapped) → AppliesDue setting now.mapped now.counts counts (after_end now.world) new →
       KeepsVersion now.mapped mapped now.world.played.records new.played.records → AtRest setting ds start now → AtEnd setting ds start (onward (with_mapped now mapped) counts new)
   end_taken now counts new mapped applies keeps at_rest = record {
-    leads = applies.leads (course_to_end ds start) start (with_mapped now mapped) (end_leads now mapped at_rest);
+    leads = applies.leads (course_to_end ds start) start (with_mapped now mapped) at_rest.mapped (end_leads now mapped at_rest);
     rests = applies.rests;
     mapped = keeps (version_in_force ds) at_rest.mapped;
     later = at_rest.later;
@@ -153,10 +204,10 @@ module _ (setting : Setting) (ds : List Delivery) (start : Stage) where
       subst There (sym (append-nil ds)) (within Starved setting (course_after ds start) (λ replies. following (horizon_at start) replies ds) start now now.counts (no_call now.counts) (record { leads = at_rest.leads; steps = 0; is = rest_is now at_rest }))
 
   -- a watermark is taken, and some of what is due is applied
-  pub mark_begun : (why : Unapplied) (now : Stage) (counts : Counts) (new : ReplayState) (mapped : Mapped) (m : ℤ) → StaysWithin why setting now.counts counts (after_mark now.world m) new → AtRest setting ds start now →
+  pub mark_begun : (why : Unapplied) (now : Stage) (counts : Counts) (new : ReplayState) (mapped : Mapped) (m : ℤ) → StaysWithin why setting now.mapped now.counts counts (after_mark now.world m) new → AtRest setting ds start now →
       IsWithin why setting (course_of_mark m) (λ replies. entered (following (horizon_at start) replies ds) (Watermark m)) start (onward (with_mapped now mapped) counts new)
   mark_begun why now counts new mapped m stays at_rest =
-      stays (course_of_mark m) (λ replies. entered (following (horizon_at start) replies ds) (Watermark m)) start (with_mapped now mapped) (record {
+      stays (course_of_mark m) (λ replies. entered (following (horizon_at start) replies ds) (Watermark m)) start (with_mapped now mapped) (mark_mapped now m at_rest) (record {
         leads = mark_leads now mapped m at_rest;
         steps = 0;
         is = λ others agree. ap (λ w. after_mark w m) (rest_is now at_rest others
@@ -164,10 +215,10 @@ module _ (setting : Setting) (ds : List Delivery) (start : Stage) where
       })
 
   -- the end is taken, and some of what waits is applied
-  pub end_begun : (why : Unapplied) (now : Stage) (counts : Counts) (new : ReplayState) (mapped : Mapped) → StaysWithin why setting now.counts counts (after_end now.world) new → AtRest setting ds start now →
+  pub end_begun : (why : Unapplied) (now : Stage) (counts : Counts) (new : ReplayState) (mapped : Mapped) → StaysWithin why setting now.mapped now.counts counts (after_end now.world) new → AtRest setting ds start now →
       IsWithin why setting (course_to_end ds start) (λ replies. after_end (following (horizon_at start) replies ds)) start (onward (with_mapped now mapped) counts new)
   end_begun why now counts new mapped stays at_rest =
-      stays (course_to_end ds start) (λ replies. after_end (following (horizon_at start) replies ds)) start (with_mapped now mapped) (record {
+      stays (course_to_end ds start) (λ replies. after_end (following (horizon_at start) replies ds)) start (with_mapped now mapped) at_rest.mapped (record {
         leads = end_leads now mapped at_rest;
         steps = 0;
         is = λ others agree. ap after_end (rest_is now at_rest others
@@ -189,6 +240,8 @@ module _ (setting : Setting) (ds : List Delivery) (start : Stage) where
     leads = record {
       made = at_rest.leads.made;
       explained = Explained-ask judgement setting.known (horizon_at start) ds at_rest.leads.made now.world at_rest.leads.explained at_rest.rests q;
+      roomed = λ others agree. still_room (Ask q) others now.world at_rest.rests refl (rest_room now at_rest others
+          (λ e r h. agree e r h ∙ ap (λ (replies : Replies). replies e r) (ask_replies judgement setting.known (horizon_at start) ds at_rest.leads.made now.world at_rest.leads.explained at_rest.rests q)));
       counted = at_rest.leads.counted;
       documents = at_rest.leads.documents;
       says = λ others agree.
@@ -206,12 +259,28 @@ module _ (setting : Setting) (ds : List Delivery) (start : Stage) where
     later = omega (arith, at_rest.later, prints.later);
   }
 
+  -- another version of the mapping comes into force, by which every page is mapped: there was room for this too
+  mapping_room : (now : Stage) (v : MappingVersion) (at_rest : AtRest setting ds start now) → HaveRoom setting.room (needed_anew now.world.played.records (record { version = v; second = now.mapped.second })) →
+      (others : Replies) → AgreeOnApplied now.world at_rest.leads.explained.replies others →
+      HaveRoomBefore setting.room (needed_by_due (version_in_force (ds ++ Mapping v ∷ [])) others now.world) (needed_in (horizon_at start) others (ds ++ Mapping v ∷ []))
+  mapping_room now v at_rest have others agree =
+      let Roomed : List EntityId → Type 0 = λ second. HaveRoom setting.room (needed_anew now.world.played.records (record { version = v; second = second })) in
+      let by_version : Roomed (all_by (version_in_force ds) now.world.played.records) = subst Roomed (ap (λ (m : Mapped). m.second) at_rest.mapped) have in
+      let anew : HaveRoom setting.room (needed_at (horizon_at start) others (record { before = ds; delivery = Mapping v })) =
+      subst (λ (w : ReplayState). HaveRoom setting.room (needed_anew w.played.records (record { version = v; second = all_by (version_in_force ds) w.played.records }))) (rest_is now at_rest others agree) by_version in
+      none_left setting.room (needed_by_due (version_in_force (ds ++ Mapping v ∷ [])) others now.world) (needed_in (horizon_at start) others (ds ++ Mapping v ∷ []))
+      (due-none (version_in_force (ds ++ Mapping v ∷ [])) others now.world at_rest.rests)
+      (subst (HaveRoom setting.room) (sym (needed-push (horizon_at start) others ds (Mapping v))) (Each-append (λ n. n ≤ setting.room) _ _ (rest_room now at_rest others agree) anew))
+
   -- another version of the mapping comes into force, and every page is mapped by it
-  pub mapping_taken : (now : Stage) (mapped : Mapped) (v : MappingVersion) → mapped ≡ mapped_by v now.world.played.records → AtRest setting ds start now → AtRest setting (ds ++ Mapping v ∷ []) start (with_mapped now mapped)
-  mapping_taken now mapped v is at_rest = record {
+  pub mapping_taken : (now : Stage) (mapped : Mapped) (v : MappingVersion) → mapped ≡ mapped_by v now.world.played.records →
+      HaveRoom setting.room (needed_anew now.world.played.records (record { version = v; second = now.mapped.second })) → AtRest setting ds start now → AtRest setting (ds ++ Mapping v ∷ []) start (with_mapped now mapped)
+  mapping_taken now mapped v is have at_rest = record {
     leads = record {
       made = at_rest.leads.made;
       explained = Explained-mapping judgement setting.known (horizon_at start) ds at_rest.leads.made now.world at_rest.leads.explained at_rest.rests v;
+      roomed = λ others agree. mapping_room now v at_rest have others
+          (λ q r h. agree q r h ∙ ap (λ (replies : Replies). replies q r) (mapping_replies judgement setting.known (horizon_at start) ds at_rest.leads.made now.world at_rest.leads.explained at_rest.rests v));
       counted = at_rest.leads.counted;
       documents = at_rest.leads.documents;
       says = λ others agree. silent now.output.bytes (Mapping v) others refl (at_rest.leads.says others
@@ -238,7 +307,7 @@ event_cut_off setting e asked now new mapped same same_mapped = inr (inl (
 
 -- a watermark was taken, and some of what is due was applied
 pub mark_cut_off : (why : Unapplied) (setting : Setting) (m : ℤ) (asked : ℕ) (now : Stage) (counts : Counts) (new : ReplayState) (mapped : Mapped) → IsHeldUp why setting new mapped →
-    KeepsVersion now.mapped mapped now.world.played.records new.played.records → StaysWithin why setting now.counts counts (after_mark now.world m) new →
+    KeepsVersion now.mapped mapped now.world.played.records new.played.records → StaysWithin why setting now.mapped now.counts counts (after_mark now.world m) new →
     CutsOff (stop_of_unapplied why) setting (turn asked (Watermark m)) now (onward (with_mapped now mapped) counts new)
 mark_cut_off why setting m asked now counts new mapped held_up keeps stays =
     inr (inl (why, refl, record { held_up = held_up; output = refl; mapped = keeps; world = λ ds start at_rest. inr (mark_begun setting ds start why now counts new mapped m stays at_rest) }))
@@ -251,8 +320,9 @@ ask_cut_off why setting q asked now out prints = inl (why, refl, record { patter
 -- another version of the mapping came into force, and some of what is held was mapped anew
 pub mapping_cut_off : (why : Unapplied) (setting : Setting) (v : MappingVersion) (asked : ℕ) (now : Stage) (new : ReplayState) (mapped : Mapped) → new ≡ now.world → IsLeftStale why setting.room now.world.played.records mapped →
     (steps : ℕ) × (mapped ≡ remapped_some steps now.world.played.records (record { version = v; second = now.mapped.second })) →
+    HaveRoomBefore setting.room (needed_anew now.world.played.records mapped) (needed_anew now.world.played.records (record { version = v; second = now.mapped.second })) →
     CutsOff (stop_of_unapplied why) setting (turn asked (Mapping v)) now (onward (with_mapped now mapped) now.counts new)
-mapping_cut_off why setting v asked now new mapped same stale some = inr (inr (
+mapping_cut_off why setting v asked now new mapped same stale some have = inr (inr (
   why,
   refl,
   record {
@@ -264,5 +334,6 @@ mapping_cut_off why setting v asked now new mapped same stale some = inr (inr (
     world = same;
     steps = some.0;
     mapped = some.1;
+    roomed = have;
   },
 ))

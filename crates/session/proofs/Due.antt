@@ -1,10 +1,11 @@
 -- One due event is applied: the world still leads to its play, the counts rise with its fetch, and fewer events wait.
-use Rattle.std.proofs.Common.{refl, sym, subst, ◌∙◌, ap, inl, inr, ⊎_elim, ◌≡◌, ◌⊎◌, ℕ, suc, ◌+◌, ◌-◌, ◌^◌, ◌<◌, ◌≤◌, Bool, true, false, cond, max, min, List, [], ◌∷◌, length, length-append, Option, None, Some, Result, Ok, Err, arith}
+use Rattle.std.proofs.Common.{refl, sym, subst, ◌∙◌, ap, inl, inr, ⊎_elim, ◌≡◌, ◌⊎◌, ℕ, suc, ◌+◌, ◌-◌, ◌^◌, ◌<◌, ◌≤◌, Bool, true, false, cond, max, min, List, [], ◌∷◌, ◌++◌, length, length-append, Option, None, Some, Result, Ok, Err, arith}
 use Rattle.std.specs.List.{find}
 use Rattle.std.specs.Set.{remove_key}
 use Rattle.entity_model.specs.declared.id.EntityId.{EntityId}
 use Rattle.entity_model.specs.declared.unfit.Unfit.{Unfit}
 use Rattle.entity_model.specs.declared.event.Event.{Event}
+use Rattle.entity_model.specs.declared.mapping.MappingVersion.{MappingVersion}
 use Rattle.entity_state.specs.State.{state_after, is_deleted}
 use Rattle.side_output.specs.declared.entry.Cause.{Cause}
 use Rattle.side_output.specs.declared.entry.Entry.{Entry}
@@ -14,7 +15,7 @@ use Rattle.reorder_buffer.specs.Buffered.{first_due}
 use Rattle.replay_model.specs.Records.{Bytes, record_of}
 use Rattle.replay_model.specs.Play.{Replies, risen_by}
 use Rattle.replay_model.specs.Replies.{GivesDocument, HasUnfit, failed_events, missing_events, reply_there}
-use Rattle.replay_model.specs.ReplayState.{ReplayState, after_next}
+use Rattle.replay_model.specs.ReplayState.{ReplayState, after_applying, after_next}
 use Rattle.replay_model.specs.Explained.{AgreeOnApplied, is_fetching, revision_wanted}
 use Rattle.replay_model.proofs.Documents.{documents-apply}
 use Rattle.replay_model.proofs.Explaining.{Explained-next, Next, next_by}
@@ -30,12 +31,14 @@ use Rattle.session.specs.declared.stop.Unapplied.{Unapplied}
 use Rattle.session.specs.declared.stop.Unapplied.TheVariants.{StoreFull, OutOfMemory}
 use Rattle.revisions.specs.declared.revisions.Revisions.{Ghosts as RevisionsOf}
 use Rattle.session.specs.Moment.{Setting, Stage, onward, setting, with_mapped}
-use Rattle.session.specs.Remapping.{HasNoRoom, Mapped, mapped_in}
+use Rattle.session.specs.Needed.{HaveRoom, needed_by, needed_by_due, needed_for}
+use Rattle.session.specs.Remapping.{HasNoRoom, KeepsVersion, Mapped, mapped_by, mapped_in}
 use Rattle.session.specs.Taking.{AppliesDue, Course, IsFull, IsUnderWay, IsWithin, Leads, StaysWithin, judgement, replies_there}
+use Rattle.session.proofs.Needed.{due-some, next_met, room_replied}
 
--- events are applied: the world leads where it led
-pub record Goes (setting : Setting) (before now : Counts) (old new : ReplayState) : Type 0 where
-  pub leads : (course : Course) (begun : Replies → ReplayState) (start s : Stage) → IsUnderWay setting course begun start (onward s before old) → IsUnderWay setting course begun start (onward s now new)
+-- events are applied: the world leads where it led, where every page was mapped by the version of the play
+pub record Goes (setting : Setting) (mapped : Mapped) (before now : Counts) (old new : ReplayState) : Type 0 where
+  pub leads : (course : Course) (begun : Replies → ReplayState) (start s : Stage) → mapped ≡ mapped_by course.version old.played.records → IsUnderWay setting course begun start (onward s before old) → IsUnderWay setting course begun start (onward s now new)
 
 -- the counts after an application, as its outcome shows
 pub record Rises (outcome : Outcome) (before now : Counts) : Type 0 where
@@ -133,10 +136,12 @@ reply_gives contents directory x r (Ok bytes) is = is.0
 reply_gives contents directory x r (Err cause) is = tt
 
 -- the world still leads to its play, one application further
-pub applies-leads : (contents : Option Contents) (directory : List ℕ) (room : ℕ) (before now : Counts) (old new : ReplayState) (applied : Applied) → Applies contents directory old new applied → Rises applied.outcome before now →
-    Goes (setting contents directory room) before now old new
-applies-leads contents directory room before now old new applied a rises = record {
-  leads = λ course begun start s under_way.
+pub applies-leads : (contents : Option Contents) (directory : List ℕ) (room : ℕ) (mapped : Mapped) (before now : Counts) (old new : ReplayState) (applied : Applied) (a : Applies contents directory old new applied) → Rises applied.outcome before now →
+    ((version : MappingVersion) → mapped ≡ mapped_by version old.played.records →
+    HaveRoom room (cond (is_fetching old applied.event) (needed_for version old.played.records applied.event.entity (revision_wanted old applied.event) a.reply) [])) →
+    Goes (setting contents directory room) mapped before now old new
+applies-leads contents directory room mapped before now old new applied a rises has_room = record {
+  leads = λ course begun start s is_mapped under_way.
       let known : Option (ℕ → Option Bytes) = (setting contents directory room).known in
       let e : Event = applied.event in
       let leads : Leads (setting contents directory room) course start (onward s before old) = under_way.leads in
@@ -154,6 +159,13 @@ applies-leads contents directory room before now old new applied a rises = recor
           counted = subst Counted a.new_is (counted_applying contents directory start.counts before now leads.made old new applied a rises leads.counted);
           documents = documents-apply judgement e a.reply (reply_gives contents directory e.entity _ a.reply a.is_reply) old.played leads.documents;
           says = λ others agree. leads.says others (next.agree_before others agree);
+          roomed = λ others agree.
+              let same : next_by old e a.reply ≡ after_applying others old (Some e) = next.is_next others agree ∙ ap (after_applying others old) a.due in
+              let needed_now : List ℕ = needed_by course.version others old.played.records e (record_of old.played.records e.entity) in
+              next_met room (needed_by_due course.version others (next_by old e a.reply)) (course.needed others) needed_now (needed_by_due course.version others old)
+              (due-some course.version others old e a.due ∙ ap (λ w. needed_now ++ needed_by_due course.version others w) (sym same))
+              (room_replied old e room course.version a.reply others same (has_room course.version is_mapped))
+              (leads.roomed others (next.agree_before others agree));
         };
         steps = suc under_way.steps;
         is = λ others agree. next.is_next others agree ∙ ap (after_next others) (under_way.is others (next.agree_before others agree));
@@ -175,13 +187,14 @@ applies-fewer contents directory old new applied a =
     rw a.new_is (removed _ applied.event old.buffer.waiting a.due)
 
 -- before the first event
-pub goes-nowhere : (setting : Setting) (now : Counts) (world : ReplayState) → Goes setting now now world world
-goes-nowhere setting now world = record { leads = λ course begun start s under_way. under_way }
+pub goes-nowhere : (setting : Setting) (mapped : Mapped) (now : Counts) (world : ReplayState) → Goes setting mapped now now world world
+goes-nowhere setting mapped now world = record { leads = λ course begun start s is_mapped under_way. under_way }
 
 -- some events, and then more
-pub goes-further : (setting : Setting) (before between now : Counts) (old middle new : ReplayState) → Goes setting before between old middle → Goes setting between now middle new → Goes setting before now old new
-goes-further setting before between now old middle new first second = record {
-  leads = λ course begun start s under_way. second.leads course begun start s (first.leads course begun start s under_way);
+pub goes-further : (setting : Setting) (mapped mapped_then : Mapped) (before between now : Counts) (old middle new : ReplayState) → KeepsVersion mapped mapped_then old.played.records middle.played.records →
+    Goes setting mapped before between old middle → Goes setting mapped_then between now middle new → Goes setting mapped before now old new
+goes-further setting mapped mapped_then before between now old middle new keeps first second = record {
+  leads = λ course begun start s is_mapped under_way. second.leads course begun start s (keeps course.version is_mapped) (first.leads course begun start s is_mapped under_way);
 }
 
 -- a source was asked further, twice
@@ -223,17 +236,18 @@ pub no_call : (counts : Counts) → Lasts OutOfMemory counts counts
 no_call counts = record { calls = inl refl; faults = omega arith; misses = omega arith }
 
 -- no event is left: the last call has made no fetch
-pub none_due : (setting : Setting) (before now last : Counts) (old world new : ReplayState) → Goes setting before now old world → last.calls ≡ now.calls → now.faults ≤ last.faults → now.misses ≤ last.misses →
-    new ≡ world → first_due world.buffer ≡ None → AppliesDue setting before last old new
-none_due setting before now last old world new goes calls faults misses same none = rw same (record {
-  leads = λ course start s leads.
-      let there = (goes.leads course (λ replies. old) start s (record { leads = leads; steps = 0; is = λ others agree. refl })).leads in
+pub none_due : (setting : Setting) (mapped : Mapped) (before now last : Counts) (old world new : ReplayState) → Goes setting mapped before now old world → last.calls ≡ now.calls → now.faults ≤ last.faults → now.misses ≤ last.misses →
+    new ≡ world → first_due world.buffer ≡ None → AppliesDue setting mapped before last old new
+none_due setting mapped before now last old world new goes calls faults misses same none = rw same (record {
+  leads = λ course start s is_mapped leads.
+      let there = (goes.leads course (λ replies. old) start s is_mapped (record { leads = leads; steps = 0; is = λ others agree. refl })).leads in
       record {
         made = there.made;
         explained = there.explained;
         counted = counted_on start.counts now last _ _ _ (calls ∙ there.counted.calls) faults misses there.counted;
         documents = there.documents;
         says = there.says;
+        roomed = there.roomed;
       };
   rests = none;
 })
@@ -252,6 +266,8 @@ within why setting course begun start now counts last under_way =
       says = under_way.leads.says under_way.leads.explained.replies (λ q r h. refl);
       source = λ contents is. under_way.is (replies_there contents now.world) (honest contents is);
       source_says = λ contents is. under_way.leads.says (replies_there contents now.world) (honest contents is);
+      roomed = under_way.leads.roomed under_way.leads.explained.replies (λ q r h. refl);
+      source_roomed = λ contents is. under_way.leads.roomed (replies_there contents now.world) (honest contents is);
       documents = under_way.leads.documents;
       made = under_way.leads.made;
       fetched = under_way.leads.explained.counts under_way.leads.explained.replies (λ q r h. refl);
@@ -270,6 +286,8 @@ within_mapped why setting course begun start now mapped x = record {
   says = x.says;
   source = x.source;
   source_says = x.source_says;
+  roomed = x.roomed;
+  source_roomed = x.source_roomed;
   documents = x.documents;
   made = x.made;
   fetched = x.fetched;
@@ -278,8 +296,10 @@ within_mapped why setting course begun start now mapped x = record {
 }
 
 -- an event isn't applied: the world is that before
-pub starved : (why : Unapplied) (setting : Setting) (before now last : Counts) (old world new : ReplayState) → Goes setting before now old world → Lasts why now last → new ≡ world → StaysWithin why setting before last old new
-starved why setting before now last old world new goes lasts same = rw same (λ course begun start s under_way. within why setting course begun start (onward s now world) last lasts (goes.leads course begun start s under_way))
+pub starved : (why : Unapplied) (setting : Setting) (mapped : Mapped) (before now last : Counts) (old world new : ReplayState) → Goes setting mapped before now old world → Lasts why now last → new ≡ world →
+    StaysWithin why setting mapped before last old new
+starved why setting mapped before now last old world new goes lasts same =
+    rw same (λ course begun start s is_mapped under_way. within why setting course begun start (onward s now world) last lasts (goes.leads course begun start s is_mapped under_way))
 
 -- where the world says that there is no room, the store is full
 full_there : (contents : Option Contents) (directory : List ℕ) (room : ℕ) (x : EntityId) (r : ℕ) (bytes : Bytes) → IsReply contents directory x r (Ok bytes) → (there : ℕ → Option Bytes) →

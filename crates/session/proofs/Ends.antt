@@ -42,6 +42,7 @@ use Rattle.session.specs.declared.stop.Unapplied.{Unapplied}
 use Rattle.session.specs.declared.stop.Unapplied.TheVariants.{StoreFull as NoRoom, OutOfMemory as Starved}
 use Rattle.session.specs.Taking.{AtEnd, Course, HoldsDocuments, IsHeldUp, Leads, course_printed, course_to_end, judgement, replies_there, said_behind}
 use Rattle.words.specs.Options.{limit_of}
+use Rattle.session.proofs.Needed.{all_met, due-none}
 use Rattle.session.proofs.Versions.{all_held_by}
 
 -- where no event is due, a world that leads to a play is played
@@ -52,11 +53,14 @@ is_played setting course start now x rests mapped = record {
   fit = x.explained.fit;
   is = Explained-is judgement setting.known course.state course.fetched x.made now.world x.explained rests;
   says = x.says x.explained.replies (λ q r h. refl);
+  roomed = all_met setting.room _ _ (due-none course.version x.explained.replies now.world rests) (x.roomed x.explained.replies (λ q r h. refl));
   documents = x.documents;
   mapped = mapped;
   counted = subst (λ (n : ℕ). HasCounted start.counts now.counts n now.world.played.side) (Explained-fetches judgement setting.known course.state course.fetched x.made now.world x.explained rests) x.counted;
   source = Explained-source judgement setting.known course.state course.fetched x.made now.world x.explained rests;
   source_says = λ contents is. x.says (replies_there contents now.world) (λ q r h. sym (x.explained.honest contents is q r));
+  source_roomed = λ contents is.
+      all_met setting.room _ _ (due-none course.version (replies_there contents now.world) now.world rests) (x.roomed (replies_there contents now.world) (λ q r h. sym (x.explained.honest contents is q r)));
   source_counted = λ contents is.
       subst (λ (n : ℕ). HasCounted start.counts now.counts n now.world.played.side) (Explained-source_fetches judgement setting.known course.state course.fetched x.made now.world x.explained rests contents is) x.counted;
 }
@@ -152,11 +156,13 @@ module _ (setting : Setting) (sections : Sections) (ds : List Delivery) (start n
       fit = replay.played.fit;
       is = replay.played.is;
       says = transcribed replay.played.replies replay.played.is replay.played.says;
+      roomed = replay.played.roomed;
       documents = replay.played.documents;
       mapped = replay.played.mapped;
       counted = replay.played.counted;
       source = replay.played.source;
       source_says = transcribed_there;
+      source_roomed = replay.played.source_roomed;
       source_counted = replay.played.source_counted;
     };
     fates = replay.fates;

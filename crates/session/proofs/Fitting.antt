@@ -1,7 +1,6 @@
 -- Where it is known what the source has, the terms of what is held and of a page that comes are among those of the pages that the
 -- input may bring.
 use Rattle.std.proofs.Common.{◌≡◌, refl, sym, subst, ◌∙◌, ⊎_elim, ℕ, zero, suc, ◌<◌, ◌≤◌, List, [], ◌∷◌, ◌++◌, append-nil, Option, None, Some, arith}
-use Rattle.std.specs.FinMap as map
 use Rattle.std.specs.Option.{option_to_list}
 use Rattle.std.specs.Ordering.{eq_by_cmp}
 use Rattle.rising.specs.Rising.{In, has}

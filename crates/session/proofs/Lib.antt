@@ -6,6 +6,7 @@ mod Due
 mod Ends
 mod Finding
 mod Fitting
+mod Needed
 mod Opening
 mod Progress
 mod Reading

@@ -36,6 +36,7 @@ use Rattle.session.specs.declared.stop.Unapplied.TheVariants.{StoreFull as NoRoo
 use Rattle.session.specs.Counts.{Counts}
 use Rattle.session.specs.Headline.{IsPlayedAfter, StandsAtMapping, StandsAtQuestion, Stopped}
 use Rattle.session.specs.Moment.{Input, Moment, Run, Setting, Stage, horizon_at, onward, with_mapped, with_output}
+use Rattle.session.specs.Needed.{HaveRoomBefore, needed_anew}
 use Rattle.session.specs.Reading.{AreFirst, HasRead, TakesByNeed}
 use Rattle.session.specs.Remapping.{Mapped, held_triples, mapped_by, remapped_some}
 use Rattle.session.specs.Stop.{stop_of_fault}
@@ -71,6 +72,7 @@ nothing_taken setting h output counts = record {
     counted = record { calls = sym (risen_by-none counts.calls); failed = λ below. omega arith; missing = λ below. omega arith };
     documents = λ x. subst (λ (r : Record Bytes). HoldsDocument judgement x r.held) (sym (record_of-empty x)) tt;
     says = λ others agree. sym (after_nothing output.bytes);
+    roomed = λ others agree. record { met = []; are = refl; have_room = tt };
   };
   rests = refl;
   mapped = refl;
@@ -236,6 +238,9 @@ module _ (run : Run) (before now : Moment) (reader : Reading) (asked : ℕ) (so_
             mapped = in_part.mapped
                 ∙ ap (start now.stage.world) (ap (λ (m : Mapped). m.second) so_far.at_rest.mapped)
                 ∙ ap (λ (w : ReplayState). start w (all_by v w.played.records)) (sym in_part.world);
+            roomed = subst (λ (w : ReplayState). HaveRoomBefore run.setting.room (needed_anew w.played.records after.stage.mapped) (needed_anew w.played.records (record { version = in_part.version; second = all_by v w.played.records }))) (sym in_part.world)
+                (subst (λ second. HaveRoomBefore run.setting.room (needed_anew now.stage.world.played.records after.stage.mapped) (needed_anew now.stage.world.played.records (record { version = in_part.version; second = second })))
+                (ap (λ (m : Mapped). m.second) so_far.at_rest.mapped) in_part.roomed);
             first = subst (λ q. AreFirst (limit_of run.choices) before.input.left after.input.left (so_far.deliveries ++ q ∷ [])) in_part.is first;
           }
 

@@ -1,5 +1,5 @@
 -- By which versions all that is held is mapped, after each step.
-use Rattle.std.proofs.Common.{◌≡◌, ◌∙◌, refl, sym, ap, subst, ℕ, suc, ◌<◌, Bool, true, false, cond, List, [], ◌∷◌, length, filter, Option, None, Some, IfSome, is_some, arith}
+use Rattle.std.proofs.Common.{◌≡◌, ◌∙◌, refl, sym, ap, subst, ℕ, suc, ◌<◌, ◌≤◌, Bool, true, false, cond, List, [], ◌∷◌, length, filter, Option, None, Some, IfSome, is_some, arith}
 use Rattle.std.specs.FinMap as map
 use Rattle.rdf_term.specs.Order.{triple_cmp}
 use Rattle.entity_model.specs.declared.id.EntityId.{EntityId}
@@ -14,10 +14,12 @@ use Rattle.replay_model.proofs.Versions.{union-all}
 use Rattle.world.specs.Applying.{Applies}
 use Rattle.world.specs.Meaning.{meaning}
 use Rattle.world.specs.Roomed.{HasRoom, room_with}
-use Rattle.world.specs.WorldState.{WorldState, first_of, next_stale, remapped, second_after, stale, triples_anew, triples_of}
+use Rattle.world.specs.WorldState.{AreHolders, WorldState, first_of, next_stale, remapped, second_after, stale, triples_anew, triples_of}
 use Rattle.world.specs.declared.applied.Applied.{Applied}
 use Rattle.world.proofs.OneVersion.{applied_by_one}
+use Rattle.session.specs.Needed.{HaveRoom, HaveRoomBefore, needed_anew, needed_by_pages}
 use Rattle.session.specs.Remapping.{HoldsWithin, IsFullOfStale, KeepsVersion, Mapped, held_triples, mapped_by, mapped_in, remapped_in, remapped_some}
+use Rattle.session.proofs.Needed.{all_met, first_met, remapped_has_room}
 
 -- where every page is mapped by one version, the triples of all that is held are the union by this version
 pub all_held_by : (version : MappingVersion) (mapped : Mapped) (records : Records) → mapped ≡ mapped_by version records → held_triples mapped records ≡ union triple_cmp (meaning version) records
@@ -100,20 +102,35 @@ pub record Remaps (version : MappingVersion) (old now : WorldState) : Type 0 whe
   pub mapped : mapped_in now ≡ remapped_some steps old.replay.played.records (record { version = version; second = old.second })
   pub version_is : now.mapping ≡ version
   pub held : HoldsWithin old.room old → HoldsWithin old.room now
+  pub holders : AreHolders now.second now.replay.played.records
+  pub roomed : HaveRoomBefore old.room (needed_anew now.replay.played.records (mapped_in now)) (needed_anew old.replay.played.records (record { version = version; second = old.second }))
 
 -- none yet
-pub remaps_none : (version : MappingVersion) (old now : WorldState) → now ≡ record old { mapping = version } → Remaps version old now
-remaps_none version old now is = rw is (record { replay = refl; room = refl; steps = 0; mapped = refl; version_is = refl; held = λ held. held })
+pub remaps_none : (version : MappingVersion) (old now : WorldState) → now ≡ record old { mapping = version } → AreHolders now.second now.replay.played.records → Remaps version old now
+remaps_none version old now is are = record {
+  replay = ap (λ (w : WorldState). w.replay) is;
+  room = ap (λ (w : WorldState). w.room) is;
+  steps = 0;
+  mapped = ap mapped_in is;
+  version_is = ap (λ (w : WorldState). w.mapping) is;
+  held = λ held. subst (HoldsWithin old.room) (sym is) held;
+  holders = are;
+  roomed = first_met old.room _ _ [] (ap (λ (w : WorldState). needed_anew w.replay.played.records (mapped_in w)) (sym is)) tt;
+}
 
 -- and one more
-pub remaps_next : (version : MappingVersion) (old now new : WorldState) → Remaps version old now → new ≡ remapped now → HoldsWithin new.room new → Remaps version old new
-remaps_next version old now new so_far is held = record {
+pub remaps_next : (version : MappingVersion) (old now new : WorldState) → Remaps version old now → new ≡ remapped now → HoldsWithin new.room new → AreHolders new.second new.replay.played.records →
+    room_with (meaning_by meaning now.second) now.replay.played.records (triples_anew now) ≤ now.room → Remaps version old new
+remaps_next version old now new so_far is held are within = record {
   replay = ap (λ (w : WorldState). w.replay) is ∙ so_far.replay;
   room = ap (λ (w : WorldState). w.room) is ∙ so_far.room;
   steps = suc so_far.steps;
   mapped = ap mapped_in is ∙ ap (λ (w : ReplayState). remapped_in w.played.records (mapped_in now)) so_far.replay ∙ ap (remapped_in old.replay.played.records) so_far.mapped;
   version_is = ap (λ (w : WorldState). w.mapping) is ∙ so_far.version_is;
   held = λ before. subst (λ n. HoldsWithin n new) (ap (λ (w : WorldState). w.room) is ∙ so_far.room) held;
+  holders = are;
+  roomed = subst (λ (w : WorldState). HaveRoomBefore old.room (needed_anew w.replay.played.records (mapped_in w)) (needed_anew old.replay.played.records (record { version = version; second = old.second }))) (sym is)
+      (remapped_has_room old.room _ now so_far.holders.rising (subst (λ n. room_with (meaning_by meaning now.second) now.replay.played.records (triples_anew now) ≤ n) so_far.room within) so_far.roomed);
 }
 
 -- all of them
@@ -122,6 +139,22 @@ remaps_all version old now so_far all =
     ap (λ xs. record { version = now.mapping; second = xs }) all
     ∙ ap (λ v. mapped_by v now.replay.played.records) so_far.version_is
     ∙ ap (λ (w : ReplayState). mapped_by version w.played.records) so_far.replay
+
+-- there was room for those that were mapped anew
+pub remaps_roomed : (version : MappingVersion) (old now new : WorldState) → Remaps version old now → new ≡ now →
+    HaveRoomBefore old.room (needed_anew old.replay.played.records (mapped_in new)) (needed_anew old.replay.played.records (record { version = version; second = old.second }))
+remaps_roomed version old now new so_far same =
+    rw same (subst (λ (w : ReplayState). HaveRoomBefore old.room (needed_anew w.played.records (mapped_in now)) (needed_anew old.replay.played.records (record { version = version; second = old.second }))) so_far.replay so_far.roomed)
+
+-- and where none is left, for all
+pub remaps_all_roomed : (version : MappingVersion) (old now : WorldState) → Remaps version old now → length (stale now) ≡ 0 →
+    HaveRoom old.room (needed_anew old.replay.played.records (record { version = version; second = old.second }))
+remaps_all_roomed version old now so_far none =
+    all_met old.room _ _ (by (stale now) refl none) so_far.roomed
+  where
+    by : (xs : List EntityId) → stale now ≡ xs → length xs ≡ 0 → needed_anew now.replay.played.records (mapped_in now) ≡ []
+    by [] is none = ap (needed_by_pages now.mapping now.replay.played.records now.second) is
+    by (x ∷ rest) is none = absurd (omega (arith, none))
 
 -- the next one has no room
 pub remaps_full : (version : MappingVersion) (old now new : WorldState) → Remaps version old now → new ≡ now → 0 < length (stale now) →

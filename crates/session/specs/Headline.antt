@@ -33,6 +33,7 @@ use Rattle.session.specs.declared.stop.Stop.TheVariants.{BadLine, ReadFault, Wri
 use Rattle.session.specs.declared.stop.Unapplied.TheVariants.{StoreFull as NoRoom, OutOfMemory as Starved}
 use Rattle.session.specs.Counts.{HasCounted}
 use Rattle.session.specs.Moment.{Moment, Run, Setting, Stage, with_mapped, with_output, horizon_at}
+use Rattle.session.specs.Needed.{HaveRoom, HaveRoomBefore, needed_anew}
 use Rattle.session.specs.Reading.{AreDeliveries, AreFirst, AreWhole, IsPastLimit, IsRefusedLine}
 use Rattle.session.specs.Remapping.{IsFullOfStale, mapped_by, remapped_some}
 use Rattle.session.specs.Sections.{sections_of}
@@ -40,18 +41,21 @@ use Rattle.session.specs.Stops.{IsStarved}
 use Rattle.session.specs.Taking.{Course, HoldsDocuments, IsFull, course_after, course_printed, course_to_end, judgement, replies_there}
 
 -- the world is where a play leads, with some replies to its fetches, each a document of its entity or a reason, the output has what
--- the play says, and the counts of the source rose by these fetches; what is held are documents of their entities,
+-- the play says, there was room for each page that a fetch gave or that was mapped anew, with all that was held then, and the counts
+-- of the source rose by these fetches; what is held are documents of their entities,
 -- each mapped by the version in force; where it is known what the source has, the replies are those of what is there, but for the events whose fetches failed, which the side output names
 pub record IsPlayed (setting : Setting) (course : Course) (start now : Stage) : Type 0 where
   pub replies : Replies
   pub fit : (e : Event) (r : ℕ) → GivesDocument judgement e.entity (replies e r)
   pub is : now.world ≡ course.state replies
   pub says : now.output.bytes ≡ course.bytes replies
+  pub roomed : HaveRoom setting.room (course.needed replies)
   pub documents : HoldsDocuments now.world
   pub mapped : now.mapped ≡ mapped_by course.version now.world.played.records
   pub counted : HasCounted start.counts now.counts (length (course.fetched replies)) now.world.played.side
   pub source : (contents : ℕ → Option Bytes) → setting.known ≡ Some contents → now.world ≡ course.state (replies_there contents now.world)
   pub source_says : (contents : ℕ → Option Bytes) → setting.known ≡ Some contents → now.output.bytes ≡ course.bytes (replies_there contents now.world)
+  pub source_roomed : (contents : ℕ → Option Bytes) → setting.known ≡ Some contents → HaveRoom setting.room (course.needed (replies_there contents now.world))
   pub source_counted : (contents : ℕ → Option Bytes) → setting.known ≡ Some contents →
       HasCounted start.counts now.counts (length (course.fetched (replies_there contents now.world))) now.world.played.side
 
@@ -146,13 +150,15 @@ pub record StandsAtQuestion (why : Unwritten) (run : Run) (before now : Moment) 
   pub first : AreFirst (limit_of run.choices) before.input.left now.input.left (deliveries ++ Ask pattern ∷ [])
 
 -- the world has taken the deliveries before a line that changes the mapping, every page being mapped by the version that was in force
--- there; this line's version is in force, and the pages of some entities, the least first, are mapped by it
+-- there; this line's version is in force, and the pages of some entities, the least first, are mapped by it, and had room
 pub record StandsAtMapping (run : Run) (before now : Moment) : Type 0 where
   pub deliveries : List Delivery
   pub version : MappingVersion
   pub steps : ℕ
   pub played : IsPlayedAfter run.setting deliveries before.stage (with_mapped now.stage (mapped_by (version_in_force deliveries) now.stage.world.played.records))
   pub mapped : now.stage.mapped ≡ remapped_some steps now.stage.world.played.records (record { version = version; second = all_by (version_in_force deliveries) now.stage.world.played.records })
+  pub roomed : HaveRoomBefore run.setting.room (needed_anew now.stage.world.played.records now.stage.mapped)
+      (needed_anew now.stage.world.played.records (record { version = version; second = all_by (version_in_force deliveries) now.stage.world.played.records }))
   pub first : AreFirst (limit_of run.choices) before.input.left now.input.left (deliveries ++ Mapping version ∷ [])
 
 -- what a run leaves that stopped while it printed: in the answer to a question, or in the sections

@@ -3,6 +3,7 @@ pub mod Counts
 pub mod Drilling
 pub mod Headline
 pub mod Moment
+pub mod Needed
 pub mod Reading
 pub mod Remapping
 pub mod Sections

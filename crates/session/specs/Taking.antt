@@ -26,6 +26,7 @@ use Rattle.session.specs.declared.stop.Unapplied.{Unapplied}
 use Rattle.session.specs.declared.stop.Unapplied.TheVariants.{StoreFull, OutOfMemory}
 use Rattle.session.specs.Counts.{Counts, HasCounted, HasCountedBefore}
 use Rattle.session.specs.Moment.{Setting, Stage, onward, horizon_at}
+use Rattle.session.specs.Needed.{HaveRoomBefore, needed_anew, needed_by_due, needed_in, needed_to_end}
 use Rattle.session.specs.Remapping.{HasNoRoom, IsLeftStale, KeepsVersion, Mapped, held_triples, mapped_by, remapped_some}
 use Rattle.session.specs.Stop.{stop_of_unapplied, stop_of_unwritten}
 
@@ -41,11 +42,12 @@ HoldsDocuments world = (x : EntityId) → HoldsDocument judgement x (record_of w
 abbrev pub replies_there : (ℕ → Option Bytes) → ReplayState → Replies
 replies_there contents world = source_replies judgement contents (failed_events world.played.side)
 
--- a play, by the replies to its fetches: where it leads, what it fetches, and which bytes the output has then; and the version of the
--- mapping that is in force there
+-- a play, by the replies to its fetches: where it leads, what it fetches, for how many terms it needs room one time after the other, and
+-- which bytes the output has then; and the version of the mapping that is in force there
 pub record Course : Type 0 where
   pub state : Replies → ReplayState
   pub fetched : Replies → List Fetch
+  pub needed : Replies → List ℕ
   pub bytes : Replies → Option (List ℕ)
   pub version : MappingVersion
 
@@ -55,7 +57,7 @@ said_behind ds start replies = after_known start.output.bytes (answers_said mean
 
 -- the play of these deliveries
 abbrev pub course_after : List Delivery → Stage → Course
-course_after ds start = record { state = λ replies. following (horizon_at start) replies ds; fetched = λ replies. fetches (horizon_at start) replies ds; bytes = said_behind ds start; version = version_in_force ds }
+course_after ds start = record { state = λ replies. following (horizon_at start) replies ds; fetched = λ replies. fetches (horizon_at start) replies ds; needed = λ replies. needed_in (horizon_at start) replies ds; bytes = said_behind ds start; version = version_in_force ds }
 
 -- the play of these deliveries and perhaps one more, which says nothing yet
 abbrev pub course_begun : List Delivery → Option Delivery → Stage → Course
@@ -63,20 +65,22 @@ course_begun ds last start = record (course_after (ds ++ option_to_list last) st
 
 -- the play of these deliveries and the end of the input
 abbrev pub course_to_end : List Delivery → Stage → Course
-course_to_end ds start = record { state = λ replies. following_to_end (horizon_at start) replies ds; fetched = λ replies. fetches_to_end (horizon_at start) replies ds; bytes = said_behind ds start; version = version_in_force ds }
+course_to_end ds start = record { state = λ replies. following_to_end (horizon_at start) replies ds; fetched = λ replies. fetches_to_end (horizon_at start) replies ds; needed = λ replies. needed_to_end (horizon_at start) replies ds; bytes = said_behind ds start; version = version_in_force ds }
 
 -- the same, and these sections
 abbrev pub course_printed : Sections → List Delivery → Stage → Course
 course_printed sections ds start = record (course_to_end ds start) { bytes = λ replies. after_known start.output.bytes (transcript meaning (horizon_at start) sections replies ds) }
 
 -- the world leads to a play with some replies, the counts rose with what was fetched for it so far, and what is held are
--- documents; the output has what the play says with all replies that agree with these on what was applied
+-- documents; with all replies that agree with these on what was applied the output has what the play says, and there was room for all
+-- that the play needs but what due events have still to bring
 pub record Leads (setting : Setting) (course : Course) (start now : Stage) : Type 0 where
   pub made : ℕ
   pub explained : Explained judgement setting.known course.state course.fetched made now.world
   pub counted : HasCounted start.counts now.counts made now.world.played.side
   pub documents : HoldsDocuments now.world
   pub says : (others : Replies) → AgreeOnApplied now.world explained.replies others → now.output.bytes ≡ course.bytes others
+  pub roomed : (others : Replies) → AgreeOnApplied now.world explained.replies others → HaveRoomBefore setting.room (needed_by_due course.version others now.world) (course.needed others)
 
 -- the world leads to a play with some replies, and is so many applications of due events after where the play begins them,
 -- the least first
@@ -88,7 +92,8 @@ pub record IsUnderWay (setting : Setting) (course : Course) (begun : Replies →
 -- the world is so many applications of due events after where a play begins them, the least first, with some replies, each a
 -- document of its entity or a reason, and the output has what that play says; where it is known what the source has, with the
 -- replies of what is there and of the events whose fetches failed. The counts rose by the play's fetches without those that due
--- events have still to make, and by the first of these where there was no room for what it gave; where memory was refused, perhaps
+-- events have still to make, and by the first of these where there was no room for what it gave; where memory was refused, perhaps.
+-- There was room for all that the play needs but what due events have still to bring
 pub record IsWithin (why : Unapplied) (setting : Setting) (course : Course) (begun : Replies → ReplayState) (start now : Stage) : Type 0 where
   pub steps : ℕ
   pub replies : Replies
@@ -97,6 +102,9 @@ pub record IsWithin (why : Unapplied) (setting : Setting) (course : Course) (beg
   pub says : now.output.bytes ≡ course.bytes replies
   pub source : (contents : ℕ → Option Bytes) → setting.known ≡ Some contents → now.world ≡ after_some (replies_there contents now.world) steps (begun (replies_there contents now.world))
   pub source_says : (contents : ℕ → Option Bytes) → setting.known ≡ Some contents → now.output.bytes ≡ course.bytes (replies_there contents now.world)
+  pub roomed : HaveRoomBefore setting.room (needed_by_due course.version replies now.world) (course.needed replies)
+  pub source_roomed : (contents : ℕ → Option Bytes) → setting.known ≡ Some contents →
+      HaveRoomBefore setting.room (needed_by_due course.version (replies_there contents now.world) now.world) (course.needed (replies_there contents now.world))
   pub documents : HoldsDocuments now.world
   pub made : ℕ
   pub fetched : made + length (fetches_due replies now.world) ≡ length (course.fetched replies)
@@ -124,9 +132,9 @@ pub record AtEnd (setting : Setting) (ds : List Delivery) (start now : Stage) : 
   pub mapped : now.mapped ≡ mapped_by (version_in_force ds) now.world.played.records
   pub later : start.output.faults ≤ now.output.faults
 
--- all due events were applied: where the world led to a play, it does so now
-pub record AppliesDue (setting : Setting) (before now : Counts) (old new : ReplayState) : Type 0 where
-  pub leads : (course : Course) (start s : Stage) → Leads setting course start (onward s before old) → Leads setting course start (onward s now new)
+-- all due events were applied: where the world led to a play, by whose version every page was mapped, it does so now
+pub record AppliesDue (setting : Setting) (mapped : Mapped) (before now : Counts) (old new : ReplayState) : Type 0 where
+  pub leads : (course : Course) (start s : Stage) → mapped ≡ mapped_by course.version old.played.records → Leads setting course start (onward s before old) → Leads setting course start (onward s now new)
   pub rests : first_due new.buffer ≡ None
 
 -- the least due event wants a page: a document of its entity, and what the source has where it is known; and there is no room for it
@@ -144,10 +152,10 @@ abbrev pub IsHeldUp : Unapplied → Setting → ReplayState → Mapped → Type 
 IsHeldUp StoreFull setting world mapped = IsFull setting world mapped
 IsHeldUp OutOfMemory setting world mapped = ⊤
 
--- a due event wasn't applied: where the world was under way in a play, it is so still
-abbrev pub StaysWithin : Unapplied → Setting → Counts → Counts → ReplayState → ReplayState → Type 0
-StaysWithin why setting before now old new =
-    (course : Course) (begun : Replies → ReplayState) (start s : Stage) → IsUnderWay setting course begun start (onward s before old) → IsWithin why setting course begun start (onward s now new)
+-- a due event wasn't applied: where the world was under way in a play, by whose version every page was mapped, it is so still
+abbrev pub StaysWithin : Unapplied → Setting → Mapped → Counts → Counts → ReplayState → ReplayState → Type 0
+StaysWithin why setting mapped before now old new =
+    (course : Course) (begun : Replies → ReplayState) (start s : Stage) → mapped ≡ mapped_by course.version old.played.records → IsUnderWay setting course begun start (onward s before old) → IsWithin why setting course begun start (onward s now new)
 
 -- a delivery, and how many questions were asked up to it
 pub record Turn : Type 0 where
@@ -188,7 +196,7 @@ pub record TakesInPart (why : Unapplied) (setting : Setting) (d : Delivery) (bef
       ⊎ IsWithin why setting (course_begun ds (Some d) start) (λ replies. entered (following (horizon_at start) replies ds) d) start now
 
 -- a change of the mapping wasn't taken wholly: its version is in force, and the pages of some entities, the least first, are mapped
--- by it; all else is as it was
+-- by it, and had room; all else is as it was
 pub record RemapsInPart (why : Unapplied) (setting : Setting) (d : Delivery) (before now : Stage) : Type 0 where
   pub version : MappingVersion
   pub is : d ≡ Mapping version
@@ -198,6 +206,7 @@ pub record RemapsInPart (why : Unapplied) (setting : Setting) (d : Delivery) (be
   pub world : now.world ≡ before.world
   pub steps : ℕ
   pub mapped : now.mapped ≡ remapped_some steps before.world.played.records (record { version = version; second = before.mapped.second })
+  pub roomed : HaveRoomBefore setting.room (needed_anew before.world.played.records now.mapped) (needed_anew before.world.played.records (record { version = version; second = before.mapped.second }))
 
 -- a delivery wasn't taken, or not wholly: its answer wasn't written, or it or what it makes due wasn't applied, or not all that is
 -- held was mapped anew

@@ -65,9 +65,9 @@ pub fn take_end<R: Revisions>(
     revisions: &mut R,
     world: &mut World,
 ) -> Result<(), Unapplied>
-    ensures ok { OnOk result (AppliesDue (setting (R.contents revisions.old) directory.now world.old.room)
+    ensures ok { OnOk result (AppliesDue (setting (R.contents revisions.old) directory.now world.old.room) (mapped_in world.old)
         (counts R.Revisions revisions.old) (counts R.Revisions revisions.new) (after_end world.old.replay) world.new.replay) }
-    ensures err { IfErr result (λ why. StaysWithin why (setting (R.contents revisions.old) directory.now world.old.room)
+    ensures err { IfErr result (λ why. StaysWithin why (setting (R.contents revisions.old) directory.now world.old.room) (mapped_in world.old)
         (counts R.Revisions revisions.old) (counts R.Revisions revisions.new) (after_end world.old.replay) world.new.replay) }
     ensures held_up { IfErr result (λ why. IsHeldUp why (setting (R.contents revisions.old) directory.now world.old.room) world.new.replay (mapped_in world.new)) }
     ensures room { world.new.room ≡ world.old.room }
@@ -86,9 +86,9 @@ fn take_mark<R: Revisions>(
     revisions: &mut R,
     world: &mut World,
 ) -> Result<(), Unapplied>
-    ensures ok { OnOk result (AppliesDue (setting (R.contents revisions.old) directory.now world.old.room)
+    ensures ok { OnOk result (AppliesDue (setting (R.contents revisions.old) directory.now world.old.room) (mapped_in world.old)
         (counts R.Revisions revisions.old) (counts R.Revisions revisions.new) (after_mark world.old.replay mark.now) world.new.replay) }
-    ensures err { IfErr result (λ why. StaysWithin why (setting (R.contents revisions.old) directory.now world.old.room)
+    ensures err { IfErr result (λ why. StaysWithin why (setting (R.contents revisions.old) directory.now world.old.room) (mapped_in world.old)
         (counts R.Revisions revisions.old) (counts R.Revisions revisions.new) (after_mark world.old.replay mark.now) world.new.replay) }
     ensures held_up { IfErr result (λ why. IsHeldUp why (setting (R.contents revisions.old) directory.now world.old.room) world.new.replay (mapped_in world.new)) }
     ensures room { world.new.room ≡ world.old.room }
@@ -127,9 +127,9 @@ fn apply_due<R: Revisions>(
     revisions: &mut R,
     world: &mut World,
 ) -> Result<(), Unapplied>
-    ensures ok { OnOk result (AppliesDue (setting (R.contents revisions.old) directory.now world.old.room)
+    ensures ok { OnOk result (AppliesDue (setting (R.contents revisions.old) directory.now world.old.room) (mapped_in world.old)
         (counts R.Revisions revisions.old) (counts R.Revisions revisions.new) world.old.replay world.new.replay) }
-    ensures err { IfErr result (λ why. StaysWithin why (setting (R.contents revisions.old) directory.now world.old.room)
+    ensures err { IfErr result (λ why. StaysWithin why (setting (R.contents revisions.old) directory.now world.old.room) (mapped_in world.old)
         (counts R.Revisions revisions.old) (counts R.Revisions revisions.new) world.old.replay world.new.replay) }
     ensures held_up { IfErr result (λ why. IsHeldUp why (setting (R.contents revisions.old) directory.now world.old.room) world.new.replay (mapped_in world.new)) }
     ensures room { world.new.room ≡ world.old.room }

@@ -3,6 +3,7 @@
 ghost use Rattle.std.specs.Prelude.{◌≡◌, ℕ, IfErr, OnErr, OnOk};
 ghost use Rattle.replay_model.specs.ReplayState.{nothing_delivered};
 ghost use Rattle.drill_replay.specs.Playing.{IsByFirst};
+ghost use Rattle.session.specs.Needed.{HaveRoom, HaveRoomBefore, needed_anew};
 ghost use Rattle.session.specs.Remapping.{HoldsWithin, IsLeftStale, mapped_by, mapped_in, remapped_some};
 
 use crate::stop::Unapplied;
@@ -27,6 +28,9 @@ pub fn take_mapping(version: MappingVersion, world: &mut World) -> Result<(), Un
     ensures ok { OnOk result (mapped_in world.new ≡ mapped_by version world.old.replay.played.records) }
     ensures err { OnErr result ((steps : ℕ) × (mapped_in world.new
         ≡ remapped_some steps world.old.replay.played.records (record { version = version; second = world.old.second }))) }
+    ensures roomed { OnOk result (HaveRoom world.old.room (needed_anew world.old.replay.played.records (record { version = version; second = world.old.second }))) }
+    ensures roomed_before { OnErr result (HaveRoomBefore world.old.room (needed_anew world.old.replay.played.records (mapped_in world.new))
+        (needed_anew world.old.replay.played.records (record { version = version; second = world.old.second }))) }
     ensures left_stale { IfErr result (λ why. IsLeftStale why world.old.room world.old.replay.played.records (mapped_in world.new)) }
 {
     world.set_mapping(version);

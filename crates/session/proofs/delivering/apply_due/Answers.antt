@@ -3,18 +3,23 @@ use Rattle.std.proofs.Common.{refl, ap, ◌∙◌, arith, Err, inl, inr, ⊎_eli
 use Rattle.world.specs.WorldState.{WorldState}
 use Rattle.session.specs.declared.stop.Unapplied.TheVariants.{StoreFull, OutOfMemory}
 use Rattle.session.proofs.Due.{applies-fewer, applies-leads, goes-further, goes-nowhere, gone-on, is_full, none_due, starved}
+use Rattle.session.specs.Remapping.{mapped_in}
+use Rattle.session.proofs.Needed.{applied_has_room}
 use Rattle.session.proofs.Versions.{applies-versions, keeps-further, keeps-still}
 use Rattle.session.proofs.delivering.apply_due.Goals as goal
 
 pub loop-init : goal.loop-init
-loop-init g c = (goes-nowhere _ _ c.args.world.now.replay, record { known = refl; faults = omega arith; misses = omega arith; most = refl }, refl, λ version is. is)
+loop-init g c = (goes-nowhere _ _ _ c.args.world.now.replay, record { known = refl; faults = omega arith; misses = omega arith; most = refl }, refl, λ version is. is)
 
 pub loop-preserved : goal.loop-preserved
 loop-preserved g c =
     let before = c.loop.invariant in
     let call = c.in-Ok.ensures in
     let applied = rw before.1.known at call.applied in (
-      goes-further _ _ _ _ _ _ _ before.0 (applies-leads _ _ _ _ _ _ _ _ applied (record { shown = call.shown; calls = call.calls; more_faults = call.more_faults; more_misses = call.more_misses })),
+      goes-further _ (mapped_in c.args.world.now) (mapped_in c.loop.world) _ _ _ c.args.world.now.replay c.loop.world.replay c.apply_next.new.self.replay before.3 before.0
+          (applies-leads _ _ _ (mapped_in c.loop.world) _ _ c.loop.world.replay c.apply_next.new.self.replay _ applied
+          (record { shown = call.shown; calls = call.calls; more_faults = call.more_faults; more_misses = call.more_misses })
+          (applied_has_room _ _ _ c.loop.world c.apply_next.new.self.replay _ applied (rw before.2 at call.within))),
       gone-on g.R.Revisions _ _ _ before.1 (record { known = call.told; faults = call.more_faults; misses = call.more_misses; most = call.most }),
       call.room ∙ before.2,
       keeps-further c.args.world.now c.loop.world c.apply_next.new.self before.3 (applies-versions _ _ c.loop.world c.apply_next.new.self _ applied call.mapping call.second),
@@ -26,7 +31,7 @@ loop-smaller g c = applies-fewer _ _ _ _ _ c.in-Ok.ensures.applied
 pub returns-in-Err-Nothing-clause-ok : goal.returns-in-Err-Nothing-clause-ok
 returns-in-Err-Nothing-clause-ok g c =
     let call = c.in-Err-Nothing.ensures in
-    none_due _ _ _ _ _ _ _ c.loop.invariant.0 (⊎_elim (λ same. same) (λ refused. absurd (refused.0 c.in-Err-Nothing.field-0-is)) call.calls_at_fault) call.more_faults call.more_misses (ap (λ (w : WorldState). w.replay) call.err) (call.nothing.0 (ap Err c.in-Err-Nothing.field-0-is))
+    none_due _ _ _ _ _ _ _ _ c.loop.invariant.0 (⊎_elim (λ same. same) (λ refused. absurd (refused.0 c.in-Err-Nothing.field-0-is)) call.calls_at_fault) call.more_faults call.more_misses (ap (λ (w : WorldState). w.replay) call.err) (call.nothing.0 (ap Err c.in-Err-Nothing.field-0-is))
 
 pub returns-in-Err-Nothing-clause-source : goal.returns-in-Err-Nothing-clause-source
 returns-in-Err-Nothing-clause-source g c =
@@ -36,7 +41,7 @@ returns-in-Err-Nothing-clause-source g c =
 pub returns-in-Err-OutOfMemory-clause-err : goal.returns-in-Err-OutOfMemory-clause-err
 returns-in-Err-OutOfMemory-clause-err g c =
     let call = c.in-Err-OutOfMemory.ensures in
-    starved OutOfMemory _ _ _ _ _ _ _ c.loop.invariant.0 (record { calls = ⊎_elim (λ same. inl same) (λ one. inr one.1) call.calls_at_fault; faults = call.more_faults; misses = call.more_misses }) (ap (λ (w : WorldState). w.replay) call.err)
+    starved OutOfMemory _ _ _ _ _ _ _ _ c.loop.invariant.0 (record { calls = ⊎_elim (λ same. inl same) (λ one. inr one.1) call.calls_at_fault; faults = call.more_faults; misses = call.more_misses }) (ap (λ (w : WorldState). w.replay) call.err)
 
 pub returns-in-Err-OutOfMemory-clause-source : goal.returns-in-Err-OutOfMemory-clause-source
 returns-in-Err-OutOfMemory-clause-source g c =
@@ -46,7 +51,7 @@ returns-in-Err-OutOfMemory-clause-source g c =
 pub returns-in-Err-Full-clause-err : goal.returns-in-Err-Full-clause-err
 returns-in-Err-Full-clause-err g c =
     let call = c.in-Err-Full.ensures in
-    starved StoreFull _ _ _ _ _ _ _ c.loop.invariant.0 (record { calls = call.calls_at_full (ap Err c.in-Err-Full.field-0-is); faults = call.more_faults; misses = call.more_misses }) (ap (λ (w : WorldState). w.replay) call.err)
+    starved StoreFull _ _ _ _ _ _ _ _ c.loop.invariant.0 (record { calls = call.calls_at_full (ap Err c.in-Err-Full.field-0-is); faults = call.more_faults; misses = call.more_misses }) (ap (λ (w : WorldState). w.replay) call.err)
 
 pub returns-in-Err-Full-clause-held_up : goal.returns-in-Err-Full-clause-held_up
 returns-in-Err-Full-clause-held_up g c =

@@ -52,14 +52,14 @@ pub returns-in_ok-take_mapping-in-Mapping-clause-ok : goal.returns-in_ok-take_ma
 returns-in_ok-take_mapping-in-Mapping-clause-ok g c =
     let s : Setting = setting (g.R.Revisions.contents c.args.revisions.now) c.args.directory.now c.args.world.now.room in
     let before : Stage = stage g.R.Revisions g.K.Sink c.args.revisions.now c.args.out.now c.args.world.now in
-    rw (c.in-Mapping.is, c.take_mapping.ensures.replay) (λ ds start counted at_rest. mapping_taken s ds start before (mapped_in c.take_mapping.new.world) c.in-Mapping.version c.in_ok-take_mapping-in-Mapping.ensures.ok at_rest)
+    rw (c.in-Mapping.is, c.take_mapping.ensures.replay) (λ ds start counted at_rest. mapping_taken s ds start before (mapped_in c.take_mapping.new.world) c.in-Mapping.version c.in_ok-take_mapping-in-Mapping.ensures.ok c.in_ok-take_mapping-in-Mapping.ensures.roomed at_rest)
 
 pub returns-in_err-take_mapping-in-Mapping-clause-err : goal.returns-in_err-take_mapping-in-Mapping-clause-err
 returns-in_err-take_mapping-in-Mapping-clause-err g c =
     let s : Setting = setting (g.R.Revisions.contents c.args.revisions.now) c.args.directory.now c.args.world.now.room in
     let before : Stage = stage g.R.Revisions g.K.Sink c.args.revisions.now c.args.out.now c.args.world.now in
     let p = err_from_is_err_and c.from_residual-in_err-take_mapping-in-Mapping.result c.from_residual-in_err-take_mapping-in-Mapping.ensures.1 in
-    rw (p.1, p.2, c.in-Mapping.is) (mapping_cut_off _ s c.in-Mapping.version c.args.asked before c.take_mapping.new.world.replay (mapped_in c.take_mapping.new.world) c.take_mapping.ensures.replay c.in_err-take_mapping-in-Mapping.ensures.left_stale c.in_err-take_mapping-in-Mapping.ensures.err)
+    rw (p.1, p.2, c.in-Mapping.is) (mapping_cut_off _ s c.in-Mapping.version c.args.asked before c.take_mapping.new.world.replay (mapped_in c.take_mapping.new.world) c.take_mapping.ensures.replay c.in_err-take_mapping-in-Mapping.ensures.left_stale c.in_err-take_mapping-in-Mapping.ensures.err c.in_err-take_mapping-in-Mapping.ensures.roomed_before)
 
 pub returns-in_ok-take_event-in-Event-clause-held : goal.returns-in_ok-take_event-in-Event-clause-held
 returns-in_ok-take_event-in-Event-clause-held g c =

@@ -1,0 +1,229 @@
+-- For how much room a play needs it, delivery by delivery and event by event, and how there is room for more of it.
+use Rattle.std.proofs.Common.{◌≡◌, refl, sym, subst, ◌∙◌, ap, ℕ, ◌≤◌, ℤ, Bool, true, false, cond, is_eq, List, [], ◌∷◌, ◌++◌, append_assoc, append-nil, Option, None, Some, Result, Ok, Err, flat_map}
+use Rattle.std.specs.Ordering.{eq_by_cmp}
+use Rattle.std.specs.Set.{remove_key}
+use Rattle.std.proofs.lemmas.Cmp.{tied_itself}
+use Rattle.std.proofs.lemmas.List.{append_cancel_left}
+use Rattle.std.proofs.lemmas.List.Concat.{flat_map-append}
+use Rattle.rising.specs.Rising.{IsRising}
+use Rattle.rising.proofs.FirstPassing.{filter-first, filter-none}
+use Rattle.rdf_term.specs.declared.triple.Triple.{Triple}
+use Rattle.rdf_term.specs.Order.{triple_cmp}
+use Rattle.entity_model.specs.declared.delivery.Delivery.{Delivery}
+use Rattle.entity_model.specs.declared.delivery.Delivery.TheVariants.{Watermark}
+use Rattle.entity_model.specs.declared.event.Event.{Event}
+use Rattle.entity_model.specs.declared.id.EntityId.{EntityId}
+use Rattle.entity_model.specs.declared.mapping.MappingVersion.{MappingVersion}
+use Rattle.entity_model.specs.EntityId.{entity_cmp, entity_cmp_total}
+use Rattle.entity_state.specs.declared.record.Held.{Held}
+use Rattle.entity_state.specs.declared.record.Record.{Record}
+use Rattle.entity_state.specs.State.{is_deleted, state_after}
+use Rattle.side_output.specs.declared.entry.Cause.{Cause}
+use Rattle.side_output.specs.declared.entry.Entry.{Entry}
+use Rattle.side_output.specs.declared.entry.Entry.TheVariants.{Late, Revision}
+use Rattle.revisions.specs.Revisions.{Contents}
+use Rattle.reorder_buffer.specs.Watermarks.{is_due}
+use Rattle.reorder_buffer.specs.Buffered.{first_due}
+use Rattle.replay_model.specs.Acceptance.{arrivals, version_in_force}
+use Rattle.replay_model.specs.Explained.{is_fetching, revision_wanted}
+use Rattle.replay_model.specs.Play.{Replies, entry_of, held_after_fetch, play, record_after}
+use Rattle.replay_model.specs.Records.{Bytes, Records, record_of}
+use Rattle.replay_model.specs.ReplayState.{ReplayState, after_applying, after_end, after_mark, following}
+use Rattle.replay_model.specs.Union.{triples_held}
+use Rattle.replay_model.specs.Versions.{all_by, meaning_by, with_version}
+use Rattle.replay_model.proofs.Arrivals.{arrivals-push}
+use Rattle.replay_model.proofs.Explaining.{next_by}
+use Rattle.replay_model.proofs.Following.{newly_due-end, newly_due-watermark}
+use Rattle.replay_model.proofs.RecordOf.{record-after}
+use Rattle.replay_model.proofs.ToldContents.{Each-append}
+use Rattle.replay_model.proofs.Versions.{union-all}
+use Rattle.triple_store.specs.Room.{distinct, terms_of}
+use Rattle.world.specs.declared.applied.Applied.{Applied}
+use Rattle.world.specs.declared.applied.Outcome.{Outcome}
+use Rattle.world.specs.declared.applied.Outcome.TheVariants.{Same, Stored, Dropped}
+use Rattle.world.specs.Applying.{Applies, outcome_of_reply}
+use Rattle.world.specs.Meaning.{meaning}
+use Rattle.world.specs.Roomed.{room_with}
+use Rattle.world.specs.WorldState.{WorldState, first_of, next_stale, remapped, stale, stale_by, triples_anew, triples_of, with_version_of}
+use Rattle.world.proofs.ByVersion.{stale_remapped}
+use Rattle.session.specs.Needed.{HaveRoom, HaveRoomBefore, needed_anew, needed_at, needed_by, needed_by_all, needed_by_due, needed_by_pages, needed_for, needed_in, needed_to_end}
+use Rattle.session.specs.Remapping.{Mapped, mapped_by, mapped_in}
+
+-- ---- needs and a room
+
+module _ (room : ℕ) (left needs : List ℕ) where
+  -- where none is left, there is room for all
+  pub all_met : left ≡ [] → HaveRoomBefore room left needs → HaveRoom room needs
+  all_met none x = subst (HaveRoom room) (sym (append-nil x.met) ∙ ap (λ l. x.met ++ l) (sym none) ∙ x.are) x.have_room
+
+  -- the first have room
+  pub first_met : (first : List ℕ) → needs ≡ first ++ left → HaveRoom room first → HaveRoomBefore room left needs
+  first_met first is have = record { met = first; are = sym is; have_room = have }
+
+  -- all have room
+  pub none_left : left ≡ [] → HaveRoom room needs → HaveRoomBefore room left needs
+  none_left none have = first_met needs (sym (ap (λ l. needs ++ l) none ∙ append-nil needs)) have
+
+  -- and some more
+  pub next_met : (now before : List ℕ) → before ≡ now ++ left → HaveRoom room now → HaveRoomBefore room before needs → HaveRoomBefore room left needs
+  next_met now before is have x = record {
+    met = x.met ++ now;
+    are = append_assoc x.met now left ∙ ap (λ l. x.met ++ l) (sym is) ∙ x.are;
+    have_room = Each-append (λ n. n ≤ room) x.met now x.have_room have;
+  }
+
+-- ---- due events
+
+module _ (version : MappingVersion) (replies : Replies) (w : ReplayState) where
+  pub due-none : first_due w.buffer ≡ None → needed_by_due version replies w ≡ []
+  due-none none = ap (needed_by_all version replies w.played) (filter-none (is_due w.buffer.closed w.buffer.mark) w.buffer.waiting none)
+
+  -- the needs of the least due event come first
+  pub due-some : (e : Event) → first_due w.buffer ≡ Some e →
+      needed_by_due version replies w ≡ needed_by version replies w.played.records e (record_of w.played.records e.entity) ++ needed_by_due version replies (after_applying replies w (Some e))
+  due-some e some = ap (needed_by_all version replies w.played) (filter-first (is_due w.buffer.closed w.buffer.mark) w.buffer.waiting e some)
+
+-- ---- deliveries
+
+module _ (hz : Option ℕ) (replies : Replies) (ds : List Delivery) where
+  pub needed-push : (d : Delivery) → needed_in hz replies (ds ++ d ∷ []) ≡ needed_in hz replies ds ++ needed_at hz replies (record { before = ds; delivery = d })
+  needed-push d =
+      ap (flat_map (needed_at hz replies)) (arrivals-push ds d)
+      ∙ flat_map-append (needed_at hz replies) (arrivals ds) (record { before = ds; delivery = d } ∷ [])
+      ∙ ap (λ l. needed_in hz replies ds ++ l) (append-nil (needed_at hz replies (record { before = ds; delivery = d })))
+
+  -- a delivery that applies and remaps nothing
+  pub needed-still : (d : Delivery) → needed_at hz replies (record { before = ds; delivery = d }) ≡ [] → needed_in hz replies (ds ++ d ∷ []) ≡ needed_in hz replies ds
+  needed-still d none = needed-push d ∙ ap (λ l. needed_in hz replies ds ++ l) none ∙ append-nil (needed_in hz replies ds)
+
+  pub needed-watermark : (m : ℤ) → needed_in hz replies (ds ++ Watermark m ∷ []) ≡ needed_in hz replies ds ++ needed_by_due (version_in_force ds) replies (after_mark (following hz replies ds) m)
+  needed-watermark m =
+      needed-push (Watermark m) ∙ ap (λ es. needed_in hz replies ds ++ needed_by_all (version_in_force ds) replies (play hz replies ds) es) (newly_due-watermark hz ds m)
+
+  pub needed-end : needed_to_end hz replies ds ≡ needed_in hz replies ds ++ needed_by_due (version_in_force ds) replies (after_end (following hz replies ds))
+  needed-end = ap (λ es. needed_in hz replies ds ++ needed_by_all (version_in_force ds) replies (play hz replies ds) es) (newly_due-end hz ds)
+
+-- ---- one due event is applied
+
+abbrev content_of : Option (Held Bytes) → Bytes
+content_of None = []
+content_of (Some h) = h.content
+
+abbrev cause_in : Cause → List Entry → Cause
+cause_in other [] = other
+cause_in other (Late e ∷ entries) = other
+cause_in other (Revision e r cause ∷ entries) = cause
+
+-- replies that leave the same page and the same entries are the same
+same_reply : (e : Event) (r : ℕ) (held : Option (Held Bytes)) (some other : Result Bytes Cause) → held_after_fetch r other held ≡ held_after_fetch r some held → entry_of e r other ≡ entry_of e r some → other ≡ some
+same_reply e r held (Ok bytes) (Ok others) pages entries = ap (λ (b : Bytes). Ok b) (ap content_of pages)
+same_reply e r held (Ok bytes) (Err cause) pages entries = cc
+same_reply e r held (Err cause) (Ok bytes) pages entries = cc
+same_reply e r held (Err cause) (Err other) pages entries = ap (λ (c : Cause). Err c) (ap (cause_in cause) entries)
+
+module _ (w : ReplayState) (e : Event) where
+  abbrev before : Record Bytes
+  before = record_of w.played.records e.entity
+
+  abbrev fetches : Bool
+  fetches = is_fetching w e
+
+  abbrev rev : ℕ
+  rev = revision_wanted w e
+
+  abbrev deletes : Bool
+  deletes = is_deleted (state_after before.state e).mode
+
+  itself : eq_by_cmp entity_cmp e.entity e.entity ≡ true
+  itself = ap is_eq (tied_itself entity_cmp_total e.entity)
+
+  -- what the event's entity holds after it
+  held_applied : (replies : Replies) → (record_of (after_applying replies w (Some e)).played.records e.entity).held ≡ cond fetches (held_after_fetch rev (replies e rev) before.held) (cond deletes None before.held)
+  held_applied replies =
+      ap (λ (r : Record Bytes). r.held) (record-after replies w.played.records e e.entity)
+      ∙ ap (λ b. let r : Record Bytes = cond b (record_after replies e before) before in r.held) itself
+
+  -- replies with which the event leads to the same state are the same to it
+  pub replied : (reply : Result Bytes Cause) (others : Replies) → fetches ≡ true → next_by w e reply ≡ after_applying others w (Some e) → others e rev ≡ reply
+  replied reply others fetching same =
+      let some : Replies = λ q r. reply in
+      let fetched : (replies : Replies) → held_after_fetch rev (replies e rev) before.held ≡ (record_of (after_applying replies w (Some e)).played.records e.entity).held = λ replies.
+      sym (held_applied replies ∙ ap (λ b. cond b (held_after_fetch rev (replies e rev) before.held) (cond deletes None before.held)) fetching) in
+      let pages : held_after_fetch rev (others e rev) before.held ≡ held_after_fetch rev reply before.held =
+      fetched others ∙ ap (λ (v : ReplayState). (record_of v.played.records e.entity).held) (sym same) ∙ sym (fetched some) in
+      let sides : w.played.side ++ cond fetches (entry_of e rev (others e rev)) [] ≡ w.played.side ++ cond fetches (entry_of e rev reply) [] = ap (λ (v : ReplayState). v.played.side) (sym same) in
+      let entries : entry_of e rev (others e rev) ≡ entry_of e rev reply =
+      sym (ap (λ b. cond b (entry_of e rev (others e rev)) []) fetching) ∙ append_cancel_left w.played.side _ _ sides ∙ ap (λ b. cond b (entry_of e rev reply) []) fetching in
+      same_reply e rev before.held reply (others e rev) pages entries
+
+  -- there is room for what other replies bring that are the same to it
+  pub room_replied : (room : ℕ) (version : MappingVersion) (reply : Result Bytes Cause) (others : Replies) → next_by w e reply ≡ after_applying others w (Some e) →
+      HaveRoom room (cond fetches (needed_for version w.played.records e.entity rev reply) []) → HaveRoom room (needed_by version others w.played.records e before)
+  room_replied room version reply others same = by fetches (λ fetching. replied reply others fetching same)
+    where
+      by : (fetching : Bool) → (fetching ≡ true → others e rev ≡ reply) → HaveRoom room (cond fetching (needed_for version w.played.records e.entity rev reply) []) →
+          HaveRoom room (cond fetching (needed_for version w.played.records e.entity rev (others e rev)) [])
+      by true is have = subst (λ p. HaveRoom room (needed_for version w.played.records e.entity rev p)) (sym (is refl)) have
+      by false is have = tt
+
+-- where what is stored has room, there is room for what a fetch gives
+stored_has_room : (room : ℕ) (version : MappingVersion) (records : Records) (x : EntityId) (revision : ℕ) (fetching deleting : Bool) (reply : Result Bytes Cause) (was held : Option (Held Bytes)) (outcome : Outcome) →
+    outcome ≡ cond fetching (outcome_of_reply reply) (cond deleting Dropped Same) → held ≡ cond fetching (held_after_fetch revision reply was) (cond deleting None was) →
+    (outcome ≡ Stored → room_with (meaning version) records (triples_held (meaning version) x held) ≤ room) → HaveRoom room (cond fetching (needed_for version records x revision reply) [])
+stored_has_room room version records x revision true deleting (Ok bytes) was held outcome is holds within = (subst (λ h. room_with (meaning version) records (triples_held (meaning version) x h) ≤ room) holds (within is), tt)
+stored_has_room room version records x revision true deleting (Err cause) was held outcome is holds within = tt
+stored_has_room room version records x revision false deleting reply was held outcome is holds within = tt
+
+-- room is counted by the one version by which all that is held is mapped
+by_one : (room : ℕ) (version : MappingVersion) (records : Records) (triples : List Triple) → room_with (meaning_by meaning (all_by version records)) records triples ≤ room → room_with (meaning version) records triples ≤ room
+by_one room version records triples = subst (λ ts. distinct (flat_map terms_of (ts ++ triples)) ≤ room) (union-all meaning version records triple_cmp)
+
+-- a due event that was applied had room
+pub applied_has_room : (contents : Option Contents) (directory : List ℕ) (room : ℕ) (old : WorldState) (new : ReplayState) (applied : Applied) (a : Applies contents directory old.replay new applied) →
+    (applied.outcome ≡ Stored → room_with (meaning_by meaning old.second) old.replay.played.records (triples_held (meaning old.mapping) applied.event.entity (record_of new.played.records applied.event.entity).held) ≤ room) →
+    (version : MappingVersion) → mapped_in old ≡ mapped_by version old.replay.played.records →
+    HaveRoom room (cond (is_fetching old.replay applied.event) (needed_for version old.replay.played.records applied.event.entity (revision_wanted old.replay applied.event) a.reply) [])
+applied_has_room contents directory room old new applied a within version is =
+    let e : Event = applied.event in
+    let records : Records = old.replay.played.records in
+    let held : Option (Held Bytes) = (record_of new.played.records e.entity).held in
+    let Within : Mapped → Type 0 = λ m. room_with (meaning_by meaning m.second) records (triples_held (meaning m.version) e.entity held) ≤ room in
+    stored_has_room room version records e.entity (revision_wanted old.replay e) (is_fetching old.replay e) (is_deleted (state_after (record_of records e.entity).state e).mode) a.reply (record_of records e.entity).held held applied.outcome
+    a.outcome
+    (ap (λ (v : ReplayState). (record_of v.played.records e.entity).held) a.new_is ∙ held_applied old.replay e (λ q r. a.reply))
+    (λ stored. by_one room version records (triples_held (meaning version) e.entity held) (subst Within is (within stored)))
+
+-- ---- one page is mapped anew
+
+module _ (room : ℕ) (needs : List ℕ) (w : WorldState) (rising : IsRising entity_cmp w.second) where
+  abbrev records : Records
+  records = w.replay.played.records
+
+  -- for how many terms the page of an entity needs room that is mapped anew now
+  abbrev need : EntityId → ℕ
+  need x = room_with (meaning_by meaning w.second) records (triples_held (meaning w.mapping) x (record_of records x).held)
+
+  -- the needs of the pages that are left, where these hold by version Two
+  abbrev left_by : List EntityId → List ℕ
+  left_by second = needed_anew records (record { version = w.mapping; second = second })
+
+  first_anew : (x : EntityId) (rest : List EntityId) → stale w ≡ x ∷ rest →
+      left_by w.second ≡ need x ∷ left_by (with_version w.mapping x w.second)
+  first_anew x rest is =
+      let others : stale_by w.mapping (with_version w.mapping x w.second) records ≡ rest =
+      stale_remapped w.second rising x w.mapping records ∙ ap (remove_key (eq_by_cmp entity_cmp x)) is
+      ∙ ap (λ b. cond b rest (x ∷ remove_key (eq_by_cmp entity_cmp x) rest)) (ap is_eq (tied_itself entity_cmp_total x)) in
+      ap (needed_by_pages w.mapping records w.second) is
+      ∙ ap (λ l. need x ∷ needed_by_pages w.mapping records (with_version w.mapping x w.second) l) (sym others)
+
+  -- the page of the least stale entity is mapped anew, and had room
+  pub remapped_has_room : room_with (meaning_by meaning w.second) records (triples_anew w) ≤ room → HaveRoomBefore room (left_by w.second) needs → HaveRoomBefore room (left_by (remapped w).second) needs
+  remapped_has_room within so_far = by (stale w) refl
+    where
+      by : (xs : List EntityId) → stale w ≡ xs → HaveRoomBefore room (left_by (remapped w).second) needs
+      by [] is = subst (λ o. HaveRoomBefore room (left_by (with_version_of w.mapping o w.second)) needs) (sym (ap first_of is)) so_far
+      by (x ∷ rest) is =
+          let next : next_stale w ≡ Some x = ap first_of is in
+          subst (λ o. HaveRoomBefore room (left_by (with_version_of w.mapping o w.second)) needs) (sym next)
+          (next_met room (left_by (with_version w.mapping x w.second)) needs (need x ∷ []) (left_by w.second) (first_anew x rest is)
+          (subst (λ o. room_with (meaning_by meaning w.second) records (triples_of (meaning w.mapping) records o) ≤ room) next within, tt) so_far)
