@@ -18,4 +18,5 @@ pub mod Standing
 pub mod Stocked
 pub mod Storing
 pub mod Taking
+pub mod Told
 pub mod Unchanged
