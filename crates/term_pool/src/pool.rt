@@ -6,7 +6,6 @@ ghost use Rattle.rdf_term.specs.Fit.{IsFitAndShort};
 ghost use Rattle.rdf_term.specs.Text.{term_text};
 ghost use Rattle.text_region.specs.Region.{Texts};
 
-use crate::count::Count;
 use crate::counting::{is_last, lower, raise};
 use crate::fault::PoolFault;
 use crate::hash::text_hash;
@@ -113,8 +112,8 @@ impl Pool {
         requires lies { LiesIn self.old region.old }
         requires fit { IsFitAndShort term.now }
 
-        // A term that is there has fewer than 2^100 uses.
-        requires countable { (slot : ℕ) → text_at self.old region.old slot ≡ Some (term_text term.now) → count_at self.old slot < 2 ^ 100 }
+        // A term that is there has fewer than 2^63 uses.
+        requires countable { (slot : ℕ) → text_at self.old region.old slot ≡ Some (term_text term.now) → count_at self.old slot < 2 ^ 63 }
         ensures lies { LiesIn self.new region.new }
         ensures ok { IfOk result (λ slot. Interned self.old region.old self.new region.new slot.number (term_text term.now)) }
         ensures first { IfOk result (λ slot. IsNowhere self.old region.old (term_text term.now) → count_at self.new slot.number ≡ 1) }
@@ -139,8 +138,8 @@ impl Pool {
         requires lies { LiesIn self.old region.old }
         requires canonical { IsCanonical text.now }
 
-        // A term that is there has fewer than 2^100 uses.
-        requires countable { (slot : ℕ) → text_at self.old region.old slot ≡ Some text.now → count_at self.old slot < 2 ^ 100 }
+        // A term that is there has fewer than 2^63 uses.
+        requires countable { (slot : ℕ) → text_at self.old region.old slot ≡ Some text.now → count_at self.old slot < 2 ^ 63 }
         ensures lies { LiesIn self.new region.new }
         ensures ok { IfOk result (λ slot. Interned self.old region.old self.new region.new slot.number text.now) }
         ensures first { IfOk result (λ slot. IsNowhere self.old region.old text.now → count_at self.new slot.number ≡ 1) }
@@ -235,10 +234,7 @@ impl Pool {
         let Ok(piece) = region.place(text) else {
             return Err(PoolFault::OutOfMemory);
         };
-        self.slots.insert_reserved(Entry {
-            piece,
-            count: Count::one(),
-        });
+        self.slots.insert_reserved(Entry { piece, count: 1 });
         point(&mut self.by_hash, &mut self.more, hash, number);
         Ok(Slot { number })
     }

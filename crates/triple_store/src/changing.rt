@@ -20,6 +20,10 @@ use term_pool::{Pool, PoolFault};
 use text_region::Region;
 use triple_texts::TripleText;
 
+// As many triples as no memory holds, so this number is never reached. Below it no term has 2^62 uses, and a count of a
+// term fits into 64 bits.
+const MOST_TRIPLES: usize = 1 << 60;
+
 impl Store {
     // The triple of slots with these texts, where each of them is there; the triple need not be stored. Subject and
     // predicate are tried first in the slots that they have in a triple near by, since triples that follow each other mostly
@@ -78,7 +82,9 @@ impl Store {
         ensures beside { (piece : ThePiece) → beside self.new region.new piece ≡ beside self.old region.old piece }
         ensures limit { limit_of self.new ≡ limit_of self.old }
     {
-        let _stored = self.index.len();
+        if self.index.len() >= MOST_TRIPLES {
+            return Err(StoreFault::OutOfMemory);
+        }
         let key = match hold(&mut self.pool, region, texts) {
             Ok(key) => key,
             Err(PoolFault::Full) => return Err(StoreFault::Full),

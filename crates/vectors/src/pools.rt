@@ -47,7 +47,7 @@ fn is_full_for(
     pool: &mut Pool,
     region: &mut Region,
     term: &Term,
-    uses: u64,
+    uses: u32,
 ) -> Result<bool, Fail>
     requires lies { LiesIn pool.old region.old }
     requires fit { IsFitAndShort term.now }
@@ -68,7 +68,7 @@ fn is_full_for(
 }
 
 // Counts a use less of a term that is there.
-fn release(pool: &mut Pool, region: &mut Region, term: &Term, uses: u64) -> Result<(), Fail>
+fn release(pool: &mut Pool, region: &mut Region, term: &Term, uses: u32) -> Result<(), Fail>
     requires lies { LiesIn pool.old region.old }
     requires few { (slot : ℕ) → count_at pool.old slot ≤ uses }
     ensures lies { LiesIn pool.new region.new }
@@ -88,7 +88,7 @@ fn is_full_for_call(
     region: &mut Region,
     sign: &str,
     term: &Term,
-    uses: u64,
+    uses: u32,
 ) -> Result<bool, Fail>
     requires lies { LiesIn pool.old region.old }
     requires fit { IsFitAndShort term.now }
@@ -109,7 +109,7 @@ fn check_step(
     pool: &mut Pool,
     region: &mut Region,
     step: &str,
-    uses: u64,
+    uses: u32,
 ) -> Result<(), Fail>
     requires lies { LiesIn pool.old region.old }
     requires few { (slot : ℕ) → count_at pool.old slot ≤ uses }
@@ -137,7 +137,7 @@ fn check_step(
 fn a_pool_fills_up(rt: HostRuntime) -> Result<(), Fail> {
     let mut region = Region::new(rt.alloc())?;
     let mut pool = Pool::new(rt.alloc(), RandomState::new(&rt)?, 2);
-    let mut uses: u64 = 0;
+    let mut uses: u32 = 0;
     for step in STEPS.lines() {
         check_step(&rt, &mut pool, &mut region, step, uses)?;
         uses = uses.checked_add(1).ok_or("few steps")?;

@@ -19,7 +19,7 @@ returns-in_default-place-clause-foreign c = λ piece.
 number : (c : goal.After-point) → c.insert_reserved.result ≡ c.in-Ok.number
 number c = c.insert_reserved.ensures.key ∙ sym c.in-Ok.ensures.room.next
 
-there : (c : goal.After-point) → get c.insert_reserved.new.self c.in-Ok.number ≡ Some (record { piece = c.in-Ok-place.piece; count = c.one.result })
+there : (c : goal.After-point) → get c.insert_reserved.new.self c.in-Ok.number ≡ Some (record { piece = c.in-Ok-place.piece; count = 1 })
 there c = ap (get c.insert_reserved.new.self) (sym (number c)) ∙ c.insert_reserved.ensures.updates.changed
 
 others : (c : goal.After-point) → (x : ℕ) → x ≢ c.in-Ok.number → get c.insert_reserved.new.self x ≡ get c.make_room.new.self.slots x
@@ -31,8 +31,8 @@ returns-clause-lies c =
     let points : Points (map_get ◌==◌ c.make_room.new.self.by_hash) (map_get ◌==◌ c.point.new.by_hash) c.make_room.new.self.more.items c.point.new.more.items (hash_of c.make_room.new.self.keys c.args.text.now) c.in-Ok.number =
     subst (λ h. Points (map_get ◌==◌ c.make_room.new.self.by_hash) (map_get ◌==◌ c.point.new.by_hash) c.make_room.new.self.more.items c.point.new.more.items h c.in-Ok.number) (c.requires.hash ∙ ap (λ k. hash_of k c.args.text.now) (sym same.keys)) c.point.ensures in
     lies_added c.make_room.new.self _ c.args.region.now c.place.new.self c.in-Ok.number (others c) (lies_same c.args.self.now c.make_room.new.self c.args.region.now c.requires.lies same)
-    (record { piece = c.in-Ok-place.piece; count = c.one.result }) c.args.text.now c.in-Ok-place.ensures.updates.others c.in-Ok-place.ensures.was_vacant c.in-Ok.ensures.room.vacant (there c) c.in-Ok-place.ensures.updates.changed
-    (omega (arith, c.one.ensures)) c.requires.canonical (nowhere_same c.args.self.now c.make_room.new.self c.args.region.now c.args.text.now same c.requires.nowhere) points refl
+    (record { piece = c.in-Ok-place.piece; count = 1 }) c.args.text.now c.in-Ok-place.ensures.updates.others c.in-Ok-place.ensures.was_vacant c.in-Ok.ensures.room.vacant (there c) c.in-Ok-place.ensures.updates.changed
+    (omega arith) c.requires.canonical (nowhere_same c.args.self.now c.make_room.new.self c.args.region.now c.args.text.now same c.requires.nowhere) points refl
     (omega (arith, c.insert_reserved.ensures.len, ap (λ s. slab_len s) same.slots, same.limit, c.if-len-self.false, c.len.ensures))
 
 pub returns-clause-ok : goal.returns-clause-ok
@@ -40,10 +40,10 @@ returns-clause-ok c =
     let same = c.make_room.ensures.same in
     interned_from c.args.self.now c.make_room.new.self _ c.args.region.now c.place.new.self c.in-Ok.number c.args.text.now same
     (interned_added c.make_room.new.self _ c.args.region.now c.place.new.self c.in-Ok.number (others c) (lies_same c.args.self.now c.make_room.new.self c.args.region.now c.requires.lies same)
-    (record { piece = c.in-Ok-place.piece; count = c.one.result }) c.args.text.now c.in-Ok-place.ensures.updates.others c.in-Ok-place.ensures.was_vacant c.in-Ok.ensures.room.vacant (there c) c.in-Ok-place.ensures.updates.changed
-    c.one.ensures (nowhere_same c.args.self.now c.make_room.new.self c.args.region.now c.args.text.now same c.requires.nowhere))
+    (record { piece = c.in-Ok-place.piece; count = 1 }) c.args.text.now c.in-Ok-place.ensures.updates.others c.in-Ok-place.ensures.was_vacant c.in-Ok.ensures.room.vacant (there c) c.in-Ok-place.ensures.updates.changed
+    refl (nowhere_same c.args.self.now c.make_room.new.self c.args.region.now c.args.text.now same c.requires.nowhere))
 
 pub returns-clause-foreign : goal.returns-clause-foreign
 returns-clause-foreign c = λ piece.
-    foreign_added c.make_room.new.self _ c.args.region.now c.place.new.self c.in-Ok.number (record { piece = c.in-Ok-place.piece; count = c.one.result }) (others c) c.in-Ok.ensures.room.vacant (there c) c.in-Ok-place.ensures.was_vacant c.in-Ok-place.ensures.updates.others piece
+    foreign_added c.make_room.new.self _ c.args.region.now c.place.new.self c.in-Ok.number (record { piece = c.in-Ok-place.piece; count = 1 }) (others c) c.in-Ok.ensures.room.vacant (there c) c.in-Ok-place.ensures.was_vacant c.in-Ok-place.ensures.updates.others piece
     ∙ foreign_same c.args.self.now c.make_room.new.self c.args.region.now piece (ap (λ s. s.slots) c.make_room.ensures.same.slots)

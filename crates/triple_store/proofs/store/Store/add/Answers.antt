@@ -11,7 +11,7 @@ use Rattle.triple_store.proofs.Storing.{again, back, counts_after, counts_kept, 
 use Rattle.triple_store.proofs.store.Store.add.Goals as goal
 
 pub hold-requires-clause-countable : goal.hold-requires-clause-countable
-hold-requires-clause-countable c = λ slot. few_uses c.args.self.now c.args.region.now slot c.requires.stored (omega (arith, c.len-stored.ensures.len))
+hold-requires-clause-countable c = λ slot. few_uses c.args.self.now c.args.region.now slot c.requires.stored (omega (arith, c.len.ensures.len, c.if-len-ge-MOST_TRIPLES.false))
 
 pub returns-in-Err-Full-clause-err : goal.returns-in-Err-Full-clause-err
 returns-in-Err-Full-clause-err c = counts_unmoved c.args.self.now _ c.args.region.now _ c.requires.stored (record { kept = λ x t e. c.in-Err-Full.ensures.err.texts x ∙ e }) refl
