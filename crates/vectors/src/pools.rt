@@ -68,7 +68,7 @@ fn is_full_for(
 }
 
 // Counts a use less of a term that is there.
-fn release(pool: &mut Pool, region: &mut Region, term: &Term, uses: u64) -> Result<(), Fail>
+fn release(pool: &mut Pool, region: &mut Region, term: &Term, uses: u32) -> Result<(), Fail>
     requires lies { LiesIn pool.old region.old }
     requires few { (slot : ℕ) → count_at pool.old slot ≤ uses }
     ensures lies { LiesIn pool.new region.new }
