@@ -173,7 +173,7 @@ fn read_content<'b, 'a>(arena: &'b Bump, bytes: &'a [u8]) -> Result<(&'b str, &'
 // The content of a string after its opening quotation mark, where it is ASCII and has no escape, and what follows the
 // closing one.
 #[inline(always)]
-fn read_plain<'a>(bytes: &'a [u8]) -> Option<(&'a str, &'a [u8])>
+pub(crate) fn read_plain<'a>(bytes: &'a [u8]) -> Option<(&'a str, &'a [u8])>
     ensures read { IfSome result (λ p. content_at bytes.now ≡ Some (p.0.now, p.1.now)) }
     ensures no_longer { IfSome result (λ p. length p.1.now ≤ length bytes.now) }
 {
