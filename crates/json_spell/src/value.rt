@@ -11,7 +11,7 @@ use crate::bytes::{after_byte, after_word, next, skip_ws};
 use crate::fault::JsonFault;
 use crate::json::{Json, Member};
 use crate::number::read_number;
-use crate::string::{read_plain, read_string};
+use crate::string::{read_any_string, read_plain};
 use bumpalo::Bump;
 use bumpalo::collections::into_bump_slice;
 
@@ -56,7 +56,10 @@ fn read_name<'b, 'a: 'b>(arena: &'b Bump, bytes: &'a [u8]) -> Result<(&'b str, &
     let Some(rest) = after_byte(skip_ws(bytes), b'"') else {
         return Err(JsonFault::NotJson);
     };
-    let (content, rest) = read_string(arena, rest)?;
+    if let Some((name, rest)) = read_plain(rest) {
+        return Ok((name, skip_ws(rest)));
+    }
+    let (content, rest) = read_any_string(arena, rest)?;
     Ok((content.name(), skip_ws(rest)))
 }
 
@@ -109,7 +112,7 @@ fn read_value<'b, 'a: 'b>(
     };
     match byte {
         b'"' => {
-            let (content, rest) = read_string(arena, rest)?;
+            let (content, rest) = read_any_string(arena, rest)?;
             Ok((content.value(), rest))
         }
         b'[' => {
