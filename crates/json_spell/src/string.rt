@@ -171,9 +171,9 @@ fn read_content<'b, 'a>(arena: &'b Bump, bytes: &'a [u8]) -> Result<(&'b str, &'
 }
 
 // The content of a string after its opening quotation mark, where it is ASCII and has no escape, and what follows the
-// closing one.
+// closing one. Most strings are so: this is tried first, and any other string is read as below.
 #[inline(always)]
-fn read_plain<'a>(bytes: &'a [u8]) -> Option<(&'a str, &'a [u8])>
+pub(crate) fn read_plain<'a>(bytes: &'a [u8]) -> Option<(&'a str, &'a [u8])>
     ensures read { IfSome result (λ p. content_at bytes.now ≡ Some (p.0.now, p.1.now)) }
     ensures no_longer { IfSome result (λ p. length p.1.now ≤ length bytes.now) }
 {
@@ -185,7 +185,7 @@ fn read_plain<'a>(bytes: &'a [u8]) -> Option<(&'a str, &'a [u8])>
 // The content of any string after its opening quotation mark, and what follows the closing one. It is copied only where
 // the string has an escape.
 #[inline(never)]
-fn read_any_string<'b, 'a>(
+pub(crate) fn read_any_string<'b, 'a>(
     arena: &'b Bump,
     bytes: &'a [u8],
 ) -> Result<(Content<'b, 'a>, &'a [u8]), JsonFault>
@@ -201,20 +201,4 @@ fn read_any_string<'b, 'a>(
     }
     let (content, rest) = read_content(arena, bytes)?;
     Ok((Content::Arena(content), rest))
-}
-
-// The content of a string after its opening quotation mark, and what follows the closing one. Most strings are ASCII
-// without an escape, so these are tried first.
-#[inline(always)]
-pub(crate) fn read_string<'b, 'a>(
-    arena: &'b Bump,
-    bytes: &'a [u8],
-) -> Result<(Content<'b, 'a>, &'a [u8]), JsonFault>
-    ensures read { Parses (λ p. (content_bytes p.0, p.1.now)) result (content_at bytes.now) }
-    ensures no_longer { IfOk result (λ p. length p.1.now ≤ length bytes.now) }
-{
-    match read_plain(bytes) {
-        Some((content, rest)) => Ok((Content::Source(content), rest)),
-        None => read_any_string(arena, bytes),
-    }
 }

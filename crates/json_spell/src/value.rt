@@ -1,6 +1,6 @@
 // Reads a value: RFC 8259, sections 3 to 5.
 
-ghost use Rattle.std.specs.Prelude.{◌≡◌, ◌≤◌, ◌<◌, length, map, option_map, IfSome, IfOk};
+ghost use Rattle.std.specs.Prelude.{◌≡◌, ◌≤◌, ◌<◌, ℕ, length, map, option_map, Some, IfSome, IfOk};
 ghost use Rattle.json_spell.specs.Tree.{no_trees, no_pairs};
 ghost use Rattle.json_spell.specs.View.{json_view, member_view, trees_of, pairs_of};
 ghost use Rattle.json_spell.specs.Reading.{spaced, list_by, name_at, member_by, literal_at, scalar_at, value_at, values_at, members_at};
@@ -11,7 +11,7 @@ use crate::bytes::{after_byte, after_word, next, skip_ws};
 use crate::fault::JsonFault;
 use crate::json::{Json, Member};
 use crate::number::read_number;
-use crate::string::read_string;
+use crate::string::{read_any_string, read_plain};
 use bumpalo::Bump;
 use bumpalo::collections::into_bump_slice;
 
@@ -56,11 +56,26 @@ fn read_name<'b, 'a: 'b>(arena: &'b Bump, bytes: &'a [u8]) -> Result<(&'b str, &
     let Some(rest) = after_byte(skip_ws(bytes), b'"') else {
         return Err(JsonFault::NotJson);
     };
-    let (content, rest) = read_string(arena, rest)?;
+    if let Some((name, rest)) = read_plain(rest) {
+        return Ok((name, skip_ws(rest)));
+    }
+    let (content, rest) = read_any_string(arena, rest)?;
     Ok((content.name(), skip_ws(rest)))
 }
 
-// A value with white space around it. Here and below, an array or object that opens where no level is left is Deep.
+// A string that is ASCII and has no escape, where one stands at the front.
+#[inline(always)]
+fn read_text<'b, 'a>(bytes: &'a [u8]) -> Option<(Json<'b, 'a>, &'a [u8])>
+    ensures read { IfSome result (λ p. value_at bytes.now ≡ Some (json_view p.0, p.1.now)) }
+    ensures no_longer { IfSome result (λ p. length p.1.now ≤ length bytes.now) }
+    ensures flat { IfSome result (λ p. (n : ℕ) → Nests n (json_view p.0)) }
+{
+    let content = after_byte(bytes, b'"')?;
+    let (text, rest) = read_plain(content)?;
+    Some((Json::Str(text), rest))
+}
+
+// A value with white space around it. Most values are strings as above, so these are tried first. Here and below, an array or object that opens where no level is left is Deep.
 #[cycle(read)]
 #[inline(always)]
 pub(crate) fn read_spaced<'b, 'a: 'b>(
@@ -72,7 +87,11 @@ pub(crate) fn read_spaced<'b, 'a: 'b>(
     ensures no_longer { IfOk result (λ p. length p.1.now ≤ length bytes.now) }
     ensures nests { IfOk result (λ p. Nests levels (json_view p.0)) }
 {
-    let (json, rest) = read_value(arena, levels, skip_ws(bytes))?;
+    let start = skip_ws(bytes);
+    if let Some((text, rest)) = read_text(start) {
+        return Ok((text, skip_ws(rest)));
+    }
+    let (json, rest) = read_value(arena, levels, start)?;
     Ok((json, skip_ws(rest)))
 }
 
@@ -93,7 +112,7 @@ fn read_value<'b, 'a: 'b>(
     };
     match byte {
         b'"' => {
-            let (content, rest) = read_string(arena, rest)?;
+            let (content, rest) = read_any_string(arena, rest)?;
             Ok((content.value(), rest))
         }
         b'[' => {
