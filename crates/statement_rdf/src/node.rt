@@ -54,7 +54,7 @@ fn push_part(id: &str, name: &mut String) -> Result<(), OutOfMemory>
 fn are_kept(id: &[u8]) -> bool
     ensures { result ≡ list_all is_kept id.now }
 {
-    id.iter().all(|byte| matches!(*byte, b'a'..=b'z' | b'A'..=b'Z' | b'0'..=b'9' | b'_' | b'-'))
+    id.iter().all(|byte| byte.is_ascii_alphanumeric() || matches!(*byte, b'_' | b'-'))
 }
 
 // Appends what each byte of a statement's id becomes in the name.

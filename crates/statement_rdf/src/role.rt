@@ -3,22 +3,22 @@
 ghost use Rattle.std.specs.Prelude.{◌≡◌, ◌++◌, IfOk, string_bytes};
 ghost use Rattle.statement_rdf.specs.Role.{node_prefix, role_text, value_prefix};
 
-use rdf_term::{OutOfMemory, Text};
+use rdf_term::{OutOfMemory, Piece, Text};
 use rdf_vocabulary::Prefix;
 use std::alloc::Global;
 
 /// The role in which a snak stands in a statement.
 #[derive(Debug, Drop)]
-pub enum Role {
+pub enum Role<'a> {
     /// It is what is stated.
     Main,
     /// It qualifies the statement.
     Qualifier,
     /// It tells of the source; the reference is named by its hash.
-    Reference(Text),
+    Reference(Piece<'a>),
 }
 
-impl Role {
+impl<'a> Role<'a> {
     /// The namespace of the properties that lead to simple values.
     pub fn value_prefix(&self) -> Prefix
         ensures { result ≡ value_prefix self.now }

@@ -10,7 +10,7 @@ use crate::node::statement_name;
 use crate::role::Role;
 use crate::snak::{emit_no_value, emit_object, emit_snak, emit_snaks, unknown_label};
 use entity_model::{Content, Rank, Reference, Snak, Statement};
-use rdf_term::{OutOfMemory, Text};
+use rdf_term::{OutOfMemory, Piece};
 use rdf_vocabulary::{Predicate, Prefix, Resource};
 use std::alloc::Global;
 use triple_sink::{Setting, TermRef, TripleSink, emit_about, emit_class};
@@ -181,7 +181,7 @@ fn emit_reference<S: TripleSink>(
 {
     let source = TermRef::Named(Prefix::Wdref, reference.hash.as_str());
     emit_source(setting.alloc, node, &source, out)?;
-    let role = Role::Reference(Text::new(setting.alloc, reference.hash.as_str())?);
+    let role = Role::Reference(Piece::borrowed(reference.hash.as_str()));
     let snaks = reference.snaks.as_slice();
     emit_snaks(setting, &source, id, &role, snaks, out)
 }

@@ -1,8 +1,9 @@
 // The triples with the simple terms of data values.
 
-ghost use Rattle.std.specs.Prelude.{◌≡◌, [], ◌∷◌, IfOk, OnOk};
+ghost use Rattle.std.specs.Prelude.{◌≡◌, [], ◌∷◌, IfOk, IfSome, OnOk};
 ghost use Rattle.std.specs.Str.{bytes_eq};
 ghost use Rattle.rdf_term.specs.Grammar.{iri_of};
+ghost use Rattle.rdf_vocabulary.specs.Prefix.{prefixed};
 ghost use Rattle.triple_sink.specs.Gains.{Gains};
 ghost use Rattle.triple_sink.specs.TermRef.{meant};
 ghost use Rattle.wb_values.specs.Literal.{time_literal};
@@ -76,7 +77,8 @@ fn emit_text<S: TripleSink>(
     out.emit(alloc, subject, predicate, &TermRef::Plain(text))
 }
 
-/// Hands on the triple with the IRI of the text, in which what may not stand in an IRI is percent-encoded.
+/// Hands on the triple with the IRI of the text, in which what may not stand in an IRI is percent-encoded. Most are
+/// IRIs of entities (calendars, units and globes), of which only the name is judged.
 #[tactic(auto, using(rdf_term::proofs::IriChars::iri_of_same))]
 pub fn emit_iri<S: TripleSink>(
     alloc: Global,
@@ -89,11 +91,25 @@ pub fn emit_iri<S: TripleSink>(
         (triple (meant subject.now) (meant predicate.now) (iri_of text.now) ∷ [])) }
     ensures stays { S.rest out.new ≡ S.rest out.old }
 {
+    if let Some(name) = name_in_iri(text) {
+        return out.emit(alloc, subject, predicate, &TermRef::Named(Prefix::Wd, name));
+    }
     if is_iri(text) {
         return out.emit(alloc, subject, predicate, &TermRef::Iri(text));
     }
     let object = iri(alloc, text)?;
     out.emit(alloc, subject, predicate, &TermRef::of(&object))
+}
+
+// What follows the namespace of entities in the text, where the text is an IRI as it stands.
+#[tactic(auto, using(crate::proofs::Iris::entity_iri))]
+fn name_in_iri(text: &str) -> Option<&str>
+    ensures { IfSome result (λ name. iri_of text.now ≡ prefixed Prefix.Wd name.now) }
+{
+    match text.strip_prefix(Prefix::Wd.text()) {
+        Some(name) if is_iri(name) => Some(name),
+        _ => None,
+    }
 }
 
 /// Hands on the triple with the term of an amount or of a bound of one.
@@ -132,7 +148,7 @@ pub(crate) fn emit_time<S: TripleSink>(
 }
 
 // The text of a time, and whether it is an `xsd:dateTime`.
-fn time_text(alloc: Global, time: &TimeParts) -> Result<TimeText, OutOfMemory>
+fn time_text<'m>(alloc: Global, time: &'m TimeParts<'_>) -> Result<TimeText<'m>, OutOfMemory>
     ensures { IfOk result (λ text. text ≡ time_literal time.now.time time.now.precision (bytes_eq time.now.calendar julian_calendar)) }
 {
     let julian = is_julian(time.calendar.as_str());
@@ -151,7 +167,7 @@ fn emit_time_text<S: TripleSink>(
     alloc: Global,
     subject: &TermRef<'_>,
     predicate: &TermRef<'_>,
-    text: &TimeText,
+    text: &TimeText<'_>,
     out: &mut S,
 ) -> Result<(), OutOfMemory>
     ensures gains { OnOk result (Gains S.items S.keeps out.old out.new

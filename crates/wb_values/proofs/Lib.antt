@@ -3,4 +3,5 @@ pub mod DayLemmas
 pub mod DecimalLemmas
 pub mod Lengths
 pub mod LiteralLemmas
+pub mod Padded
 pub mod WrittenLemmas

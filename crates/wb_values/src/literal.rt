@@ -1,12 +1,14 @@
 // The literal of a time.
 
-ghost use Rattle.std.specs.Prelude.{◌≡◌, IfOk, option_map};
-ghost use Rattle.wb_values.specs.Literal.{date_time_text, meant_time, time_literal, IsOnlyLiteral};
+ghost use Rattle.std.specs.Prelude.{◌≡◌, true, [], ◌∷◌, ◌++◌, unsigned_abs, IfOk, option_map};
+ghost use Rattle.std.specs.Str.{bytes_eq};
+ghost use Rattle.wb_values.specs.Literal.{date_time_text, meant_time, sign_text, time_literal, zero_padded, IsOnlyLiteral};
 
 use crate::calendar::CalendarDate;
 use crate::gregorian_day::gregorian_day;
 use crate::written::written_time;
-use rdf_term::{OutOfMemory, Text};
+use digits::two_digits;
+use rdf_term::{OutOfMemory, Piece, Text};
 use std::alloc::Global;
 
 // How many bytes most dates and times have at most, as `-0044-03-15T00:00:00Z`.
@@ -14,30 +16,31 @@ const USUAL_LENGTH: usize = 24;
 
 /// The text of a literal that stands for a time.
 #[derive(Debug, Drop)]
-pub enum TimeText {
+pub enum TimeText<'a> {
     /// An `xsd:dateTime` of XML Schema 1.1 in the proleptic Gregorian calendar, with a year 0.
-    DateTime(Text),
+    DateTime(Piece<'a>),
     /// The time's own text, which no date stands for.
-    Plain(Text),
+    Plain(Piece<'a>),
 }
 
 /// The literal of a time as Wikibase writes it: `+2001-12-31T00:00:00Z` and the like.
 ///
 /// `precision` is Wikibase's: 9 for a year, 10 for a month, 11 for a day and more for parts of one.
 /// `julian` says that the text is a date of the Julian calendar; with a precision of 11 or more and a
-/// year from -9998 to 9998, such a date becomes the Gregorian date of the same day.
-pub fn time_literal(
+/// year from -9998 to 9998, such a date becomes the Gregorian date of the same day. Where the literal is
+/// the time's text but for its sign, as most times, it is a part of that text and takes no memory.
+pub fn time_literal<'a>(
     alloc: Global,
-    text: &str,
+    text: &'a str,
     precision: u8,
     julian: bool,
-) -> Result<TimeText, OutOfMemory>
+) -> Result<TimeText<'a>, OutOfMemory>
     ensures value { IfOk result (λ literal. literal ≡ time_literal text.now precision julian) }
     ensures rules { IfOk result (IsOnlyLiteral text.now precision julian) }
 {
     match meant_time(text, precision, julian) {
-        Some((day, clock)) => Ok(TimeText::DateTime(date_time_text(alloc, day, clock)?)),
-        None => Ok(TimeText::Plain(Text::new(alloc, text)?)),
+        Some((day, clock)) => Ok(TimeText::DateTime(date_time(alloc, text, day, clock)?)),
+        None => Ok(TimeText::Plain(Piece::borrowed(text))),
     }
 }
 
@@ -47,6 +50,100 @@ fn meant_time(text: &str, precision: u8, julian: bool) -> Option<(CalendarDate, 
     let (written, clock) = written_time(text)?;
     let day = gregorian_day(written, precision, julian)?;
     Some((day, clock))
+}
+
+// The text of a day and a clock: the time's own behind a `+`, where it is that.
+fn date_time<'a>(
+    alloc: Global,
+    time: &'a str,
+    day: CalendarDate,
+    clock: &str,
+) -> Result<Piece<'a>, OutOfMemory>
+    ensures { IfOk result (λ text. text ≡ date_time_text day clock.now) }
+{
+    if let Some(own) = time.strip_prefix("+") {
+        if is_text_of(day, clock.as_bytes(), own.as_bytes()) {
+            return Ok(Piece::borrowed(own));
+        }
+    }
+    Ok(Piece::owned(date_time_text(alloc, day, clock)?))
+}
+
+// Whether the text is that of a day in a year of four digits, and of a clock.
+#[tactic(auto, using(crate::proofs::Padded::year_first))]
+fn is_text_of(date: CalendarDate, clock: &[u8], text: &[u8]) -> bool
+    ensures { result ≡ true → text.now ≡ date_time_text date clock.now }
+{
+    match text {
+        [y1, y2, y3, y4, rest @ ..] => {
+            is_year_of(date.year, *y1, *y2, *y3, *y4) && is_month_on(date, clock, rest)
+        }
+        _ => false,
+    }
+}
+
+// Whether the text is that of a day from its month on, and of a clock.
+#[tactic(auto, using(crate::proofs::Padded::pair_first))]
+fn is_month_on(date: CalendarDate, clock: &[u8], text: &[u8]) -> bool
+    ensures { result ≡ true → text.now ≡ 45 ∷ zero_padded 2 date.month ++ (45 ∷ zero_padded 2 date.day ++ 84 ∷ clock.now) }
+{
+    match text {
+        [b'-', m1, m2, rest @ ..] => is_pair_of(date.month, *m1, *m2)
+            && is_day_on(date.day, clock, rest),
+        _ => false,
+    }
+}
+
+// Whether the text is that of the day of a month, and of a clock.
+#[tactic(auto, using(crate::proofs::Padded::pair_first))]
+fn is_day_on(day: u8, clock: &[u8], text: &[u8]) -> bool
+    ensures { result ≡ true → text.now ≡ 45 ∷ zero_padded 2 day ++ 84 ∷ clock.now }
+{
+    match text {
+        [b'-', d1, d2, rest @ ..] => is_pair_of(day, *d1, *d2) && is_clock_on(clock, rest),
+        _ => false,
+    }
+}
+
+// Whether the text is that of a clock behind its `T`.
+fn is_clock_on(clock: &[u8], text: &[u8]) -> bool
+    ensures { result ≡ true → text.now ≡ 84 ∷ clock.now }
+{
+    is_behind_t(clock, text)
+}
+
+// The same, by its bytes.
+fn is_behind_t(clock: &[u8], text: &[u8]) -> bool
+    ensures { result ≡ bytes_eq text.now (84 ∷ clock.now) }
+{
+    match text {
+        [first, rest @ ..] => *first == b'T' && rest == clock,
+        [] => false,
+    }
+}
+
+// Whether the four digits write the year.
+#[tactic(auto, using(crate::proofs::Padded::pairs_padded))]
+fn is_year_of(year: i64, y1: u8, y2: u8, y3: u8, y4: u8) -> bool
+    ensures { result ≡ true → sign_text year ++ zero_padded 4 (unsigned_abs year) ≡ y1 ∷ y2 ∷ y3 ∷ y4 ∷ [] }
+{
+    match (two_digits(y1, y2), two_digits(y3, y4)) {
+        (Some(century), Some(rest)) => {
+            year >= 0 && year.unsigned_abs() == 100 * u64::from(century) + u64::from(rest)
+        }
+        _ => false,
+    }
+}
+
+// Whether the two digits write the number.
+#[tactic(auto, using(crate::proofs::Padded::pair_padded))]
+fn is_pair_of(number: u8, tens: u8, ones: u8) -> bool
+    ensures { result ≡ true → zero_padded 2 number ≡ tens ∷ ones ∷ [] }
+{
+    match two_digits(tens, ones) {
+        Some(value) => value == number,
+        None => false,
+    }
 }
 
 fn date_time_text(alloc: Global, date: CalendarDate, clock: &str) -> Result<Text, OutOfMemory>
