@@ -1,7 +1,7 @@
 -- Numbers as they are written in decimal, and what `parse` reads of them.
-use Rattle.std.proofs.Common.{◌≡◌, ℕ, ◌<◌, ◌≤◌, ◌^◌, List, [], ◌∷◌, length, IfSome, Result, Ok, Err, get_or, arith}
+use Rattle.std.proofs.Common.{◌≡◌, ℕ, zero, suc, ◌+◌, ◌/◌, ◌%◌, ◌<◌, ◌≤◌, ◌^◌, ◌==◌, Bool, true, false, cond, List, [], ◌∷◌, length, IfSome, Result, Ok, Err, get_or, arith}
 use Rattle.std.specs.Result.{result_ok}
-use Rattle.std.specs.Fmt.{decimal}
+use Rattle.std.specs.Fmt.{decimal, digits, digits_onto, digit_glyph}
 use Rattle.std.specs.Str.Parse.{ParsesUnsigned, AllDigits, digits_value}
 use Rattle.std.proofs.Math.Nat.{pow-le-pow_right}
 use Rattle.std.proofs.lemmas.Str.Parse.{IsNumeralModel, numerals_by_value, tells_digits, parse_plain, digit_at}
@@ -31,3 +31,16 @@ first_digit n bs low small is =
 -- 0 is written as one digit
 pub zero_written : decimal 0 ≡ 48 ∷ []
 zero_written = decimal_digit 0 (omega arith)
+
+digits_onto_short : (k n : ℕ) (acc : List ℕ) → length (digits_onto k 10 false n acc) ≤ k + length acc
+digits_onto_short zero n acc = omega arith
+digits_onto_short (suc k) n acc = by_choice (n / 10 == 0) _ _ (omega arith) (omega (arith, digits_onto_short k (n / 10) (digit_glyph false (n % 10) ∷ acc)))
+  where
+    by_choice : {m : ℕ} (b : Bool) (x y : List ℕ) → length x ≤ m → length y ≤ m → length (cond b x y) ≤ m
+    by_choice true x y p q = p
+    by_choice false x y p q = q
+
+-- a number in decimal has at most 64 digits, as far as numbers are written
+pub decimal_short : (n : ℕ) → length (decimal n) ≤ 64
+unfolding digits
+decimal_short n = omega (arith, digits_onto_short 64 n [])

@@ -1,4 +1,4 @@
-//! Decimal digits in ASCII: the test for them, and the numbers that they write.
+//! Decimal digits in ASCII: the tests for them, and the numbers that they write.
 //!
 //! The readers of times, amounts and whole numbers all stand on digits, in crates that don't stand on one another.
 //! `number` has the code; `proofs/` has what these crates share of lemmas: on two digits (`Pairs`), on the bounds of
@@ -8,4 +8,4 @@
 
 mod number;
 
-pub use number::{are_digits, decimal_value, two_digits};
+pub use number::{are_digits, decimal_value, starts_above_zero, two_digits};

@@ -1,6 +1,6 @@
 // The numbers that digits write.
 
-ghost use Rattle.std.specs.Prelude.{◌≡◌, ◌<◌, ◌≤◌, ◌^◌, length, IsTrue, IfSome};
+ghost use Rattle.std.specs.Prelude.{◌≡◌, ◌↔◌, ◌<◌, ◌≤◌, ◌^◌, length, slice_index, IsTrue, IfSome};
 ghost use Rattle.std.specs.Char.{is_ascii_digit};
 ghost use Rattle.std.specs.List.{list_all};
 ghost use Rattle.digits.specs.Number.{decimal_value, two_digits};
@@ -10,6 +10,13 @@ pub fn are_digits(text: &[u8]) -> bool
     ensures { result ≡ list_all is_ascii_digit text.now }
 {
     text.iter().all(|byte| byte.is_ascii_digit())
+}
+
+/// Whether the text starts with a digit from 1 to 9.
+pub fn starts_above_zero(text: &str) -> bool
+    ensures { IsTrue result ↔ ((49 ≤ slice_index text.now 0) × (slice_index text.now 0 ≤ 57)) }
+{
+    matches!(text.as_bytes(), [b'1'..=b'9', ..])
 }
 
 /// The number that up to 18 digits write; none write 0.

@@ -11,11 +11,15 @@ use Rattle.entity_model.specs.Ties.{both_tie}
 
 -- the order of events: by time, then by revision, then by kind, then by entity
 abbrev pub event_cmp : Event → Event → Ordering
-event_cmp = then_cmp (then_cmp (then_cmp (on (λ (e : Event). e.time) int_cmp) (on (λ (e : Event). e.rev) nat_cmp)) (on (λ (e : Event). kind_place e.kind) nat_cmp)) (on (λ (e : Event). e.entity) entity_cmp)
+event_cmp =
+    then_cmp (then_cmp (then_cmp (on (λ (e : Event). e.time) int_cmp) (on (λ (e : Event). e.rev) nat_cmp))
+    (on (λ (e : Event). kind_place e.kind) nat_cmp)) (on (λ (e : Event). e.entity) entity_cmp)
 
 -- it is a total order
 pub event_cmp_total : IsTotalOrder event_cmp
-event_cmp_total = then_total (then_total (then_total (on_total (λ (e : Event). e.time) int_cmp_total) (on_total (λ (e : Event). e.rev) nat_cmp_total)) (on_total (λ (e : Event). kind_place e.kind) nat_cmp_total)) (on_total (λ (e : Event). e.entity) entity_cmp_total)
+event_cmp_total =
+    then_total (then_total (then_total (on_total (λ (e : Event). e.time) int_cmp_total) (on_total (λ (e : Event). e.rev) nat_cmp_total))
+    (on_total (λ (e : Event). kind_place e.kind) nat_cmp_total)) (on_total (λ (e : Event). e.entity) entity_cmp_total)
 
 -- events that it does not tell apart are one event
 pub event_cmp_same : IsAntisymmetric event_cmp

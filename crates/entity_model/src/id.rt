@@ -1,10 +1,11 @@
 // The ids of entities: their text and their order.
 
-ghost use Rattle.std.specs.Prelude.{◌≡◌, ◌≢◌, ℕ, ◌<◌, ◌≤◌, ◌^◌, List, ◌∷◌, slice_index, IsTrue, ◌↔◌, IfSome, IfNone, Some, IfOk};
+ghost use Rattle.std.specs.Prelude.{◌≡◌, ◌≢◌, ℕ, ◌<◌, ◌^◌, List, ◌∷◌, IfSome, IfNone, Some, IfOk};
 ghost use Rattle.std.specs.Fmt.{decimal};
 ghost use Rattle.std.specs.Ordering.{nat_cmp, on};
 ghost use Rattle.entity_model.specs.IdKind.{id_kind_place, letter_of};
 
+use digits::starts_above_zero;
 use rdf_term::{OutOfMemory, Text};
 use std::alloc::Global;
 use std::cmp::Ordering;
@@ -97,13 +98,6 @@ fn read_number(digits: &str) -> Option<u32>
     } else {
         None
     }
-}
-
-/// Whether the text starts with a digit from 1 to 9.
-fn starts_above_zero(text: &str) -> bool
-    ensures { IsTrue result ↔ ((49 ≤ slice_index text.now 0) × (slice_index text.now 0 ≤ 57)) }
-{
-    matches!(text.as_bytes(), [b'1'..=b'9', ..])
 }
 
 impl PartialEq for EntityId {

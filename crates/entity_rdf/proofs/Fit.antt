@@ -28,7 +28,8 @@ use Rattle.rdf_vocabulary.specs.declared.resource.Resource.TheVariants.{Dataset,
 use Rattle.rdf_vocabulary.specs.Predicate.{about}
 use Rattle.rdf_vocabulary.specs.Prefix.{entity_term, prefixed}
 use Rattle.rdf_vocabulary.proofs.Fit.{AreFit, about_fit, class_fit, join, join_all, plain_fit, resource_fit, prefixed_fit}
-use Rattle.rdf_vocabulary.proofs.Ids.{decimal_short, id_term_fit}
+use Rattle.digits.proofs.Decimals.{decimal_short}
+use Rattle.rdf_vocabulary.proofs.Ids.{id_term_fit}
 use Rattle.value_nodes.proofs.Fit.{literal_fit, simple_term_fit}
 use Rattle.entity_model.specs.declared.mapping.MappingVersion.{MappingVersion}
 use Rattle.statement_rdf.specs.Ranking.{is_best}

@@ -8,6 +8,7 @@ use Rattle.rdf_term.specs.declared.term.Term.TheVariants.{Iri, Blank, Plain, Lan
 use Rattle.rdf_term.specs.declared.triple.Triple.{Triple}
 use Rattle.rdf_term.specs.Grammar.{is_tag, is_word, iri_of, tagged_of}
 use Rattle.rdf_term.specs.Order.{triple_cmp}
+use Rattle.rdf_term.specs.Triple.{triple}
 use Rattle.entity_model.specs.declared.id.EntityId.{EntityId}
 use Rattle.entity_model.specs.declared.id.IdKind.{IdKind}
 use Rattle.entity_model.specs.declared.id.IdKind.TheVariants as Letter
@@ -37,14 +38,14 @@ use Rattle.rdf_vocabulary.specs.Prefix.{entity_term, id_term, prefixed}
 use Rattle.rdf_vocabulary.specs.Resource.{class_triple, resource_term}
 use Rattle.rdf_vocabulary.specs.Unreserved.{escaped_name}
 use Rattle.rdf_vocabulary.proofs.NamesFit.{length-hashed_name}
-use Rattle.rdf_vocabulary.proofs.Shared.{append_each, chosen}
+use Rattle.rdf_vocabulary.proofs.Shared.{append_each, chosen, flat_map_all}
 use Rattle.wb_values.specs.declared.literal.TimeText.{TimeText}
 use Rattle.wb_values.specs.declared.literal.TimeText.TheVariants.{DateTime, Plain as PlainTime}
 use Rattle.wb_values.specs.Decimal.{is_decimal}
 use Rattle.wb_values.specs.Literal.{time_literal}
 use Rattle.value_nodes.specs.Name.{node_name, number_one, one}
 use Rattle.value_nodes.specs.Nodes.{bound_triples, named_triples, node_triples, value_part_triples, precision_triples, unit_term}
-use Rattle.value_nodes.specs.Said.{object_triples, triple}
+use Rattle.value_nodes.specs.Said.{object_triples}
 use Rattle.value_nodes.specs.Terms.{amount_term, commons_media, julian_calendar, simple_term, text_term, time_term, time_text_term, url}
 use Rattle.sitelinks.specs.declared.sites.Site.{Site}
 use Rattle.sitelinks.specs.Article.{article_iri, article_triples, badge_triple, found_triples, group_triple}
@@ -71,13 +72,6 @@ IsShort term = has_short_label term ≡ true
 -- so are those of the triples' blank nodes
 abbrev AreShort : List Triple → Type 0
 AreShort triples = AllByRecursion HasShortLabels triples
-
-join : (xs ys : List Triple) → AreShort xs → AreShort ys → AreShort (xs ++ ys)
-join xs ys p q = append_each HasShortLabels xs ys p q
-
-join_all : {A : Type 0} (f : A → List Triple) (xs : List A) → ((x : A) → AreShort (f x)) → AreShort (flat_map f xs)
-join_all f [] short = tt
-join_all f (x ∷ xs) short = join (f x) (flat_map f xs) (short x) (join_all f xs short)
 
 triple_short : (subject predicate object : Term) → IsShort subject → IsShort predicate → IsShort object → HasShortLabels (triple subject predicate object)
 triple_short subject predicate object s p o = record { subject = s; predicate = p; object = o }
@@ -149,7 +143,7 @@ parts_short node (Values.Quantity quantity) n =
         about_short node Say.QuantityAmount (amount_term quantity.amount) n (amount_short quantity.amount),
         (
           about_short node Say.QuantityUnit (unit_term quantity.unit) n (unit_short quantity.unit),
-          join upper lower (bound_short node Say.QuantityUpperBound quantity.upper n) (bound_short node Say.QuantityLowerBound quantity.lower n),
+          append_each HasShortLabels upper lower (bound_short node Say.QuantityUpperBound quantity.upper n) (bound_short node Say.QuantityLowerBound quantity.lower n),
         ),
       ),
     )
@@ -161,7 +155,7 @@ parts_short node (Values.Globe globe) n =
         about_short node Say.GeoLatitude (typed globe.latitude Double) n refl,
         (
           about_short node Say.GeoLongitude (typed globe.longitude Double) n refl,
-          join precision (model ∷ []) (precision_short node globe.precision n) (about_short node Say.GeoGlobe (iri_of globe.globe) n refl, tt),
+          append_each HasShortLabels precision (model ∷ []) (precision_short node globe.precision n) (about_short node Say.GeoGlobe (iri_of globe.globe) n refl, tt),
         ),
       ),
     )
@@ -192,8 +186,8 @@ content_short version subject id role snak (Contents.Value value) s =
     let by_node = id_term (node_prefix role) snak.property in
     let objects = object_triples subject by_value (simple_term snak.datatype value) in
     let links = link_triples subject by_node (node_name version value) in
-    join (objects ++ links) (node_triples version value)
-    (join objects links
+    append_each HasShortLabels (objects ++ links) (node_triples version value)
+    (append_each HasShortLabels objects links
     (object_short subject by_value (simple_term snak.datatype value) s refl (simple_short snak.datatype value))
     (link_short subject by_node (node_name version value) s refl))
     (node_short version value)
@@ -204,7 +198,7 @@ snak_short : (version : MappingVersion) (subject : Term) (id : List ℕ) (role :
 snak_short version subject id role s snak = content_short version subject id role snak snak.content s
 
 snaks_short : (version : MappingVersion) (subject : Term) (id : List ℕ) (role : Role) (snaks : List Snak) → IsShort subject → AreShort (flat_map (snak_triples version subject id role) snaks)
-snaks_short version subject id role snaks s = join_all (snak_triples version subject id role) snaks (snak_short version subject id role s)
+snaks_short version subject id role snaks s = flat_map_all HasShortLabels (snak_triples version subject id role) snaks (snak_short version subject id role s)
 
 direct_short : (x : EntityId) (id : List ℕ) (snak : Snak) (content : Content) → AreShort (direct_content (entity_term x) id snak content)
 direct_short x id snak (Contents.Value value) =
@@ -228,7 +222,7 @@ main_short : (version : MappingVersion) (x : EntityId) (s : Statement) (best : B
 main_short version x s best =
     let said = snak_triples version (statement_node s.id) s.id Roles.Main s.main in
     let direct = direct_triples (entity_term x) s.id s.main in
-    join said (where_best best direct) (snak_short version (statement_node s.id) s.id Roles.Main refl s.main)
+    append_each HasShortLabels said (where_best best direct) (snak_short version (statement_node s.id) s.id Roles.Main refl s.main)
     (best_short best direct (direct_short x s.id s.main s.main.content))
 
 reference_short : (version : MappingVersion) (id : List ℕ) (r : Reference) → AreShort (reference_triples version (statement_node id) id r)
@@ -244,11 +238,11 @@ statement_short version x s best =
     let main = main_triples version (entity_term x) node s best in
     let qualifiers = qualifier_triples version node s in
     let references = flat_map (reference_triples version node s.id) s.references in
-    join (head ++ main ++ qualifiers) references
-    (join (head ++ main) qualifiers
-    (join head main (head_short x s best) (main_short version x s best))
+    append_each HasShortLabels (head ++ main ++ qualifiers) references
+    (append_each HasShortLabels (head ++ main) qualifiers
+    (append_each HasShortLabels head main (head_short x s best) (main_short version x s best))
     (snaks_short version node s.id Roles.Qualifier s.qualifiers refl))
-    (join_all (reference_triples version node s.id) s.references (reference_short version s.id))
+    (flat_map_all HasShortLabels (reference_triples version node s.id) s.references (reference_short version s.id))
 
 -- a link's triples
 badges_short : (article : Term) (badges : List EntityId) → IsShort article → AreShort (map (badge_triple article) badges)
@@ -269,7 +263,7 @@ found_short x link (Some site) =
             about_short article Say.IsPartOf _ refl refl,
             (
               about_short article Say.Name _ refl (tagged_short link.title site.language),
-              join badges (group_triple site ∷ []) (badges_short article link.badges refl) (about_short _ Say.WikiGroup _ refl refl, tt),
+              append_each HasShortLabels badges (group_triple site ∷ []) (badges_short article link.badges refl) (about_short _ Say.WikiGroup _ refl refl, tt),
             ),
           ),
         ),
@@ -297,11 +291,11 @@ texts_short x e =
     let labels = flat_map (label_triples node) e.labels in
     let descriptions = flat_map (description_triples node) e.descriptions in
     let aliases = flat_map (alias_triples node) e.aliases in
-    join (class_triples x ++ labels ++ descriptions) aliases
-    (join (class_triples x ++ labels) descriptions
-    (join (class_triples x) labels (about_short node Say.RdfType _ refl refl, tt) (join_all (label_triples node) e.labels (label_short x)))
-    (join_all (description_triples node) e.descriptions (description_short x)))
-    (join_all (alias_triples node) e.aliases (alias_short x))
+    append_each HasShortLabels (class_triples x ++ labels ++ descriptions) aliases
+    (append_each HasShortLabels (class_triples x ++ labels) descriptions
+    (append_each HasShortLabels (class_triples x) labels (about_short node Say.RdfType _ refl refl, tt) (flat_map_all HasShortLabels (label_triples node) e.labels (label_short x)))
+    (flat_map_all HasShortLabels (description_triples node) e.descriptions (description_short x)))
+    (flat_map_all HasShortLabels (alias_triples node) e.aliases (alias_short x))
 
 -- what is said of the dataset
 page_short : (x : EntityId) → AreShort (page_triples x)
@@ -330,9 +324,9 @@ dataset_short x rev e =
     let numbers = number_triples node rev e.statements in
     let count = link_count x.kind node (length e.links) in
     let change = change_triples node e.modified in
-    join (page_triples x ++ numbers ++ count) change
-    (join (page_triples x ++ numbers) count
-    (join (page_triples x) numbers (page_short x) (numbers_short x rev e.statements))
+    append_each HasShortLabels (page_triples x ++ numbers ++ count) change
+    (append_each HasShortLabels (page_triples x ++ numbers) count
+    (append_each HasShortLabels (page_triples x) numbers (page_short x) (numbers_short x rev e.statements))
     (count_short x.kind x (length e.links)))
     (change_short x e.modified)
 
@@ -366,27 +360,27 @@ others_short x = (
 property_short : (kind : IdKind) (x : EntityId) (datatype : Option (List ℕ)) → AreShort (property_triples_of kind x datatype)
 property_short Letter.P x datatype =
     let types = datatype_triples (entity_term x) datatype in
-    join (types ++ value_predicates x) (other_predicates x) (join types (value_predicates x) (datatype_short x datatype) (values_short x)) (others_short x)
+    append_each HasShortLabels (types ++ value_predicates x) (other_predicates x) (append_each HasShortLabels types (value_predicates x) (datatype_short x datatype) (values_short x)) (others_short x)
 property_short Letter.Q x datatype = tt
 
 spoken_short : (x : EntityId) (rev : ℕ) (e : Entity) → AreShort (spoken_triples x rev e)
 spoken_short x rev e =
     let texts = text_triples x e in
     let set = dataset_triples x rev e in
-    join (texts ++ set) (property_triples x e.datatype)
-    (join texts set (texts_short x e) (dataset_short x rev e))
+    append_each HasShortLabels (texts ++ set) (property_triples x e.datatype)
+    (append_each HasShortLabels texts set (texts_short x e) (dataset_short x rev e))
     (property_short x.kind x e.datatype)
 
 statements_short : (version : MappingVersion) (x : EntityId) (all : List Statement) → AreShort (statements_triples version x all)
-statements_short version x all = join_all (judged_triples version x all) all (λ s. statement_short version x s (is_best all s))
+statements_short version x all = flat_map_all HasShortLabels (judged_triples version x all) all (λ s. statement_short version x s (is_best all s))
 
 -- the triples of a document
 list_short : (version : MappingVersion) (x : EntityId) (rev : ℕ) (document : Document) → AreShort (dump version x rev document)
 list_short version x rev (AnEntity e) =
     let spoken = spoken_triples x rev e in
     let articles = flat_map (article_triples x) e.links in
-    join (spoken ++ articles) (statements_triples version x e.statements)
-    (join spoken articles (spoken_short x rev e) (join_all (article_triples x) e.links (article_short x)))
+    append_each HasShortLabels (spoken ++ articles) (statements_triples version x e.statements)
+    (append_each HasShortLabels spoken articles (spoken_short x rev e) (flat_map_all HasShortLabels (article_triples x) e.links (article_short x)))
     (statements_short version x e.statements)
 list_short version x rev (Redirect y) = (about_short (entity_term x) Say.SameAs _ refl refl, tt)
 

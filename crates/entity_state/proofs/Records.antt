@@ -1,5 +1,5 @@
 -- The records in the order of their places, as a map by id.
-use Rattle.std.specs.Prelude.{◌≡◌, ◌+◌, Bool, true, false, cond, ◌&&◌, T, Option, Some, is_some, Result, Ok, Err, OnOk, IsOk, is_ok, List, [], ◌∷◌, ◌++◌, length, map as mapped, refl, IsSorted}
+use Rattle.std.specs.Prelude.{◌≡◌, ◌+◌, Bool, true, false, cond, Option, Some, is_some, Result, Ok, Err, OnOk, IsOk, is_ok, List, [], ◌∷◌, ◌++◌, length, refl, IsSorted}
 use Rattle.std.proofs.Common.{sym, ap, ◌∙◌, arith, get_or, true≢false}
 use Rattle.std.specs.declared.cmp.Ordering.{Ordering}
 use Rattle.std.specs.declared.cmp.Ordering.TheVariants.{Less, Equal, Greater}
@@ -8,12 +8,12 @@ use Rattle.std.specs.List.{IsDistinct, AllByRecursion}
 use Rattle.std.specs.List.Sorted.{IsPermutation}
 use Rattle.std.specs.Map.{lookup, keys_of}
 use Rattle.std.specs.FinMap as map
-use Rattle.std.specs.FinMap.Entries.{is_sorted, below_all}
 use Rattle.std.proofs.lemmas.Cmp.{eq_by_cmp_equiv}
 use Rattle.std.proofs.lemmas.List.Sorted.{list_any-IsPermutation}
 use Rattle.std.proofs.lemmas.Map.Keys.{IsDistinct-IsPermutation, IsDistinct-head, IsDistinct-tail, apart_from_distinct, sorted_from_all_adjacent}
 use Rattle.std.proofs.lemmas.Map.Made.{is_some-lookup}
-use Rattle.rising.specs.Rising.{has, Above, IsRising}
+use Rattle.rising.specs.Rising.{has, IsRising}
+use Rattle.rising.proofs.Keys.{rising_keys}
 use Rattle.rising.proofs.Rising.{same_rising}
 use Rattle.rising.proofs.Sorting.{IsRising-from_sorted}
 use Rattle.entity_model.specs.declared.id.EntityId.{EntityId}
@@ -35,19 +35,6 @@ same_id_flips = (eq_by_cmp_equiv entity_cmp_total).symm
 none_alike : (q : EntityId) (ks : List EntityId) → AllByRecursion (λ k. same_id q k ≡ false) ks → has entity_cmp q ks ≡ false
 none_alike q [] apart = refl
 none_alike q (k ∷ ks) apart = rw apart.0 (none_alike q ks apart.1)
-
-and_first : (a b : Bool) → T (a && b) → T a
-and_first true b h = tt
-and_first false b h = h
-
-and_second : (a b : Bool) → T (a && b) → T b
-and_second true b h = h
-and_second false b h = absurd h
-
-less : (o : Ordering) → T (is_lt o) → o ≡ Less
-less Less h = refl
-less Equal h = absurd h
-less Greater h = absurd h
 
 module _ {H : Type 0} where
   find_lookup : (q : EntityId) (es : List (EntityId × Record H)) → map.find entity_cmp q es ≡ lookup (same_id q) es
@@ -88,15 +75,6 @@ module _ {H : Type 0} where
       inserted id v es fs finds ∙ ap (λ x. map.insert (records_of es) id x) set
       ∙ ap (λ o. records_setting (records_of es) o id s reconciled) (sym (got id es ∙ is))
 
-  -- the ids of a map rise
-  above_keys : (k : EntityId) (es : List (EntityId × Record H)) → T (below_all entity_cmp k es) → Above entity_cmp k (mapped (λ e. e.0) es)
-  above_keys k [] h = tt
-  above_keys k (e ∷ es) h = (less _ (and_first _ _ h), above_keys k es (and_second _ _ h))
-
-  rising_keys : (es : List (EntityId × Record H)) → T (is_sorted entity_cmp es) → IsRising entity_cmp (mapped (λ e. e.0) es)
-  rising_keys [] h = tt
-  rising_keys (e ∷ es) h = (above_keys e.0 es (and_first _ _ h), rising_keys es (and_second _ _ h))
-
 -- what is said of an Ok
 pub at_ok : {A E P : Type 0} (r : Result A E) → IsOk r → OnOk r P → P
 at_ok (Ok x) ok says = says
@@ -122,5 +100,5 @@ rising_ids (x ∷ xs) distinct in_order =
 pub sorted_ids : {H : Type 0} (es : List (EntityId × Record H)) (ids sorted : List EntityId) → IsDistinct same_id (keys_of es) → ids ≡ keys_of es → IsPermutation ids sorted → IsSorted entity_cmp sorted → sorted ≡ map.keys (records_of es)
 sorted_ids es ids sorted distinct is moved in_order =
     let apart = IsDistinct-IsPermutation same_id same_id_flips ids sorted moved (rw is distinct) in
-    same_rising entity_cmp_total entity_cmp_same sorted (map.keys (records_of es)) (rising_ids sorted apart in_order) (rising_keys (map.entries (records_of es)) (map.entries_sorted (records_of es))) (λ q.
+    same_rising entity_cmp_total entity_cmp_same sorted (map.keys (records_of es)) (rising_ids sorted apart in_order) (rising_keys entity_cmp (map.entries (records_of es)) (map.entries_sorted (records_of es))) (λ q.
     sym (list_any-IsPermutation (same_id q) ids sorted moved) ∙ ap (has entity_cmp q) is ∙ sym (there q es) ∙ map.contains_key-keys (records_of es) q)

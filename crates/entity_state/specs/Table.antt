@@ -32,7 +32,11 @@ module _ {H : Type 0} where
 
   -- with a record for an id: a new id stands after the others
   abbrev pub after_putting : Tabled H → EntityId → Record H → Tabled H
-  after_putting t id r = record { records = map.insert t.records id r; places = cond (is_there t id) t.places (t.places ++ id ∷ []); room = cond (is_there t id) t.room (remove_key (eq_by_cmp entity_cmp id) t.room) }
+  after_putting t id r = record {
+    records = map.insert t.records id r;
+    places = cond (is_there t id) t.places (t.places ++ id ∷ []);
+    room = cond (is_there t id) t.room (remove_key (eq_by_cmp entity_cmp id) t.room);
+  }
 
   -- the records with another state and another last reconciliation in one of them
   abbrev pub records_setting : map.FinMap entity_cmp (Record H) → Option (Record H) → EntityId → State → Option Event → map.FinMap entity_cmp (Record H)

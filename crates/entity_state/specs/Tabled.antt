@@ -29,8 +29,18 @@ module _ {H : Type 0} (content : Coded H) where
 
   -- how a record is stored as a value
   abbrev pub record_code : Coded (Record H)
-  record_code = code_by (State × (Option (Held H) × Option Event)) (coded× (state.the_row).coded (coded× (coded_option held_code) (coded_option (event.the_row).coded))) (λ r. (r.state, (r.held, r.reconciled))) (λ p. record { state = p.0; held = p.1.0; reconciled = p.1.1 }) (λ _. refl)
+  record_code =
+      code_by (State × (Option (Held H) × Option Event))
+      (coded× (state.the_row).coded (coded× (coded_option held_code) (coded_option (event.the_row).coded)))
+      (λ r. (r.state, (r.held, r.reconciled)))
+      (λ p. record { state = p.0; held = p.1.0; reconciled = p.1.1 })
+      (λ _. refl)
 
   -- how the records of all entities are stored as a value
   abbrev pub tabled_code : Coded (Tabled H)
-  tabled_code = code_by (map.FinMap entity_cmp (Record H) × (List EntityId × List EntityId)) (coded× (map.code (entity_id.the_row).coded record_code) (coded× (coded_list (entity_id.the_row).coded) (coded_list (entity_id.the_row).coded))) (λ t. (t.records, (t.places, t.room))) (λ p. record { records = p.0; places = p.1.0; room = p.1.1 }) (λ _. refl)
+  tabled_code =
+      code_by (map.FinMap entity_cmp (Record H) × (List EntityId × List EntityId))
+      (coded× (map.code (entity_id.the_row).coded record_code) (coded× (coded_list (entity_id.the_row).coded) (coded_list (entity_id.the_row).coded)))
+      (λ t. (t.records, (t.places, t.room)))
+      (λ p. record { records = p.0; places = p.1.0; room = p.1.1 })
+      (λ _. refl)

@@ -6,7 +6,7 @@ use Rattle.std.specs.List.{flat_map}
 use Rattle.percent_encoding.specs.AsciiSet.{contains, should_percent_encode}
 use Rattle.percent_encoding.specs.Percent.{encode_byte, percent_encode, percent_encode_byte}
 use Rattle.rdf_vocabulary.specs.declared.unreserved.TheConstants.{RESERVED}
-use Rattle.rdf_vocabulary.specs.Unreserved.{is_unreserved, escaped_byte, escaped_name}
+use Rattle.rdf_vocabulary.specs.Unreserved.{is_unreserved, escaped_name_byte, escaped_name}
 
 below : agree_below (contains RESERVED) (λ b. not (is_unreserved b)) 128 ≡ true
 below = refl
@@ -22,12 +22,12 @@ not_chosen : (b : Bool) (x y : List ℕ) → cond (not b) x y ≡ cond b y x
 not_chosen true x y = refl
 not_chosen false x y = refl
 
-byte : (b : ℕ) → encode_byte RESERVED b ≡ escaped_byte b
+byte : (b : ℕ) → encode_byte RESERVED b ≡ escaped_name_byte b
 byte b = ap (λ t. cond t (percent_encode_byte b) (b ∷ [])) (chosen b) ∙ not_chosen (is_unreserved b) (percent_encode_byte b) (b ∷ [])
 
 bytes : (name : List ℕ) → flat_map (encode_byte RESERVED) name ≡ escaped_name name
 bytes [] = refl
-bytes (b ∷ name) = ap (λ t. t ++ flat_map (encode_byte RESERVED) name) (byte b) ∙ ap (λ t. escaped_byte b ++ t) (bytes name)
+bytes (b ∷ name) = ap (λ t. t ++ flat_map (encode_byte RESERVED) name) (byte b) ∙ ap (λ t. escaped_name_byte b ++ t) (bytes name)
 
 -- the crate's escapes are those of the name
 pub percent_encode-reserved : (name : List ℕ) → percent_encode RESERVED name ≡ escaped_name name

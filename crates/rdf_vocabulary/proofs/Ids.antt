@@ -2,6 +2,7 @@
 use Rattle.std.proofs.Common.{◌≡◌, ℕ, zero, suc, ◌+◌, ◌/◌, ◌%◌, ◌==◌, ◌≤◌, true, false, List, [], ◌∷◌, length, decimal, refl, arith}
 use Rattle.std.proofs.lemmas.Bool.{agree_below, agree_below_at}
 use Rattle.std.specs.Fmt.{digits, digits_onto, digit_glyph}
+use Rattle.digits.proofs.Decimals.{decimal_short}
 use Rattle.rdf_term.specs.Fit.{IsFitAndShort}
 use Rattle.rdf_term.specs.Grammar.{is_iri, is_iri_char}
 use Rattle.entity_model.specs.declared.id.EntityId.{EntityId}
@@ -26,20 +27,10 @@ digits_onto_iri (suc k) n acc h =
     let more : is_iri (digit_glyph false (n % 10) ∷ acc) ≡ true = rw (glyph_fit n) h in
     chosen (λ (t : List ℕ). is_iri t ≡ true) (n / 10 == 0) _ _ more (digits_onto_iri k (n / 10) (digit_glyph false (n % 10) ∷ acc) more)
 
-digits_onto_short : (k n : ℕ) (acc : List ℕ) → length (digits_onto k 10 false n acc) ≤ k + length acc
-digits_onto_short zero n acc = omega arith
-digits_onto_short (suc k) n acc =
-    chosen (λ (t : List ℕ). length t ≤ suc k + length acc) (n / 10 == 0) _ _ (omega arith) (omega (arith, digits_onto_short k (n / 10) (digit_glyph false (n % 10) ∷ acc)))
-
 -- a number in decimal may stand in an IRI
 pub decimal_iri : (n : ℕ) → is_iri (decimal n) ≡ true
 unfolding digits
 decimal_iri n = digits_onto_iri 64 n [] refl
-
--- and has at most 64 digits, as far as numbers are written
-pub decimal_short : (n : ℕ) → length (decimal n) ≤ 64
-unfolding digits
-decimal_short n = omega (arith, digits_onto_short 64 n [])
 
 letter_fit : (kind : IdKind) → is_iri_char (letter_of kind) ≡ true
 letter_fit Kinds.P = refl

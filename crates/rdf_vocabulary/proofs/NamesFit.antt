@@ -15,7 +15,7 @@ use Rattle.md5.proofs.StandardFacts.{length-md5}
 use Rattle.percent_encoding.specs.Percent.{percent_encode_byte}
 use Rattle.rdf_term.specs.Grammar.{is_iri, is_iri_char}
 use Rattle.rdf_vocabulary.specs.Fields.{hashed_name}
-use Rattle.rdf_vocabulary.specs.Unreserved.{is_unreserved, escaped_byte, escaped_name}
+use Rattle.rdf_vocabulary.specs.Unreserved.{is_unreserved, escaped_name_byte, escaped_name}
 use Rattle.rdf_vocabulary.proofs.Shared.{both}
 
 glyphs : agree_below (λ n. is_iri_char (digit_glyph true n)) (λ n. true) 16 ≡ true
@@ -31,28 +31,28 @@ chosen P false x y p q = q
 unreserved_fit : (b : ℕ) → is_unreserved b ≡ true → is_iri_char b ≡ true
 unreserved_fit b h = grind (arith, nat_tests)
 
-escaped_byte_iri : (b : ℕ) → is_iri (escaped_byte b) ≡ true
+escaped_name_byte_iri : (b : ℕ) → is_iri (escaped_name_byte b) ≡ true
 unfolding percent_encode_byte
-escaped_byte_iri b =
+escaped_name_byte_iri b =
     chosen (λ t. is_iri t ≡ true) (is_unreserved b) (b ∷ []) (percent_encode_byte b)
     (λ h. rw (unreserved_fit b h)) (rw (glyph_fit (b / 16), glyph_fit b))
 
-escaped_byte_short : (b : ℕ) → length (escaped_byte b) ≤ 3
+escaped_name_byte_short : (b : ℕ) → length (escaped_name_byte b) ≤ 3
 unfolding percent_encode_byte
-escaped_byte_short b =
+escaped_name_byte_short b =
     chosen (λ t. length t ≤ 3) (is_unreserved b) (b ∷ []) (percent_encode_byte b) (λ h. omega arith) (omega arith)
 
 -- an escaped name may stand in an IRI
 pub escaped_name_iri : (name : List ℕ) → is_iri (escaped_name name) ≡ true
 escaped_name_iri [] = refl
 escaped_name_iri (b ∷ name) =
-    rw (list_all-append is_iri_char (escaped_byte b) (escaped_name name), escaped_byte_iri b) (escaped_name_iri name)
+    rw (list_all-append is_iri_char (escaped_name_byte b) (escaped_name name), escaped_name_byte_iri b) (escaped_name_iri name)
 
 -- and has at most three bytes for each
 pub escaped_name_short : (name : List ℕ) → length (escaped_name name) ≤ 3 * length name
 escaped_name_short [] = omega arith
 escaped_name_short (b ∷ name) =
-    omega (arith, escaped_byte_short b, escaped_name_short name, length-append (escaped_byte b) (escaped_name name))
+    omega (arith, escaped_name_byte_short b, escaped_name_short name, length-append (escaped_name_byte b) (escaped_name name))
 
 letter_fit : (c : ℕ) → is_ascii_alphanumeric c ≡ true → is_iri_char c ≡ true
 letter_fit c h = grind (arith, nat_tests)

@@ -23,3 +23,8 @@ module _ {A B : Type 0} (P : A → Type 0) (Q : B → Type 0) (f : A → List B)
   pub flat_map_each : (xs : List A) → AllByRecursion P xs → AllByRecursion Q (flat_map f xs)
   flat_map_each [] h = tt
   flat_map_each (x ∷ xs) h = append_each Q (f x) (flat_map f xs) (step x h.0) (flat_map_each xs h.1)
+
+-- where it holds of each element that the function gives at any place
+pub flat_map_all : {A B : Type 0} (Q : B → Type 0) (f : A → List B) (xs : List A) → ((x : A) → AllByRecursion Q (f x)) → AllByRecursion Q (flat_map f xs)
+flat_map_all Q f [] each = tt
+flat_map_all Q f (x ∷ xs) each = append_each Q (f x) (flat_map f xs) (each x) (flat_map_all Q f xs each)

@@ -3,6 +3,7 @@ use Rattle.std.specs.Prelude.{ℕ, List, codes}
 use Rattle.rdf_term.specs.declared.term.Term.{Term}
 use Rattle.rdf_term.specs.declared.term.Term.TheVariants.{Iri}
 use Rattle.rdf_term.specs.declared.triple.Triple.{Triple}
+use Rattle.rdf_term.specs.Triple.{triple}
 use Rattle.rdf_vocabulary.specs.declared.predicate.Predicate.{Predicate}
 use Rattle.rdf_vocabulary.specs.declared.predicate.Predicate.TheVariants.{RdfType, Label, PrefLabel, AltLabel, Name, Description, About, SoftwareVersion, Version, DateModified, InLanguage, IsPartOf, License, SameAs, WasDerivedFrom, Rank, Statements, Identifiers, Sitelinks, Badge, WikiGroup, PropertyType, DirectClaim, Claim, StatementProperty, StatementValue, Qualifier, QualifierValue, Reference, ReferenceValue, Novalue, TimeValue, TimePrecision, TimeTimezone, TimeCalendarModel, QuantityAmount, QuantityUnit, QuantityUpperBound, QuantityLowerBound, GeoLatitude, GeoLongitude, GeoPrecision, GeoGlobe}
 
@@ -58,4 +59,4 @@ predicate_term word = Iri (predicate_text word)
 
 -- a triple that says something of a subject
 abbrev pub about : Term → Predicate → Term → Triple
-about subject predicate object = record { subject = subject; predicate = predicate_term predicate; object = object }
+about subject predicate object = triple subject (predicate_term predicate) object

@@ -8,10 +8,10 @@ use Rattle.percent_encoding.specs.Percent.{percent_encode_byte}
 abbrev pub is_unreserved : ℕ → Bool
 is_unreserved b = is_ascii_alphanumeric b || (b == 45) || (b == 46) || (b == 95) || (b == 126)
 
--- the byte, percent-encoded unless it is unreserved
-abbrev pub escaped_byte : ℕ → List ℕ
-escaped_byte b = if is_unreserved b then b ∷ [] else percent_encode_byte b
+-- a byte of a name, percent-encoded unless it is unreserved
+abbrev pub escaped_name_byte : ℕ → List ℕ
+escaped_name_byte b = if is_unreserved b then b ∷ [] else percent_encode_byte b
 
 -- the name with each byte percent-encoded that is not unreserved
 abbrev pub escaped_name : List ℕ → List ℕ
-escaped_name name = flat_map escaped_byte name
+escaped_name name = flat_map escaped_name_byte name

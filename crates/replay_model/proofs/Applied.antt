@@ -2,6 +2,7 @@
 use Rattle.std.proofs.Common.{◌≡◌, ℤ, Bool, true, false, not, ◌&&◌, ◌||◌, cond, List, [], ◌∷◌, Option, None, Some, find, filter, unwrap_or, refl, sym, ◌∙◌, ap, true≢false, ℕ}
 use Rattle.std.specs.Set.{remove_key}
 use Rattle.std.specs.Ordering.{eq_by_cmp}
+use Rattle.std.proofs.lemmas.Bool.{and_from}
 use Rattle.entity_model.specs.declared.event.Event.{Event}
 use Rattle.entity_model.specs.Event.{event_cmp, event_cmp_total, event_cmp_same}
 use Rattle.entity_model.specs.declared.delivery.Delivery.{Delivery}
@@ -47,12 +48,9 @@ due_later : (closed : Bool) (m : Option ℤ) (w : ℤ) (q : Event) → is_due cl
 due_later true m w q h = refl
 due_later false m w q h = due-greater m w q h
 
-both : (a b : Bool) → a ≡ true → b ≡ true → (a && b) ≡ true
-both a b x y = ap (λ t. t && b) x ∙ y
-
 pub applied-mark : (w : ReplayState) (m : ℤ) (q : Event) → is_applied w q ≡ true → is_applied (after_mark w m) q ≡ true
 applied-mark w m q h =
-    both (is_due w.buffer.closed (greater w.buffer.mark m) q) (not (has event_cmp q w.buffer.waiting))
+    and_from (is_due w.buffer.closed (greater w.buffer.mark m) q) (not (has event_cmp q w.buffer.waiting))
     (due_later w.buffer.closed w.buffer.mark m q (and_left _ (not (has event_cmp q w.buffer.waiting)) h))
     (and_right (is_due w.buffer.closed w.buffer.mark q) _ h)
 

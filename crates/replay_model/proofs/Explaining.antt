@@ -1,5 +1,6 @@
 -- How each step keeps a replay's state explained by a play: the start, an event, a watermark, the end, one due event applied, and none left.
-use Rattle.std.proofs.Common.{◌≡◌, ℕ, ◌+◌, ℤ, length, length-append, arith, Bool, true, false, cond, ◌||◌, ⊎_elim, List, [], ◌∷◌, ◌++◌, Option, None, Some, Result, Err, is_eq, refl, sym, ◌∙◌, ap, subst, true≢false, append-nil}
+use Rattle.std.proofs.Common.{◌≡◌, ℕ, ◌+◌, ℤ, length, length-append, arith, Bool, true, false, cond, ◌||◌, ⊎_elim, List, [], ◌∷◌, ◌++◌, Option, None, Some, Result, Err, is_eq, refl, sym, ◌∙◌, ap, subst, append-nil}
+use Rattle.std.proofs.lemmas.Bool.{false_from_ne_true}
 use Rattle.std.specs.Ordering.{eq_by_cmp}
 use Rattle.std.proofs.lemmas.Cmp.{tied_itself}
 use Rattle.entity_model.specs.declared.event.Event.{Event}
@@ -15,7 +16,7 @@ use Rattle.entity_model.specs.declared.mapping.MappingVersion.{MappingVersion}
 use Rattle.reorder_buffer.specs.Watermarks.{is_due}
 use Rattle.reorder_buffer.specs.Buffered.{answer_to, first_due}
 use Rattle.rising.specs.Rising.{has, IsRising}
-use Rattle.rising.proofs.Bools.{equal, or_none, or_true}
+use Rattle.rising.proofs.Bools.{clash, equal, or_none, or_true}
 use Rattle.rising.proofs.Rising.{has-append}
 use Rattle.rising.proofs.FirstPassing.{has-found, IsRising-remove_key}
 use Rattle.replay_model.specs.Records.{Bytes}
@@ -27,9 +28,6 @@ use Rattle.replay_model.proofs.Applied.{applied-end, applied-event, applied-mark
 use Rattle.replay_model.proofs.FetchCounts.{fetches_due-none, fetches_due-some, fetches-delivered, fetches-end}
 use Rattle.replay_model.proofs.Fetching.{apply-same, failed_of, failed_by, failed-applying, failed-taken, has-failed_by, failed_of-there}
 use Rattle.replay_model.proofs.Following.{following-delivered, following-end, following-rests, after_due-none, after_due-some}
-
-contradicts : {G : Type 0} (b : Bool) → b ≡ true → b ≡ false → G
-contradicts b p q = absurd (true≢false (sym p ∙ q))
 
 -- the replies before the first delivery: those of the source, where contents are told
 abbrev start_replies : Judgement → Option (ℕ → Option Bytes) → Replies
@@ -66,7 +64,7 @@ module _ (unfit : Judgement) (told : Option (ℕ → Option Bytes)) where
     counts = λ others agree. refl;
     honest = λ contents is q r. ap (λ known. start_replies unfit known q r) is;
     fit = start_fits unfit told;
-    failed_applied = λ q h. contradicts false h refl;
+    failed_applied = λ q h. clash h refl;
   }
 
   module _ (play_of : Replies → ReplayState) (fetches_of : Replies → List Fetch) (made : ℕ) (w : ReplayState) (x : Explained unfit told play_of fetches_of made w) (none : first_due w.buffer ≡ None) where
@@ -269,7 +267,7 @@ module _ (unfit : Judgement) (told : Option (ℕ → Option Bytes)) (play_of : R
       → ((contents : ℕ → Option Bytes) → known ≡ Some contents → IsHonest unfit contents e (revision_wanted w e) reply)
       → now_replied unfit known (failed_events w.played.side ++ failed_by fetching e reply) e reply (revision_wanted w e) ≡ reply
   fetched None fresh fetching is honest = refl
-  fetched (Some contents) fresh false is honest = contradicts false is refl
+  fetched (Some contents) fresh false is honest = clash is refl
   fetched (Some contents) fresh true is honest = honest_is unfit contents (failed_events w.played.side) e (revision_wanted w e) reply fresh (honest contents refl)
 
   -- the replies after the event is applied
@@ -293,10 +291,10 @@ module _ (unfit : Judgement) (told : Option (ℕ → Option Bytes)) (play_of : R
   Explained-next x some honest fits =
       let there : has event_cmp e w.buffer.waiting ≡ true = has-found (is_due w.buffer.closed w.buffer.mark) event_cmp_total e w.buffer.waiting some in
       let not_yet : is_applied w e ≡ false = waiting_not_applied w e there in
-      let fresh : has event_cmp e (failed_events w.played.side) ≡ false = false_unless (has event_cmp e (failed_events w.played.side)) (λ h. contradicts _ (x.failed_applied e h) not_yet) in
+      let fresh : has event_cmp e (failed_events w.played.side) ≡ false = false_from_ne_true (has event_cmp e (failed_events w.played.side)) (λ h. clash (x.failed_applied e h) not_yet) in
       let failed : failed_events (next_by w e reply).played.side ≡ failed_events w.played.side ++ failed_by (is_fetching w e) e reply = failed-applying (λ q r. reply) w e in
       let applied : (q : Event) → is_applied (next_by w e reply) q ≡ (eq_by_cmp event_cmp q e || is_applied w q) = λ q. applied-next (λ q r. reply) w e q x.rises some in
-      let other : (q : Event) → is_applied w q ≡ true → eq_by_cmp event_cmp q e ≡ false = λ q h. false_unless (eq_by_cmp event_cmp q e) (λ tie. contradicts _ (ap (is_applied w) (sym (event_cmp_same q e (equal _ tie))) ∙ h) not_yet) in
+      let other : (q : Event) → is_applied w q ≡ true → eq_by_cmp event_cmp q e ≡ false = λ q h. false_from_ne_true (eq_by_cmp event_cmp q e) (λ tie. clash (ap (is_applied w) (sym (event_cmp_same q e (equal _ tie))) ∙ h) not_yet) in
       let before : (others : Replies) → AgreeOnApplied (next_by w e reply) (replies_next x.replies) others → AgreeOnApplied w x.replies others = λ others agree q r h.
       agree q r (applied q ∙ or_true (eq_by_cmp event_cmp q e) _ h)
       ∙ ap (λ b. cond b (now_replied unfit told (failed_events (next_by w e reply).played.side) e reply r) (x.replies q r)) (other q h) in
@@ -326,10 +324,6 @@ module _ (unfit : Judgement) (told : Option (ℕ → Option Bytes)) (play_of : R
         is_next = λ others agree. apply-same (λ q r. reply) others w e (now others agree) ∙ ap (after_applying others w) (sym some);
       }
     where
-      false_unless : (b : Bool) → (b ≡ true → ⊥) → b ≡ false
-      false_unless true h = absurd (h refl)
-      false_unless false h = refl
-
       from_failed : (q : Event) (x : Explained unfit told play_of fetches_of made w) → failed_events (next_by w e reply).played.side ≡ failed_events w.played.side ++ failed_by (is_fetching w e) e reply → (t : Bool) → eq_by_cmp event_cmp q e ≡ t → has event_cmp q (failed_events (next_by w e reply).played.side) ≡ true → (t || is_applied w q) ≡ true
       from_failed q x failed true tie h = refl
       from_failed q x failed false tie h = x.failed_applied q (sym (ap (has event_cmp q) failed ∙ has-append event_cmp q (failed_events w.played.side) (failed_by (is_fetching w e) e reply) ∙ ap (λ b. has event_cmp q (failed_events w.played.side) || b) (has-failed_by q e (is_fetching w e) reply tie) ∙ or_none _) ∙ h)

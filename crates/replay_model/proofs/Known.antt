@@ -1,5 +1,6 @@
 -- The fate over the due events is that over all known events, where no late event of the entity is open.
-use Rattle.std.proofs.Common.{◌≡◌, Bool, true, false, not, cond, ◌&&◌, ◌||◌, ℤ, List, [], ◌∷◌, ◌++◌, Option, Less, Equal, Greater, is_lt, fold, refl, sym, ◌∙◌, ap, true≢false, ℕ}
+use Rattle.std.proofs.Common.{◌≡◌, Bool, true, false, not, cond, ◌&&◌, ◌||◌, ℤ, List, [], ◌∷◌, ◌++◌, Option, Less, Equal, Greater, is_lt, fold, refl, sym, ◌∙◌, ap, ℕ}
+use Rattle.std.proofs.lemmas.Bool.{not-false}
 use Rattle.std.specs.BTreeSet.{insert_key}
 use Rattle.std.specs.Ordering.{eq_by_cmp, match_ordering}
 use Rattle.std.specs.List.{list_any}
@@ -16,7 +17,7 @@ use Rattle.entity_model.specs.declared.delivery.Delivery.{Delivery}
 use Rattle.entity_model.specs.declared.delivery.Delivery.TheVariants.{Event as Told, Watermark, Ask, Mapping}
 use Rattle.reorder_buffer.specs.Watermarks.{reached, is_due}
 use Rattle.rising.specs.Rising.{has}
-use Rattle.rising.proofs.Bools.{equal, or_none, or_true, or_false_left, or_false_right}
+use Rattle.rising.proofs.Bools.{clash, equal, or_none, or_true, or_false_left, or_false_right}
 use Rattle.rising.proofs.Pushes.{by_pushes}
 use Rattle.rising.proofs.Rising.{has-append, sorted_same}
 use Rattle.rising.proofs.Filtering.{has-filter}
@@ -26,25 +27,22 @@ use Rattle.replay_model.specs.Fate.{is_of, events_of, in_order, fate}
 use Rattle.entity_state.specs.Standing.{is_reconciliation}
 use Rattle.replay_model.specs.Entries.{is_later, is_open_late}
 use Rattle.replay_model.proofs.Floors.{repeat_delivered}
-use Rattle.replay_model.proofs.Times.{not_false, reached-greater}
+use Rattle.replay_model.proofs.Times.{reached-greater}
 use Rattle.replay_model.proofs.Deliveries.{mark-kept, mark-watermark, events-kept, events-told, events_passing-kept, events_passing-told}
 use Rattle.replay_model.proofs.RecordOf.{entity_of, events_of-in_order}
-
-contradicts : {G : Type 0} (b : Bool) → b ≡ true → b ≡ false → G
-contradicts b p q = absurd (true≢false (sym p ∙ q))
 
 -- ---- a reconciliation forgets what precedes it
 
 reconciles : (k : Kind) (s t : State) (r : _) → is_reconciliation k ≡ true → after_kind k s r ≡ after_kind k t r
-reconciles Edit s t r h = contradicts false h refl
-reconciles Delete s t r h = contradicts false h refl
-reconciles Undelete s t r h = contradicts false h refl
+reconciles Edit s t r h = clash h refl
+reconciles Delete s t r h = clash h refl
+reconciles Undelete s t r h = clash h refl
 reconciles ReconcileDeleted s t r h = refl
 reconciles ReconcileKept s t r h = refl
 
 -- after events with a reconciliation, the state doesn't depend on the state before
 pub forgets : (es : List Event) → list_any (λ (r : Event). is_reconciliation r.kind) es ≡ true → (s t : State) → fold state_after s es ≡ fold state_after t es
-forgets [] h s t = contradicts false h refl
+forgets [] h s t = clash h refl
 forgets (e ∷ es) h s t =
     elim (is_reconciliation e.kind) as (λ b. is_reconciliation e.kind ≡ b → (b || list_any (λ (r : Event). is_reconciliation r.kind) es) ≡ true → fold state_after (state_after s e) es ≡ fold state_after (state_after t e) es) [
       | true ↦ λ k _. ap (λ u. fold state_after u es) (reconciles e.kind s t e.rev k)
@@ -61,7 +59,7 @@ some_later l (e ∷ es) h =
 
 -- an event put before a later reconciliation leaves the state
 pub place_below : (l : Event) (es : List Event) → list_any (is_later l) es ≡ true → (s : State) → fold state_after s (insert_key event_cmp es l) ≡ fold state_after s es
-place_below l [] h s = contradicts false h refl
+place_below l [] h s = clash h refl
 place_below l (e ∷ es) h s =
     elim (event_cmp l e) as (λ o. event_cmp l e ≡ o → fold state_after s (match_ordering o (l ∷ e ∷ es) (e ∷ es) (e ∷ insert_key event_cmp es l)) ≡ fold state_after s (e ∷ es)) [
       | Less ↦ λ _. forgets (e ∷ es) (some_later l (e ∷ es) h) (state_after s l) s
@@ -79,7 +77,7 @@ closed_late : (x : EntityId) (l : Event) (dues : List Event) → is_of x l ≡ t
 closed_late x l dues of closed =
     list_any-filter (is_later l) (is_of x) dues
     ∙ ap (λ y. list_any (λ r. is_of y r && is_later l r) dues) (entity_of x l of)
-    ∙ not_false _ closed
+    ∙ not-false _ closed
 
 dropped : (x : EntityId) (dues lates : List Event) → list_any (is_open_late dues) (events_of x lates) ≡ false → fate (in_order (events_of x lates ++ events_of x dues)) ≡ fate (in_order (events_of x dues))
 dropped x dues [] none = refl
@@ -102,8 +100,8 @@ split : (a b : Bool) (ev la ac t : Bool) → ev ≡ (la || ac) → (a ≡ true �
 split true b true true ac t e r = refl
 split true b true false true t e r = refl
 split true b true false false t e r = e
-split true b false true ac t e r = contradicts true refl (sym e)
-split true b false false true t e r = contradicts true refl (sym e)
+split true b false true ac t e r = clash refl (sym e)
+split true b false false true t e r = clash refl (sym e)
 split true b false false false true e r = sym (r refl refl)
 split true b false false false false e r = refl
 split false true ev la ac t e r = ap (λ v. v || (t || false)) e ∙ turn la ac t
@@ -154,15 +152,15 @@ has-events hz q = by_pushes (λ ds. has event_cmp q (events ds) ≡ (has event_c
 
 -- the mark has reached each late event
 late_reached : (hz : Option ℕ) (q : Event) (ds : List Delivery) → has event_cmp q (late hz ds) ≡ true → reached (mark ds) q.time ≡ true
-late_reached hz q = by_pushes (λ ds. has event_cmp q (late hz ds) ≡ true → reached (mark ds) q.time ≡ true) (λ h. contradicts false h refl) step
+late_reached hz q = by_pushes (λ ds. has event_cmp q (late hz ds) ≡ true → reached (mark ds) q.time ≡ true) (λ h. clash h refl) step
   where
     either : (a b : Bool) {G : Type 0} → (a || b) ≡ true → (a ≡ true → G) → (b ≡ true → G) → G
     either true b h p q = p refl
     either false b h p q = q h
 
     here : (ds : List Delivery) (e : Event) (a b : Bool) → reached (mark ds) e.time ≡ b → cond (not a && b) (eq_by_cmp event_cmp q e || false) false ≡ true → reached (mark ds) q.time ≡ true
-    here ds e true b m h = contradicts false h refl
-    here ds e false false m h = contradicts false h refl
+    here ds e true b m h = clash h refl
+    here ds e false false m h = clash h refl
     here ds e false true m h = ap (λ (y : Event). reached (mark ds) y.time) (event_cmp_same q e (equal _ (sym (or_none _) ∙ h))) ∙ m
 
     step : (ds : List Delivery) (d : Delivery) → (has event_cmp q (late hz ds) ≡ true → reached (mark ds) q.time ≡ true) → has event_cmp q (late hz (ds ++ d ∷ [])) ≡ true → reached (mark (ds ++ d ∷ [])) q.time ≡ true

@@ -7,7 +7,7 @@ use Rattle.entity_state.specs.declared.record.Record.{Record}
 use Rattle.entity_state.specs.Record.{blank}
 use Rattle.side_output.specs.Entry.{is_before}
 use Rattle.entity_model.specs.declared.delivery.Delivery.{Delivery}
-use Rattle.rising.proofs.Bools.{or_none}
+use Rattle.rising.proofs.Bools.{or_assoc, or_none}
 use Rattle.rising.proofs.Rising.{turned}
 use Rattle.rising.proofs.Finding.{list_any-sorted, list_any-filter}
 use Rattle.replay_model.specs.Acceptance.{due}
@@ -45,16 +45,12 @@ before-after e (Some q) r =
       | false ↦ sym (or_none _)
     ]
 
-or_regroup : (a b c : Bool) → ((a || b) || c) ≡ (a || (b || c))
-or_regroup true b c = refl
-or_regroup false b c = refl
-
 before-fold : (e : Event) (s : Option Event) (es : List Event) → is_before e (fold reconciled_after s es) ≡ (is_before e s || list_any (is_later e) es)
 before-fold e s [] = sym (or_none (is_before e s))
 before-fold e s (r ∷ es) =
     before-fold e (reconciled_after s r) es
     ∙ ap (λ b. b || list_any (is_later e) es) (before-after e s r)
-    ∙ or_regroup (is_before e s) (is_later e r) (list_any (is_later e) es)
+    ∙ or_assoc (is_before e s) (is_later e r) (list_any (is_later e) es)
 
 pub open_late-played : (hz : Option ℕ) (closed : Bool) (replies : Replies) (ds : List Delivery) (e : Event) → is_open_late (due hz closed ds) e ≡ not (is_before e (record_of (played hz closed replies ds).records e.entity).reconciled)
 open_late-played hz closed replies ds e =

@@ -1,5 +1,5 @@
 -- The owners of a triple change by the entity whose record is put in, and the union has what has an owner.
-use Rattle.std.proofs.Common.{◌≡◌, ℕ, ◌+◌, Bool, true, false, not, cond, ◌&&◌, ◌||◌, T, List, [], ◌∷◌, Option, None, Some, Ordering, Less, Equal, Greater, is_eq, is_lt, nat_lt, sum_by, count_by, flat_map, unwrap_or, refl, sym, ◌∙◌, ap, true≢false, lt-ltb, arith}
+use Rattle.std.proofs.Common.{◌≡◌, ℕ, ◌+◌, Bool, true, false, not, cond, ◌&&◌, ◌||◌, T, List, [], ◌∷◌, Option, None, Some, Ordering, Less, Equal, Greater, is_eq, nat_lt, sum_by, count_by, flat_map, unwrap_or, refl, sym, ◌∙◌, ap, true≢false, lt-ltb, arith}
 use Rattle.std.specs.FinMap as map
 use Rattle.std.specs.FinMap.{IsAntisymmetric, find, put, is_sorted}
 use Rattle.std.specs.FinMap.Entries.{below_all, by_order}
@@ -10,27 +10,18 @@ use Rattle.entity_model.specs.EntityId.{entity_cmp, entity_cmp_total, entity_cmp
 use Rattle.entity_state.specs.declared.record.Record.{Record}
 use Rattle.entity_state.specs.Record.{blank}
 use Rattle.rising.specs.Rising.{has, difference, IsRising}
+use Rattle.rising.proofs.Keys.{and_first, and_second, less}
 use Rattle.rising.proofs.Rising.{has-append, has-sorted, IsRising-sorted}
 use Rattle.rising.proofs.Filtering.{has-difference}
 use Rattle.replay_model.specs.Records.{Bytes, Records, record_of}
 use Rattle.replay_model.specs.Union.{Meaning, triples_held, triples_at, union, owners}
 
-both_hold : (a b : Bool) → T (a && b) → T a × T b
-both_hold true b h = (tt, h)
-both_hold false b h = absurd h
-
-below_less : (r : Ordering) → T (is_lt r) → r ≡ Less
-below_less Less h = refl
-below_less Equal h = absurd h
-below_less Greater h = absurd h
-
 module _ {K X : Type 0} {R : K → K → Ordering} (o : IsTotalOrder R) where
   -- a key below the keys of all entries isn't found
   find_below : (k y : K) (es : List (K × X)) → R k y ≡ Less → T (below_all R y es) → find R k es ≡ None
-  find_below k y [] less h = refl
-  find_below k y (e ∷ es) less h =
-      let parts = both_hold _ _ h in
-      ap (λ r. cond (is_eq r) (Some e.1) (find R k es)) (o.trans k y e.0 less (below_less _ parts.0)) ∙ find_below k y es less parts.1
+  find_below k y [] low h = refl
+  find_below k y (e ∷ es) low h =
+      ap (λ r. cond (is_eq r) (Some e.1) (find R k es)) (o.trans k y e.0 low (less _ (and_first _ _ h))) ∙ find_below k y es low (and_second _ _ h)
 
 -- what an entry at a key adds to a sum
 abbrev share : {K X : Type 0} → ((K × X) → ℕ) → K → Option X → ℕ
@@ -41,16 +32,15 @@ module _ {K X : Type 0} {R : K → K → Ordering} (o : IsTotalOrder R) (same : 
   sum_by-put : (f : (K × X) → ℕ) (k : K) (v : X) (es : List (K × X)) → T (is_sorted R es) → sum_by f (put R k v es) + share f k (find R k es) ≡ sum_by f es + f (k, v)
   sum_by-put f k v [] h = omega arith
   sum_by-put f k v (e ∷ es) h =
-      let parts = both_hold _ _ h in
       elim (R k e.0) as (λ r. R k e.0 ≡ r → sum_by f (by_order r ((k, v) ∷ e ∷ es) ((e.0, v) ∷ es) (e ∷ put R k v es)) + share f k (cond (is_eq r) (Some e.1) (find R k es)) ≡ sum_by f (e ∷ es) + f (k, v)) [
         | Less ↦ λ less.
-            let none : share f k (find R k es) ≡ 0 = ap (share f k) (find_below o k e.0 es less parts.0) in
+            let none : share f k (find R k es) ≡ 0 = ap (share f k) (find_below o k e.0 es less (and_first _ _ h)) in
             omega (arith, sum_by-cons f (k, v) (e ∷ es))
         | Equal ↦ λ tie.
             let new : f (e.0, v) ≡ f (k, v) = ap (λ y. f (y, v)) (sym (same k e.0 tie)) in
             let old : f (k, e.1) ≡ f e = ap (λ y. f (y, e.1)) (same k e.0 tie) in
             omega (arith, sum_by-cons f (e.0, v) es, sum_by-cons f e es)
-        | Greater ↦ λ _. omega (arith, sum_by-cons f e (put R k v es), sum_by-cons f e es, sum_by-put f k v es parts.1)
+        | Greater ↦ λ _. omega (arith, sum_by-cons f e (put R k v es), sum_by-cons f e es, sum_by-put f k v es (and_second _ _ h))
       ] refl
 
 module _ {Triple : Type 0} (order : Triple → Triple → Ordering) (meaning : Meaning Triple) where

@@ -1,5 +1,6 @@
 -- A page that isn't kept holds nothing, and an entity holds what its state wants exactly where no revision entry of it is open.
-use Rattle.std.proofs.Common.{◌≡◌, ℕ, Bool, true, false, not, cond, ◌&&◌, ◌||◌, ◌==◌, List, [], ◌∷◌, ◌++◌, Option, None, Some, Result, Ok, Err, is_none, nat_lt, nat_le, refl, sym, ◌∙◌, ap, subst, true≢false, eqb-true, eq-eqb}
+use Rattle.std.proofs.Common.{◌≡◌, ℕ, Bool, true, false, not, cond, ◌&&◌, ◌||◌, ◌==◌, List, [], ◌∷◌, ◌++◌, Option, None, Result, Ok, Err, is_none, nat_lt, nat_le, refl, sym, ◌∙◌, ap, subst, true≢false, eqb-true, eq-eqb}
+use Rattle.std.proofs.lemmas.Bool.{not-false, not-true}
 use Rattle.std.specs.List.{list_any}
 use Rattle.std.proofs.lemmas.List.Folds.{list_any-append}
 use Rattle.entity_model.specs.declared.id.EntityId.{EntityId}
@@ -18,7 +19,7 @@ use Rattle.side_output.specs.declared.entry.Entry.{Entry}
 use Rattle.side_output.specs.declared.entry.Entry.TheVariants.{Late, Revision}
 use Rattle.entity_model.specs.declared.delivery.Delivery.{Delivery}
 use Rattle.entity_model.specs.declared.delivery.Delivery.TheVariants.{Event as Told, Watermark, Ask, Mapping}
-use Rattle.rising.proofs.Bools.{or_true, and_right, and_left, and_none, and_all}
+use Rattle.rising.proofs.Bools.{clash, or_true, and_right, and_left, and_none, and_all}
 use Rattle.rising.proofs.Finding.{list_any_weaker, list_any_never}
 use Rattle.rising.proofs.Pushes.{by_pushes}
 use Rattle.replay_model.specs.Acceptance.{is_late}
@@ -28,7 +29,6 @@ use Rattle.replay_model.specs.Play.{Replies, Played, nothing_played, held_after_
 use Rattle.replay_model.specs.Entries.{HoldsUnlessOpen, is_open_by, is_revision_of, has_open_revision}
 use Rattle.replay_model.proofs.Arrivals.{play-push}
 use Rattle.replay_model.proofs.RecordOf.{entity_of, record-after, record_of-empty}
-use Rattle.replay_model.proofs.Times.{not_true, not_false}
 
 -- whether the entry tells of the revision r of the entity x
 abbrev names : EntityId → ℕ → Entry → Bool
@@ -41,9 +41,6 @@ pub record Tells (side : List Entry) (x : EntityId) (r : Record Bytes) : Type 0 
   pub empty_unless_kept : is_kept r.state.mode ≡ false → r.held ≡ None
   -- a revision that the state wants and that isn't held is named
   pub named : wants r.state (held_revision r.held) ≡ true → list_any (names x r.state.rev) side ≡ true
-
-contradicts : {G : Type 0} (b : Bool) → b ≡ true → b ≡ false → G
-contradicts b p q = absurd (true≢false (sym p ∙ q))
 
 same_number : (n : ℕ) → (n == n) ≡ true
 same_number n = eq-eqb n n refl
@@ -67,15 +64,15 @@ none_unless_kept Deleted Unknown rev rest held fetched known before h = before r
 named_after : (side : List Entry) (x : EntityId) (e : Event) (s : State) (held : Option (Held Bytes)) (reply : Result Bytes Cause) (w : Bool) → is_of x e ≡ true → wants s (held_revision held) ≡ w
     → wants s (held_revision (cond w (held_after_fetch s.rev reply held) (cond (is_deleted s.mode) None held))) ≡ true
     → list_any (names x s.rev) (side ++ cond w (entry_of e s.rev reply) []) ≡ true
-named_after side x e s held (Ok bytes) true of w after = contradicts (wants s (Some s.rev)) after (ap (λ b. is_kept s.mode && not b) (same_number s.rev) ∙ and_none (is_kept s.mode))
+named_after side x e s held (Ok bytes) true of w after = clash after (ap (λ b. is_kept s.mode && not b) (same_number s.rev) ∙ and_none (is_kept s.mode))
 named_after side x e s held (Err cause) true of w after =
     list_any-append (names x s.rev) side (Revision e s.rev cause ∷ [])
     ∙ or_true (list_any (names x s.rev) side) _ (ap (λ b. (b && s.rev == s.rev) || false) of ∙ ap (λ b. b || false) (same_number s.rev))
 named_after side x e s held reply false of w after =
     elim s.mode as (λ m. wants (record { mode = m; rev = s.rev }) (held_revision held) ≡ false → wants (record { mode = m; rev = s.rev }) (held_revision (cond (is_deleted m) None held)) ≡ true → list_any (names x s.rev) (side ++ []) ≡ true) [
-      | Unknown ↦ λ w after. contradicts false after refl
-      | Kept ↦ λ w after. contradicts _ after w
-      | Deleted ↦ λ w after. contradicts false after refl
+      | Unknown ↦ λ w after. clash after refl
+      | Kept ↦ λ w after. clash after w
+      | Deleted ↦ λ w after. clash after refl
     ] w after
 
 -- the event's own entity
@@ -114,7 +111,7 @@ Tells-happens hz replies ds (Mapping v) p all x = all x
 Tells-happens hz replies ds (Watermark w) p all x = Tells-apply_all replies p (newly_due hz ds false (ds ++ Watermark w ∷ [])) all x
 
 Tells-nothing : TellsAll nothing_played
-Tells-nothing x = subst (λ r. Tells [] x r) (sym (record_of-empty x)) (record { empty_unless_kept = λ _. refl; named = λ w. contradicts false w refl })
+Tells-nothing x = subst (λ r. Tells [] x r) (sym (record_of-empty x)) (record { empty_unless_kept = λ _. refl; named = λ w. clash w refl })
 
 Tells-play : (hz : Option ℕ) (replies : Replies) (ds : List Delivery) → TellsAll (play hz replies ds)
 Tells-play hz replies = by_pushes (λ ds. TellsAll (play hz replies ds)) Tells-nothing
@@ -157,13 +154,13 @@ settled_by side x r t =
     ] refl
   where
     unsettled : (m : Mode) → (is_kept m && not (is_held r.state.rev (held_revision r.held))) ≡ true → settles_at m r.state.rev (held_revision r.held) ≡ false
-    unsettled Unknown w = contradicts false w refl
-    unsettled Kept w = not_true _ w
-    unsettled Deleted w = contradicts false w refl
+    unsettled Unknown w = clash w refl
+    unsettled Kept w = not-true _ w
+    unsettled Deleted w = clash w refl
 
     settled : (m : Mode) → (is_kept m && not (is_held r.state.rev (held_revision r.held))) ≡ false → (is_kept m ≡ false → r.held ≡ None) → settles_at m r.state.rev (held_revision r.held) ≡ true
     settled Unknown w none = ap (λ h. is_none (held_revision h)) (none refl)
-    settled Kept w none = not_false _ w
+    settled Kept w none = not-false _ w
     settled Deleted w none = ap (λ h. is_none (held_revision h)) (none refl)
 
 -- an entity holds what its state wants exactly where the side output has no open revision entry of it
@@ -195,12 +192,12 @@ holds_told p holds x = record {
     r = record_of p.records x
 
     unsettled : (m : Mode) → (is_kept m && not (is_held r.state.rev (held_revision r.held))) ≡ true → settles_at m r.state.rev (held_revision r.held) ≡ false
-    unsettled Unknown w = contradicts false w refl
-    unsettled Kept w = not_true _ w
-    unsettled Deleted w = contradicts false w refl
+    unsettled Unknown w = clash w refl
+    unsettled Kept w = not-true _ w
+    unsettled Deleted w = clash w refl
 
     not_settled_open : wants r.state (held_revision r.held) ≡ true → list_any (is_open_of x r) p.side ≡ true
-    not_settled_open w = not_false _ (sym (holds.settled x) ∙ unsettled r.state.mode w)
+    not_settled_open w = not-false _ (sym (holds.settled x) ∙ unsettled r.state.mode w)
 
 -- it holds at the start
 pub holds-nothing : HoldsUnlessOpen nothing_played

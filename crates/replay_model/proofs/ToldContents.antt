@@ -1,5 +1,5 @@
 -- Over a source with told contents, what is held is what the source has, and each entry says of a revision what is so.
-use Rattle.std.proofs.Common.{◌≡◌, ℕ, Bool, true, false, cond, List, [], ◌∷◌, ◌++◌, Option, None, Some, Err, refl, sym, ◌∙◌, ap, subst}
+use Rattle.std.proofs.Common.{◌≡◌, ℕ, Bool, true, false, cond, List, [], ◌∷◌, ◌++◌, Option, None, Some, Result, Err, refl, sym, ◌∙◌, ap, subst}
 use Rattle.entity_model.specs.declared.id.EntityId.{EntityId}
 use Rattle.entity_model.specs.declared.event.Event.{Event}
 use Rattle.entity_model.specs.declared.unfit.Unfit.{Unfit}
@@ -9,7 +9,8 @@ use Rattle.entity_state.specs.declared.record.Held.{Held}
 use Rattle.entity_state.specs.declared.record.Record.{Record}
 use Rattle.entity_state.specs.State.{state_after, is_deleted}
 use Rattle.entity_state.specs.Record.{blank, held_revision, wants}
-use Rattle.side_output.specs.declared.entry.Cause.TheVariants.{Failed}
+use Rattle.side_output.specs.declared.entry.Cause.{Cause}
+use Rattle.side_output.specs.declared.entry.Cause.TheVariants.{Failed, Unfit as NoDocument}
 use Rattle.side_output.specs.declared.entry.Entry.{Entry}
 use Rattle.side_output.specs.declared.entry.Entry.TheVariants.{Late}
 use Rattle.entity_model.specs.declared.delivery.Delivery.{Delivery}
@@ -28,6 +29,11 @@ use Rattle.replay_model.proofs.RecordOf.{entity_of, applied_to, record-records_o
 pub Each-append : {A : Type 0} (P : A → Type 0) (xs ys : List A) → Each P xs → Each P ys → Each P (xs ++ ys)
 Each-append P [] ys hx hy = hy
 Each-append P (x ∷ xs) ys hx hy = (hx.0, Each-append P xs ys hx.1 hy)
+
+-- a reply that names why there is no document is what is there
+pub unfit_there : (unfit : Judgement) (x : EntityId) (why : Unfit) (there : Option Bytes) → HasUnfit unfit x why there → ◌≡◌ {A = Result Bytes Cause} (Err (NoDocument why)) (reply_there unfit x there)
+unfit_there unfit x why None has = absurd has
+unfit_there unfit x why (Some bytes) has = rw has refl
 
 module _ (unfit : Judgement) (contents : ℕ → Option Bytes) (failed : List Event) where
   -- ---- what is held

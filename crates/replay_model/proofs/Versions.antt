@@ -1,6 +1,5 @@
 -- What is held means what the version that it is mapped by says, and nothing else counts.
-use Rattle.std.proofs.Common.{◌≡◌, ◌+◌, Bool, true, false, not, cond, ◌&&◌, ◌||◌, T, List, [], ◌∷◌, ◌++◌, Option, Some, None, Ordering, Less, Equal, Greater, is_eq, is_lt, is_some, count_by, flat_map, unwrap_or, refl, sym, ◌∙◌, ap, true≢false}
-use Rattle.std.specs.Prelude.{map as mapped}
+use Rattle.std.proofs.Common.{◌≡◌, ◌+◌, Bool, true, false, not, cond, ◌&&◌, ◌||◌, T, List, [], ◌∷◌, ◌++◌, Option, Some, None, Ordering, is_eq, is_some, count_by, flat_map, unwrap_or, refl, sym, ◌∙◌, ap, true≢false}
 use Rattle.std.specs.BTreeSet.{insert_key}
 use Rattle.std.specs.FinMap as map
 use Rattle.std.specs.FinMap.{find}
@@ -9,10 +8,11 @@ use Rattle.std.specs.Cmp.{eq_by_cmp_equiv}
 use Rattle.std.specs.Ordering.{eq_by_cmp}
 use Rattle.std.specs.Set.{remove_key}
 use Rattle.std.proofs.lemmas.List.Sums.{sum_by-cons}
-use Rattle.rising.specs.Rising.{Above, Each, IsRising, has, sorted}
+use Rattle.rising.specs.Rising.{Each, IsRising, has, sorted}
 use Rattle.rising.proofs.Bools.{equal}
 use Rattle.rising.proofs.Filtering.{IsRising-filter, has-filter}
 use Rattle.rising.proofs.FirstPassing.{IsRising-remove_key}
+use Rattle.rising.proofs.Keys.{and_first, and_second, less, rising_keys}
 use Rattle.rising.proofs.Rising.{IsRising-insert_key, has-above, has-insert_key, same_rising}
 use Rattle.entity_model.specs.declared.id.EntityId.{EntityId}
 use Rattle.entity_model.specs.declared.mapping.MappingVersion.{MappingVersion}
@@ -25,24 +25,11 @@ use Rattle.replay_model.specs.Records.{Bytes, Records, record_of}
 use Rattle.replay_model.specs.Union.{Meaning, owners, triples_at, triples_held, union}
 use Rattle.replay_model.specs.Versions.{all_by, holders, is_holder, meaning_by, version_at, with_version}
 
-first : (a b : Bool) → T (a && b) → T a
-first true b h = tt
-first false b h = absurd h
-
-second : (a b : Bool) → T (a && b) → T b
-second true b h = h
-second false b h = absurd h
-
-less : (r : Ordering) → T (is_lt r) → r ≡ Less
-less Less h = refl
-less Equal h = absurd h
-less Greater h = absurd h
-
 -- a key below those of all entries isn't found
 not_found : {X : Type 0} (k : EntityId) (es : List (EntityId × X)) → T (below_all entity_cmp k es) → find entity_cmp k es ≡ None
 not_found k [] h = refl
 not_found k (e ∷ es) h =
-    ap (λ r. cond (is_eq r) (Some e.1) (find entity_cmp k es)) (less _ (first _ _ h)) ∙ not_found k es (second _ _ h)
+    ap (λ r. cond (is_eq r) (Some e.1) (find entity_cmp k es)) (less _ (and_first _ _ h)) ∙ not_found k es (and_second _ _ h)
 
 -- the record among entries, blank where there is none
 abbrev entry_of : List (EntityId × Record Bytes) → EntityId → Record Bytes
@@ -71,7 +58,7 @@ module _ {Triple : Type 0} (m n : Meaning Triple) where
 
   agree_each : (es : List (EntityId × Record Bytes)) → T (is_sorted entity_cmp es) → AgreeIn es → Each (λ e. triples_at n e ≡ triples_at m e) es
   agree_each [] sorted h = tt
-  agree_each (e ∷ es) sorted h = (agree_here e es h, agree_each es (second _ _ sorted) (agree_later e es (first _ _ sorted) h))
+  agree_each (e ∷ es) sorted h = (agree_here e es h, agree_each es (and_second _ _ sorted) (agree_later e es (and_first _ _ sorted) h))
 
 module _ {A B : Type 0} (f g : A → List B) where
   gathered_same : (es : List A) → Each (λ e. g e ≡ f e) es → flat_map g es ≡ flat_map f es
@@ -116,17 +103,9 @@ has-holders records x =
     ∙ ap (λ b. is_holder records x && b) (sym (map.contains_key-keys records x))
     ∙ holder_there (map.get records x)
 
-above_keys : {X : Type 0} (k : EntityId) (es : List (EntityId × X)) → T (below_all entity_cmp k es) → Above entity_cmp k (mapped (λ e. e.0) es)
-above_keys k [] h = tt
-above_keys k (e ∷ es) h = (less _ (first _ _ h), above_keys k es (second _ _ h))
-
-rising_keys : {X : Type 0} (es : List (EntityId × X)) → T (is_sorted entity_cmp es) → IsRising entity_cmp (mapped (λ e. e.0) es)
-rising_keys [] h = tt
-rising_keys (e ∷ es) h = (above_keys e.0 es (first _ _ h), rising_keys es (second _ _ h))
-
 -- they rise
 pub holders-rise : (records : Records) → IsRising entity_cmp (holders records)
-holders-rise records = IsRising-filter entity_cmp (is_holder records) (map.keys records) (rising_keys (map.entries records) (map.entries_sorted records))
+holders-rise records = IsRising-filter entity_cmp (is_holder records) (map.keys records) (rising_keys entity_cmp (map.entries records) (map.entries_sorted records))
 
 -- where all hold by one version, each holder does
 pub version-all : (v : MappingVersion) (records : Records) (x : EntityId) → is_holder records x ≡ true → version_at (all_by v records) x ≡ v

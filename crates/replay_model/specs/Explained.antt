@@ -34,7 +34,9 @@ is_fetching w e = wants (state_after (record_of w.played.records e.entity).state
 abbrev pub IsHonest : Judgement → (ℕ → Option Bytes) → Event → ℕ → Result Bytes Cause → Type 0
 IsHonest unfit contents e r reply = (reply ≡ Err Failed) ⊎ (reply ≡ reply_there unfit e.entity (contents r))
 
--- the state leads, when all due events are applied, to that of a play with some replies, and the fetches made so far with those still to be made are the play's; where the contents are told, the replies so far are those of the contents and of the failed events that the side output names
+-- the state leads, when all due events are applied, to that of a play with some replies, and the fetches made so far with those still
+-- to be made are the play's; where the contents are told, the replies so far are those of the contents and of the failed events that
+-- the side output names
 pub record Explained (unfit : Judgement) (told : Option (ℕ → Option Bytes)) (play_of : Replies → ReplayState) (fetches_of : Replies → List Fetch) (made : ℕ) (w : ReplayState) : Type 0 where
   -- the replies
   pub replies : Replies
@@ -44,7 +46,8 @@ pub record Explained (unfit : Judgement) (told : Option (ℕ → Option Bytes)) 
   pub leads : (others : Replies) → AgreeOnApplied w replies others → after_due others w ≡ play_of others
   pub counts : (others : Replies) → AgreeOnApplied w replies others → made + length (fetches_due others w) ≡ length (fetches_of others)
   -- the replies are the source's
-  pub honest : (contents : ℕ → Option Bytes) → told ≡ Some contents → (e : Event) (r : ℕ) → replies e r ≡ source_replies unfit contents (failed_events w.played.side) e r
+  pub honest : (contents : ℕ → Option Bytes) → told ≡ Some contents → (e : Event) (r : ℕ) →
+      replies e r ≡ source_replies unfit contents (failed_events w.played.side) e r
   -- each reply that gives bytes gives a document
   pub fit : (e : Event) (r : ℕ) → GivesDocument unfit e.entity (replies e r)
   -- fetches failed for such events alone

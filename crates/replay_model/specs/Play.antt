@@ -56,7 +56,9 @@ entry_of e r (Err cause) = Revision e r cause ∷ []
 
 -- the entries that the application of the event makes
 abbrev pub entries_after : Replies → Event → Record Bytes → List Entry
-entries_after replies e r = cond (wants (state_after r.state e) (held_revision r.held)) (entry_of e (state_after r.state e).rev (replies e (state_after r.state e).rev)) []
+entries_after replies e r =
+    cond (wants (state_after r.state e) (held_revision r.held))
+    (entry_of e (state_after r.state e).rev (replies e (state_after r.state e).rev)) []
 
 -- the records after the event is applied
 abbrev pub records_after : Replies → Records → Event → Records

@@ -138,7 +138,9 @@ module _ (meaning : MappingVersion → Meaning Triple) where
   -- the answer to an ask, after the deliveries before it
   abbrev pub answer_said : Option ℕ → Replies → List Delivery → Option Pattern → List ℕ
   answer_said h replies before None = []
-  answer_said h replies before (Some pattern) = ask_section (asks before + 1) (rows (union triple_cmp (meaning (version_in_force before)) (play h replies before).records) pattern)
+  answer_said h replies before (Some pattern) =
+      ask_section (asks before + 1)
+      (rows (union triple_cmp (meaning (version_in_force before)) (play h replies before).records) pattern)
 
   -- what is printed at a delivery: the answer, if it asks
   abbrev pub said_at : Option ℕ → Replies → Arrival → List ℕ

@@ -1,17 +1,14 @@
 -- The triples of a small link have fit and short terms.
-use Rattle.std.proofs.Common.{◌≡◌, ℕ, ◌+◌, ◌≤◌, Bool, true, false, cond, List, [], ◌∷◌, ◌++◌, ◌-◌, length, map, drop, take, nat_eq, Option, Some, None, IfSome, refl, ◌∙◌, arith, lit≤}
-use Rattle.std.proofs.lemmas.Bool.Decides.{nat_tests}
+use Rattle.std.proofs.Common.{◌≡◌, ℕ, ◌+◌, ◌≤◌, Bool, true, false, cond, List, [], ◌∷◌, ◌++◌, ◌-◌, length, map, drop, take, Option, Some, None, IfSome, refl, arith, lit≤}
 use Rattle.std.proofs.lemmas.List.{length-append, length-take, length-map}
-use Rattle.std.proofs.lemmas.List.Folds.{list_all-append}
 use Rattle.std.specs.Prelude.{codes}
-use Rattle.std.specs.Char.{is_ascii_lowercase}
 use Rattle.std.specs.List.{AllByRecursion}
-use Rattle.std.specs.Option.{option_map_or}
 use Rattle.std.specs.Str.{bytes_eq}
 use Rattle.rdf_term.specs.declared.term.Term.{Term}
 use Rattle.rdf_term.specs.declared.term.Term.TheVariants.{Iri, Plain}
 use Rattle.rdf_term.specs.Fit.{IsFitAndShort, HasFitAndShortTerms}
-use Rattle.rdf_term.specs.Grammar.{is_iri, is_iri_char, tagged_of}
+use Rattle.rdf_term.specs.Grammar.{is_iri, tagged_of}
+use Rattle.rdf_term.proofs.FitTerms.{is_iri-append}
 use Rattle.entity_model.specs.declared.entity.Link.{Link}
 use Rattle.entity_model.specs.declared.id.EntityId.{EntityId}
 use Rattle.entity_model.specs.Document.{IsSmallLink}
@@ -24,21 +21,18 @@ use Rattle.rdf_vocabulary.specs.Unreserved.{escaped_name}
 use Rattle.rdf_vocabulary.proofs.Fit.{about_fit, class_fit, join, plain_fit, tagged_fit}
 use Rattle.rdf_vocabulary.proofs.Ids.{id_term_fit}
 use Rattle.rdf_vocabulary.proofs.NamesFit.{escaped_name_iri, escaped_name_short}
-use Rattle.sitelinks.specs.declared.language.Place.{Place}
-use Rattle.sitelinks.specs.declared.language.Place.TheVariants.{Start, First, Dash, Later}
 use Rattle.sitelinks.specs.declared.project.Project.{Project}
 use Rattle.sitelinks.specs.declared.project.Project.TheVariants as Projects
 use Rattle.sitelinks.specs.declared.sites.Site.{Site}
 use Rattle.sitelinks.specs.declared.special.SpecialSite.{SpecialSite}
 use Rattle.sitelinks.specs.declared.special.SpecialSite.TheVariants as Specials
-use Rattle.sitelinks.specs.Article.{article_iri, article_triples, badge_triple, found_triples, group_triple, article_head_triples, triples_of}
-use Rattle.sitelinks.specs.Language.{is_language, is_lowercase_or_digit}
-use Rattle.sitelinks.specs.LanguageReader.{is_rest_of_language, place_after}
+use Rattle.sitelinks.specs.Article.{article_iri, article_triples, badge_triple, found_triples, group_triple, article_head_triples, site_article_triples}
+use Rattle.sitelinks.specs.Language.{is_language}
 use Rattle.sitelinks.specs.Project.{coded, coded_or, first_coded, project_group, project_suffix, projects}
 use Rattle.sitelinks.specs.Replaced.{replaced, replaced_byte}
 use Rattle.sitelinks.specs.Site.{coded_site, english, language_of, site_in, site_of, special_or, special_site}
 use Rattle.sitelinks.specs.Special.{special_base, special_group, special_of}
-use Rattle.sitelinks.proofs.Languages.{is_language_read}
+use Rattle.sitelinks.proofs.Languages.{language_iri}
 
 -- a site's texts: the base may stand in an IRI, and none is long
 record IsSmallSite (n : ℕ) (site : Site) : Type 0 where
@@ -69,41 +63,6 @@ group_small Projects.Wikivoyage = (refl, lit≤ tt)
 group_small Projects.Wiktionary = (refl, lit≤ tt)
 group_small Projects.Wikipedia = (refl, lit≤ tt)
 
-lowercase_iri : (c : ℕ) → is_ascii_lowercase c ≡ true → is_iri_char c ≡ true
-lowercase_iri c h = grind (arith, nat_tests)
-
-word_iri : (c : ℕ) → is_lowercase_or_digit c ≡ true → is_iri_char c ≡ true
-word_iri c h = grind (arith, nat_tests)
-
-dash_iri : (c : ℕ) → (nat_eq c 45) ≡ true → is_iri_char c ≡ true
-dash_iri c h = grind (arith, nat_tests)
-
--- what is read of a language may stand in an IRI
-place_iri : (place next : Place) (c : ℕ) → place_after place c ≡ Some next → is_iri_char c ≡ true
-place_iri Start next c e = elim (is_ascii_lowercase c) as (λ b. is_ascii_lowercase c ≡ b → (cond b (Some First) None) ≡ Some next → is_iri_char c ≡ true) [ true ↦ λ h _. lowercase_iri c h | false ↦ λ h e. cc ] refl e
-place_iri First next c e = elim (is_ascii_lowercase c) as (λ b. is_ascii_lowercase c ≡ b → (cond b (Some First) (cond (nat_eq c 45) (Some Dash) None)) ≡ Some next → is_iri_char c ≡ true) [ true ↦ λ h _. lowercase_iri c h | false ↦ λ h e. dashed (nat_eq c 45) refl e ] refl e
-  where
-    dashed : (b : Bool) → nat_eq c 45 ≡ b → (cond b (Some Dash) None) ≡ Some next → is_iri_char c ≡ true
-    dashed true h e = dash_iri c h
-    dashed false h e = cc
-place_iri Dash next c e = elim (is_lowercase_or_digit c) as (λ b. is_lowercase_or_digit c ≡ b → (cond b (Some Later) None) ≡ Some next → is_iri_char c ≡ true) [ true ↦ λ h _. word_iri c h | false ↦ λ h e. cc ] refl e
-place_iri Later next c e = elim (is_lowercase_or_digit c) as (λ b. is_lowercase_or_digit c ≡ b → (cond b (Some Later) (cond (nat_eq c 45) (Some Dash) None)) ≡ Some next → is_iri_char c ≡ true) [ true ↦ λ h _. word_iri c h | false ↦ λ h e. dashed (nat_eq c 45) refl e ] refl e
-  where
-    dashed : (b : Bool) → nat_eq c 45 ≡ b → (cond b (Some Dash) None) ≡ Some next → is_iri_char c ≡ true
-    dashed true h e = dash_iri c h
-    dashed false h e = cc
-
-rest_iri : (text : List ℕ) (place : Place) → is_rest_of_language place text ≡ true → is_iri text ≡ true
-rest_iri [] place h = refl
-rest_iri (c ∷ cs) place h = by (λ q. rest_iri cs q) (place_after place c) refl h
-  where
-    by : ((q : Place) → is_rest_of_language q cs ≡ true → is_iri cs ≡ true) → (next : Option Place) → place_after place c ≡ next → option_map_or (λ q. is_rest_of_language q cs) next false ≡ true → is_iri (c ∷ cs) ≡ true
-    by more None e h = cc
-    by more (Some next) e h = rw (place_iri place next c e) (more next h)
-
-language_iri : (text : List ℕ) → is_language text ≡ true → is_iri text ≡ true
-language_iri text h = rest_iri text Start (is_language_read text ∙ h)
-
 -- the code of an id is no longer than the id
 code_small : (projects : List Project) (id : List ℕ) → IfSome (first_coded projects id) (λ p. length p.0 ≤ length id)
 code_small [] id = tt
@@ -113,9 +72,6 @@ code_small (project ∷ more) id = by (bytes_eq (drop (length id - length (proje
     by true h = omega (arith, length-take (length id - length (project_suffix project)) id)
     by false h = h
 
-all_iri : (xs ys : List ℕ) → is_iri xs ≡ true → is_iri ys ≡ true → is_iri (xs ++ ys) ≡ true
-all_iri xs ys h k = rw (list_all-append is_iri_char xs ys, h) k
-
 language_small : (n : ℕ) (language : List ℕ) (project : Project) → is_iri language ≡ true → length language ≤ n → IsSmallSite n (site_in language project)
 language_small n language project h short =
     let g = group_small project in
@@ -123,7 +79,7 @@ language_small n language project h short =
     let b = codes "." in
     let c = codes ".org/" in
     record {
-      iri = all_iri (a ++ language ++ b ++ project_group project) c (all_iri (a ++ language ++ b) (project_group project) (all_iri (a ++ language) b (all_iri a language refl h) refl) g.0) refl;
+      iri = is_iri-append (a ++ language ++ b ++ project_group project) c (is_iri-append (a ++ language ++ b) (project_group project) (is_iri-append (a ++ language) b (is_iri-append a language refl h) refl) g.0) refl;
       base = omega (
         arith,
         g.1,
@@ -159,14 +115,14 @@ article_fit n site title s h =
     let name = replaced 32 95 title in
     let front = site.base ++ codes "wiki/" in
     iri_fit (article_iri site title)
-    (all_iri front (escaped_name name) (all_iri site.base (codes "wiki/") s.iri refl) (escaped_name_iri name))
+    (is_iri-append front (escaped_name name) (is_iri-append site.base (codes "wiki/") s.iri refl) (escaped_name_iri name))
     (omega (arith, s.base, escaped_name_short name, length-map title (replaced_byte 32 95), length-append site.base (codes "wiki/"), length-append front (escaped_name name)))
 
 badges_fit : (article : Term) (badges : List EntityId) → IsFitAndShort article → AllByRecursion HasFitAndShortTerms (map (badge_triple article) badges)
 badges_fit article [] a = tt
 badges_fit article (badge ∷ badges) a = (about_fit article Predicates.Badge (entity_term badge) a (id_term_fit Wd badge), badges_fit article badges a)
 
-triples_fit : (article : Term) (entity : EntityId) (link : Link) (site : Site) → IsFitAndShort article → IsSmallSite (length link.site) site → IsSmallLink link → AllByRecursion HasFitAndShortTerms (triples_of article entity link site)
+triples_fit : (article : Term) (entity : EntityId) (link : Link) (site : Site) → IsFitAndShort article → IsSmallSite (length link.site) site → IsSmallLink link → AllByRecursion HasFitAndShortTerms (site_article_triples article entity link site)
 triples_fit article entity link site a s h =
     let base = iri_fit site.base s.iri (omega (arith, s.base)) in
     let head : AllByRecursion HasFitAndShortTerms (article_head_triples article entity site) = (

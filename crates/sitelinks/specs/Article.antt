@@ -37,15 +37,15 @@ abbrev pub group_triple : Site → Triple
 group_triple site = about (Iri site.base) WikiGroup (Plain site.group)
 
 -- the triples of an article of a site
-abbrev pub triples_of : Term → EntityId → Link → Site → List Triple
-triples_of article entity link site =
+abbrev pub site_article_triples : Term → EntityId → Link → Site → List Triple
+site_article_triples article entity link site =
     article_head_triples article entity site
     ++ about article Name (tagged_of link.title site.language) ∷ []
     ++ map (badge_triple article) link.badges
     ++ group_triple site ∷ []
 
 abbrev pub site_triples : EntityId → Link → Site → List Triple
-site_triples entity link site = triples_of (Iri (article_iri site link.title)) entity link site
+site_triples entity link site = site_article_triples (Iri (article_iri site link.title)) entity link site
 
 -- the triples of a link: none where no rule names the site
 abbrev pub found_triples : EntityId → Link → Option Site → List Triple

@@ -1,6 +1,5 @@
 pub mod Article
 pub mod Language
-pub mod LanguageReader
 pub mod Names
 pub mod Project
 pub mod Replaced

@@ -3,6 +3,7 @@ use Rattle.std.specs.Prelude.{ℕ, List, [], ◌∷◌, ◌++◌, Option, Some, 
 use Rattle.rdf_term.specs.declared.term.Term.{Term}
 use Rattle.rdf_term.specs.declared.term.Term.TheVariants.{Blank}
 use Rattle.rdf_term.specs.declared.triple.Triple.{Triple}
+use Rattle.rdf_term.specs.Triple.{triple}
 use Rattle.entity_model.specs.declared.id.EntityId.{EntityId}
 use Rattle.entity_model.specs.declared.snak.Snak.{Snak}
 use Rattle.entity_model.specs.declared.snak.Content.{Content}
@@ -16,7 +17,7 @@ use Rattle.rdf_vocabulary.specs.Predicate.{predicate_term}
 use Rattle.rdf_vocabulary.specs.Prefix.{id_term, prefixed}
 use Rattle.value_nodes.specs.Name.{node_name}
 use Rattle.value_nodes.specs.Nodes.{node_triples}
-use Rattle.value_nodes.specs.Said.{triple, object_triples}
+use Rattle.value_nodes.specs.Said.{object_triples}
 use Rattle.value_nodes.specs.Terms.{simple_term}
 use Rattle.entity_model.specs.declared.mapping.MappingVersion.{MappingVersion}
 use Rattle.statement_rdf.specs.declared.role.Role.{Role}

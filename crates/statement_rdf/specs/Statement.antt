@@ -3,6 +3,7 @@ use Rattle.std.specs.Prelude.{ℕ, Bool, if◌then◌else◌, List, [], ◌∷�
 use Rattle.std.specs.List.{flat_map}
 use Rattle.rdf_term.specs.declared.term.Term.{Term}
 use Rattle.rdf_term.specs.declared.triple.Triple.{Triple}
+use Rattle.rdf_term.specs.Triple.{triple}
 use Rattle.entity_model.specs.declared.snak.Snak.{Snak}
 use Rattle.entity_model.specs.declared.snak.Content.{Content}
 use Rattle.entity_model.specs.declared.snak.Content.TheVariants.{Value, NoValue, SomeValue}
@@ -17,7 +18,7 @@ use Rattle.rdf_vocabulary.specs.declared.resource.Resource.TheVariants as Resour
 use Rattle.rdf_vocabulary.specs.Predicate.{predicate_term}
 use Rattle.rdf_vocabulary.specs.Prefix.{id_term}
 use Rattle.rdf_vocabulary.specs.Resource.{class_triple, resource_term}
-use Rattle.value_nodes.specs.Said.{triple, object_triples}
+use Rattle.value_nodes.specs.Said.{object_triples}
 use Rattle.value_nodes.specs.Terms.{simple_term}
 use Rattle.entity_model.specs.declared.mapping.MappingVersion.{MappingVersion}
 use Rattle.statement_rdf.specs.declared.role.Role.TheVariants as Roles

@@ -1,26 +1,14 @@
 -- A time's literal is not much longer than its text.
-use Rattle.std.proofs.Common.{◌≡◌, ℕ, zero, suc, ◌+◌, ◌-◌, ◌/◌, ◌%◌, ◌<◌, ◌≤◌, Bool, true, false, cond, nat_eq, List, [], ◌∷◌, ◌++◌, length, Option, Some, None, refl, ap, arith}
+use Rattle.std.proofs.Common.{◌≡◌, ℕ, ◌+◌, ◌-◌, ◌<◌, ◌≤◌, Bool, true, false, cond, List, [], ◌∷◌, ◌++◌, length, Option, Some, None, refl, ap, arith}
 use Rattle.std.specs.Prelude.{replicate, unsigned_abs, int_lt, pos}
 use Rattle.std.proofs.lemmas.List.{length-append, length-replicate}
-use Rattle.std.specs.Fmt.{digits, digits_onto, digit_glyph, decimal}
+use Rattle.std.specs.Fmt.{decimal}
+use Rattle.digits.proofs.Decimals.{decimal_short}
 use Rattle.wb_values.specs.declared.calendar.CalendarDate.{CalendarDate}
 use Rattle.wb_values.specs.declared.literal.TimeText.{TimeText}
 use Rattle.wb_values.specs.declared.literal.TimeText.TheVariants.{DateTime, Plain}
 use Rattle.wb_values.specs.Literal.{zero_padded, sign_text, date_time_text, meant_time, literal_meant, time_literal}
 use Rattle.wb_values.proofs.LiteralLemmas.{meant_sound}
-
--- a number in decimal has at most 64 digits
-digits_onto_short : (k n : ℕ) (acc : List ℕ) → length (digits_onto k 10 false n acc) ≤ k + length acc
-digits_onto_short zero n acc = omega arith
-digits_onto_short (suc k) n acc = by_choice (nat_eq (n / 10) 0) _ _ (omega arith) (omega (arith, digits_onto_short k (n / 10) (digit_glyph false (n % 10) ∷ acc)))
-  where
-    by_choice : {m : ℕ} (b : Bool) (x y : List ℕ) → length x ≤ m → length y ≤ m → length (cond b x y) ≤ m
-    by_choice true x y p q = p
-    by_choice false x y p q = q
-
-pub decimal_short : (n : ℕ) → length (decimal n) ≤ 64
-unfolding digits
-decimal_short n = omega (arith, digits_onto_short 64 n [])
 
 zero_padded_short : (width n : ℕ) → length (zero_padded width n) ≤ width + 64
 zero_padded_short width n =

@@ -1,5 +1,5 @@
 -- The words of items are read as these items, and all words are those of the items that are read.
-use Rattle.std.proofs.Common.{◌≡◌, refl, sym, subst, ◌∙◌, ap, ℕ, ◌+◌, ◌<◌, Bool, true, false, cond, ◌&&◌, ◌||◌, ◌==◌, nat_lt, List, [], ◌∷◌, ◌++◌, length, get_or, flat_map, map, Option, None, Some, option_map, codes, append-nil, arith, eqb-true}
+use Rattle.std.proofs.Common.{◌≡◌, refl, sym, subst, ◌∙◌, ap, ℕ, ◌<◌, Bool, true, false, cond, nat_lt, List, [], ◌∷◌, ◌++◌, length, get_or, map, Option, None, Some, option_map, codes, append-nil, arith, eqb-true}
 use Rattle.std.specs.List.{AllByRecursion as Each, position_or_len, before_first, after_first}
 use Rattle.std.specs.Option.{option_and_then}
 use Rattle.std.specs.Str.{bytes_eq}
@@ -9,9 +9,8 @@ use Rattle.words.specs.Items.{Item, is_equals_sign, is_value, item, item_of_word
 use Rattle.words.specs.Options.{Choices, nothing_chosen, with_items}
 use Rattle.words.specs.Plan.{plan_of, size_in, size_of}
 use Rattle.words.specs.Grammar.{IsDrill, IsReplay, Written, has_value, is_flag, is_item, words_of_item, words_written}
-use Rattle.words.specs.declared.plan.Plan.{Plan}
 use Rattle.words.specs.declared.plan.Plan.TheVariants.{Replay, Drill}
-use Rattle.words.proofs.Choosing.{and_left, and_right, made_as_said, one_of_four, one_of_three, said_as_made, same_name}
+use Rattle.words.proofs.Choosing.{and_left, made_as_said, one_of_four, one_of_three, said_as_made, same_name}
 use Rattle.words.proofs.Following.{items_apart, items_whole}
 
 -- ---- one item

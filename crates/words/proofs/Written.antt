@@ -1,34 +1,14 @@
--- How a number is written, and what `parse` reads of it.
-use Rattle.std.proofs.Common.{refl, sym, ap, ◌∙◌, ◌≡◌, ℕ, zero, suc, ◌<◌, ◌≤◌, ◌^◌, ◌&&◌, Bool, true, false, cond, nat_le, List, [], ◌∷◌, length, get_or, Option, None, Some, IfSome, Result, Ok, Err, arith}
-use Rattle.std.specs.Result.{result_ok}
+-- How a number is written.
+use Rattle.std.proofs.Common.{refl, sym, ap, ◌∙◌, ◌≡◌, ℕ, zero, suc, ◌<◌, ◌≤◌, ◌^◌, ◌&&◌, Bool, true, false, cond, nat_le, List, [], ◌∷◌, Option, None, Some, IfSome, arith}
 use Rattle.std.specs.Fmt.{decimal}
 use Rattle.std.specs.Str.{bytes_eq}
-use Rattle.std.specs.Str.Parse.{ParsesUnsigned, AllDigits, digits_value}
-use Rattle.std.proofs.lemmas.Str.Parse.{IsNumeralModel, numerals_by_value, tells_digits, parse_plain, digit_at}
-use Rattle.std.proofs.lemmas.Fmt.{decimal-digits_value, decimal_is_IsNumeral, decimal_digit, first_decimal, digits_decimal, decimal_nonempty}
+use Rattle.std.specs.Str.Parse.{digits_value}
+use Rattle.std.proofs.lemmas.Fmt.{decimal_is_IsNumeral}
 use Rattle.std.proofs.lemmas.Bool.Decides.{nat_tests}
 use Rattle.std.proofs.lemmas.Bool.{and_parts}
 use Rattle.std.proofs.lemmas.Slice.Eq.{bytes_eq-Decides}
+use Rattle.digits.proofs.Decimals.{zero_written}
 use Rattle.words.specs.Numbers.{between, number_between}
-
--- decimal digits and their value
-own : IsNumeralModel (AllDigits 10) (digits_value 10)
-own = numerals_by_value (AllDigits 10) tells_digits
-
--- what `parse` reads of a text that doesn't begin with a sign or 0 is the number that is written so
-pub number_read : {E : Type 0} (bs : List ℕ) (r : Result ℕ E) → ParsesUnsigned 64 10 bs r → 49 ≤ get_or bs 0 0 → IfSome (result_ok r) (λ n. decimal n ≡ bs)
-number_read {E} bs (Err e) parsed first = tt
-number_read {E} bs (Ok n) parsed first =
-    let digits = parse_plain own {E = E} 64 bs (Ok n) parsed (λ plus. omega arith) in
-    let written : decimal (digits_value 10 bs) ≡ bs = decimal-digits_value own bs digits.0.0 digits.0.1 (λ zero. absurd (omega arith)) digits.0.2 in
-    rw digits.1 written
-
--- a number from 1 begins with a digit from 1 to 9
-pub first_digit : (n : ℕ) (bs : List ℕ) → 0 < n → n < 2 ^ 64 → decimal n ≡ bs → (49 ≤ get_or bs 0 0) × (get_or bs 0 0 ≤ 57) × (0 < length bs)
-first_digit n bs low small is =
-    let some : 0 < length (decimal n) = decimal_nonempty n small in
-    let range = digit_at (decimal n) 0 (digits_decimal own n small) some in
-    rw (← is) (first_decimal n low small, range.1, some)
 
 chosen : (b : Bool) (x y : ℕ) → cond b (Some x) None ≡ Some y → (b ≡ true) × (x ≡ y)
 chosen true x y is = (refl, cc)
@@ -102,11 +82,7 @@ module _ (least greatest : ℕ) (digits : List ℕ) (small : greatest < 2 ^ 64) 
               let both : (nat_le least n && nat_le n greatest) ≡ true = rw (above, below) refl in
               cc
 
--- 0 is written as one digit
-pub zero_written : decimal 0 ≡ 48 ∷ []
-zero_written = decimal_digit 0 (omega arith)
-
--- and nothing else is
+-- nothing but 0 is written as one digit 0
 pub zero_alone : (n : ℕ) (bs : List ℕ) → n < 2 ^ 64 → decimal n ≡ bs → bs ≡ 48 ∷ [] → n ≡ 0
 zero_alone n bs low is digit =
     let of_zero : digits_value 10 (decimal 0) ≡ 0 = (decimal_is_IsNumeral 0 (omega arith)).1 in

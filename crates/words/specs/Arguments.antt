@@ -37,8 +37,9 @@ flag_rule name = record (new_rule name) { long = Some name; action = Some SetTru
 -- the command `replay`, with its seven items
 abbrev pub replay_command : App
 replay_command =
-    with_rule (with_rule (with_rule (with_rule (with_rule (with_rule (with_rule (new_app (codes "replay")) (option_rule (codes "from"))) (option_rule (codes "max-bytes")))
-    (option_rule (codes "max-terms"))) (option_rule (codes "horizon"))) (flag_rule (codes "export"))) (flag_rule (codes "state"))) (flag_rule (codes "side"))
+    with_rule (with_rule (with_rule (with_rule (with_rule (with_rule (with_rule (new_app (codes "replay"))
+    (option_rule (codes "from"))) (option_rule (codes "max-bytes"))) (option_rule (codes "max-terms"))) (option_rule (codes "horizon")))
+    (flag_rule (codes "export"))) (flag_rule (codes "state"))) (flag_rule (codes "side"))
 
 -- the command `drill`, with its one item
 abbrev pub drill_command : App

@@ -1,8 +1,8 @@
 -- Which words are a plan: items in any order, each at most once, each with a fit value.
-use Rattle.std.specs.Prelude.{◌≡◌, ℕ, Bool, true, false, cond, ◌&&◌, ◌||◌, List, [], ◌∷◌, ◌++◌, flat_map, map, Option, None, Some, is_some, codes, ⊤}
+use Rattle.std.specs.Prelude.{◌≡◌, ℕ, Bool, true, false, cond, ◌&&◌, ◌||◌, List, [], ◌∷◌, ◌++◌, flat_map, map, Option, None, Some, is_some, codes}
 use Rattle.std.specs.Str.{bytes_eq}
 use Rattle.std.specs.List.{AllByRecursion as Each}
-use Rattle.words.specs.Items.{Item, is_value, item}
+use Rattle.words.specs.Items.{Item, is_value}
 use Rattle.words.specs.Options.{Choices, horizon_in, limit_in, terms_in}
 use Rattle.words.specs.Plan.{size_in}
 
@@ -22,7 +22,9 @@ words_written written = flat_map (λ w. words_of_item w.item.name w.item.value w
 
 -- whether an item of this name has a value
 abbrev pub has_value : List ℕ → Bool
-has_value name = bytes_eq name (codes "--from") || bytes_eq name (codes "--max-bytes") || bytes_eq name (codes "--max-terms") || bytes_eq name (codes "--horizon")
+has_value name =
+    bytes_eq name (codes "--from") || bytes_eq name (codes "--max-bytes") || bytes_eq name (codes "--max-terms")
+    || bytes_eq name (codes "--horizon")
 
 -- whether an item of this name is a flag
 abbrev pub is_flag : List ℕ → Bool

@@ -25,7 +25,9 @@ item_of_word word =
 
 -- whether the word is a name whose value may be the next word
 abbrev pub takes_value : List ℕ → Bool
-takes_value word = bytes_eq word (codes "--from") || bytes_eq word (codes "--max-bytes") || bytes_eq word (codes "--max-terms") || bytes_eq word (codes "--horizon") || bytes_eq word (codes "--size")
+takes_value word =
+    bytes_eq word (codes "--from") || bytes_eq word (codes "--max-bytes") || bytes_eq word (codes "--max-terms")
+    || bytes_eq word (codes "--horizon") || bytes_eq word (codes "--size")
 
 -- the items that the words after the command are
 abbrev pub items_of : List (List ℕ) → List Item

@@ -1,8 +1,10 @@
 // The numbers that words have.
 
-ghost use Rattle.std.specs.Prelude.{◌≡◌, ◌↔◌, ℕ, ◌<◌, ◌≤◌, ◌^◌, Some, slice_index, IfSome, IsTrue};
+ghost use Rattle.std.specs.Prelude.{◌≡◌, ℕ, ◌<◌, ◌≤◌, ◌^◌, Some, IfSome};
 ghost use Rattle.std.specs.Fmt.{decimal};
 ghost use Rattle.words.specs.Numbers.{between, number_between};
+
+use digits::starts_above_zero;
 
 /// The number from the least to the greatest that the text is: decimal digits, without sign and without a leading zero.
 pub fn read_number(digits: &str, least: u64, greatest: u64) -> Option<u64>
@@ -45,11 +47,4 @@ fn positive_number(digits: &str) -> Option<u64>
     } else {
         None
     }
-}
-
-// Whether the text starts with a digit from 1 to 9.
-fn starts_above_zero(text: &str) -> bool
-    ensures { IsTrue result ↔ ((49 ≤ slice_index text.now 0) × (slice_index text.now 0 ≤ 57)) }
-{
-    matches!(text.as_bytes(), [b'1'..=b'9', ..])
 }

@@ -48,7 +48,8 @@ impl<'a> Model for ReplayOptions<'a> {
       side = a.side;
     } };
 
-    ghost invariant = { λ a. (unwrap_or a.limit 0 ≤ greatest_limit) × (1 ≤ unwrap_or a.terms 1) × (unwrap_or a.terms 1 ≤ greatest_terms) × (unwrap_or a.horizon 0 ≤ greatest_horizon) };
+    ghost invariant = { λ a. (unwrap_or a.limit 0 ≤ greatest_limit) × (1 ≤ unwrap_or a.terms 1) × (unwrap_or a.terms 1 ≤ greatest_terms)
+        × (unwrap_or a.horizon 0 ≤ greatest_horizon) };
 }
 
 impl<'a> ReplayOptions<'a> {

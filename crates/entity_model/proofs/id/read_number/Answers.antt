@@ -2,13 +2,14 @@
 use Rattle.std.proofs.Common.{◌≡◌, true, arith, sym, ap, ◌∙◌}
 use Rattle.std.specs.Result.{result_ok}
 use Rattle.std.proofs.lemmas.Fmt.{parse-decimal}
-use Rattle.entity_model.proofs.Number.{number_read, first_digit}
+use Rattle.digits.proofs.Decimals.{first_digit, number_read}
+use Rattle.entity_model.proofs.Number.{positive_read}
 use Rattle.entity_model.proofs.id.read_number.Goals as goal
 
 pub returns-then-starts_above_zero-clause-sound : goal.returns-then-starts_above_zero-clause-sound
 returns-then-starts_above_zero-clause-sound c =
     let first = c.starts_above_zero.ensures.0 c.if-starts_above_zero.true in
-    rw c.ok.ensures.value (number_read _ _ c.parse.ensures.value.0 first.0)
+    rw c.ok.ensures.value (positive_read _ (result_ok c.parse.result) first.0 (number_read 32 _ c.parse.result (omega arith) c.parse.ensures.value.0 first.0))
 
 pub returns-then-starts_above_zero-clause-complete :
     goal.returns-then-starts_above_zero-clause-complete
@@ -18,6 +19,6 @@ returns-then-starts_above_zero-clause-complete c = λ n low high is.
 pub returns-else-starts_above_zero-clause-complete :
     goal.returns-else-starts_above_zero-clause-complete
 returns-else-starts_above_zero-clause-complete c = λ n low high is.
-    let first = first_digit n c.args.digits.now low high is in
+    let first = first_digit n c.args.digits.now low (omega arith) is in
     let starts : c.starts_above_zero.result ≡ true = c.starts_above_zero.ensures.1 (first.0, first.1) in
     cc (starts, c.if-starts_above_zero.false)

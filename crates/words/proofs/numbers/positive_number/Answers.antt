@@ -2,13 +2,14 @@
 use Rattle.std.proofs.Common.{◌≡◌, true, arith, sym, ap, ◌∙◌}
 use Rattle.std.specs.Result.{result_ok}
 use Rattle.std.proofs.lemmas.Fmt.{parse-decimal}
-use Rattle.words.proofs.Written.{first_digit, number_read}
+use Rattle.std.proofs.lemmas.Option.{IfSome_then}
+use Rattle.digits.proofs.Decimals.{first_digit, number_read}
 use Rattle.words.proofs.numbers.positive_number.Goals as goal
 
 pub returns-then-starts_above_zero-clause-sound : goal.returns-then-starts_above_zero-clause-sound
 returns-then-starts_above_zero-clause-sound c =
     let first = c.starts_above_zero.ensures.0 c.if-starts_above_zero.true in
-    rw c.ok.ensures.value (number_read c.args.digits.now c.parse.result c.parse.ensures.value.0 first.0)
+    rw c.ok.ensures.value (IfSome_then (result_ok c.parse.result) (number_read 64 c.args.digits.now c.parse.result (omega arith) c.parse.ensures.value.0 first.0) (λ n h. h.1))
 
 pub returns-then-starts_above_zero-clause-complete : goal.returns-then-starts_above_zero-clause-complete
 returns-then-starts_above_zero-clause-complete c = λ n low high is.

@@ -2,7 +2,8 @@
 use Rattle.std.proofs.Common.{◌≡◌, true, false, sym, ap, ◌∙◌, Some, codes, true≢false}
 use Rattle.std.specs.Str.{bytes_eq}
 use Rattle.std.proofs.lemmas.Slice.Eq.{bytes_eq-Decides}
-use Rattle.words.proofs.Written.{above_zero, zero_alone, zero_written}
+use Rattle.digits.proofs.Decimals.{zero_written}
+use Rattle.words.proofs.Written.{above_zero, zero_alone}
 use Rattle.words.proofs.numbers.written_number.Goals as goal
 
 pub returns-then-eq-clause-sound : goal.returns-then-eq-clause-sound
