@@ -11,31 +11,41 @@ use itoa::Buffer;
 use triple_sink::TermRef;
 
 // How many marks there are.
-pub(crate) const MARKS: usize = 64;
+pub(crate) const MARKS: usize = 128;
+
+// How many of them are for texts that aren't long, and how many bytes such a text has at most.
+const SHORT_MARKS: usize = 64;
+
+const SHORT: usize = 127;
 
 // A number below `MARKS` by which a term that came before is looked for. Terms that differ have mostly, not always, others.
+//
+// A text that is written again since another with its mark came between costs at most twice the bytes of that other, or is short:
+// long texts have the mark of their size, by powers of two. So no page makes much be written again and again.
 pub(crate) fn mark(term: &TermRef<'_>) -> usize
-    ensures { result < 64 }
+    ensures { result < 128 }
 {
     match term {
         TermRef::Predicate(word) => text_mark(word.text()),
         TermRef::Resource(word) => text_mark(word.text()),
         TermRef::Named(_, name) => text_mark(name),
-        TermRef::Id(prefix, id) => (id.number as usize + prefix.text().len() % MARKS) % MARKS,
+        TermRef::Id(prefix, id) => (id.number as usize + prefix.text().len() % SHORT_MARKS)
+            % SHORT_MARKS,
         TermRef::Iri(iri) => text_mark(iri),
         TermRef::Blank(label) => text_mark(label),
         TermRef::Plain(_) | TermRef::Lang(_, _) | TermRef::Typed(_, _) => 0,
     }
 }
 
-// The same by a text: its length and its last two bytes.
+// The same by a text: its size where it is long, else its length and its last two bytes.
 fn text_mark(text: &str) -> usize
-    ensures { result < 64 }
+    ensures { result < 128 }
 {
+    if text.len() > SHORT {
+        return SHORT_MARKS + text.len().leading_zeros() as usize % SHORT_MARKS;
+    }
     match text.as_bytes() {
-        [.., before, last] => {
-            (*before as usize * 4 + *last as usize + text.len() % MARKS) % MARKS
-        }
+        [.., before, last] => { (*before as usize * 4 + *last as usize + text.len()) % SHORT_MARKS }
         _ => 0,
     }
 }
