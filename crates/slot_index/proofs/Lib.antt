@@ -1,4 +1,3 @@
-pub mod Adding
 pub mod Mapped
 pub mod More
 pub mod Owners

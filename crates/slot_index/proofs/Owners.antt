@@ -5,7 +5,7 @@ use Rattle.std.specs.Map.{lookup}
 use Rattle.std.proofs.lemmas.List.Sums.{sum_by-cons}
 use Rattle.rising.proofs.Bools.{equal}
 use Rattle.slot_index.specs.declared.key.Key.{Key}
-use Rattle.slot_index.specs.Keys.{key_cmp, key_cmp-total, key_cmp-IsAntisymmetric, same_key, times}
+use Rattle.slot_index.specs.Keys.{key_cmp, key_cmp-total, key_cmp-IsAntisymmetric, same_key}
 use Rattle.slot_index.specs.Counts.{Counts, counts_of, count_of, with_count, raised, lowered, HaveOwners}
 use Rattle.slot_index.proofs.Mapped.{changed, got}
 use Rattle.slot_index.proofs.Passing.{one_if}
@@ -59,27 +59,3 @@ not_lowered t es absent =
 -- the empty map has no triple without an owner
 pub HaveOwners-empty : HaveOwners {R = key_cmp} map.empty
 HaveOwners-empty t there = absurd (true≢false (sym there ∙ ap is_some (map.get-empty key_cmp t)))
-
-pub times-cons : (q t : Key) (ts : List Key) → times q (t ∷ ts) ≡ one_if (same_key q t) + times q ts
-times-cons q t ts = sum_by-cons (λ x. cond (same_key q x) 1 0) t ts
-
-pub count_of-fold-raised : (ts : List Key) (counts : Counts) (q : Key) → count_of (fold raised counts ts) q ≡ count_of counts q + times q ts
-count_of-fold-raised [] counts q = omega arith
-count_of-fold-raised (t ∷ ts) counts q = omega (arith, count_of-fold-raised ts (raised counts t) q, count_of-raised counts t q, times-cons q t ts)
-
-pub count_of-fold-lowered : (ts : List Key) (counts : Counts) (q : Key) → count_of (fold lowered counts ts) q ≡ count_of counts q - times q ts
-count_of-fold-lowered [] counts q = omega arith
-count_of-fold-lowered (t ∷ ts) counts q = omega (arith, count_of-fold-lowered ts (lowered counts t) q, count_of-lowered counts t q, times-cons q t ts)
-
-pub HaveOwners-fold-raised : (ts : List Key) (counts : Counts) → HaveOwners counts → HaveOwners (fold raised counts ts)
-HaveOwners-fold-raised [] counts h = h
-HaveOwners-fold-raised (t ∷ ts) counts h = HaveOwners-fold-raised ts (raised counts t) (HaveOwners-with_count counts t (count_of counts t + 1) h)
-
-pub HaveOwners-fold-lowered : (ts : List Key) (counts : Counts) → HaveOwners counts → HaveOwners (fold lowered counts ts)
-HaveOwners-fold-lowered [] counts h = h
-HaveOwners-fold-lowered (t ∷ ts) counts h = HaveOwners-fold-lowered ts (lowered counts t) (HaveOwners-with_count counts t (count_of counts t - 1) h)
-
--- to lower what was raised undoes it
-pub undone : (counts : Counts) (ts : List Key) → HaveOwners counts → fold lowered (fold raised counts ts) ts ≡ counts
-undone counts ts h = same_counts _ _ (HaveOwners-fold-lowered ts _ (HaveOwners-fold-raised ts counts h)) h (λ q.
-    omega (arith, count_of-fold-lowered ts (fold raised counts ts) q, count_of-fold-raised ts counts q))

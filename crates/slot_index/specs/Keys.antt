@@ -1,5 +1,5 @@
 -- Triples of slots, their order and their turns.
-use Rattle.std.specs.Prelude.{◌≡◌, ℕ, ◌^◌, ◌<◌, Bool, List, count_by}
+use Rattle.std.specs.Prelude.{◌≡◌, ℕ, ◌^◌, ◌<◌, Bool}
 use Rattle.std.specs.declared.cmp.Ordering.{Ordering}
 use Rattle.std.specs.declared.cmp.Ordering.TheVariants.{Less, Equal, Greater}
 use Rattle.std.specs.Ordering.{nat_cmp, on, then_cmp, ordering_then, eq_by_cmp, is_eq}
@@ -37,10 +37,6 @@ key_cmp-IsAntisymmetric a b e =
 
 abbrev pub same_key : Key → Key → Bool
 same_key = eq_by_cmp key_cmp
-
--- how often a triple stands in a list
-abbrev pub times : Key → List Key → ℕ
-times k keys = count_by (same_key k) keys
 
 -- the first slot at the end; three turns give the triple back
 abbrev pub turned : Key → Key

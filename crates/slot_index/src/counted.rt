@@ -1,11 +1,11 @@
 // The triples of slots, each with the number of its owners.
 
-ghost use Rattle.std.specs.Prelude.{◌≡◌, ◌+◌, ◌*◌, ◌^◌, ◌<◌, ◌≤◌, ◌==◌, ◌&&◌, ℕ, Bool, [], length, fold, count_by, IsOk, IfOk, OnOk, OnErr};
+ghost use Rattle.std.specs.Prelude.{◌≡◌, ◌+◌, ◌*◌, ◌^◌, ◌<◌, ◌≤◌, ◌==◌, ◌&&◌, ℕ, Bool, length, count_by, IfOk, OnOk, OnErr};
 ghost use Rattle.std.specs.FinMap as map;
 ghost use Rattle.rising.specs.Rising.{IsRising};
 ghost use Rattle.block_index.specs.Steps.{Within};
 ghost use Rattle.slot_index.specs.declared.key.Key.{Key as TheKey};
-ghost use Rattle.slot_index.specs.Keys.{key_cmp, times};
+ghost use Rattle.slot_index.specs.Keys.{key_cmp};
 ghost use Rattle.slot_index.specs.Patterns.{agrees};
 ghost use Rattle.slot_index.specs.Counts.{HaveOwners, count_of, lowered, raised};
 
@@ -119,39 +119,5 @@ impl SlotIndex {
     {
         let found = self.orders.range(pattern, steps)?;
         Ok(found)
-    }
-
-    /// Raises the count of each triple by one, as often as it stands there. After `OutOfMemory` nothing has
-    /// changed.
-    pub fn raise_all<L: Ledger>(
-        &mut self,
-        keys: &[Key],
-        steps: &mut Steps<L>,
-    ) -> Result<(), OutOfMemory>
-        // None comes to more than 2^64 - 1 owners.
-        requires { (k : TheKey) → count_of self.old k + times k keys.now ≤ 18446744073709551615 }
-        ensures ok { OnOk result (self.new ≡ fold raised self.old keys.now) }
-        ensures err { OnErr result (self.new ≡ self.old) }
-        ensures free { keys.now ≡ [] → IsOk result }
-        ensures forward { steps.old ≤ steps.new }
-    {
-        let _stored = self.len();
-        for (done, key) in keys.iter().enumerate() {
-            if let Err(refused) = self.raise(*key, steps) {
-                self.lower_all(&keys[..done], steps);
-                return Err(refused);
-            }
-        }
-        Ok(())
-    }
-
-    /// Lowers the count of each triple by one, as often as it stands there, which takes no memory.
-    pub fn lower_all<L: Ledger>(&mut self, keys: &[Key], steps: &mut Steps<L>)
-        ensures lowered { self.new ≡ fold lowered self.old keys.now }
-        ensures forward { steps.old ≤ steps.new }
-    {
-        for key in keys {
-            self.lower(*key, steps);
-        }
     }
 }
