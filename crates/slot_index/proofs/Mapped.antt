@@ -1,47 +1,23 @@
 -- Entries in the order of their keys, as a map by key.
-use Rattle.std.proofs.Common.{◌≡◌, Bool, true, false, cond, ◌&&◌, T, List, [], ◌∷◌, length, Option, Some, is_some, Ordering, Less, Equal, Greater, is_lt, refl, sym, ◌∙◌, ap}
-use Rattle.std.specs.Prelude.{map as mapped}
+use Rattle.std.proofs.Common.{◌≡◌, cond, List, [], ◌∷◌, length, Option, Some, is_some, Ordering, refl, sym, ◌∙◌, ap}
 use Rattle.std.specs.Cmp.{IsTotalOrder}
 use Rattle.std.specs.FinMap as map
 use Rattle.std.specs.FinMap.{IsAntisymmetric}
-use Rattle.std.specs.FinMap.Entries.{is_sorted, below_all}
 use Rattle.std.specs.List.Sorted.{IsStrictlySortedBy}
 use Rattle.std.specs.Map.{lookup, keys_of}
 use Rattle.std.specs.Ordering.{eq_by_cmp}
 use Rattle.std.proofs.lemmas.Cmp.{eq_by_cmp_equiv}
 use Rattle.std.proofs.lemmas.List.{length-map}
 use Rattle.std.proofs.lemmas.Map.Made.{is_some-lookup}
-use Rattle.rising.specs.Rising.{has, Above, IsRising}
+use Rattle.rising.specs.Rising.{has}
+pub use Rattle.rising.proofs.Keys.{and_first, and_second, rising_keys}
 use Rattle.rising.proofs.Rising.{same_rising}
 use Rattle.rising.proofs.Sorting.{IsRising-from_sorted}
-
--- what a test by two tests says of each
-pub and_first : (a b : Bool) → T (a && b) → T a
-and_first true b h = tt
-and_first false b h = h
-
-pub and_second : (a b : Bool) → T (a && b) → T b
-and_second true b h = h
-and_second false b h = absurd h
-
-less : (r : Ordering) → T (is_lt r) → r ≡ Less
-less Less h = refl
-less Equal h = absurd h
-less Greater h = absurd h
 
 module _ {K X : Type 0} (R : K → K → Ordering) where
   find_lookup : (q : K) (es : List (K × X)) → map.find R q es ≡ lookup (eq_by_cmp R q) es
   find_lookup q [] = refl
   find_lookup q (e ∷ es) = ap (λ rest. cond (eq_by_cmp R q e.0) (Some e.1) rest) (find_lookup q es)
-
-  above_keys : (k : K) (es : List (K × X)) → T (below_all R k es) → Above R k (mapped (λ e. e.0) es)
-  above_keys k [] h = tt
-  above_keys k (e ∷ es) h = (less _ (and_first _ _ h), above_keys k es (and_second _ _ h))
-
-  -- the keys of sorted entries rise
-  pub rising_keys : (es : List (K × X)) → T (is_sorted R es) → IsRising R (mapped (λ e. e.0) es)
-  rising_keys [] h = tt
-  rising_keys (e ∷ es) h = (above_keys e.0 es (and_first _ _ h), rising_keys es (and_second _ _ h))
 
 module _ {K X : Type 0} {R : K → K → Ordering} (o : IsTotalOrder R) where
   -- the map has what a look-up by key finds

@@ -1,5 +1,5 @@
 -- How often a test passes in a list, after a change of the list.
-use Rattle.std.proofs.Common.{◌≡◌, ℕ, ◌+◌, ◌≤◌, Bool, true, false, cond, ◌&&◌, ◌||◌, List, [], ◌∷◌, length, Ordering, Less, Equal, Greater, is_eq, filter, count_by, nat_lt, refl, sym, ◌∙◌, ap, arith, zero-add, lt-ltb}
+use Rattle.std.proofs.Common.{◌≡◌, ◌+◌, ◌≤◌, Bool, true, false, cond, ◌&&◌, ◌||◌, List, [], ◌∷◌, length, Ordering, Less, Equal, Greater, is_eq, filter, count_by, nat_lt, refl, sym, ◌∙◌, ap, arith, zero-add, lt-ltb}
 use Rattle.std.specs.Prelude.{map as mapped}
 use Rattle.std.specs.Cmp.{IsTotalOrder}
 use Rattle.std.specs.FinMap.{IsAntisymmetric}
@@ -8,12 +8,9 @@ use Rattle.std.specs.BTreeSet.{insert_key}
 use Rattle.std.specs.Set.{remove_key}
 use Rattle.std.proofs.lemmas.Cmp.{tied_itself}
 use Rattle.std.proofs.lemmas.List.Sums.{sum_by-cons}
+pub use Rattle.rising.specs.Counting.{one_if}
 use Rattle.rising.specs.Rising.{has}
 use Rattle.rising.proofs.Bools.{clash, or_false_left, or_false_right}
-
--- a test as a number
-abbrev pub one_if : Bool → ℕ
-one_if b = cond b 1 0
 
 module _ {K : Type 0} where
   pub count_by-cons : (p : K → Bool) (x : K) (xs : List K) → count_by p (x ∷ xs) ≡ one_if (p x) + count_by p xs

@@ -1,11 +1,10 @@
 -- Triples of slots, their order and their turns.
-use Rattle.std.specs.Prelude.{◌≡◌, ℕ, ◌^◌, ◌<◌, Bool}
+use Rattle.std.specs.Prelude.{ℕ, ◌^◌, ◌<◌, Bool}
 use Rattle.std.specs.declared.cmp.Ordering.{Ordering}
-use Rattle.std.specs.declared.cmp.Ordering.TheVariants.{Less, Equal, Greater}
-use Rattle.std.specs.Ordering.{nat_cmp, on, then_cmp, ordering_then, eq_by_cmp, is_eq}
+use Rattle.std.specs.Ordering.{nat_cmp, on, then_cmp, eq_by_cmp}
 use Rattle.std.specs.Cmp.{IsTotalOrder, nat_cmp_total, on_total, then_total}
 use Rattle.std.specs.FinMap.{IsAntisymmetric, nat_cmp-IsAntisymmetric}
-use Rattle.std.proofs.Common.{refl, sym, ap, true≢false}
+use Rattle.rising.proofs.Bools.{then_first, then_second}
 use Rattle.slot_index.specs.declared.key.Key.{Key}
 
 -- by the first slot, then the second, then the third
@@ -14,17 +13,9 @@ key_cmp = then_cmp (on (λ key. key.first) nat_cmp) (then_cmp (on (λ key. key.s
 
 -- the order is total
 pub key_cmp-total : IsTotalOrder key_cmp
-key_cmp-total = then_total (on_total (λ key. key.first) nat_cmp_total) (then_total (on_total (λ key. key.second) nat_cmp_total) (on_total (λ key. key.third) nat_cmp_total))
-
-then_first : (a b : Ordering) → ordering_then a b ≡ Equal → a ≡ Equal
-then_first Less b e = e
-then_first Equal b e = refl
-then_first Greater b e = e
-
-then_second : (a b : Ordering) → ordering_then a b ≡ Equal → b ≡ Equal
-then_second Less b e = absurd (true≢false (sym (ap is_eq e)))
-then_second Equal b e = e
-then_second Greater b e = absurd (true≢false (sym (ap is_eq e)))
+key_cmp-total =
+    then_total (on_total (λ key. key.first) nat_cmp_total)
+    (then_total (on_total (λ key. key.second) nat_cmp_total) (on_total (λ key. key.third) nat_cmp_total))
 
 -- only equal triples tie
 pub key_cmp-IsAntisymmetric : IsAntisymmetric key_cmp

@@ -3,8 +3,8 @@ use Rattle.std.proofs.Common.{◌≡◌, ◌≢◌, ℕ, ◌+◌, ◌<◌, ◌�
 use Rattle.std.specs.List.{Contains}
 use Rattle.std.specs.HashMap.{get as map_get}
 use Rattle.std.proofs.lemmas.Bool.{cases_eq}
-use Rattle.std.proofs.lemmas.Bool.Decides.{eqb_tells}
 use Rattle.slab.specs.Slab.{get, slab_len}
+pub use Rattle.rising.proofs.Counting.{if_other, if_same}
 use Rattle.text_region.specs.declared.piece.Piece.{Piece}
 use Rattle.text_region.specs.Region.{Texts, bytes_of}
 use Rattle.term_pool.specs.declared.slots.Entry.{Entry}
@@ -15,12 +15,6 @@ use Rattle.term_pool.specs.Pool.{LiesIn, IsCanonical, IsNowhere, IsTextual, Inte
 use Rattle.term_pool.specs.Counting.{Recounts}
 use Rattle.term_pool.specs.Making.{HasSame}
 use Rattle.term_pool.proofs.Indexed.{index_added, index_removed, index_same}
-
-pub if_same : (a b : ℕ) → a ≡ b → one_if (a == b) ≡ 1
-if_same a b e = ⊎_elim (λ t. ap one_if t.0) (λ f. absurd (f.1 e)) (eqb_tells a b)
-
-pub if_other : (a b : ℕ) → a ≢ b → one_if (a == b) ≡ 0
-if_other a b n = ⊎_elim (λ t. absurd (n t.1)) (λ f. ap one_if f.0) (eqb_tells a b)
 
 -- a slot with a text has an entry
 pub record Stands (pool : Pool) (texts : Texts) (slot : ℕ) (text : List ℕ) : Type 0 where

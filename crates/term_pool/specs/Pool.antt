@@ -1,8 +1,9 @@
 -- What contracts say of a pool and the region that has its texts.
-use Rattle.std.specs.Prelude.{◌≡◌, ◌≢◌, ℕ, ◌+◌, ◌<◌, ◌≤◌, ◌==◌, Bool, false, cond, if◌then◌else◌, List, Option, Some, None, ◌⊎◌}
+use Rattle.std.specs.Prelude.{◌≡◌, ◌≢◌, ℕ, ◌+◌, ◌<◌, ◌≤◌, ◌==◌, Bool, false, cond, List, Option, Some, None, ◌⊎◌}
 use Rattle.std.specs.List.{list_any}
 use Rattle.std.specs.HashMap.{get as map_get}
 use Rattle.slab.specs.Slab.{get, slab_len}
+pub use Rattle.rising.specs.Counting.{one_if}
 use Rattle.rdf_term.specs.declared.term.Term.{Term}
 use Rattle.rdf_term.specs.Fit.{IsFitAndShort}
 use Rattle.rdf_term.specs.Reader.{read}
@@ -79,10 +80,6 @@ pub record LiesIn (pool : Pool) (texts : Texts) : Type 0 where
 -- no slot has this text
 pub record IsNowhere (pool : Pool) (texts : Texts) (text : List ℕ) : Type 0 where
   pub nowhere : (slot : ℕ) → text_at pool texts slot ≢ Some text
-
--- one where it holds
-abbrev pub one_if : Bool → ℕ
-one_if b = if b then 1 else 0
 
 -- every slot has the term and the count that it had
 pub record SameSlots (old : Pool) (before : Texts) (new : Pool) (after : Texts) : Type 0 where

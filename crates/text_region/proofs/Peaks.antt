@@ -1,13 +1,11 @@
 -- As many blocks of a class are made as are in use at once at most.
 use Rattle.std.proofs.Common.{◌≡◌, ℕ, ◌+◌, ◌≤◌, max, List, [], ◌∷◌, arith, ap, ◌∙◌, ⊎_elim}
-use Rattle.std.specs.Prelude.{◌==◌, if◌then◌else◌, Bool}
+use Rattle.std.specs.Prelude.{◌==◌, if◌then◌else◌}
 use Rattle.std.proofs.lemmas.Bool.{cases_eq}
 use Rattle.std.proofs.lemmas.Bool.Decides.{eqb_tells}
+use Rattle.rising.specs.Counting.{one_if}
 use Rattle.text_region.specs.Region.{Texts, live, made}
 use Rattle.text_region.specs.Peak.{IsHistory, begins, goes_on, IsNext, placed, freed, refused, peak}
-
-abbrev one_if : Bool → ℕ
-one_if b = if b then 1 else 0
 
 -- one more in use, and one more made where all were
 step_up : (used made used_next made_next : ℕ) → used ≤ made → used_next ≡ used + 1 → made_next ≡ made + (if used == made then 1 else 0) → (made_next ≡ max used_next made) × (used_next ≤ made_next)

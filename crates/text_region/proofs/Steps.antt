@@ -1,10 +1,10 @@
 -- What a place and a free leave among the blocks of a class and among those of all classes.
 use Rattle.std.proofs.Common.{◌≡◌, ◌≢◌, ℕ, zero, suc, ◌+◌, ◌<◌, ◌⊎◌, List, [], ◌∷◌, ◌++◌, length, map, set, get_or, Option, Some, None, arith, refl, sym, ap, subst, ◌∙◌, ⊎_elim, inl, inr}
-use Rattle.std.specs.Prelude.{Bool, is_some, count_by, cond, IsSome, ◌==◌, if◌then◌else◌}
+use Rattle.std.specs.Prelude.{is_some, count_by, cond, IsSome, ◌==◌, if◌then◌else◌}
 use Rattle.std.proofs.lemmas.Bool.{cases_lt, cases_eq}
-use Rattle.std.proofs.lemmas.Bool.Decides.{eqb_tells}
 use Rattle.std.proofs.lemmas.List.{length-set, length_push, get_or-set_same, get_or-set_other, get_or_past, get_or-map, map-set, length-map}
 use Rattle.std.proofs.lemmas.List.Sums.{sum_by-set, sum_by_push}
+use Rattle.rising.proofs.Counting.{if_other, if_same}
 use Rattle.text_region.specs.declared.piece.Piece.{Piece}
 use Rattle.text_region.specs.Class.{IsClassOf, size_of}
 use Rattle.text_region.specs.Blocks.{Blocks, Shelf, block_at, HasPut, HasFreed}
@@ -19,15 +19,6 @@ grown_same [] zero = refl
 grown_same [] (suc k) = refl
 grown_same (b ∷ bs) zero = refl
 grown_same (b ∷ bs) (suc k) = grown_same bs k
-
-abbrev one_if : Bool → ℕ
-one_if b = if b then 1 else 0
-
-if_same : (a b : ℕ) → a ≡ b → one_if (a == b) ≡ 1
-if_same a b e = ⊎_elim (λ t. ap one_if t.0) (λ f. absurd (f.1 e)) (eqb_tells a b)
-
-if_other : (a b : ℕ) → a ≢ b → one_if (a == b) ≡ 0
-if_other a b n = ⊎_elim (λ t. absurd (n t.1)) (λ f. ap one_if f.0) (eqb_tells a b)
 
 in_use : (blocks : Blocks) (k : ℕ) → IsSome (block_at blocks k) → k < length blocks
 in_use blocks k h = ⊎_elim (λ l. l) (λ ge. absurd (let past = get_or_past blocks k None ge in cc)) (cases_lt k (length blocks))
