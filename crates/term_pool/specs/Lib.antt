@@ -3,4 +3,5 @@ pub mod Front
 pub mod Hashing
 pub mod Index
 pub mod Making
+pub mod Occupant
 pub mod Pool

@@ -11,11 +11,11 @@ use slab::Slab;
 // Counts a use more.
 pub(crate) fn raise(slots: &mut Slab<Entry>, number: u32)
     requires used { 0 < count_of (get slots.old number) }
-    requires countable { count_of (get slots.old number) < 2 ^ 63 }
+    requires countable { count_of (get slots.old number) < 2 ^ 47 }
     ensures { Recounts slots.old slots.new number (count_of (get slots.old number) + 1) }
 {
     if let Some(entry) = slots.get_mut(number as usize) {
-        entry.count += 1;
+        entry.raise();
     }
 }
 
@@ -25,7 +25,7 @@ pub(crate) fn lower(slots: &mut Slab<Entry>, number: u32)
     ensures { Recounts slots.old slots.new number (count_of (get slots.old number) - 1) }
 {
     if let Some(entry) = slots.get_mut(number as usize) {
-        entry.count -= 1;
+        entry.lower();
     }
 }
 
@@ -34,7 +34,7 @@ pub(crate) fn is_last(slots: &Slab<Entry>, number: u32) -> bool
     ensures { result ≡ (count_of (get slots.now number) == 1) }
 {
     match slots.get(number as usize) {
-        Some(entry) => entry.count == 1,
+        Some(entry) => entry.is_one(),
         None => false,
     }
 }

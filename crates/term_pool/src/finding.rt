@@ -35,7 +35,10 @@ impl Pool {
         ensures { IsTrue result ↔ (text_at self.now region.now number ≡ Some (term_text term.now)) }
     {
         match self.slots.get(number as usize) {
-            Some(entry) => is_text_of(region.read(&entry.piece), term),
+            Some(entry) => {
+                let place = entry.piece();
+                is_text_of(region.read(&place), term)
+            }
             None => false,
         }
     }

@@ -79,7 +79,8 @@ impl Pool {
         let Some(entry) = self.slots.get(slot.number as usize) else {
             unreachable!()
         };
-        region.read(&entry.piece)
+        let place = entry.piece();
+        region.read(&place)
     }
 
     /// The slot of the term with this canonical text, if it is there. It takes no memory.
@@ -112,8 +113,8 @@ impl Pool {
         requires lies { LiesIn self.old region.old }
         requires fit { IsFitAndShort term.now }
 
-        // A term that is there has fewer than 2^63 uses.
-        requires countable { (slot : ℕ) → text_at self.old region.old slot ≡ Some (term_text term.now) → count_at self.old slot < 2 ^ 63 }
+        // A term that is there has fewer than 2^47 uses.
+        requires countable { (slot : ℕ) → text_at self.old region.old slot ≡ Some (term_text term.now) → count_at self.old slot < 2 ^ 47 }
         ensures lies { LiesIn self.new region.new }
         ensures ok { IfOk result (λ slot. Interned self.old region.old self.new region.new slot.number (term_text term.now)) }
         ensures first { IfOk result (λ slot. IsNowhere self.old region.old (term_text term.now) → count_at self.new slot.number ≡ 1) }
@@ -138,8 +139,8 @@ impl Pool {
         requires lies { LiesIn self.old region.old }
         requires canonical { IsCanonical text.now }
 
-        // A term that is there has fewer than 2^63 uses.
-        requires countable { (slot : ℕ) → text_at self.old region.old slot ≡ Some text.now → count_at self.old slot < 2 ^ 63 }
+        // A term that is there has fewer than 2^47 uses.
+        requires countable { (slot : ℕ) → text_at self.old region.old slot ≡ Some text.now → count_at self.old slot < 2 ^ 47 }
         ensures lies { LiesIn self.new region.new }
         ensures ok { IfOk result (λ slot. Interned self.old region.old self.new region.new slot.number text.now) }
         ensures first { IfOk result (λ slot. IsNowhere self.old region.old text.now → count_at self.new slot.number ≡ 1) }
@@ -181,7 +182,10 @@ impl Pool {
         ensures { IsTrue result ↔ (text_at self.now region.now number ≡ Some text.now) }
     {
         match self.slots.get(number as usize) {
-            Some(entry) => region.read(&entry.piece) == text,
+            Some(entry) => {
+                let place = entry.piece();
+                region.read(&place) == text
+            }
             None => false,
         }
     }
@@ -234,7 +238,7 @@ impl Pool {
         let Ok(piece) = region.place(text) else {
             return Err(PoolFault::OutOfMemory);
         };
-        self.slots.insert_reserved(Entry { piece, count: 1 });
+        self.slots.insert_reserved(Entry::one(piece));
         point(&mut self.by_hash, &mut self.more, hash, number);
         Ok(Slot { number })
     }
@@ -254,6 +258,6 @@ impl Pool {
         };
         forget(&mut self.by_hash, hash, slot.number);
         unlist(&mut self.more, slot.number);
-        region.free(entry.piece);
+        region.free(entry.piece());
     }
 }

@@ -4,6 +4,8 @@
 /// and takes it back when the text is freed.
 #[derive(Debug, Drop)]
 pub struct Piece {
-    pub(crate) class: u8,
-    pub(crate) number: u32,
+    /// The class of the block.
+    pub class: u8,
+    /// Its number among the blocks of the class, from 0.
+    pub number: u32,
 }

@@ -143,7 +143,7 @@ few_places (k ∷ ks) slot = omega (arith, sum_by-cons (uses slot) k ks, few_pla
     one_most true = omega arith
     one_most false = omega arith
 
-pub few_uses : (st : Store) (r : Texts) (slot : ℕ) → IsStored st r → map.len st.index < 2 ^ 60 → count_at st.pool slot < 2 ^ 62
+pub few_uses : (st : Store) (r : Texts) (slot : ℕ) → IsStored st r → map.len st.index < 2 ^ 44 → count_at st.pool slot < 2 ^ 46
 few_uses st r slot h few =
     omega (arith, h.counted slot, few_places (map.keys st.index) slot, few, map.len-entries st.index, length-map (map.entries st.index) (λ e. e.0))
 

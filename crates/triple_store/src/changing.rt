@@ -22,9 +22,9 @@ use term_pool::{Pool, PoolFault};
 use text_region::Region;
 use triple_texts::TripleText;
 
-// As many triples as no memory holds, so this number is never reached. Below it no term has 2^62 uses, and a count of a
-// term fits into 64 bits.
-const MOST_TRIPLES: usize = 1 << 60;
+// As many triples as no memory holds, so this number is never reached. Below it no term has 2^46 uses, and a count of a
+// term fits into 48 bits.
+const MOST_TRIPLES: usize = 1 << 44;
 
 impl Store {
     // The triple of slots with these texts, where each of them is there; the triple need not be stored. Subject and

@@ -22,7 +22,7 @@ pub(crate) fn hold(
 ) -> Result<Key, PoolFault>
     requires lies { LiesIn pool.old region.old }
     requires canonical { HasCanonicalTexts texts.now }
-    requires countable { (slot : ℕ) → count_at pool.old slot < 2 ^ 62 }
+    requires countable { (slot : ℕ) → count_at pool.old slot < 2 ^ 46 }
     ensures lies { LiesIn pool.new region.new }
     ensures ok { IfOk result (λ key. Held pool.old region.old pool.new region.new key texts.now) }
     ensures err { OnErr result (SameSlots pool.old region.old pool.new region.new) }

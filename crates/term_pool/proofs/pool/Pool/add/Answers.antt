@@ -20,7 +20,7 @@ number : (c : goal.After-point) → c.insert_reserved.result ≡ c.in-Ok.number
 number c = c.insert_reserved.ensures.key ∙ sym c.in-Ok.ensures.room.next
 
 there : (c : goal.After-point) → get c.insert_reserved.new.self c.in-Ok.number ≡ Some (record { piece = c.in-Ok-place.piece; count = 1 })
-there c = ap (get c.insert_reserved.new.self) (sym (number c)) ∙ c.insert_reserved.ensures.updates.changed
+there c = ap (get c.insert_reserved.new.self) (sym (number c)) ∙ c.insert_reserved.ensures.updates.changed ∙ ap Some c.one.ensures
 
 others : (c : goal.After-point) → (x : ℕ) → x ≢ c.in-Ok.number → get c.insert_reserved.new.self x ≡ get c.make_room.new.self.slots x
 others c x ne = c.insert_reserved.ensures.updates.others x (λ e. ne (e ∙ number c))
