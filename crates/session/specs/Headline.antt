@@ -71,12 +71,14 @@ pub record HoldsRightly (setting : Setting) (world : ReplayState) : Type 0 where
   pub settled : (x : EntityId) → is_settled (record_of world.played.records x) ≡ not (has_open_revision world.played.records world.played.side x)
   pub empty : (x : EntityId) → is_kept (record_of world.played.records x).state.mode ≡ false → (record_of world.played.records x).held ≡ None
   pub documents : HoldsDocuments world
-  pub there : (contents : ℕ → Option Bytes) → setting.known ≡ Some contents → (x : EntityId) → HoldsWhatIsThere judgement contents x (record_of world.played.records x).held
+  pub there : (contents : ℕ → Option Bytes) → setting.known ≡ Some contents → (x : EntityId) →
+      HoldsWhatIsThere judgement contents x (record_of world.played.records x).held
 
 -- the side output: an entry for each late delivery, in the order of these, and revision entries that say what the source has
 pub record NamesRightly (setting : Setting) (h : Option ℕ) (ds : List Delivery) (world : ReplayState) : Type 0 where
   pub late_ones : late_events world.played.side ≡ late h ds
-  pub there : (contents : ℕ → Option Bytes) → setting.known ≡ Some contents → Each (TellsWhatIsThere judgement contents (failed_events world.played.side)) world.played.side
+  pub there : (contents : ℕ → Option Bytes) → setting.known ≡ Some contents →
+      Each (TellsWhatIsThere judgement contents (failed_events world.played.side)) world.played.side
 
 -- a play of these deliveries to their end: the world is where it leads, and has the states, holds and names what it should
 pub record IsReplayed (setting : Setting) (course : Course) (ds : List Delivery) (start now : Stage) : Type 0 where
@@ -113,7 +115,8 @@ pub record Ending (run : Run) (before now : Moment) : Type 0 where
 pub record BrokenOff (why : Unwritten) (run : Run) (before now : Moment) : Type 0 where
   pub between : Output
   pub replayed : HasReplayed run before (record now { stage = with_output now.stage between })
-  pub cut_short : IsCutShort why (closing meaning (version_in_force replayed.deliveries) (sections_of run.choices) now.stage.world.played) between now.stage.output
+  pub cut_short :
+      IsCutShort why (closing meaning (version_in_force replayed.deliveries) (sections_of run.choices) now.stage.world.played) between now.stage.output
 
 -- the world has taken the deliveries of all whole lines of the bytes that were read before a read failed
 pub record StandsAfter (run : Run) (before now : Moment) : Type 0 where
@@ -141,7 +144,10 @@ pub record StandsAtQuestion (why : Unwritten) (run : Run) (before now : Moment) 
   pub pattern : Pattern
   pub between : Output
   pub played : IsPlayedAfter run.setting deliveries before.stage (with_output now.stage between)
-  pub cut_short : IsCutShort why (ask_section (asks deliveries + 1) (rows (union triple_cmp (meaning (version_in_force deliveries)) now.stage.world.played.records) pattern)) between now.stage.output
+  pub cut_short :
+      IsCutShort why
+      (ask_section (asks deliveries + 1) (rows (union triple_cmp (meaning (version_in_force deliveries)) now.stage.world.played.records) pattern))
+      between now.stage.output
   pub first : AreFirst (limit_of run.choices) before.input.left now.input.left (deliveries ++ Ask pattern ∷ [])
 
 -- the world has taken the deliveries before a line that changes the mapping, every page being mapped by the version that was in force
@@ -150,8 +156,11 @@ pub record StandsAtMapping (run : Run) (before now : Moment) : Type 0 where
   pub deliveries : List Delivery
   pub version : MappingVersion
   pub steps : ℕ
-  pub played : IsPlayedAfter run.setting deliveries before.stage (with_mapped now.stage (mapped_by (version_in_force deliveries) now.stage.world.played.records))
-  pub mapped : now.stage.mapped ≡ remapped_some steps now.stage.world.played.records (record { version = version; second = all_by (version_in_force deliveries) now.stage.world.played.records })
+  pub played :
+      IsPlayedAfter run.setting deliveries before.stage (with_mapped now.stage (mapped_by (version_in_force deliveries) now.stage.world.played.records))
+  pub mapped :
+      now.stage.mapped
+      ≡ remapped_some steps now.stage.world.played.records (record { version = version; second = all_by (version_in_force deliveries) now.stage.world.played.records })
   pub first : AreFirst (limit_of run.choices) before.input.left now.input.left (deliveries ++ Mapping version ∷ [])
 
 -- what a run leaves that stopped while it printed: in the answer to a question, or in the sections

@@ -24,7 +24,9 @@ pub record HasTaken (run : Run) (before now : Moment) : Type 0 where
 pub record StopsWithin (run : Run) (before now : Moment) : Type 0 where
   pub deliveries : List Delivery
   pub last : Option Delivery
-  pub within : IsWithin run.setting (course_begun deliveries last before.stage) (λ replies. entered_perhaps (following (horizon_at before.stage) replies deliveries) last) before.stage now.stage
+  pub within :
+      IsWithin run.setting (course_begun deliveries last before.stage)
+      (λ replies. entered_perhaps (following (horizon_at before.stage) replies deliveries) last) before.stage now.stage
   pub mapped : now.stage.mapped ≡ mapped_by (version_in_force deliveries) now.stage.world.played.records
   pub first : AreFirst (limit_of run.choices) before.input.left now.input.left (deliveries ++ option_to_list last)
 
@@ -33,7 +35,9 @@ pub record StopsWithin (run : Run) (before now : Moment) : Type 0 where
 pub record StopsAtEnd (run : Run) (before now : Moment) : Type 0 where
   pub deliveries : List Delivery
   pub read : IsAtEnd now.input.left
-  pub within : IsWithin run.setting (course_to_end deliveries before.stage) (λ replies. after_end (following (horizon_at before.stage) replies deliveries)) before.stage now.stage
+  pub within :
+      IsWithin run.setting (course_to_end deliveries before.stage)
+      (λ replies. after_end (following (horizon_at before.stage) replies deliveries)) before.stage now.stage
   pub mapped : now.stage.mapped ≡ mapped_by (version_in_force deliveries) now.stage.world.played.records
   pub are : IfSome before.input.left (λ bytes. AreDeliveries (limit_of run.choices) bytes deliveries)
 

@@ -55,7 +55,12 @@ said_behind ds start replies = after_known start.output.bytes (answers_said mean
 
 -- the play of these deliveries
 abbrev pub course_after : List Delivery → Stage → Course
-course_after ds start = record { state = λ replies. following (horizon_at start) replies ds; fetched = λ replies. fetches (horizon_at start) replies ds; bytes = said_behind ds start; version = version_in_force ds }
+course_after ds start = record {
+  state = λ replies. following (horizon_at start) replies ds;
+  fetched = λ replies. fetches (horizon_at start) replies ds;
+  bytes = said_behind ds start;
+  version = version_in_force ds;
+}
 
 -- the play of these deliveries and perhaps one more, which says nothing yet
 abbrev pub course_begun : List Delivery → Option Delivery → Stage → Course
@@ -63,11 +68,18 @@ course_begun ds last start = record (course_after (ds ++ option_to_list last) st
 
 -- the play of these deliveries and the end of the input
 abbrev pub course_to_end : List Delivery → Stage → Course
-course_to_end ds start = record { state = λ replies. following_to_end (horizon_at start) replies ds; fetched = λ replies. fetches_to_end (horizon_at start) replies ds; bytes = said_behind ds start; version = version_in_force ds }
+course_to_end ds start = record {
+  state = λ replies. following_to_end (horizon_at start) replies ds;
+  fetched = λ replies. fetches_to_end (horizon_at start) replies ds;
+  bytes = said_behind ds start;
+  version = version_in_force ds;
+}
 
 -- the same, and these sections
 abbrev pub course_printed : Sections → List Delivery → Stage → Course
-course_printed sections ds start = record (course_to_end ds start) { bytes = λ replies. after_known start.output.bytes (transcript meaning (horizon_at start) sections replies ds) }
+course_printed sections ds start = record (course_to_end ds start) {
+  bytes = λ replies. after_known start.output.bytes (transcript meaning (horizon_at start) sections replies ds);
+}
 
 -- the world leads to a play with some replies, the counts rose with what was fetched for it so far, and what is held are
 -- documents; the output has what the play says with all replies that agree with these on what was applied
@@ -95,7 +107,8 @@ pub record IsWithin (setting : Setting) (course : Course) (begun : Replies → R
   pub fit : (e : Event) (r : ℕ) → GivesDocument judgement e.entity (replies e r)
   pub is : now.world ≡ after_some replies steps (begun replies)
   pub says : now.output.bytes ≡ course.bytes replies
-  pub source : (contents : ℕ → Option Bytes) → setting.known ≡ Some contents → now.world ≡ after_some (replies_there contents now.world) steps (begun (replies_there contents now.world))
+  pub source : (contents : ℕ → Option Bytes) → setting.known ≡ Some contents →
+      now.world ≡ after_some (replies_there contents now.world) steps (begun (replies_there contents now.world))
   pub source_says : (contents : ℕ → Option Bytes) → setting.known ≡ Some contents → now.output.bytes ≡ course.bytes (replies_there contents now.world)
   pub documents : HoldsDocuments now.world
   pub made : ℕ
@@ -147,7 +160,8 @@ IsHeldUp OutOfMemory setting world mapped = ⊤
 -- a due event wasn't applied: where the world was under way in a play, it is so still
 abbrev pub StaysWithin : Setting → Counts → Counts → ReplayState → ReplayState → Type 0
 StaysWithin setting before now old new =
-    (course : Course) (begun : Replies → ReplayState) (start s : Stage) → IsUnderWay setting course begun start (onward s before old) → IsWithin setting course begun start (onward s now new)
+    (course : Course) (begun : Replies → ReplayState) (start s : Stage) → IsUnderWay setting course begun start (onward s before old) →
+    IsWithin setting course begun start (onward s now new)
 
 -- a delivery, and how many questions were asked up to it
 pub record Turn : Type 0 where
@@ -161,7 +175,8 @@ turn asked delivery = record { asked = asked; delivery = delivery }
 -- a world that was at rest is at rest with one delivery more, from whichever stage it began
 abbrev pub TakesDelivery : Setting → Turn → Stage → Stage → Type 0
 TakesDelivery setting t before now =
-    (ds : List Delivery) (start : Stage) → t.asked ≡ asks (ds ++ t.delivery ∷ []) → AtRest setting ds start before → AtRest setting (ds ++ t.delivery ∷ []) start now
+    (ds : List Delivery) (start : Stage) → t.asked ≡ asks (ds ++ t.delivery ∷ []) → AtRest setting ds start before →
+    AtRest setting (ds ++ t.delivery ∷ []) start now
 
 -- a question was answered, but not all was written: the world and the counts are as they were
 pub record AnswersInPart (why : Unwritten) (t : Turn) (before now : Stage) : Type 0 where

@@ -1,7 +1,8 @@
 -- One event more, and fewer wait.
 use Rattle.std.proofs.Common.{refl, ap, ◌∙◌, arith, Err, inl, inr, ⊎_elim}
 use Rattle.world.specs.WorldState.{WorldState}
-use Rattle.session.proofs.Due.{applies-fewer, applies-leads, goes-further, goes-nowhere, gone-on, is_full, none_due, starved}
+use Rattle.told_pages.proofs.Applying.{applies-fewer}
+use Rattle.session.proofs.Due.{applies-leads, goes-further, goes-nowhere, gone-on, is_full, none_due, starved}
 use Rattle.session.proofs.Versions.{applies-versions, keeps-further, keeps-still}
 use Rattle.session.proofs.delivering.apply_due.Goals as goal
 
