@@ -17,6 +17,7 @@ use Rattle.replay_model.specs.ReplayState.{ReplayState, after_applying, after_du
 use Rattle.replay_model.specs.Explained.{is_fetching, revision_wanted}
 use Rattle.replay_model.proofs.Fetching.{apply-same}
 use Rattle.replay_model.proofs.Following.{after_due-next, after_due-none}
+use Rattle.replay_model.proofs.ToldContents.{unfit_there}
 use Rattle.world.specs.Applying.{Applies, IsReply, IsShown, outcome_of_reply}
 use Rattle.world.specs.declared.applied.Applied.{Applied}
 use Rattle.world.specs.declared.applied.Outcome.{Outcome}
@@ -31,17 +32,13 @@ use Rattle.drill_replay.specs.Summary.{replies_of}
 abbrev pub told_of : ℕ → Option Contents
 told_of size = Some (λ place. contents_of size)
 
-unfit_there : (x : EntityId) (unfit : Unfit) (there : Option Bytes) → HasUnfit unfit_of x unfit there → ◌≡◌ {A = Result Bytes Cause} (Err (NoDocument unfit)) (reply_there unfit_of x there)
-unfit_there x unfit None has = absurd has
-unfit_there x unfit (Some bytes) has = rw has refl
-
 -- a reply that isn't a failure is what is there
 reply_is : (size : ℕ) (place : List ℕ) (x : EntityId) (r : ℕ) (reply : Result Bytes Cause) → IsReply (told_of size) place x r reply → (reply ≡ Err Failed → ⊥)
     → reply_there unfit_of x (contents_of size r) ≡ reply
 reply_is size place x r (Ok bytes) is fine = rw (is.1, is.0) refl
 reply_is size place x r (Err Missing) is fine = rw is refl
 reply_is size place x r (Err Failed) is fine = absurd (fine refl)
-reply_is size place x r (Err (NoDocument unfit)) is fine = sym (unfit_there x unfit (contents_of size r) is)
+reply_is size place x r (Err (NoDocument unfit)) is fine = sym (unfit_there unfit_of x unfit (contents_of size r) is)
 
 -- a fetch that failed would show
 no_failure : (deleting : Bool) (reply : Result Bytes Cause) (misses misses_now : ℕ) → IsShown (cond true (outcome_of_reply reply) (cond deleting Dropped Same)) misses misses_now 0 0
@@ -66,18 +63,6 @@ applies-next size told place old new applied misses misses_now is a shown =
     ∙ apply-same (λ q r. a.reply) (replies_of size) old e
     (λ fetching. reply_is size place e.entity (revision_wanted old e) a.reply replied (no_failure deleting a.reply misses misses_now (subst Fetching fetching outcome)))
     ∙ ap (after_applying (replies_of size) old) (sym a.due)
-
-removed : {K : Type 0} (p : K → Bool) (e : K) (xs : List K) → find p xs ≡ Some e → length (remove_key p xs) < length xs
-removed p e [] found = cc
-removed {K} p e (x ∷ xs) found =
-    let P : Bool → Type 0 = λ b. cond b (Some x) (find p xs) ≡ Some e → length (cond b xs (x ∷ remove_key p xs)) < length (x ∷ xs) in
-    let cases : (b : Bool) → P b = elim [ true ↦ λ _. omega arith | false ↦ λ later. omega (arith, removed p e xs later) ] in
-    cases (p x) found
-
--- fewer events wait
-pub applies-fewer : (told : Option Contents) (place : List ℕ) (old new : ReplayState) (applied : Applied) → Applies told place old new applied →
-    length new.buffer.waiting < length old.buffer.waiting
-applies-fewer told place old new applied a = rw a.new_is (removed _ applied.event old.buffer.waiting a.due)
 
 -- some due events were applied, over a source that tells this
 pub record Goes (size : ℕ) (told : Option Contents) (start world : ReplayState) : Type 0 where

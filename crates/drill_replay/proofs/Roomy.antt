@@ -5,6 +5,7 @@ use Rattle.std.specs.Option.{option_map}
 use Rattle.std.proofs.lemmas.List.Elements.{filter_map-append}
 use Rattle.std.proofs.lemmas.Bool.Decides.{nat_tests}
 use Rattle.rising.specs.Rising.{In}
+use Rattle.rising.proofs.Members.{has-member, member-has}
 use Rattle.rdf_term.specs.declared.term.Term.{Term}
 use Rattle.rdf_term.specs.declared.triple.Triple.{Triple}
 use Rattle.rdf_term.specs.Order.{term_cmp, term_cmp-total}
@@ -20,7 +21,7 @@ use Rattle.triple_store.specs.Room.{distinct, terms_of}
 use Rattle.triple_store.proofs.Distinct.{fewer}
 use Rattle.world.specs.Meaning.{meaning}
 use Rattle.told_pages.specs.Told.{keeps_page, page_events, terms_by, terms_there, triples_there, versions_told}
-use Rattle.told_pages.proofs.Gathered.{giver_of, in_either, in_front, in_rest, is_had, stands}
+use Rattle.told_pages.proofs.Gathered.{giver_of, in_either, in_front, in_rest}
 use Rattle.drill.specs.Drill.{IsSize, contents_of, deletion, deliveries_of, drill, earlier_page, edits, event, item, late_edit, later_page, page_of, time_at}
 use Rattle.drill_pages.proofs.Covered.{Covered, distinct_few}
 use Rattle.drill_pages.proofs.Meant.{earlier_few, later_few}
@@ -192,5 +193,5 @@ module _ (n : ℕ) (size : IsSize n) where
   pub roomy : distinct (terms_there (contents_of n) (drill n)) ≤ 20_000_000
   roomy =
       let within = fewer term_cmp-total term_cmp-IsAntisymmetric (terms_there (contents_of n) (drill n)) all.terms
-      (λ k h. is_had term_cmp term_cmp-total k all.terms (told_terms k (stands term_cmp term_cmp-IsAntisymmetric k (terms_there (contents_of n) (drill n)) h))) in
+      (λ k h. has-member term_cmp-total k all.terms (told_terms k (member-has term_cmp-IsAntisymmetric k (terms_there (contents_of n) (drill n)) h))) in
       omega (arith, within, distinct_few all.terms, all.few, size.1)

@@ -2,6 +2,7 @@
 use Rattle.std.proofs.Common.{◌≡◌, ◌∙◌, refl, sym, ap, ℕ, ◌-◌, ◌*◌, ◌%◌, ◌==◌, Bool, true, false, if◌then◌else◌, List, [], ◌∷◌, ◌++◌, append-nil, None, filter_map, unwrap_or}
 use Rattle.std.specs.List.{flat_map, last_or, range_with_len}
 use Rattle.std.proofs.lemmas.List.Elements.{filter_map-append}
+use Rattle.rising.proofs.Pushes.{first_empty}
 use Rattle.entity_model.specs.declared.delivery.Delivery.{Delivery}
 use Rattle.entity_model.specs.declared.delivery.Delivery.TheVariants.{Watermark}
 use Rattle.entity_model.specs.declared.event.Kind.TheVariants.{Delete, Edit}
@@ -23,16 +24,11 @@ no_versions (i ∷ items) =
     ∙ ap (λ vs. vs ++ filter_map mapping_of (flat_map deliveries_of items)) (no_version (i % 5 == 0) (i % 10 == 0) i)
     ∙ no_versions items
 
--- a list with more at its end is empty
-first_none : {A : Type 0} (xs ys : List A) → xs ++ ys ≡ [] → xs ≡ []
-first_none [] ys none = refl
-first_none (x ∷ xs) ys none = cc
-
 -- the first version is in force after each first part
 pub part_by_first : (size : ℕ) (before after : List Delivery) → drill size ≡ before ++ after → version_in_force before ≡ One
 part_by_first size before after is =
     ap (λ vs. unwrap_or (last_or None vs) One)
-    (first_none (filter_map mapping_of before) (filter_map mapping_of after) (sym (filter_map-append mapping_of before after) ∙ ap (filter_map mapping_of) (sym is) ∙ no_versions (range_with_len 1 size)))
+    (first_empty (filter_map mapping_of before) (filter_map mapping_of after) (sym (filter_map-append mapping_of before after) ∙ ap (filter_map mapping_of) (sym is) ∙ no_versions (range_with_len 1 size)))
 
 -- and after all deliveries
 pub drill_by_first : (size : ℕ) → version_in_force (drill size) ≡ One

@@ -20,6 +20,7 @@ use Rattle.replay_model.specs.Explained.{AgreeOnApplied, is_fetching, revision_w
 use Rattle.replay_model.proofs.Documents.{documents-apply}
 use Rattle.replay_model.proofs.Explaining.{Explained-next, Next, next_by}
 use Rattle.replay_model.proofs.Fetching.{failed-applying, failed_by, missing-applying, missing_of}
+use Rattle.replay_model.proofs.ToldContents.{unfit_there}
 use Rattle.world.specs.Applying.{Applies, IsReply, IsShown, calls_after, outcome_of_reply}
 use Rattle.world.specs.Roomed.{IsOverfull}
 use Rattle.world.specs.WorldState.{WorldState}
@@ -47,10 +48,6 @@ pub record Rises (outcome : Outcome) (before now : Counts) : Type 0 where
   pub more_faults : before.faults ≤ now.faults
   pub more_misses : before.misses ≤ now.misses
 
-unfit_there : (x : EntityId) (unfit : Unfit) (there : Option Bytes) → HasUnfit judgement x unfit there → ◌≡◌ {A = Result Bytes Cause} (Err (NoDocument unfit)) (reply_there judgement x there)
-unfit_there x unfit None has = absurd has
-unfit_there x unfit (Some bytes) has = rw has refl
-
 -- a reply that agrees with what the source has is honest
 pub reply_is_honest : (contents : Option Contents) (directory : List ℕ) (room : ℕ) (x : EntityId) (r : ℕ) (reply : Result Bytes Cause) →
     IsReply contents directory x r reply → (there : ℕ → Option Bytes) → (setting contents directory room).known ≡ Some there →
@@ -67,7 +64,7 @@ reply_is_honest (Some c) directory room x r (Err Missing) is there known =
 reply_is_honest (Some c) directory room x r (Err Failed) is there known = inl refl
 reply_is_honest (Some c) directory room x r (Err (NoDocument unfit)) is there known =
     let same : c directory ≡ there = cc in
-    inr (unfit_there x unfit (c directory r) is ∙ ap (λ (f : ℕ → Option Bytes). reply_there judgement x (f r)) same)
+    inr (unfit_there judgement x unfit (c directory r) is ∙ ap (λ (f : ℕ → Option Bytes). reply_there judgement x (f r)) same)
 
 -- what an application leads to, by whether it fetches
 abbrev outcome_by : Bool → Bool → Result Bytes Cause → Outcome
@@ -172,19 +169,6 @@ applies-leads contents directory room mapped before now old new applied a rises 
       } in
       subst There (sym a.new_is) there;
 }
-
-removed : {K : Type 0} (p : K → Bool) (e : K) (xs : List K) → find p xs ≡ Some e → length (remove_key p xs) < length xs
-removed p e [] found = cc
-removed {K} p e (x ∷ xs) found =
-    let P : Bool → Type 0 = λ b. cond b (Some x) (find p xs) ≡ Some e → length (cond b xs (x ∷ remove_key p xs)) < length (x ∷ xs) in
-    let cases : (b : Bool) → P b = elim [ true ↦ λ _. omega arith | false ↦ λ later. omega (arith, removed p e xs later) ] in
-    cases (p x) found
-
--- fewer events wait
-pub applies-fewer : (contents : Option Contents) (directory : List ℕ) (old new : ReplayState) (applied : Applied) → Applies contents directory old new applied →
-    length new.buffer.waiting < length old.buffer.waiting
-applies-fewer contents directory old new applied a =
-    rw a.new_is (removed _ applied.event old.buffer.waiting a.due)
 
 -- before the first event
 pub goes-nowhere : (setting : Setting) (mapped : Mapped) (now : Counts) (world : ReplayState) → Goes setting mapped now now world world

@@ -15,7 +15,7 @@ use Rattle.rising.specs.Rising.{has}
 use Rattle.rising.proofs.Bools.{and_left, and_right, or_true}
 use Rattle.rising.proofs.Filtering.{has-filter}
 use Rattle.rising.proofs.Rising.{has-append, has-sorted, has_itself}
-use Rattle.rising.proofs.Pushes.{by_pushes}
+use Rattle.rising.proofs.Pushes.{by_pushes, first_empty}
 use Rattle.reorder_buffer.specs.Watermarks.{is_due}
 use Rattle.replay_model.specs.Acceptance.{accepted, due, is_accepted, is_late, late, mark}
 use Rattle.replay_model.specs.Fate.{is_of}
@@ -79,11 +79,6 @@ module _ (unfit : Judgement) (contents : ℕ → Option Bytes) where
       let new : Event → Bool = λ q. not (is_due false (mark before) q) in
       let was_due : has event_cmp e (due hz closed after) ≡ true = and_right (new e) (has event_cmp e (due hz closed after)) (sym (has-filter event_cmp event_cmp_same new e (due hz closed after)) ∙ sym (has-sorted event_cmp_total e (filter new (due hz closed after))) ∙ h) in
       find e (and_right (is_due closed (mark after) e) (has event_cmp e (accepted hz after)) (sym (has-filter event_cmp event_cmp_same (is_due closed (mark after)) e (accepted hz after)) ∙ was_due))
-
-  -- a list with more at its end is empty
-  first_empty : {A : Type 0} (xs ys : List A) → xs ++ ys ≡ [] → xs ≡ []
-  first_empty [] ys none = refl
-  first_empty (x ∷ xs) ys none = cc
 
   rest_empty : {A : Type 0} (xs ys : List A) → xs ++ ys ≡ [] → ys ≡ []
   rest_empty [] ys none = none

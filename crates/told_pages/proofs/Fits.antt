@@ -4,6 +4,7 @@ use Rattle.std.specs.FinMap as map
 use Rattle.std.specs.List.{flat_map}
 use Rattle.std.specs.Option.{option_map}
 use Rattle.rising.specs.Rising.{In, has}
+use Rattle.rising.proofs.Members.{has-member, member-has}
 use Rattle.rising.proofs.Rising.{has-sorted}
 use Rattle.rdf_term.specs.declared.term.Term.{Term}
 use Rattle.rdf_term.specs.declared.triple.Triple.{Triple}
@@ -28,7 +29,7 @@ use Rattle.world.specs.Meaning.{meaning}
 use Rattle.world.specs.Roomed.{room_with}
 use Rattle.world.proofs.Entries.{over_ids}
 use Rattle.told_pages.specs.Told.{keeps_page, page_events, terms_by, terms_there, triples_there, versions_told}
-use Rattle.told_pages.proofs.Gathered.{gathered, giver_of, in_either, in_filter, is_had, stands}
+use Rattle.told_pages.proofs.Gathered.{gathered, giver_of, in_either, in_filter}
 use Rattle.told_pages.proofs.Named.{HoldsNamed, IsNamed}
 
 module _ (ds : List Delivery) where
@@ -53,7 +54,7 @@ module _ (contents : ℕ → Option Bytes) (ds : List Delivery) where
       ap (λ o. unwrap_or (option_map (meaning v e.entity e.rev) o) []) (ap contents named.at ∙ there) ∙ (λ i. meaning v (named.entity i) (named.at i) bytes) in
       let of_event : In k (flat_map terms_of (triples_there (meaning v) contents e.entity e.rev)) =
       gathered terms_of t k (triples_there (meaning v) contents e.entity e.rev) (subst (In t) (sym same) means) is_of in
-      let is_page : In e (page_events ds) = in_filter (λ (q : Event). keeps_page q.kind) e (events ds) named.keeps (stands event_cmp event_cmp_same e (events ds) named.there) in
+      let is_page : In e (page_events ds) = in_filter (λ (q : Event). keeps_page q.kind) e (events ds) named.keeps (member-has event_cmp_same e (events ds) named.there) in
       gathered (terms_by contents (page_events ds)) v k (versions_told ds) told
       (gathered (λ (q : Event). flat_map terms_of (triples_there (meaning v) contents q.entity q.rev)) e k (page_events ds) is_page of_event)
 
@@ -69,17 +70,17 @@ module _ (contents : ℕ → Option Bytes) (ds : List Delivery) where
     union_terms : (t : Triple) (k : Term) → In t (union triple_cmp held_meaning records) → In k (terms_of t) → In k (terms_there contents ds)
     union_terms t k there is_of =
         let entries : has triple_cmp t (flat_map (triples_at held_meaning) (map.entries records)) ≡ true =
-        sym (has-sorted triple_cmp-total t (flat_map (triples_at held_meaning) (map.entries records))) ∙ is_had triple_cmp triple_cmp-total t (union triple_cmp held_meaning records) there in
+        sym (has-sorted triple_cmp-total t (flat_map (triples_at held_meaning) (map.entries records))) ∙ has-member triple_cmp-total t (union triple_cmp held_meaning records) there in
         let keys : flat_map (λ x. triples_held held_meaning x (record_of records x).held) (map.keys records) ≡ flat_map (triples_at held_meaning) (map.entries records) =
         over_ids (λ x r. triples_held held_meaning x (unwrap_or r blank).held) records in
-        let g = giver_of (λ x. triples_held held_meaning x (record_of records x).held) t (map.keys records) (subst (In t) (sym keys) (stands triple_cmp triple_cmp-IsAntisymmetric t _ entries)) in
+        let g = giver_of (λ x. triples_held held_meaning x (record_of records x).held) t (map.keys records) (subst (In t) (sym keys) (member-has triple_cmp-IsAntisymmetric t _ entries)) in
         held_terms g.giver (record_of records g.giver).held (named g.giver) t k g.gives is_of
 
     -- all these terms are no more than those of the pages that the input may bring
     pub fits : (x : EntityId) (rev : ℕ) (bytes : Bytes) → IsNamed (events ds) x rev → contents rev ≡ Some bytes → room_with held_meaning records (meaning version x rev bytes) ≤ distinct (terms_there contents ds)
     fits x rev bytes is_named there =
         fewer term_cmp-total term_cmp-IsAntisymmetric (flat_map terms_of all) (terms_there contents ds)
-        (λ k h. is_had term_cmp term_cmp-total k (terms_there contents ds) (among k (stands term_cmp term_cmp-IsAntisymmetric k (flat_map terms_of all) h)))
+        (λ k h. has-member term_cmp-total k (terms_there contents ds) (among k (member-has term_cmp-IsAntisymmetric k (flat_map terms_of all) h)))
       where
         all : List Triple
         all = union triple_cmp held_meaning records ++ meaning version x rev bytes

@@ -1,17 +1,7 @@
 -- What stands in lists, and in what is gathered over them.
-use Rattle.std.proofs.Common.{◌≡◌, ◌⊎◌, refl, sym, subst, ◌∙◌, ap, inl, inr, ⊎_elim, Bool, true, false, cond, ◌||◌, List, [], ◌∷◌, ◌++◌, filter, Ordering}
-use Rattle.std.specs.Cmp.{IsTotalOrder}
-use Rattle.std.specs.FinMap.{IsAntisymmetric}
+use Rattle.std.proofs.Common.{◌≡◌, ◌⊎◌, refl, sym, subst, ◌∙◌, ap, inl, inr, ⊎_elim, Bool, true, false, cond, List, [], ◌∷◌, ◌++◌, filter}
 use Rattle.std.specs.List.{flat_map}
-use Rattle.std.specs.Ordering.{eq_by_cmp}
-use Rattle.rising.specs.Rising.{In, has}
-use Rattle.rising.proofs.Bools.{clash, equal, or_true}
-use Rattle.rising.proofs.Rising.{has_itself}
-
--- one of two tests passes
-one_of : (a b : Bool) → (a || b) ≡ true → (a ≡ true) ⊎ (b ≡ true)
-one_of true b e = inl refl
-one_of false b e = inr e
+use Rattle.rising.specs.Rising.{In}
 
 module _ {A : Type 0} where
   pub in_front : (a : A) (xs ys : List A) → In a xs → In a (xs ++ ys)
@@ -37,18 +27,6 @@ module _ {A : Type 0} where
       by : (b : Bool) → In a (filter p xs) → In a (cond b (x ∷ filter p xs) (filter p xs))
       by true later = inr later
       by false later = later
-
-  module _ (R : A → A → Ordering) where
-    -- what a list has under an order in which only equal elements tie stands in it
-    pub stands : IsAntisymmetric R → (a : A) (xs : List A) → has R a xs ≡ true → In a xs
-    stands same a [] there = clash there refl
-    stands same a (x ∷ xs) there = ⊎_elim (λ here. inl (same a x (equal (R a x) here))) (λ later. inr (stands same a xs later)) (one_of (eq_by_cmp R a x) (has R a xs) there)
-
-    -- and a list has what stands in it
-    pub is_had : IsTotalOrder R → (a : A) (xs : List A) → In a xs → has R a xs ≡ true
-    is_had o a [] there = absurd there
-    is_had o a (x ∷ xs) there =
-        ⊎_elim (λ here. subst (λ y. has R a (y ∷ xs) ≡ true) here (has_itself o a xs)) (λ later. or_true (eq_by_cmp R a x) (has R a xs) (is_had o a xs later)) there
 
 module _ {A B : Type 0} (f : A → List B) where
   -- what one element gives is among what all give

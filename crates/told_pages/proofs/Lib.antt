@@ -1,3 +1,4 @@
+pub mod Applying
 pub mod Fits
 pub mod Gathered
 pub mod Named

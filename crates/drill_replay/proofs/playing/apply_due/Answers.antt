@@ -3,7 +3,8 @@ use Rattle.std.proofs.Common.{◌∙◌, ap, refl, Err, Some}
 use Rattle.world.specs.WorldState.{WorldState}
 use Rattle.drill.specs.Drill.{contents_of}
 use Rattle.drill.specs.Source.{Source}
-use Rattle.drill_replay.proofs.Applying.{applies-fewer, first_next, goes-end, goes-next}
+use Rattle.told_pages.proofs.Applying.{applies-fewer}
+use Rattle.drill_replay.proofs.Applying.{first_next, goes-end, goes-next}
 use Rattle.drill_replay.proofs.Rooms.{keeps_by, keeps_further}
 use Rattle.drill_replay.proofs.NeverFull.{never_full}
 use Rattle.drill_replay.proofs.playing.apply_due.Goals as goal

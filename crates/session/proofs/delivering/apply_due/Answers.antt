@@ -1,8 +1,9 @@
 -- One event more, and fewer wait.
 use Rattle.std.proofs.Common.{refl, ap, ◌∙◌, arith, Err, inl, inr, ⊎_elim}
 use Rattle.world.specs.WorldState.{WorldState}
+use Rattle.told_pages.proofs.Applying.{applies-fewer}
 use Rattle.session.specs.declared.stop.Unapplied.TheVariants.{StoreFull, OutOfMemory}
-use Rattle.session.proofs.Due.{applies-fewer, applies-leads, goes-further, goes-nowhere, gone-on, is_full, none_due, starved}
+use Rattle.session.proofs.Due.{applies-leads, goes-further, goes-nowhere, gone-on, is_full, none_due, starved}
 use Rattle.session.specs.Remapping.{mapped_in}
 use Rattle.session.proofs.Needed.{applied_has_room}
 use Rattle.session.proofs.Versions.{applies-versions, keeps-further, keeps-still}

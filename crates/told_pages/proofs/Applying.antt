@@ -1,0 +1,11 @@
+-- An application leaves fewer events waiting.
+use Rattle.std.proofs.Common.{◌<◌, List, ℕ, length, Option}
+use Rattle.revisions.specs.Revisions.{Contents}
+use Rattle.rising.proofs.FirstPassing.{shorter_without}
+use Rattle.replay_model.specs.ReplayState.{ReplayState}
+use Rattle.world.specs.Applying.{Applies}
+use Rattle.world.specs.declared.applied.Applied.{Applied}
+
+pub applies-fewer : (told : Option Contents) (place : List ℕ) (old new : ReplayState) (applied : Applied) → Applies told place old new applied →
+    length new.buffer.waiting < length old.buffer.waiting
+applies-fewer told place old new applied a = rw a.new_is (shorter_without _ applied.event old.buffer.waiting a.due)
