@@ -27,6 +27,10 @@ mod ranks;
 #[cfg(test)]
 mod regions;
 #[cfg(test)]
+mod stores;
+#[cfg(test)]
 mod streams;
 #[cfg(test)]
 mod terms;
+#[cfg(test)]
+mod worlds;

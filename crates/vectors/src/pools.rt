@@ -27,7 +27,7 @@ const STEPS: &str = "+ <a> 1 there
 + \"a\" 1 there";
 
 // The term that a text writes.
-fn term_of(alloc: Global, text: &str) -> Result<Term, Fail>
+pub(crate) fn term_of(alloc: Global, text: &str) -> Result<Term, Fail>
     ensures { IfOk result IsFitAndShort }
 {
     let Some(term) = read_term(alloc, text)? else {
