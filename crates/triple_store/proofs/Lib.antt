@@ -18,5 +18,4 @@ pub mod Standing
 pub mod Stocked
 pub mod Storing
 pub mod Taking
-pub mod Told
 pub mod Unchanged

@@ -24,7 +24,7 @@ use Rattle.triple_store.specs.Stored.{HasKey, IsStored, beside, counts_in, is_ke
 use Rattle.triple_store.proofs.Removing.{has_at}
 use Rattle.triple_store.proofs.Rooming.{no_room}
 use Rattle.triple_store.proofs.Standing.{texts_triple, triple_of_texts, triple_texts}
-use Rattle.triple_store.proofs.Taking.{as_many, held_taken, known, new_taken}
+use Rattle.triple_store.proofs.Taking.{as_many, held_taken, new_taken}
 
 -- the texts are those of the triple at a place
 pub record IsRow (triples : List Triple) (i : ℕ) (texts : TripleText) : Type 0 where
@@ -67,12 +67,6 @@ module _ (st : Store) (r : Texts) (now : Store) (s : Texts) (had keys added : Li
   next_held key is there =
       let one = row triples i texts low at in
       rw one.more (held_taken st r now s had keys (take i triples) stored all h key (triple_of texts) (sym (held key) ∙ there) (texts_triple now.pool s key texts (triple_of texts) one.is is))
-
-  -- and stands for it
-  pub held_key : (key : Key) → HasTexts now.pool s key texts → has key_cmp key (had ++ added) ≡ true → HasKey now s key (triple_of texts)
-  held_key key is there =
-      let one = row triples i texts low at in
-      (known st r now s had keys (take i triples) stored all h key (triple_of texts) (sym (held key) ∙ there) (texts_triple now.pool s key texts (triple_of texts) one.is is)).its
 
   -- no key of it is at hand
   module _ (none : (key : Key) → HasTexts now.pool s key texts → has key_cmp key (had ++ added) ≡ false) where

@@ -77,11 +77,11 @@ module _ (st : Store) (r : Texts) (now : Store) (s : Texts) (had keys : List Key
   had_key key there = h.kept key (triple_at st.pool r key) (stored_key st r stored key (all key there))
 
   -- a key that is at hand stands for a triple that is done, or that the owner had
-  pub record IsKnown (key : Key) (t : Triple) : Type 0 where
+  record IsKnown (key : Key) (t : Triple) : Type 0 where
     pub its : HasKey now s key t
     pub known : (has triple_cmp t done ≡ true) ⊎ (has triple_cmp t (meant st r had) ≡ true)
 
-  pub known : (key : Key) (t : Triple) → has key_cmp key (had ++ keys) ≡ true → HasTriple now.pool s key t → IsKnown key t
+  known : (key : Key) (t : Triple) → has key_cmp key (had ++ keys) ≡ true → HasTriple now.pool s key t → IsKnown key t
   known key t there is =
       let same : (u : Triple) → HasKey now s key u → u ≡ t = λ u k. sym (tells now.pool s key u k.has) ∙ tells now.pool s key t is in
       ⊎_elim

@@ -7,14 +7,12 @@ ghost use Rattle.text_region.specs.declared.piece.Piece.{Piece as ThePiece};
 ghost use Rattle.term_pool.specs.Pool.{IsNowhere, LiesIn, text_at};
 ghost use Rattle.slot_index.specs.declared.key.Key.{Key as TheKey};
 ghost use Rattle.triple_store.specs.Counts.{count_of, lowered, raised};
-ghost use Rattle.triple_store.specs.Known.{HaveTexts};
 ghost use Rattle.triple_store.specs.Room.{distinct, terms_of};
 ghost use Rattle.triple_store.specs.Slots.{HasCanonicalTexts, HasTermsIn, HasTexts, IsAllOf, triple_at, triple_of};
 ghost use Rattle.triple_store.specs.Stored.{HasKey, IsStored, KeepsKeys, beside, counts_in, is_key, limit_of};
 
 use crate::fault::StoreFault;
 use crate::holding::{hold, let_go};
-use crate::known::Known;
 use crate::store::Store;
 use crate::uncounted::{lower, raise};
 use slot_index::Key;
@@ -28,20 +26,25 @@ const MOST_TRIPLES: usize = 1 << 44;
 
 impl Store {
     // The triple of slots with these texts, where each of them is there; the triple need not be stored. Subject and
-    // predicate are looked up only where their slots aren't known. Takes no memory.
+    // predicate are tried first in the slots that they have in a triple near by, since triples that follow each other mostly
+    // share one of them. Takes no memory.
     pub(crate) fn find_key(
         &self,
         region: &Region,
         texts: &TripleText<'_>,
-        known: Known,
+        near: Option<Key>,
     ) -> Option<Key>
-        requires stored { IsStored self.now region.now }
-        requires known { HaveTexts self.now.pool region.now known texts.now }
+        requires { IsStored self.now region.now }
         ensures found { IfSome result (λ key. HasTexts self.now.pool region.now key texts.now) }
         ensures nowhere { IfNone result ((key : TheKey) → HasTexts self.now.pool region.now key texts.now → ⊥) }
     {
-        let subject = find_slot(&self.pool, region, texts.subject, known.subject)?;
-        let predicate = find_slot(&self.pool, region, texts.predicate, known.predicate)?;
+        let subject = find_near(&self.pool, region, texts.subject, near.map(|key| key.first))?;
+        let predicate = find_near(
+            &self.pool,
+            region,
+            texts.predicate,
+            near.map(|key| key.second),
+        )?;
         let object = self.pool.find_text(region, texts.object)?;
         Some(Key {
             first: subject,
@@ -50,26 +53,13 @@ impl Store {
         })
     }
 
-    // Whether the three slots have these texts, which costs no look-up, and no comparison of texts whose slots are known.
-    pub(crate) fn has_texts(
-        &self,
-        region: &Region,
-        key: Key,
-        texts: &TripleText<'_>,
-        known: Known,
-    ) -> bool
-        requires stored { IsStored self.now region.now }
-        requires known { HaveTexts self.now.pool region.now known texts.now }
+    // Whether the three slots have these texts, which costs no look-up.
+    pub(crate) fn has_texts(&self, region: &Region, key: Key, texts: &TripleText<'_>) -> bool
+        requires { IsStored self.now region.now }
         ensures { IsTrue result → HasTexts self.now.pool region.now key texts.now }
     {
-        has_text(&self.pool, region, key.first, texts.subject, known.subject)
-            && has_text(
-                &self.pool,
-                region,
-                key.second,
-                texts.predicate,
-                known.predicate,
-            )
+        self.pool.has_text(region, key.first, texts.subject)
+            && self.pool.has_text(region, key.second, texts.predicate)
             && self.pool.has_text(region, key.third, texts.object)
     }
 
@@ -129,28 +119,17 @@ impl Store {
     }
 }
 
-// The slot with this text, which may be known.
-fn find_slot(pool: &Pool, region: &Region, text: &[u8], known: Option<u32>) -> Option<u32>
-    requires lies { LiesIn pool.now region.now }
-    requires known { IfSome known (λ slot. text_at pool.now region.now slot ≡ Some text.now) }
+// The slot with this text; one is tried first.
+fn find_near(pool: &Pool, region: &Region, text: &[u8], near: Option<u32>) -> Option<u32>
+    requires { LiesIn pool.now region.now }
     ensures found { IfSome result (λ slot. text_at pool.now region.now slot ≡ Some text.now) }
     ensures nowhere { IfNone result (IsNowhere pool.now region.now text.now) }
 {
-    if let Some(number) = known {
-        return Some(number);
+    if let Some(number) = near {
+        if pool.has_text(region, number, text) {
+            return Some(number);
+        }
     }
     let slot = pool.find_text(region, text)?;
     Some(slot.number)
-}
-
-// Whether a slot has this text, whose slot may be known.
-fn has_text(pool: &Pool, region: &Region, number: u32, text: &[u8], known: Option<u32>) -> bool
-    requires lies { LiesIn pool.now region.now }
-    requires known { IfSome known (λ slot. text_at pool.now region.now slot ≡ Some text.now) }
-    ensures { IsTrue result → text_at pool.now region.now number ≡ Some text.now }
-{
-    match known {
-        Some(slot) => slot == number,
-        None => pool.has_text(region, number, text),
-    }
 }

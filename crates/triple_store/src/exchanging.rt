@@ -10,7 +10,6 @@ ghost use Rattle.text_region.specs.declared.piece.Piece.{Piece as ThePiece};
 ghost use Rattle.slot_index.specs.declared.key.Key.{Key as TheKey};
 ghost use Rattle.slot_index.specs.Keys.{key_cmp};
 ghost use Rattle.triple_store.specs.Counts.{Exchanges, count_of};
-ghost use Rattle.triple_store.specs.Known.{HaveTexts};
 ghost use Rattle.triple_store.specs.Moves.{Takes};
 ghost use Rattle.triple_store.specs.Room.{room_for};
 ghost use Rattle.triple_store.specs.Slots.{HasTexts};
@@ -18,7 +17,6 @@ ghost use Rattle.triple_store.specs.Stored.{AreKeysOf, IsStored, KeepsKeys, besi
 
 use crate::fault::StoreFault;
 use crate::keys::{Keys, NOWHERE, in_order, narrowed};
-use crate::known::Known;
 use crate::store::Store;
 use slot_index::Key;
 use std::collections::BTreeSet;
@@ -31,10 +29,10 @@ const TRIED: usize = 3;
 // How far ahead in the walk a place is looked for, which was found by a search.
 const AHEAD: usize = 64;
 
-// Where a triple is looked for first: from a place of the old keys' walk on, by the slots that are known of it.
+// Where a triple is looked for first: from a place of the old keys' walk on, and in the slots of the key before it.
 #[derive(Clone, Copy)]
 struct Near<'a> {
-    known: Known,
+    last: Option<Key>,
     walk: &'a [u32],
     next: usize,
 }
@@ -81,7 +79,7 @@ impl Store {
             return Err(StoreFault::OutOfMemory);
         };
         let taken = self.take_in(region, old, walk, new, &mut keys, &mut places);
-        let keys = in_order(self.alloc, old, keys, places);
+        let keys = in_order(self.alloc, old, keys, places.as_slice());
         match taken {
             Ok(()) => {
                 self.remove_beside(region, old, keys.slices().rising);
@@ -123,8 +121,11 @@ impl Store {
         let mut next = 0;
         for index in 0..new.len() {
             let texts = new.get(index);
-            let known = Known::of(new, index, &texts, keys.as_slice());
-            let near = Near { known, walk, next };
+            let near = Near {
+                last: keys.last().copied(),
+                walk,
+                next,
+            };
             if let Some(found) = self.find_held(region, &texts, near, old, &added) {
                 keys.push_reserved(found.key);
                 places.push_reserved(found.place);
@@ -154,7 +155,6 @@ impl Store {
         added: &BTreeSet<Key>,
     ) -> Option<Found>
         requires stored { IsStored self.now region.now }
-        requires known { HaveTexts self.now.pool region.now near.known texts.now }
         requires rising { IsRising key_cmp old.now }
         ensures texts { IfSome result (λ found. HasTexts self.now.pool region.now found.key texts.now) }
         ensures held { IfSome result (λ found. has key_cmp found.key (old.now ++ added.now.keys) ≡ true) }
@@ -163,7 +163,7 @@ impl Store {
         if let Some(found) = self.find_again(region, texts, near, old) {
             return Some(found);
         }
-        let key = self.find_key(region, texts, near.known)?;
+        let key = self.find_key(region, texts, near.last)?;
         let next = near.next;
         if let Ok(place) = old.binary_search(&key) {
             let place = narrowed(place);
@@ -188,7 +188,6 @@ impl Store {
         old: &[Key],
     ) -> Option<Found>
         requires stored { IsStored self.now region.now }
-        requires known { HaveTexts self.now.pool region.now near.known texts.now }
         ensures texts { IfSome result (λ found. HasTexts self.now.pool region.now found.key texts.now) }
         ensures there { IfSome result (λ found. has key_cmp found.key old.now ≡ true) }
     {
@@ -198,7 +197,7 @@ impl Store {
             let Some(key) = old.get(place as usize) else {
                 continue;
             };
-            if self.has_texts(region, *key, texts, near.known) {
+            if self.has_texts(region, *key, texts) {
                 return Some(Found {
                     key: *key,
                     place,

@@ -61,33 +61,20 @@ struct Parted {
 }
 
 // The keys that were met one by one, in order, each once. For each the place among the old keys is told where it was
-// found there: where the keys are the old ones, these places are the walk. It always succeeds: where memory is refused, the
-// keys are sorted in their place and have no walk.
-pub(crate) fn in_order(alloc: Global, old: &[Key], met: Vec<Key>, places: Vec<u32>) -> Keys
+// found there. It always succeeds: where memory is refused, the keys are sorted in their place and have no walk.
+pub(crate) fn in_order(alloc: Global, old: &[Key], met: Vec<Key>, places: &[u32]) -> Keys
     requires { IsRising key_cmp old.now }
     ensures { result.rising.items ≡ sorted key_cmp met.items }
 {
     let mut met = met;
-    let Ok(rising) = merged(alloc, old, met.as_slice(), places.as_slice()) else {
+    let Ok(rising) = merged(alloc, old, met.as_slice(), places) else {
         sort_keys(&mut met);
         return Keys {
             rising: met,
             walk: Vec::new(alloc),
         };
     };
-    if rising.as_slice() == old {
-        return Keys {
-            rising,
-            walk: places,
-        };
-    }
-    let walk = match walk_of(
-        alloc,
-        old,
-        met.as_slice(),
-        places.as_slice(),
-        rising.as_slice(),
-    ) {
+    let walk = match walk_of(alloc, old, met.as_slice(), places, rising.as_slice()) {
         Ok(walk) => walk,
         Err(_) => Vec::new(alloc),
     };

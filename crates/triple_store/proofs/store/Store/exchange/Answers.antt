@@ -33,8 +33,8 @@ returns-in-Ok-taken-clause-within c = room_within _ _ _ _ c.args.old.now _ c.arg
 pub returns-in-Ok-taken-clause-keeps : goal.returns-in-Ok-taken-clause-keeps
 returns-in-Ok-taken-clause-keeps c = keeps _ _ _ _ c.args.old.now _ _ c.requires.stored c.requires.there c.take_in-taken.ensures.takes _ _ _ c.remove_beside.ensures
 
-pub returns-in-Err-clause-err : goal.returns-in-Err-clause-err
-returns-in-Err-clause-err c = undone_counts _ _ _ _ c.args.old.now _ _ c.requires.stored c.requires.there c.take_in-taken.ensures.takes _ _ (rw (c.slices-in-Err.ensures, c.in_order-keys.ensures) at c.remove_beside-in-Err.ensures)
+pub returns-clause-err : goal.returns-clause-err
+returns-clause-err c = undone_counts _ _ _ _ c.args.old.now _ _ c.requires.stored c.requires.there c.take_in-taken.ensures.takes _ _ (rw (c.slices-in-Err.ensures, c.in_order-keys.ensures) at c.remove_beside-in-Err.ensures)
 
-pub returns-in-Err-clause-keeps : goal.returns-in-Err-clause-keeps
-returns-in-Err-clause-keeps c = keeps _ _ _ _ c.args.old.now _ _ c.requires.stored c.requires.there c.take_in-taken.ensures.takes _ _ _ c.remove_beside-in-Err.ensures
+pub returns-clause-keeps : goal.returns-clause-keeps
+returns-clause-keeps c = keeps _ _ _ _ c.args.old.now _ _ c.requires.stored c.requires.there c.take_in-taken.ensures.takes _ _ _ c.remove_beside-in-Err.ensures

@@ -1,9 +1,7 @@
-use Rattle.std.proofs.Common.{◌≡◌, ◌+◌, ◌<◌, [], ◌∷◌, arith, length, take, vec_len, sym, ◌∙◌}
-use Rattle.std.proofs.lemmas.List.{length-append}
+use Rattle.std.proofs.Common.{◌≡◌, ◌+◌, ◌<◌, arith, length, take, vec_len, sym, ◌∙◌}
 use Rattle.triple_store.proofs.AtHand.{held_again, held_more, on_ok}
 use Rattle.triple_store.proofs.Rooming.{same_fault}
-use Rattle.triple_store.proofs.Told.{in_step_later, in_step_more, row_at}
-use Rattle.triple_store.proofs.Listed.{held_key, next_fits, next_full, next_held, next_new, row_canonical}
+use Rattle.triple_store.proofs.Listed.{next_fits, next_full, next_held, next_new, row_canonical}
 use Rattle.triple_store.proofs.Taking.{none_more}
 use Rattle.triple_store.proofs.store.Store.take_in.Goals as goal
 
@@ -12,8 +10,6 @@ loop-index-preserved-in-Some c =
     let low : c.loop-index.index < length c.args.new.now = omega arith in
     record {
       takes = rw c.push_reserved.ensures.items (next_held _ _ _ _ c.args.old.now c.loop-index.keys.items c.loop-index.added.keys c.args.new.now c.loop-index.index c.get-texts.result low c.get-texts.ensures c.requires.stored c.requires.there c.loop-index.invariant.takes c.loop-index.invariant.held c.in-Some.found.key c.in-Some.ensures.texts c.in-Some.ensures.held);
-      told = rw c.push_reserved.ensures.items (in_step_more _ _ c.loop-index.keys.items c.args.new.now c.in-Some.found.key _ c.loop-index.invariant.told (rw c.loop-index.invariant.long (row_at c.args.new.now c.loop-index.index c.get-texts.result low c.get-texts.ensures)) (held_key _ _ _ _ c.args.old.now c.loop-index.keys.items c.loop-index.added.keys c.args.new.now c.loop-index.index c.get-texts.result low c.get-texts.ensures c.requires.stored c.requires.there c.loop-index.invariant.takes c.loop-index.invariant.held c.in-Some.found.key c.in-Some.ensures.texts c.in-Some.ensures.held));
-      long = rw (c.push_reserved.ensures.items, length-append c.loop-index.keys.items (c.in-Some.found.key ∷ [])) (omega (arith, c.loop-index.invariant.long));
       done = omega (arith, c.push_reserved.ensures.len, c.loop-index.invariant.done);
       room = omega (arith, c.push_reserved.ensures.capacity, c.loop-index.invariant.room);
       placed = omega (arith, c.push_reserved-in-Some.ensures.len, c.loop-index.invariant.placed);
@@ -50,8 +46,6 @@ loop-index-preserved c =
     let low : c.loop-index.index < length c.args.new.now = omega arith in
     record {
       takes = rw c.push_reserved-in-loop-index.ensures.items (next_new _ _ _ _ c.args.old.now c.loop-index.keys.items c.loop-index.added.keys c.args.new.now c.loop-index.index c.get-texts.result low c.get-texts.ensures c.requires.stored c.requires.there c.loop-index.invariant.takes c.loop-index.invariant.held c.in_default.ensures.none _ _ c.in-Ok.key c.in-Ok.ensures.stored c.in-Ok.ensures.ok c.in-Ok.ensures.key c.in-Ok.ensures.kept c.in-Ok.ensures.beside c.in-Ok.ensures.limit);
-      told = rw c.push_reserved-in-loop-index.ensures.items (in_step_more _ _ c.loop-index.keys.items c.args.new.now c.in-Ok.key _ (in_step_later _ _ _ _ c.in-Ok.ensures.kept c.loop-index.keys.items c.args.new.now c.loop-index.invariant.told) (rw c.loop-index.invariant.long (row_at c.args.new.now c.loop-index.index c.get-texts.result low c.get-texts.ensures)) c.in-Ok.ensures.key);
-      long = rw (c.push_reserved-in-loop-index.ensures.items, length-append c.loop-index.keys.items (c.in-Ok.key ∷ [])) (omega (arith, c.loop-index.invariant.long));
       done = omega (arith, c.push_reserved-in-loop-index.ensures.len, c.loop-index.invariant.done);
       room = omega (arith, c.push_reserved-in-loop-index.ensures.capacity, c.loop-index.invariant.room);
       placed = omega (arith, c.push_reserved-in-loop-index-2.ensures.len, c.loop-index.invariant.placed);

@@ -3,15 +3,12 @@ use Rattle.std.specs.Prelude.{vec_capacity}
 use Rattle.rising.specs.Rising.{has}
 use Rattle.slot_index.specs.declared.key.Key.{Key}
 use Rattle.slot_index.specs.Keys.{key_cmp}
-use Rattle.triple_store.specs.Known.{AreInStep}
 use Rattle.triple_store.specs.Moves.{Takes}
 use Rattle.triple_store.proofs.store.Store.take_in.Given as goal
 
 abbrev pub invariant-loop-index : goal.invariant-loop-index
 invariant-loop-index l = record {
   takes : Takes l.initial.self l.initial.region l.self l.region l.old l.keys.items (take l.index l.new);
-  told : AreInStep l.self l.region l.keys.items l.new;
-  long : length l.keys.items ≡ l.index;
   done : vec_len l.keys ≡ l.index;
   room : length l.new ≤ vec_capacity l.keys;
   placed : vec_len l.places ≡ l.index;
