@@ -50,6 +50,7 @@ impl<S: TripleSink> TripleSink for Munged<S> {
 }
 
 // Hands on the triple with its blank nodes named. Most triples have none, and their terms are handed on as they are.
+#[inline(always)]
 fn emit_named<S: TripleSink>(
     alloc: Global,
     subject: &TermRef<'_>,

@@ -22,8 +22,8 @@ pub padded_to_two : (n : ℕ) → styled_decimal (format_spec 32 0 4 2 184467440
 unfolding padded_integral char_count
 padded_to_two n = simp (sub-zero, append-nil)
 
-pub date_time_text_is : (date : CalendarDate) (clock sign : List ℕ) → sign ≡ sign_text date.year → sign ++ (zero_padded 4 (unsigned_abs date.year) ++ ((45 ∷ []) ++ (zero_padded 2 date.month ++ ((45 ∷ []) ++ (zero_padded 2 date.day ++ ((84 ∷ []) ++ clock)))))) ≡ date_time_text date clock
-date_time_text_is date clock sign e = rw e (simp append_assoc)
+pub clock_behind : (date : CalendarDate) (clock : List ℕ) → (sign_text date.year ++ zero_padded 4 (unsigned_abs date.year) ++ 45 ∷ zero_padded 2 date.month ++ 45 ∷ zero_padded 2 date.day) ++ ((84 ∷ []) ++ clock) ≡ date_time_text date clock
+clock_behind date clock = refl
 
 pub meant_sound : (text : List ℕ) (precision : ℕ) (julian : Bool) (day : CalendarDate) (clock : List ℕ) → meant_time text precision julian ≡ Some (day, clock) → (written : CalendarDate) × IsWrittenTime text written clock × MeansDay written precision julian day
 meant_sound text precision julian day clock e =

@@ -44,6 +44,22 @@ zero_padded-one n small = rw (decimal_digit n small) refl
 two_places : (n : ℕ) → n < 100 → zero_padded 2 n ≡ two_digits_of n
 two_places n small = zero_padded-step 0 n (omega arith) ∙ rw (zero_padded-one (n / 10) (omega arith)) refl
 
+-- a number below 10000 in four
+four_places : (n : ℕ) → n < 10000 → zero_padded 4 n ≡ zero_padded 2 (n / 100) ++ zero_padded 2 (n % 100)
+four_places n small =
+    let front : n / 10 / 10 ≡ n / 100 = omega arith in
+    let tens : n / 10 % 10 ≡ n % 100 / 10 = omega arith in
+    let ones : n % 10 ≡ n % 100 % 10 = omega arith in
+    zero_padded-step 2 n (omega arith) ∙ ap (λ ds. ds ++ ((48 + n % 10) ∷ [])) (zero_padded-step 1 (n / 10) (omega arith))
+    ∙ rw (front, tens, ones, two_places (n % 100) (omega arith)) (append_assoc (zero_padded 2 (n / 100)) ((48 + n % 100 / 10) ∷ []) ((48 + n % 100 % 10) ∷ []))
+
+-- the same behind a text, a digit or two at a time
+pub pair_in_digits : (text : List ℕ) (n : ℕ) → n < 100 → (text ++ ((48 + n / 10) ∷ [])) ++ ((48 + n % 10) ∷ []) ≡ text ++ zero_padded 2 n
+pair_in_digits text n small = append_assoc text ((48 + n / 10) ∷ []) ((48 + n % 10) ∷ []) ∙ ap (λ ds. text ++ ds) (sym (two_places n small))
+
+pub four_in_pairs : (text : List ℕ) (n : ℕ) → n < 10000 → (text ++ zero_padded 2 (n / 100)) ++ zero_padded 2 (n % 100) ≡ text ++ zero_padded 4 n
+four_in_pairs text n small = append_assoc text (zero_padded 2 (n / 100)) (zero_padded 2 (n % 100)) ∙ ap (λ ds. text ++ ds) (sym (four_places n small))
+
 -- two digits that write a number are the number in two digits
 pair_in_two : (a b n : ℕ) → two_digits a b ≡ Some n → zero_padded 2 n ≡ a ∷ b ∷ []
 pair_in_two a b n e = let sound = pair_sound a b n e in two_places n sound.0 ∙ sound.1

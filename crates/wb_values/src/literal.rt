@@ -1,6 +1,6 @@
 // The literal of a time.
 
-ghost use Rattle.std.specs.Prelude.{◌≡◌, true, [], ◌∷◌, ◌++◌, unsigned_abs, IfOk, option_map};
+ghost use Rattle.std.specs.Prelude.{◌≡◌, ◌<◌, ◌+◌, true, [], ◌∷◌, ◌++◌, unsigned_abs, IfOk, OnOk, option_map, string_bytes};
 ghost use Rattle.std.specs.Str.{bytes_eq};
 ghost use Rattle.wb_values.specs.Literal.{date_time_text, meant_time, sign_text, time_literal, zero_padded, IsOnlyLiteral};
 
@@ -146,13 +146,72 @@ fn is_pair_of(number: u8, tens: u8, ones: u8) -> bool
     }
 }
 
+#[tactic(auto, using(crate::proofs::LiteralLemmas::clock_behind))]
 fn date_time_text(alloc: Global, date: CalendarDate, clock: &str) -> Result<Text, OutOfMemory>
     ensures { IfOk result (λ text. text ≡ date_time_text date clock.now) }
 {
-    let sign = if date.year < 0 { "-" } else { "" };
-    let year = date.year.unsigned_abs();
-    let CalendarDate { month, day, .. } = date;
     let mut text = String::with_capacity(alloc, USUAL_LENGTH)?;
-    write!(text, "{sign}{year:04}-{month:02}-{day:02}T{clock}")?;
+    push_date(date, &mut text)?;
+    text.push_str("T")?;
+    text.push_str(clock)?;
     Ok(Text::from_string(text))
+}
+
+// Appends a date: its year, its month and its day.
+fn push_date(date: CalendarDate, text: &mut String) -> Result<(), OutOfMemory>
+    ensures { OnOk result (string_bytes text.new ≡ string_bytes text.old
+        ++ (sign_text date.year ++ zero_padded 4 (unsigned_abs date.year) ++ 45 ∷ zero_padded 2 date.month ++ 45 ∷ zero_padded 2 date.day)) }
+{
+    push_year(date.year, text)?;
+    text.push_str("-")?;
+    push_pair(date.month, text)?;
+    text.push_str("-")?;
+    push_pair(date.day, text)
+}
+
+// Appends a year.
+fn push_year(year: i64, text: &mut String) -> Result<(), OutOfMemory>
+    ensures { OnOk result (string_bytes text.new ≡ string_bytes text.old ++ (sign_text year ++ zero_padded 4 (unsigned_abs year))) }
+{
+    if year < 0 {
+        text.push_str("-")?;
+    }
+    push_four(year.unsigned_abs(), text)
+}
+
+// Appends a number in four digits or more.
+#[tactic(auto, using(crate::proofs::LiteralLemmas::padded_to_four))]
+fn push_four(number: u64, text: &mut String) -> Result<(), OutOfMemory>
+    ensures { OnOk result (string_bytes text.new ≡ string_bytes text.old ++ zero_padded 4 number) }
+{
+    if number < 10_000 {
+        push_pair((number / 100) as u8, text)?;
+        push_pair((number % 100) as u8, text)?;
+        return Ok(());
+    }
+    write!(text, "{number:04}")?;
+    Ok(())
+}
+
+// Appends a number in two digits or more.
+#[tactic(auto, using(crate::proofs::LiteralLemmas::padded_to_two))]
+fn push_pair(number: u8, text: &mut String) -> Result<(), OutOfMemory>
+    ensures { OnOk result (string_bytes text.new ≡ string_bytes text.old ++ zero_padded 2 number) }
+{
+    if number < 100 {
+        push_digit(number / 10, text)?;
+        push_digit(number % 10, text)?;
+        return Ok(());
+    }
+    write!(text, "{number:02}")?;
+    Ok(())
+}
+
+// Appends a digit.
+fn push_digit(digit: u8, text: &mut String) -> Result<(), OutOfMemory>
+    requires { digit < 10 }
+    ensures { OnOk result (string_bytes text.new ≡ string_bytes text.old ++ (48 + digit) ∷ []) }
+{
+    text.push((b'0' + digit) as char)?;
+    Ok(())
 }
