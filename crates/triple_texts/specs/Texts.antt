@@ -1,6 +1,5 @@
 -- The texts of a triple.
-use Rattle.std.specs.Prelude.{◌≡◌, ℕ, List, slice_get, IfSome}
-use Rattle.rdf_term.specs.declared.term.Term.{Term}
+use Rattle.std.specs.Prelude.{◌≡◌}
 use Rattle.rdf_term.specs.declared.triple.Triple.{Triple}
 use Rattle.rdf_term.specs.Text.{term_text}
 use Rattle.triple_texts.specs.declared.triple_text.TripleText.{TripleText}
@@ -10,7 +9,3 @@ pub record IsTextOf (texts : TripleText) (triple : Triple) : Type 0 where
   pub subject : texts.subject.now ≡ term_text triple.subject
   pub predicate : texts.predicate.now ≡ term_text triple.predicate
   pub object : texts.object.now ≡ term_text triple.object
-
--- the triples at two places have the same term where it is looked for
-abbrev pub AreAlike : (Triple → Term) → List Triple → ℕ → ℕ → Type 0
-AreAlike at triples i j = IfSome (slice_get triples i) (λ one. IfSome (slice_get triples j) (λ other. at one ≡ at other))

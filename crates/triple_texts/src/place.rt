@@ -6,21 +6,12 @@ ghost use Rattle.triple_texts.specs.Places.{span_end, text_in};
 use crate::span::Span;
 use crate::triple_text::TripleText;
 
-// Where the three texts of a triple lie, which may be those of triples before it, and the numbers of triples that are likely
-// to have the same subject and the same predicate.
+// Where the three texts of a triple lie. That of the subject may be a triple's before it.
 #[derive(Clone, Copy, Debug)]
 pub(crate) struct Place {
     pub(crate) subject: Span,
     pub(crate) predicate: Span,
     pub(crate) object: Span,
-    pub(crate) likely: Likely,
-}
-
-// The numbers of triples that are likely to have the same subject and the same predicate as another. Nothing is stated of them.
-#[derive(Clone, Copy, Debug)]
-pub(crate) struct Likely {
-    pub(crate) subject: u32,
-    pub(crate) predicate: u32,
 }
 
 impl Place {

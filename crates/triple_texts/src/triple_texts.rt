@@ -4,10 +4,10 @@ ghost use Rattle.std.specs.Prelude.{◌≡◌, ◌<◌, ◌++◌, [], length, ta
 ghost use Rattle.rdf_term.specs.Text.{term_text};
 ghost use Rattle.triple_sink.specs.TermRef.{meant, meant_triple};
 ghost use Rattle.triple_texts.specs.Places.{IsPlaceOf, IsSpanOf};
-ghost use Rattle.triple_texts.specs.Texts.{AreAlike, IsTextOf};
+ghost use Rattle.triple_texts.specs.Texts.{IsTextOf};
 
-use crate::place::{Likely, Place};
-use crate::same_text::{MARKS, is_text, mark};
+use crate::long_text::{is_text, long_size, remember};
+use crate::place::Place;
 use crate::span::Span;
 use crate::triple_text::TripleText;
 use rdf_term::OutOfMemory;
@@ -23,9 +23,8 @@ const TRIPLE_BYTES: usize = 128;
 pub struct TripleTexts {
     bytes: Vec<u8>,
     places: Vec<Place>,
-    // The number of the last triple by each mark of a subject, and behind these by each mark of a predicate: a text that came
-    // before isn't written again where it is found by them.
-    recent: Vec<u32>,
+    // Where the last long subject of each size lies, once there was one.
+    long: Vec<Span>,
 }
 
 impl Model for TripleTexts {
@@ -49,7 +48,7 @@ impl TripleTexts {
         TripleTexts {
             bytes: Vec::new(alloc),
             places: Vec::new(alloc),
-            recent: Vec::new(alloc),
+            long: Vec::new(alloc),
         }
     }
 
@@ -57,12 +56,10 @@ impl TripleTexts {
     pub fn with_room(alloc: Global, bytes: usize) -> Result<TripleTexts, OutOfMemory>
         ensures { IfOk result (λ texts. texts ≡ []) }
     {
-        let mut recent = Vec::new(alloc);
-        recent.resize(2 * MARKS, u32::MAX)?;
         Ok(TripleTexts {
             places: Vec::with_capacity(alloc, bytes / TRIPLE_BYTES)?,
             bytes: Vec::with_capacity(alloc, bytes)?,
-            recent,
+            long: Vec::new(alloc),
         })
     }
 
@@ -79,36 +76,6 @@ impl TripleTexts {
         ensures { IfSome (slice_get self.now index) (IsTextOf result) }
     {
         self.places[index].texts(&self.bytes)
-    }
-
-    /// The place of a triple that has the same subject as the one at a place, where one is told without a comparison of texts.
-    pub fn subject_like(&self, index: usize) -> Option<usize>
-        requires { index < length self.now }
-        ensures { IfSome result (λ other. AreAlike (λ triple. triple.subject) self.now other index) }
-    {
-        let place = self.places[index];
-        let number = place.likely.subject as usize;
-        let other = self.places.get(number)?;
-        if other.subject.is(place.subject) {
-            Some(number)
-        } else {
-            None
-        }
-    }
-
-    /// The same for the predicate.
-    pub fn predicate_like(&self, index: usize) -> Option<usize>
-        requires { index < length self.now }
-        ensures { IfSome result (λ other. AreAlike (λ triple. triple.predicate) self.now other index) }
-    {
-        let place = self.places[index];
-        let number = place.likely.predicate as usize;
-        let other = self.places.get(number)?;
-        if other.predicate.is(place.predicate) {
-            Some(number)
-        } else {
-            None
-        }
     }
 }
 
@@ -130,14 +97,11 @@ impl TripleSink for TripleTexts {
         object: &TermRef<'_>,
     ) -> Result<(), OutOfMemory> {
         self.places.reserve(1)?;
-        let number = u32::try_from(self.places.len()).unwrap_or(u32::MAX);
-        let likely = Likely {
-            subject: recall(&mut self.recent, mark(subject), number),
-            predicate: recall(&mut self.recent, MARKS + mark(predicate), number),
-        };
-        let guess = guessed(&self.places, likely);
-        match append_triple(subject, predicate, object, guess, &mut self.bytes) {
+        let size = long_size(subject);
+        let near = near(&self.long, size);
+        match append_triple(subject, predicate, object, near, &mut self.bytes) {
             Ok(place) => {
+                remember(&mut self.long, size, place.subject);
                 self.places.push_reserved(place);
                 Ok(())
             }
@@ -150,57 +114,29 @@ impl TripleSink for TripleTexts {
     }
 }
 
-// The number of the last triple by a mark, in the place of which another comes.
-fn recall(recent: &mut [u32], mark: usize, number: u32) -> u32 {
-    if mark < recent.len() {
-        let last = recent[mark];
-        recent[mark] = number;
-        last
-    } else {
-        u32::MAX
-    }
+// Where the last long text of the size lies.
+fn near(long: &[Span], size: Option<usize>) -> Option<Span> {
+    long.get(size?).copied()
 }
 
-// Triples that are likely to have the same subject and the same predicate, and where the texts of these lie.
-#[derive(Clone, Copy)]
-struct Guess {
-    likely: Likely,
-    subject: Option<Span>,
-    predicate: Option<Span>,
-}
-
-// Where the texts lie of what is likely to be the same.
-fn guessed(places: &[Place], likely: Likely) -> Guess {
-    Guess {
-        likely,
-        subject: places
-            .get(likely.subject as usize)
-            .map(|place| place.subject),
-        predicate: places
-            .get(likely.predicate as usize)
-            .map(|place| place.predicate),
-    }
-}
-
-// Appends the texts of a triple that aren't there yet, and gives their place.
+// Appends the texts of a triple, but for a subject that is there already, and gives their place.
 fn append_triple(
     subject: &TermRef<'_>,
     predicate: &TermRef<'_>,
     object: &TermRef<'_>,
-    guess: Guess,
+    near: Option<Span>,
     bytes: &mut Vec<u8>,
 ) -> Result<Place, OutOfMemory>
     ensures kept { OnOk result (take (length bytes.old.items) bytes.new.items ≡ bytes.old.items) }
     ensures place { IfOk result (IsPlaceOf bytes.new.items (meant_triple subject.now predicate.now object.now)) }
 {
-    let subject = put(subject, guess.subject, bytes)?;
-    let predicate = put(predicate, guess.predicate, bytes)?;
+    let subject = put(subject, near, bytes)?;
+    let predicate = append(predicate, bytes)?;
     let object = append(object, bytes)?;
     Ok(Place {
         subject,
         predicate,
         object,
-        likely: guess.likely,
     })
 }
 

@@ -1,0 +1,80 @@
+// Long texts, which aren't written again where they stand already.
+//
+// The texts of a page are its author's. A statement's id or an article's title may have millions of bytes and be the subject of
+// ten thousands of triples; written for each, a page of 8 MB would take hundreds of gigabytes. So of the long subjects the last of
+// each size is remembered, by powers of two, and is compared before it is written. Two that take turns and have one size cost no more
+// than twice the bytes that the page spends on the other.
+
+ghost use Rattle.std.specs.Prelude.{◌≡◌, ◌≢◌, ℕ, List, ◌++◌, IsTrue, MatchOption};
+ghost use Rattle.rdf_term.specs.Text.{in_brackets, term_text};
+ghost use Rattle.triple_sink.specs.TermRef.{meant};
+
+use crate::span::Span;
+use triple_sink::TermRef;
+
+// How many bytes a text has at most that isn't long.
+const SHORT: usize = 127;
+
+// How many sizes there are.
+const SIZES: usize = 64;
+
+// The size of a term's text, where it is long.
+pub(crate) fn long_size(term: &TermRef<'_>) -> Option<usize> {
+    match term {
+        TermRef::Named(_, text) | TermRef::Iri(text) if text.len() > SHORT => {
+            Some(text.len().leading_zeros() as usize)
+        }
+        _ => None,
+    }
+}
+
+// Remembers where the last long text of its size lies. Where memory for it is refused, nothing is remembered.
+pub(crate) fn remember(long: &mut Vec<Span>, size: Option<usize>, span: Span) {
+    let Some(size) = size else {
+        return;
+    };
+    if long.is_empty() && long.resize(SIZES, span).is_err() {
+        return;
+    }
+    if size < long.len() {
+        long[size] = span;
+    }
+}
+
+// Whether the text is the canonical one of the term, as far as this is told for the terms whose texts may be long.
+pub(crate) fn is_text(term: &TermRef<'_>, text: &[u8]) -> bool
+    ensures { IsTrue result → text.now ≡ term_text (meant term.now) }
+{
+    match text {
+        [b'<', iri @ .., b'>'] => is_iri(term, iri),
+        _ => false,
+    }
+}
+
+// Whether the term is the IRI.
+fn is_iri(term: &TermRef<'_>, iri: &[u8]) -> bool
+    ensures { IsTrue result → in_brackets iri.now ≡ term_text (meant term.now) }
+{
+    match term {
+        TermRef::Named(prefix, name) => is_joined(prefix.text(), name, iri),
+        TermRef::Iri(text) => text.as_bytes() == iri,
+        _ => false,
+    }
+}
+
+// Whether the text is the one behind the other.
+fn is_joined(front: &str, back: &str, text: &[u8]) -> bool
+    ensures { IsTrue result → text.now ≡ front.now ++ back.now }
+{
+    match after(front.as_bytes(), text) {
+        Some(rest) => rest == back.as_bytes(),
+        None => false,
+    }
+}
+
+// What follows the front in the text.
+fn after<'a>(front: &[u8], text: &'a [u8]) -> Option<&'a [u8]>
+    ensures { MatchOption result ((rest : List ℕ) → text.now ≢ front.now ++ rest) (λ rest. text.now ≡ front.now ++ rest.now) }
+{
+    text.strip_prefix(front)
+}
