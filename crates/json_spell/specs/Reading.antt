@@ -120,6 +120,10 @@ literal_named name t s = option_map (λ rest. (t, rest)) (after_word name s)
 unfoldable pub literal_at : Parse Tree
 literal_at s = first_there (literal_named null_name null s) (first_there (literal_named true_name (boolean true) s) (literal_named false_name (boolean false) s))
 
+-- what is read with white space after it
+abbrev pub ended : {A : Type 0} → Parse A → Parse A
+ended part s = option_map (λ p. (p.0, skip is_ws p.1)) (part s)
+
 -- what is read with white space around it
 abbrev pub spaced : {A : Type 0} → Parse A → Parse A
 spaced part s = option_map (λ p. (p.0, skip is_ws p.1)) (part (skip is_ws s))

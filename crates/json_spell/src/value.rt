@@ -3,7 +3,7 @@
 ghost use Rattle.std.specs.Prelude.{◌≡◌, ◌≤◌, ◌<◌, ℕ, length, map, option_map, Some, IfSome, IfOk};
 ghost use Rattle.json_spell.specs.Tree.{no_trees, no_pairs};
 ghost use Rattle.json_spell.specs.View.{json_view, member_view, trees_of, pairs_of};
-ghost use Rattle.json_spell.specs.Reading.{spaced, list_by, name_at, member_by, literal_at, scalar_at, value_at, values_at, members_at};
+ghost use Rattle.json_spell.specs.Reading.{ended, spaced, content_at, list_by, name_at, member_by, literal_at, scalar_at, value_at, values_at, members_at};
 ghost use Rattle.json_spell.specs.Parses.{Parses};
 ghost use Rattle.json_spell.specs.Nesting.{Nests, AllNest, MembersNest};
 
@@ -47,7 +47,20 @@ fn read_scalar<'b, 'a>(bytes: &'a [u8]) -> Result<(Json<'b, 'a>, &'a [u8]), Json
     Ok((Json::Number(spelling), rest))
 }
 
-// A name with white space around it.
+// A name that isn't plain, after its opening quotation mark, and the white space after it.
+#[inline(always)]
+fn read_other_name<'b, 'a: 'b>(
+    arena: &'b Bump,
+    bytes: &'a [u8],
+) -> Result<(&'b str, &'a [u8]), JsonFault>
+    ensures read { Parses (λ p. (p.0.now, p.1.now)) result (ended content_at bytes.now) }
+    ensures no_longer { IfOk result (λ p. length p.1.now ≤ length bytes.now) }
+{
+    let (content, rest) = read_any_string(arena, bytes)?;
+    Ok((content.name(), skip_ws(rest)))
+}
+
+// A name with white space around it. What only a few want is apart here and below, so that the others don't pay for it.
 #[inline(always)]
 fn read_name<'b, 'a: 'b>(arena: &'b Bump, bytes: &'a [u8]) -> Result<(&'b str, &'a [u8]), JsonFault>
     ensures read { Parses (λ p. (p.0.now, p.1.now)) result (spaced name_at bytes.now) }
@@ -56,11 +69,10 @@ fn read_name<'b, 'a: 'b>(arena: &'b Bump, bytes: &'a [u8]) -> Result<(&'b str, &
     let Some(rest) = after_byte(skip_ws(bytes), b'"') else {
         return Err(JsonFault::NotJson);
     };
-    if let Some((name, rest)) = read_plain(rest) {
-        return Ok((name, skip_ws(rest)));
+    match read_plain(rest) {
+        Some((name, rest)) => Ok((name, skip_ws(rest))),
+        None => read_other_name(arena, rest),
     }
-    let (content, rest) = read_any_string(arena, rest)?;
-    Ok((content.name(), skip_ws(rest)))
 }
 
 // A string that is ASCII and has no escape, where one stands at the front.
@@ -75,7 +87,8 @@ fn read_text<'b, 'a>(bytes: &'a [u8]) -> Option<(Json<'b, 'a>, &'a [u8])>
     Some((Json::Str(text), rest))
 }
 
-// A value with white space around it. Most values are strings as above, so these are tried first. Here and below, an array or object that opens where no level is left is Deep.
+// A value with white space around it. Most values are strings as above, so these are tried first. Here and below, an
+// array or object that opens where no level is left is Deep.
 #[cycle(read)]
 #[inline(always)]
 pub(crate) fn read_spaced<'b, 'a: 'b>(
@@ -88,10 +101,25 @@ pub(crate) fn read_spaced<'b, 'a: 'b>(
     ensures nests { IfOk result (λ p. Nests levels (json_view p.0)) }
 {
     let start = skip_ws(bytes);
-    if let Some((text, rest)) = read_text(start) {
-        return Ok((text, skip_ws(rest)));
+    match read_text(start) {
+        Some((text, rest)) => Ok((text, skip_ws(rest))),
+        None => read_ended(arena, levels, start),
     }
-    let (json, rest) = read_value(arena, levels, start)?;
+}
+
+// A value and the white space after it.
+#[cycle(read)]
+#[inline(always)]
+fn read_ended<'b, 'a: 'b>(
+    arena: &'b Bump,
+    levels: usize,
+    bytes: &'a [u8],
+) -> Result<(Json<'b, 'a>, &'a [u8]), JsonFault>
+    ensures read { Parses (λ p. (json_view p.0, p.1.now)) result (ended value_at bytes.now) }
+    ensures no_longer { IfOk result (λ p. length p.1.now ≤ length bytes.now) }
+    ensures nests { IfOk result (λ p. Nests levels (json_view p.0)) }
+{
+    let (json, rest) = read_value(arena, levels, bytes)?;
     Ok((json, skip_ws(rest)))
 }
 

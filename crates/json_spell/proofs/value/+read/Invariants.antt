@@ -7,20 +7,23 @@ use Rattle.json_spell.specs.Reading.{read_map, add_pair, values_at, members_at}
 use Rattle.json_spell.proofs.ListSteps.{onto}
 use Rattle.json_spell.proofs.value.+read.Given as goal
 
+abbrev pub decreases-read_ended : goal.decreases-read_ended
+decreases-read_ended l = 5 * length l.bytes.now + 1
+
 abbrev pub decreases-read_items : goal.decreases-read_items
-decreases-read_items l = 4 * length l.bytes.now + 3
+decreases-read_items l = 5 * length l.bytes.now + 4
 
 abbrev pub decreases-read_member : goal.decreases-read_member
-decreases-read_member l = 4 * length l.bytes.now + 2
+decreases-read_member l = 5 * length l.bytes.now + 3
 
 abbrev pub decreases-read_members : goal.decreases-read_members
-decreases-read_members l = 4 * length l.bytes.now + 3
+decreases-read_members l = 5 * length l.bytes.now + 4
 
 abbrev pub decreases-read_spaced : goal.decreases-read_spaced
-decreases-read_spaced l = 4 * length l.bytes.now + 1
+decreases-read_spaced l = 5 * length l.bytes.now + 2
 
 abbrev pub decreases-read_value : goal.decreases-read_value
-decreases-read_value l = 4 * length l.bytes.now
+decreases-read_value l = 5 * length l.bytes.now
 
 abbrev pub invariant-read_items-loop-items : goal.invariant-read_items-loop-items
 invariant-read_items-loop-items l = record {
