@@ -24,8 +24,8 @@ const ONE_LINE: &[&str] = &[
     "waiting",
 ];
 
-// Sees that each section has a name that is known, stands once where it isn't a page, and has lines only where lines mean
-// something, and that each part of a table's row has a mark.
+/// Sees that each section has a name that is known, stands once where it isn't a page, and has lines only where lines mean
+/// something, and that each part of a table's row has a mark.
 pub fn check(case: &Case) -> Result<()> {
     for section in &case.sections {
         check_section(case, section)?;

@@ -3,7 +3,7 @@
 use anyhow::Result;
 use std::alloc::Global;
 
-// The first lines that differ, where something is expected.
+/// The first lines that differ, where something is expected.
 pub fn differing_where_told(
     alloc: Global,
     what: &str,
@@ -16,7 +16,7 @@ pub fn differing_where_told(
     }
 }
 
-// Two numbers that differ, where one is expected.
+/// Two numbers that differ, where one is expected.
 pub fn differing_numbers(
     alloc: Global,
     what: &str,
@@ -31,7 +31,7 @@ pub fn differing_numbers(
     }
 }
 
-// The first lines that differ.
+/// The first lines that differ.
 pub fn differing(
     alloc: Global,
     what: &str,

@@ -4,10 +4,10 @@ use crate::sections::{Case, Section};
 use anyhow::Result;
 use std::alloc::Global;
 
-// The marks for the parts of a row.
+/// The marks for the parts of a row.
 pub const MARKS: [&str; 9] = ["$1", "$2", "$3", "$4", "$5", "$6", "$7", "$8", "$9"];
 
-// A text with another in place of each mark.
+/// A text with another in place of each mark.
 pub fn replaced(alloc: Global, whole: &str, mark: &str, text: &str) -> Result<String> {
     let mut made = String::new(alloc);
     for (place, part) in whole.split(mark).enumerate() {
@@ -19,7 +19,7 @@ pub fn replaced(alloc: Global, whole: &str, mark: &str, text: &str) -> Result<St
     Ok(made)
 }
 
-// The case without its table, with the parts of a row in place of the marks.
+/// The case without its table, with the parts of a row in place of the marks.
 pub fn filled(alloc: Global, case: &Case, row: &str) -> Result<Case> {
     let mut sections = Vec::new(alloc);
     for section in &case.sections {

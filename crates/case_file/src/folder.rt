@@ -3,14 +3,14 @@
 use anyhow::{Context, Result};
 use std::fs;
 
-// A case file: its name without the ending, and its text.
+/// A case file: its name without the ending, and its text.
 #[derive(Drop)]
 pub struct CaseFile {
     pub name: String,
     pub text: String,
 }
 
-// The files `*.case`, in the order of their names.
+/// The files `*.case`, in the order of their names.
 pub fn case_files(rt: &HostRuntime) -> Result<Vec<CaseFile>> {
     let folder = if fs::exists(rt, "data")? { "data" } else { "." };
     let mut files = Vec::new(rt.alloc());

@@ -6,7 +6,7 @@ use crate::spelling::bytes_of;
 use anyhow::{Context, Result};
 use std::alloc::Global;
 
-// What a run is given.
+/// What a run is given.
 #[derive(Drop)]
 pub struct Given {
     pub words: Vec<String>,
@@ -17,7 +17,7 @@ pub struct Given {
     pub failing_fetches: Vec<u64>,
 }
 
-// The page of a revision at a place.
+/// The page of a revision at a place.
 #[derive(Drop)]
 pub struct Page {
     pub place: String,
@@ -25,14 +25,14 @@ pub struct Page {
     pub bytes: Vec<u8>,
 }
 
-// The most bytes of a call, and the numbers of the calls that fail.
+/// The most bytes of a call, and the numbers of the calls that fail.
 #[derive(Drop)]
 pub struct Calls {
     pub bytes: usize,
     pub failing: Vec<u64>,
 }
 
-// What a run must leave: what isn't there isn't looked at.
+/// What a run must leave: what isn't there isn't looked at.
 #[derive(Drop)]
 pub struct Expected {
     pub status: String,
@@ -44,7 +44,7 @@ pub struct Expected {
     pub waiting: Option<u64>,
 }
 
-// What a case is tried with.
+/// What a case is tried with.
 #[derive(Clone, Copy)]
 pub enum Turns {
     // one run
@@ -57,7 +57,7 @@ pub enum Turns {
     EachFront(u64),
 }
 
-// What the run of a case is given.
+/// What the run of a case is given.
 pub fn given_of(alloc: Global, case: &Case) -> Result<Given> {
     Ok(Given {
         words: words(alloc, case)?,
@@ -161,7 +161,7 @@ fn numbers(alloc: Global, words: &str) -> Result<Vec<u64>> {
     Ok(numbers)
 }
 
-// What the run of a case must leave: without a word of its own it ends well and prints nothing.
+/// What the run of a case must leave: without a word of its own it ends well and prints nothing.
 pub fn expected_of(alloc: Global, case: &Case) -> Result<Expected> {
     Ok(Expected {
         status: String::from_str(alloc, text(case, "status").unwrap_or("0"))?,
@@ -182,7 +182,7 @@ fn bytes_where_told(alloc: Global, case: &Case, name: &str) -> Result<Option<Vec
     }
 }
 
-// What a case is tried with.
+/// What a case is tried with.
 pub fn turns_of(case: &Case) -> Result<Turns> {
     if text(case, "failing reads") == Some("each") {
         return Ok(Turns::EachRead);

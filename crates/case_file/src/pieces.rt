@@ -3,7 +3,7 @@
 use anyhow::Result;
 use std::alloc::Global;
 
-// What each read gives; the last gives nothing.
+/// What each read gives; the last gives nothing.
 pub fn pieces_of_reads(alloc: Global, input: &[u8], bytes: usize) -> Result<Vec<Vec<u8>>> {
     let mut pieces = Vec::new(alloc);
     if bytes > 0 {
@@ -15,7 +15,7 @@ pub fn pieces_of_reads(alloc: Global, input: &[u8], bytes: usize) -> Result<Vec<
     Ok(pieces)
 }
 
-// What each write takes: no write has bytes of two lines.
+/// What each write takes: no write has bytes of two lines.
 pub fn pieces_of_writes(alloc: Global, out: &[u8], bytes: usize) -> Result<Vec<Vec<u8>>> {
     let mut pieces = Vec::new(alloc);
     for line in out.split_inclusive(|byte| *byte == b'\n') {
@@ -34,7 +34,7 @@ fn push_pieces(alloc: Global, line: &[u8], bytes: usize, pieces: &mut Vec<Vec<u8
     Ok(())
 }
 
-// How many whole lines ask.
+/// How many whole lines ask.
 pub fn questions(input: &[u8]) -> usize {
     input
         .split_inclusive(|byte| *byte == b'\n')
@@ -42,7 +42,7 @@ pub fn questions(input: &[u8]) -> usize {
         .count()
 }
 
-// The first answers of an output.
+/// The first answers of an output.
 pub fn answers(alloc: Global, out: &[u8], count: usize) -> Result<Vec<u8>> {
     let mut answers = Vec::new(alloc);
     let mut left = count;

@@ -6,14 +6,14 @@
 use anyhow::{Result, bail};
 use std::alloc::Global;
 
-// A case: its name with that of its file, and its sections.
+/// A case: its name with that of its file, and its sections.
 #[derive(Drop)]
 pub struct Case {
     pub name: String,
     pub sections: Vec<Section>,
 }
 
-// A section: its first line, and the lines below it without the two spaces, each with a line feed.
+/// A section: its first line, and the lines below it without the two spaces, each with a line feed.
 #[derive(Drop)]
 pub struct Section {
     pub head: String,
@@ -21,7 +21,7 @@ pub struct Section {
 }
 
 impl Section {
-    // The words behind the section's name, where it has this name.
+    /// The words behind the section's name, where it has this name.
     pub fn words_of(&self, name: &str) -> Option<&str> {
         let head = self.head.as_str();
         if head == name {
@@ -32,7 +32,7 @@ impl Section {
 }
 
 impl Case {
-    // The words behind the name of the first section with that name, and its lines.
+    /// The words behind the name of the first section with that name, and its lines.
     pub fn section(&self, name: &str) -> Option<(&str, &str)> {
         self.sections.iter().find_map(|section| Some((
             section.words_of(name)?,
@@ -41,7 +41,7 @@ impl Case {
     }
 }
 
-// The cases of a file.
+/// The cases of a file.
 pub fn cases_of(alloc: Global, file: &str, text: &str) -> Result<Vec<Case>> {
     let mut cases = Vec::new(alloc);
     for (place, line) in text.lines().enumerate() {

@@ -34,7 +34,7 @@ const PREFIXES: &[(&str, &str)] = &[
     ("geo", "http://www.opengis.net/ont/geosparql#"),
 ];
 
-// The bytes of lines.
+/// The bytes of lines.
 pub fn bytes_of(alloc: Global, lines: &str) -> Result<Vec<u8>> {
     let mut bytes = Vec::new(alloc);
     for line in lines.lines() {

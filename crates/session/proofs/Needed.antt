@@ -105,9 +105,9 @@ module _ (hz : Option ℕ) (replies : Replies) (ds : List Delivery) where
 
 -- ---- one due event is applied
 
-abbrev content_of : Option (Held Bytes) → Bytes
-content_of None = []
-content_of (Some h) = h.content
+abbrev bytes_held : Option (Held Bytes) → Bytes
+bytes_held None = []
+bytes_held (Some h) = h.content
 
 abbrev cause_in : Cause → List Entry → Cause
 cause_in other [] = other
@@ -116,7 +116,7 @@ cause_in other (Revision e r cause ∷ entries) = cause
 
 -- replies that leave the same page and the same entries are the same
 same_reply : (e : Event) (r : ℕ) (held : Option (Held Bytes)) (some other : Result Bytes Cause) → held_after_fetch r other held ≡ held_after_fetch r some held → entry_of e r other ≡ entry_of e r some → other ≡ some
-same_reply e r held (Ok bytes) (Ok others) pages entries = ap (λ (b : Bytes). Ok b) (ap content_of pages)
+same_reply e r held (Ok bytes) (Ok others) pages entries = ap (λ (b : Bytes). Ok b) (ap bytes_held pages)
 same_reply e r held (Ok bytes) (Err cause) pages entries = cc
 same_reply e r held (Err cause) (Ok bytes) pages entries = cc
 same_reply e r held (Err cause) (Err other) pages entries = ap (λ (c : Cause). Err c) (ap (cause_in cause) entries)

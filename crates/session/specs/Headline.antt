@@ -40,10 +40,10 @@ use Rattle.session.specs.Sections.{sections_of}
 use Rattle.session.specs.Stops.{IsStarved}
 use Rattle.session.specs.Taking.{Course, HoldsDocuments, IsFull, course_after, course_printed, course_to_end, judgement, replies_there}
 
--- the world is where a play leads, with some replies to its fetches, each a document of its entity or a reason, the output has what
--- the play says, there was room for each page that a fetch gave or that was mapped anew, with all that was held then, and the counts
--- of the source rose by these fetches; what is held are documents of their entities,
--- each mapped by the version in force; where it is known what the source has, the replies are those of what is there, but for the events whose fetches failed, which the side output names
+-- the world is where a play leads, with some replies to its fetches, each a document of its entity or a reason, the output has what the
+-- play says, there was room for each page that a fetch gave or that was mapped anew, with all that was held then, and the counts of the
+-- source rose by these fetches; what is held are documents of their entities, each mapped by the version in force; where it is known
+-- what the source has, the replies are those of what is there, but for the events whose fetches failed, which the side output names
 pub record IsPlayed (setting : Setting) (course : Course) (start now : Stage) : Type 0 where
   pub replies : Replies
   pub fit : (e : Event) (r : ℕ) → GivesDocument judgement e.entity (replies e r)

@@ -21,7 +21,7 @@ use Rattle.world.specs.Roomed.{room_with}
 use Rattle.world.specs.WorldState.{stale_by}
 use Rattle.session.specs.Remapping.{Mapped}
 
--- ---- needs and a room
+-- ---- room for what is needed
 
 -- there is room for each of these
 abbrev pub HaveRoom : ℕ → List ℕ → Type 0

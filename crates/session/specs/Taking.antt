@@ -57,7 +57,13 @@ said_behind ds start replies = after_known start.output.bytes (answers_said mean
 
 -- the play of these deliveries
 abbrev pub course_after : List Delivery → Stage → Course
-course_after ds start = record { state = λ replies. following (horizon_at start) replies ds; fetched = λ replies. fetches (horizon_at start) replies ds; needed = λ replies. needed_in (horizon_at start) replies ds; bytes = said_behind ds start; version = version_in_force ds }
+course_after ds start = record {
+  state = λ replies. following (horizon_at start) replies ds;
+  fetched = λ replies. fetches (horizon_at start) replies ds;
+  needed = λ replies. needed_in (horizon_at start) replies ds;
+  bytes = said_behind ds start;
+  version = version_in_force ds;
+}
 
 -- the play of these deliveries and perhaps one more, which says nothing yet
 abbrev pub course_begun : List Delivery → Option Delivery → Stage → Course
@@ -65,11 +71,19 @@ course_begun ds last start = record (course_after (ds ++ option_to_list last) st
 
 -- the play of these deliveries and the end of the input
 abbrev pub course_to_end : List Delivery → Stage → Course
-course_to_end ds start = record { state = λ replies. following_to_end (horizon_at start) replies ds; fetched = λ replies. fetches_to_end (horizon_at start) replies ds; needed = λ replies. needed_to_end (horizon_at start) replies ds; bytes = said_behind ds start; version = version_in_force ds }
+course_to_end ds start = record {
+  state = λ replies. following_to_end (horizon_at start) replies ds;
+  fetched = λ replies. fetches_to_end (horizon_at start) replies ds;
+  needed = λ replies. needed_to_end (horizon_at start) replies ds;
+  bytes = said_behind ds start;
+  version = version_in_force ds;
+}
 
 -- the same, and these sections
 abbrev pub course_printed : Sections → List Delivery → Stage → Course
-course_printed sections ds start = record (course_to_end ds start) { bytes = λ replies. after_known start.output.bytes (transcript meaning (horizon_at start) sections replies ds) }
+course_printed sections ds start = record (course_to_end ds start) {
+  bytes = λ replies. after_known start.output.bytes (transcript meaning (horizon_at start) sections replies ds);
+}
 
 -- the world leads to a play with some replies, the counts rose with what was fetched for it so far, and what is held are
 -- documents; with all replies that agree with these on what was applied the output has what the play says, and there was room for all
@@ -100,7 +114,8 @@ pub record IsWithin (why : Unapplied) (setting : Setting) (course : Course) (beg
   pub fit : (e : Event) (r : ℕ) → GivesDocument judgement e.entity (replies e r)
   pub is : now.world ≡ after_some replies steps (begun replies)
   pub says : now.output.bytes ≡ course.bytes replies
-  pub source : (contents : ℕ → Option Bytes) → setting.known ≡ Some contents → now.world ≡ after_some (replies_there contents now.world) steps (begun (replies_there contents now.world))
+  pub source : (contents : ℕ → Option Bytes) → setting.known ≡ Some contents →
+      now.world ≡ after_some (replies_there contents now.world) steps (begun (replies_there contents now.world))
   pub source_says : (contents : ℕ → Option Bytes) → setting.known ≡ Some contents → now.output.bytes ≡ course.bytes (replies_there contents now.world)
   pub roomed : HaveRoomBefore setting.room (needed_by_due course.version replies now.world) (course.needed replies)
   pub source_roomed : (contents : ℕ → Option Bytes) → setting.known ≡ Some contents →
@@ -134,7 +149,8 @@ pub record AtEnd (setting : Setting) (ds : List Delivery) (start now : Stage) : 
 
 -- all due events were applied: where the world led to a play, by whose version every page was mapped, it does so now
 pub record AppliesDue (setting : Setting) (mapped : Mapped) (before now : Counts) (old new : ReplayState) : Type 0 where
-  pub leads : (course : Course) (start s : Stage) → mapped ≡ mapped_by course.version old.played.records → Leads setting course start (onward s before old) → Leads setting course start (onward s now new)
+  pub leads : (course : Course) (start s : Stage) → mapped ≡ mapped_by course.version old.played.records →
+      Leads setting course start (onward s before old) → Leads setting course start (onward s now new)
   pub rests : first_due new.buffer ≡ None
 
 -- the least due event wants a page: a document of its entity, and what the source has where it is known; and there is no room for it
@@ -155,7 +171,8 @@ IsHeldUp OutOfMemory setting world mapped = ⊤
 -- a due event wasn't applied: where the world was under way in a play, by whose version every page was mapped, it is so still
 abbrev pub StaysWithin : Unapplied → Setting → Mapped → Counts → Counts → ReplayState → ReplayState → Type 0
 StaysWithin why setting mapped before now old new =
-    (course : Course) (begun : Replies → ReplayState) (start s : Stage) → mapped ≡ mapped_by course.version old.played.records → IsUnderWay setting course begun start (onward s before old) → IsWithin why setting course begun start (onward s now new)
+    (course : Course) (begun : Replies → ReplayState) (start s : Stage) → mapped ≡ mapped_by course.version old.played.records →
+    IsUnderWay setting course begun start (onward s before old) → IsWithin why setting course begun start (onward s now new)
 
 -- a delivery, and how many questions were asked up to it
 pub record Turn : Type 0 where

@@ -29,7 +29,7 @@ use wq_io::{Sink, Source};
 /// deliveries and pages that are made from its size, and prints its summary.
 ///
 /// `words` are those after the program's name; each line of `events` is one delivery; `revisions` has the pages; `world` has taken nothing
-/// yet, and a run begins with the first version of the mapping, whichever is in force in it.
+/// yet and has no horizon; a run begins with the first version of the mapping, whichever is in force in it.
 pub fn run<S: Source, R: Revisions, K: Sink>(
     alloc: Global,
     words: &[String],

@@ -24,8 +24,8 @@ use words::Arguments;
 use world::World;
 use wq_io::{Lines, Sink, Source};
 
-// Takes all lines of the input; after each watermark all due events are applied before the next line is read, and each
-// question is answered at once; at a change of the mapping all that is held is mapped anew before the next line is read.
+// Takes all lines of the input; after each watermark all due events are applied before the next line is taken, and each
+// question is answered at once; at a change of the mapping all that is held is mapped anew before the next line is taken.
 pub fn take_lines<S: Source, R: Revisions, K: Sink>(
     alloc: Global,
     plan: &Arguments,
