@@ -1,7 +1,8 @@
 // The name of a placed text.
 
-/// A text that lies in a region: the block, by its class and its number there. The region that placed it gave it out,
-/// and takes it back when the text is freed.
+/// A text that lies in a region: the block, by its class and its number there. A region gives it out when it places the text, and
+/// takes it back when the text is freed. Whoever has the two numbers can make it again, so each call that takes a piece asks that
+/// it is live.
 #[derive(Debug, Drop)]
 pub struct Piece {
     /// The class of the block.

@@ -20,7 +20,7 @@ use term_pool::{Pool, PoolFault};
 use text_region::Region;
 use triple_texts::TripleText;
 
-// As many triples as no memory holds, so this number is never reached. Below it no term has 2^46 uses, and a count of a
+// The most triples that a store takes, more than any memory holds. While it has fewer, no term has 2^46 uses, so a count of a
 // term fits into 48 bits.
 const MOST_TRIPLES: usize = 1 << 44;
 

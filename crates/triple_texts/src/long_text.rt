@@ -1,9 +1,9 @@
 // Long texts, which aren't written again where they stand already.
 //
 // The texts of a page are its author's. A statement's id or an article's title may have millions of bytes and be the subject of
-// ten thousands of triples; written for each, a page of 8 MB would take hundreds of gigabytes. So of the long subjects the last of
-// each size is remembered, by powers of two, and is compared before it is written. Two that take turns and have one size cost no more
-// than twice the bytes that the page spends on the other.
+// tens of thousands of triples; written for each, a page of 8 MB would take hundreds of gigabytes. So of the long subjects the last
+// of each size (by powers of two) is remembered, and a subject of this size is compared with it before it is written. Two that take
+// turns and have one size cost no more than twice the bytes that the page spends on the other.
 
 ghost use Rattle.std.specs.Prelude.{◌≡◌, ◌≢◌, ℕ, List, ◌++◌, IsTrue, MatchOption};
 ghost use Rattle.rdf_term.specs.Text.{in_brackets, term_text};
@@ -18,7 +18,7 @@ const SHORT: usize = 127;
 // How many sizes there are.
 const SIZES: usize = 64;
 
-// The size of a term's text, where it is long.
+// The size by powers of two of an IRI, or of the name in it, where that is long; the longer, the smaller the number.
 pub(crate) fn long_size(term: &TermRef<'_>) -> Option<usize> {
     match term {
         TermRef::Named(_, text) | TermRef::Iri(text) if text.len() > SHORT => {

@@ -171,7 +171,7 @@ fn append(term: &TermRef<'_>, bytes: &mut Vec<u8>) -> Result<Span, OutOfMemory>
     span_from(start, bytes.len() - start)
 }
 
-// The span of this length from a place on.
+// The span of this length from a place on. What has no number of 32 bits is said to want memory.
 fn span_from(start: usize, len: usize) -> Result<Span, OutOfMemory>
     ensures start { IfOk result (λ span. span.start ≡ start) }
     ensures len { IfOk result (λ span. span.len ≡ len) }

@@ -28,7 +28,7 @@ pub enum TimeText<'a> {
 /// `precision` is Wikibase's: 9 for a year, 10 for a month, 11 for a day and more for parts of one.
 /// `julian` says that the text is a date of the Julian calendar; with a precision of 11 or more and a
 /// year from -9998 to 9998, such a date becomes the Gregorian date of the same day. Where the literal is
-/// the time's text but for its sign, as most times, it is a part of that text and takes no memory.
+/// the time's text but for its sign, as for most times, it is a part of that text and takes no memory.
 pub fn time_literal<'a>(
     alloc: Global,
     text: &'a str,
@@ -146,6 +146,7 @@ fn is_pair_of(number: u8, tens: u8, ones: u8) -> bool
     }
 }
 
+// The text of a day and a clock, written anew.
 #[tactic(auto, using(crate::proofs::LiteralLemmas::clock_behind))]
 fn date_time_text(alloc: Global, date: CalendarDate, clock: &str) -> Result<Text, OutOfMemory>
     ensures { IfOk result (λ text. text ≡ date_time_text date clock.now) }
