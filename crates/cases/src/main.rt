@@ -78,6 +78,7 @@ fn try_case(rt: &HostRuntime, case: &Case, tally: Tally) -> Result<Tally> {
         Some(difference) => {
             let difference = difference.as_str();
             println!(rt; "FAIL {name}\n{difference}")?;
+            eprintln!(rt; "FAIL {name}")?;
         }
     }
     Ok(Tally {

@@ -1,10 +1,10 @@
 // Whole numbers, as JSON spells them.
 
-ghost use Rattle.std.specs.Prelude.{◌≡◌, ◌<◌, ◌≤◌, ◌↔◌, ℕ, IsTrue, IfSome, Some, slice_index};
+ghost use Rattle.std.specs.Prelude.{◌≡◌, ◌<◌, ℕ, IfSome, Some};
 ghost use Rattle.std.specs.Fmt.{decimal};
 ghost use Rattle.entity_json.specs.Leaves.{is_unsigned, is_whole, small_of};
 
-use digits::are_digits;
+use digits::{are_digits, starts_above_zero};
 
 // Whether the text is 0, or digits that don't begin with 0.
 fn is_unsigned(text: &[u8]) -> bool
@@ -27,13 +27,6 @@ pub fn is_whole(text: &[u8]) -> bool
         [b'-', rest @ ..] => is_unsigned(rest),
         _ => is_unsigned(text),
     }
-}
-
-// Whether the text starts with a digit from 1 to 9.
-fn starts_above_zero(text: &str) -> bool
-    ensures { IsTrue result ↔ ((49 ≤ slice_index text.now 0) × (slice_index text.now 0 ≤ 57)) }
-{
-    matches!(text.as_bytes(), [b'1'..=b'9', ..])
 }
 
 // The number from 0 to 255 that is written so in decimal.

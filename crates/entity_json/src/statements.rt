@@ -1,8 +1,6 @@
 // Statements and references.
 
 ghost use Rattle.std.specs.Prelude.{◌≡◌};
-ghost use Rattle.std.specs.Char.{is_ascii_alphanumeric};
-ghost use Rattle.std.specs.List.{list_all};
 ghost use Rattle.json_spell.specs.View.{json_view, member_view};
 ghost use Rattle.entity_model.specs.Reference.{is_hash};
 ghost use Rattle.entity_json.specs.Finds.{Finds, Makes};
@@ -15,7 +13,7 @@ use crate::part::PartFault;
 use crate::snaks::{snak_of, snaks_at};
 use entity_model::{EntityId, IdKind, Rank, Reference, Snak, Statement};
 use json_spell::{Json, Member};
-use rdf_term::{List, Piece};
+use rdf_term::{List, Piece, are_alphanumeric};
 use std::alloc::Global;
 
 // The rank with the name.
@@ -29,13 +27,6 @@ fn rank_named(name: &str) -> Option<Rank>
         return Some(Rank::Normal);
     }
     (name == "deprecated").then_some(Rank::Deprecated)
-}
-
-// Whether the bytes are ASCII letters and digits.
-fn are_alphanumeric(bytes: &[u8]) -> bool
-    ensures { result ≡ list_all is_ascii_alphanumeric bytes.now }
-{
-    bytes.iter().all(|byte| byte.is_ascii_alphanumeric())
 }
 
 // Whether the text is 1 to 64 ASCII letters and digits.

@@ -13,8 +13,8 @@ pub fn is_label(label: &[u8]) -> bool
     !label.is_empty() && are_alphanumeric(label)
 }
 
-// Whether each byte is an ASCII letter or digit.
-fn are_alphanumeric(bytes: &[u8]) -> bool
+/// Whether each byte is an ASCII letter or digit.
+pub fn are_alphanumeric(bytes: &[u8]) -> bool
     ensures { result ≡ list_all is_ascii_alphanumeric bytes.now }
 {
     bytes.iter().all(|byte| byte.is_ascii_alphanumeric())

@@ -25,6 +25,7 @@ mod triple;
 mod triple_set;
 mod write;
 
+pub use label::are_alphanumeric;
 pub use laws::{
     canonical_text_reads_back, reading_is_by_the_grammar, sorted_triples_are_the_triples,
 };
