@@ -2,7 +2,7 @@
 #   jq -R -c -f events.jq < stream.txt
 # Items and properties of Wikidata alone. A move or a change of visibility leaves the newest revision as it is, so it gives no line.
 # wdq takes up to six digits of a second; further ones are cut off.
-select(startswith("data: ")) | .[6:] | fromjson
+select(startswith("data: ")) | .[6:] | fromjson?
 | select(.wiki_id == "wikidatawiki" and (.page.namespace_id == 0 or .page.namespace_id == 120))
 | {create: "edit", edit: "edit", delete: "delete", undelete: "undelete"}[.page_change_kind] as $kind
 | select($kind)

@@ -19,8 +19,7 @@ struct BothWays {
     removes: List<Triple>,
 }
 
-/// The patch that leads from `old` to `new`, by one merge: it makes at most as many comparisons as the two have
-/// triples. The triples of the patch are in memory of their own.
+/// The patch that leads from `old` to `new`, by one merge. The triples of the patch are in memory of their own.
 pub fn patch(alloc: Global, old: &TripleSet, new: &TripleSet) -> Result<Patch, OutOfMemory>
     ensures { IfOk result (λ patch. patch ≡ patch_between old.now new.now) }
 {

@@ -1,10 +1,11 @@
 // The stored triples and their counts.
 
-ghost use Rattle.std.specs.Prelude.{◌≡◌, ◌≤◌, length, Some, None, IfOk, IsSome, OnErr};
+ghost use Rattle.std.specs.Prelude.{◌≡◌, ◌≤◌, ℕ, length, Some, None, IfOk, IsSome, OnErr};
 ghost use Rattle.std.specs.FinMap as map;
 ghost use Rattle.rdf_term.specs.declared.triple.Triple.{Triple};
 ghost use Rattle.text_region.specs.declared.piece.Piece.{Piece as ThePiece};
-ghost use Rattle.text_region.specs.Region.{Texts, bytes_of};
+ghost use Rattle.text_region.specs.Class.{IsClassOf};
+ghost use Rattle.text_region.specs.Region.{Texts, bytes_of, live, made};
 ghost use Rattle.slot_index.specs.declared.key.Key.{Key};
 ghost use Rattle.triple_store.specs.Stored.{Changes, HasKey, IsStored, beside, counts_in, limit_of};
 
@@ -61,6 +62,7 @@ impl Store {
         ensures counts { counts_in self.now region.new ≡ counts_in self.now region.old }
         ensures ok { IfOk result (λ piece. Changes (beside self.now region.old) (beside self.now region.new) piece None (Some bytes.now)) }
         ensures err { OnErr result (region.new ≡ region.old) }
+        ensures full { OnErr result ((class : ℕ) → IsClassOf (length bytes.now) class → live region.old class ≡ made region.old class) }
         ensures kept { (key : Key) (triple : Triple) → HasKey self.now region.old key triple → HasKey self.now region.new key triple }
     {
         let piece = region.place(bytes)?;
