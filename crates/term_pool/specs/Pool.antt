@@ -46,6 +46,10 @@ count_of (Some entry) = entry.count
 abbrev pub count_at : Pool → ℕ → ℕ
 count_at pool slot = count_of (get pool.slots slot)
 
+-- the most uses that are counted: a count has 48 bits
+abbrev pub most_uses : ℕ
+most_uses = 281474976710655
+
 -- how many terms are there
 abbrev pub terms : Pool → ℕ
 terms pool = slab_len pool.slots

@@ -1,21 +1,24 @@
 // How often the terms in the slots are used.
 
-ghost use Rattle.std.specs.Prelude.{◌≡◌, ◌+◌, ◌-◌, ◌<◌, ◌^◌, ◌==◌};
-ghost use Rattle.term_pool.specs.Pool.{count_of};
+ghost use Rattle.std.specs.Prelude.{◌≡◌, ◌+◌, ◌-◌, ◌<◌, ◌==◌, IsOk, OnOk, OnErr, ◌↔◌};
+ghost use Rattle.term_pool.specs.Pool.{count_of, most_uses};
 ghost use Rattle.term_pool.specs.Counting.{Recounts};
 ghost use Rattle.slab.specs.Slab.{get};
 
 use crate::slots::Entry;
+use rdf_term::OutOfMemory;
 use slab::Slab;
 
-// Counts a use more.
-pub(crate) fn raise(slots: &mut Slab<Entry>, number: u32)
-    requires used { 0 < count_of (get slots.old number) }
-    requires countable { count_of (get slots.old number) < 2 ^ 47 }
-    ensures { Recounts slots.old slots.new number (count_of (get slots.old number) + 1) }
+// Counts a use more, unless the count is the greatest.
+pub(crate) fn raise(slots: &mut Slab<Entry>, number: u32) -> Result<(), OutOfMemory>
+    requires { 0 < count_of (get slots.old number) }
+    ensures ok { OnOk result (Recounts slots.old slots.new number (count_of (get slots.old number) + 1)) }
+    ensures err { OnErr result (slots.new ≡ slots.old) }
+    ensures counts { IsOk result ↔ (count_of (get slots.old number) < most_uses) }
 {
-    if let Some(entry) = slots.get_mut(number as usize) {
-        entry.raise();
+    match slots.get_mut(number as usize) {
+        Some(entry) => entry.raise(),
+        None => unreachable!(),
     }
 }
 

@@ -8,7 +8,7 @@ pub enum PoolFault {
     /// As many terms are there as the limit says.
     #[error("the pool is full")]
     Full,
-    /// A request for memory was refused.
+    /// A request for memory was refused, or the term has 2^48 - 1 uses, the most that are counted.
     #[error("out of memory")]
     OutOfMemory,
 }

@@ -1,6 +1,6 @@
 // The terms that are there.
 
-ghost use Rattle.std.specs.Prelude.{◌≡◌, ◌≢◌, ℕ, ◌+◌, ◌<◌, ◌≤◌, ◌^◌, ◌==◌, Some, None, Ok, Err, IfSome, IfNone, IfOk, OnOk, OnErr, IsSome, IsTrue, ◌↔◌};
+ghost use Rattle.std.specs.Prelude.{◌≡◌, ◌≢◌, ℕ, ◌+◌, ◌<◌, ◌≤◌, ◌==◌, Some, None, Ok, Err, IfSome, IfNone, IfOk, IsOk, OnOk, OnErr, IsSome, IsTrue, ◌↔◌};
 ghost use Rattle.std.specs.List.{All};
 ghost use Rattle.rdf_term.specs.Fit.{IsFitAndShort};
 ghost use Rattle.rdf_term.specs.Text.{term_text};
@@ -35,7 +35,7 @@ pub struct Pool {
 }
 
 impl Pool {
-    ghost use Rattle.term_pool.specs.Pool.{LiesIn, IsCanonical, IsNowhere, Interned, KeepsForeign, Released, SameSlots, count_at, terms, text_at};
+    ghost use Rattle.term_pool.specs.Pool.{LiesIn, IsCanonical, IsNowhere, Interned, KeepsForeign, Released, SameSlots, count_at, most_uses, terms, text_at};
     ghost use Rattle.term_pool.specs.Index.{hash_of};
     ghost use Rattle.term_pool.specs.Making.{HasRoom, HasSame};
 
@@ -108,13 +108,11 @@ impl Pool {
     }
 
     /// Counts a use more of a term, and takes it in if it isn't there. After a fault the pool and the region have what they
-    /// had. It writes the term's text first; who has the text calls `intern_text`.
+    /// had. It writes the term's text first; who has the text calls `intern_text`. A count has 48 bits: where the term's is
+    /// the greatest that these hold, 2^48 - 1, the answer is OutOfMemory.
     pub fn intern(&mut self, region: &mut Region, term: &Term) -> Result<Slot, PoolFault>
         requires lies { LiesIn self.old region.old }
         requires fit { IsFitAndShort term.now }
-
-        // A term that is there has fewer than 2^47 uses.
-        requires countable { (slot : ℕ) → text_at self.old region.old slot ≡ Some (term_text term.now) → count_at self.old slot < 2 ^ 47 }
         ensures lies { LiesIn self.new region.new }
         ensures ok { IfOk result (λ slot. Interned self.old region.old self.new region.new slot.number (term_text term.now)) }
         ensures first { IfOk result (λ slot. IsNowhere self.old region.old (term_text term.now) → count_at self.new slot.number ≡ 1) }
@@ -134,27 +132,26 @@ impl Pool {
     }
 
     /// Counts a use more of the term with this canonical text, and takes it in if it isn't there. After a fault the pool
-    /// and the region have what they had.
+    /// and the region have what they had. A term that is there takes no memory. A count has 48 bits: where the term's is the
+    /// greatest that these hold, 2^48 - 1, the answer is OutOfMemory.
     pub fn intern_text(&mut self, region: &mut Region, text: &[u8]) -> Result<Slot, PoolFault>
         requires lies { LiesIn self.old region.old }
         requires canonical { IsCanonical text.now }
-
-        // A term that is there has fewer than 2^47 uses.
-        requires countable { (slot : ℕ) → text_at self.old region.old slot ≡ Some text.now → count_at self.old slot < 2 ^ 47 }
         ensures lies { LiesIn self.new region.new }
         ensures ok { IfOk result (λ slot. Interned self.old region.old self.new region.new slot.number text.now) }
         ensures first { IfOk result (λ slot. IsNowhere self.old region.old text.now → count_at self.new slot.number ≡ 1) }
         ensures err { OnErr result (SameSlots self.old region.old self.new region.new) }
         ensures full { (result ≡ Err PoolFault.Full) ↔ (IsNowhere self.old region.old text.now × (self.old.limit ≤ terms self.old)) }
+        ensures again { (slot : ℕ) → text_at self.old region.old slot ≡ Some text.now → (IsOk result ↔ (count_at self.old slot < most_uses)) }
         ensures foreign { KeepsForeign self.old region.old self.new region.new }
         ensures limit { self.new.limit ≡ self.old.limit }
     {
         let hash = text_hash(&self.keys, text);
         match self.find_hashed(region, hash, text) {
-            Some(slot) => {
-                raise(&mut self.slots, slot.number);
-                Ok(slot)
-            }
+            Some(slot) => match raise(&mut self.slots, slot.number) {
+                Ok(()) => Ok(slot),
+                Err(OutOfMemory) => Err(PoolFault::OutOfMemory),
+            },
             None => self.add(region, hash, text),
         }
     }

@@ -1,7 +1,9 @@
 // What stands in a slot.
 
-ghost use Rattle.std.specs.Prelude.{◌≡◌, ◌+◌, ◌-◌, ◌<◌, ◌^◌, ◌==◌};
+ghost use Rattle.std.specs.Prelude.{◌≡◌, ◌+◌, ◌-◌, ◌<◌, ◌==◌, IsOk, OnOk, OnErr, ◌↔◌};
+ghost use Rattle.term_pool.specs.Pool.{most_uses};
 
+use rdf_term::OutOfMemory;
 use std::marker::Model;
 use text_region::Piece;
 
@@ -56,17 +58,19 @@ impl Entry {
         self.low == 1 && self.high == 0
     }
 
-    pub(crate) fn raise(&mut self)
-        requires { self.old.count < 2 ^ 47 }
-        ensures { self.new ≡ record self.old { count = self.old.count + 1 } }
+    // Counts a use more, unless the count is the greatest that its bits hold.
+    pub(crate) fn raise(&mut self) -> Result<(), OutOfMemory>
+        ensures ok { OnOk result (self.new ≡ record self.old { count = self.old.count + 1 }) }
+        ensures err { OnErr result (self.new ≡ self.old) }
+        ensures counts { IsOk result ↔ (self.old.count < most_uses) }
     {
-        match self.low.checked_add(1) {
-            Some(low) => self.low = low,
-            None => {
-                self.low = 0;
-                self.high += 1;
-            }
-        }
+        let (low, carried) = self.low.overflowing_add(1);
+        self.high = self
+            .high
+            .checked_add(u16::from(carried))
+            .ok_or(OutOfMemory)?;
+        self.low = low;
+        Ok(())
     }
 
     pub(crate) fn lower(&mut self)
