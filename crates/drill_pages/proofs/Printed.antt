@@ -5,7 +5,7 @@ use Rattle.std.specs.Char.{IsScalar}
 use Rattle.std.proofs.lemmas.Bool.Decides.{nat_tests}
 use Rattle.std.proofs.lemmas.Fmt.{decimal_by_steps}
 use Rattle.std.proofs.lemmas.Str.{encode_ascii}
-use Rattle.json_spell.specs.Number.{Each}
+use Rattle.json_spell.specs.Number.{EachPasses}
 use Rattle.json_spell.specs.Text.{unescaped, is_unescaped, AreChars, all_spelled, all_meant, IsString}
 use Rattle.json_spell.specs.Tree.{Tree, null, boolean, number, string, array, object, Trees, no_trees, tree, Pairs, no_pairs, pair}
 use Rattle.json_spell.specs.Grammar.{AreMembers, AreMoreMembers, AreMoreValues, AreValues, IsMember, IsValue, Reads, Spaced}
@@ -24,7 +24,7 @@ plain-scalar x h = grind (arith, nat_tests)
 
 -- each byte is an ASCII character that stands for itself
 abbrev pub IsPlain : List ℕ → Type 0
-IsPlain = Each is_plain
+IsPlain = EachPasses is_plain
 
 pub plain-append : (xs ys : List ℕ) → IsPlain xs → IsPlain ys → IsPlain (xs ++ ys)
 plain-append [] ys h g = g

@@ -16,6 +16,7 @@ use Rattle.munger.specs.Munging.{munge, munged}
 use Rattle.munger.proofs.Fit.{munge_fit}
 use Rattle.munger.proofs.MungedList.{munge_of_list}
 use Rattle.entity_rdf.specs.Dump.{dump}
+use Rattle.entity_rdf.proofs.Each.{of_each_member, of_member}
 use Rattle.entity_rdf.proofs.Fit.{dump_fit}
 use Rattle.entity_rdf.proofs.Labels.{dump_labels}
 
@@ -24,18 +25,9 @@ direct_fit version x rev document small =
     munge_fit x (sorted triple_cmp (dump version x rev document)) (dump_fit version x rev document small) (dump_labels version x rev document)
 
 module _ {A : Type 0} (P : A → Type 0) where
-  of_member : (xs : List A) (a : A) → AllByRecursion P xs → In a xs → P a
-  of_member [] a all there = absurd there
-  of_member (x ∷ xs) a all (inl same) = subst P (sym same) all.0
-  of_member (x ∷ xs) a all (inr there) = of_member xs a all.1 there
-
-  of_each_member : (xs : List A) → ((a : A) → In a xs → P a) → AllByRecursion P xs
-  of_each_member [] each = tt
-  of_each_member (x ∷ xs) each = (each x (inl refl), of_each_member xs (λ a there. each a (inr there)))
-
   -- what holds of each element of a list's set holds of each element of the list
   of_set : {R : A → A → Ordering} → IsTotalOrder R → IsAntisymmetric R → (xs : List A) → AllByRecursion P (sorted R xs) → AllByRecursion P xs
-  of_set {R = R} total same xs all = of_each_member xs (λ a there. of_member (sorted R xs) a all ((member-sorted total same a xs).1 there))
+  of_set {R = R} total same xs all = of_each_member P xs (λ a there. of_member P (sorted R xs) a all ((member-sorted total same a xs).1 there))
 
 -- the list that the set is made of
 pub direct_list_fit : (version : MappingVersion) (x : EntityId) (rev : ℕ) (document : Document) → IsSmall document → AllByRecursion HasFitAndShortTerms (flat_map (munged x) (dump version x rev document))

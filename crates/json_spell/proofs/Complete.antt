@@ -1,14 +1,15 @@
 -- Each value of the grammar is read, so a text has at most one tree.
 use Rattle.std.proofs.Common.{◌≡◌, ℕ, zero, suc, ◌+◌, ◌≤◌, Bool, true, false, not, ◌||◌, ◌==◌, List, [], ◌∷◌, ◌++◌, length, Some, None, ◌⊎◌, inl, inr, ⊎_elim, refl, sym, ap, subst, ◌∙◌, arith, append_assoc, append-nil, length-append}
+use Rattle.std.specs.Char.{is_ascii_digit}
 use Rattle.std.proofs.lemmas.Bool.Decides.{nat_tests}
 use Rattle.json_spell.specs.Tree.{Tree, null, boolean, number, string, array, object, Trees, no_trees, tree, Pairs, no_pairs, pair}
-use Rattle.json_spell.specs.Number.{is_digit, is_digit1_9, is_minus, IsOptional, IsInt, IsNumber}
+use Rattle.json_spell.specs.Number.{is_minus, IsOptional, IsInt, IsNumber}
 use Rattle.json_spell.specs.Text.{IsString, all_spelled}
 use Rattle.json_spell.specs.Grammar.{is_ws, Spaced, Within, Then, IsValue, AreValues, AreMoreValues, AreMembers, AreMoreMembers, Reads, null_name, true_name, false_name}
 use Rattle.json_spell.specs.Reading.{Parse, read_map, skip, after_byte, content_at, literal_at, spaced, list_by, name_at, member_by, add_pair, values, members, number_at, scalar_at, value_by, value, value_at}
 use Rattle.json_spell.proofs.Opened.{some_is}
 use Rattle.json_spell.proofs.Skips.{stops, skip-all}
-use Rattle.json_spell.proofs.Numbers.{in_number, number_at-complete}
+use Rattle.json_spell.proofs.Numbers.{in_number, digit1_9-digit, number_at-complete}
 use Rattle.json_spell.proofs.ContentSteps.{content_at-complete}
 use Rattle.json_spell.proofs.Lists.{Ends, Complete, Next, spaced-sound, spaced-complete, parts-complete, list-empty, list-parts}
 use Rattle.json_spell.proofs.Values.{Member}
@@ -18,7 +19,7 @@ use Rattle.json_spell.proofs.ValueSteps.{value_at-sound}
 record Starts (x : List ℕ) : Type 0 where
   first : ℕ
   rest : List ℕ
-  is_first : (is_digit first || is_minus first) ≡ true
+  is_first : (is_ascii_digit first || is_minus first) ≡ true
   is : x ≡ first ∷ rest
 
 or-left : (a b : Bool) → a ≡ true → (a || b) ≡ true
@@ -29,28 +30,25 @@ or-right : (a b : Bool) → b ≡ true → (a || b) ≡ true
 or-right true b e = refl
 or-right false b e = e
 
-digit1_9-digit : (x : ℕ) → is_digit1_9 x ≡ true → is_digit x ≡ true
-digit1_9-digit x h = grind (arith, nat_tests)
-
 int-starts : (m i rest : List ℕ) → IsOptional is_minus m → IsInt i → Starts (m ++ (i ++ rest))
 int-starts [] [] rest h int = absurd int
 int-starts [] (x ∷ i) rest h int =
-    let digit : is_digit x ≡ true = ⊎_elim (λ z. rw (z.0) refl) (λ d. digit1_9-digit x d.0) int in
-    record { first = x; rest = i ++ rest; is_first = or-left (is_digit x) (is_minus x) digit; is = refl }
-int-starts (x ∷ m) i rest h int = record { first = x; rest = m ++ (i ++ rest); is_first = or-right (is_digit x) (is_minus x) h.0; is = refl }
+    let digit : is_ascii_digit x ≡ true = ⊎_elim (λ z. rw (z.0) refl) (λ d. digit1_9-digit x d.0) int in
+    record { first = x; rest = i ++ rest; is_first = or-left (is_ascii_digit x) (is_minus x) digit; is = refl }
+int-starts (x ∷ m) i rest h int = record { first = x; rest = m ++ (i ++ rest); is_first = or-right (is_ascii_digit x) (is_minus x) h.0; is = refl }
 
 number-starts : (x : List ℕ) → IsNumber x → Starts x
 number-starts x h = subst Starts (sym h.is) (int-starts h.minus h.int (h.frac ++ h.exp) h.optional_minus h.int_holds)
 
 -- which bytes such a start is not
-start-none : (x : ℕ) → (is_digit x || is_minus x) ≡ true → ((x == 0x22) ≡ false) × ((x == 0x5B) ≡ false) × ((x == 0x7B) ≡ false) × ((x == 0x6E) ≡ false) × ((x == 0x74) ≡ false) × ((x == 0x66) ≡ false)
+start-none : (x : ℕ) → (is_ascii_digit x || is_minus x) ≡ true → ((x == 0x22) ≡ false) × ((x == 0x5B) ≡ false) × ((x == 0x7B) ≡ false) × ((x == 0x6E) ≡ false) × ((x == 0x74) ≡ false) × ((x == 0x66) ≡ false)
 start-none x h = (grind (arith, nat_tests), grind (arith, nat_tests), grind (arith, nat_tests), grind (arith, nat_tests), grind (arith, nat_tests), grind (arith, nat_tests))
 
 -- white space and closing brackets, with which no part of a list starts
 abbrev no_start : ℕ → Bool
 no_start x = is_ws x || ((x == 0x5D) || (x == 0x7D))
 
-number-start : (x : ℕ) → (is_digit x || is_minus x) ≡ true → not (no_start x) ≡ true
+number-start : (x : ℕ) → (is_ascii_digit x || is_minus x) ≡ true → not (no_start x) ≡ true
 number-start x h = grind (arith, nat_tests)
 
 value-start : (t : Tree) (x r : List ℕ) → IsValue t x → stops no_start (x ++ r) ≡ true

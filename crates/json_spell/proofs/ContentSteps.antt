@@ -3,7 +3,7 @@ use Rattle.std.proofs.Common.{◌≡◌, ℕ, zero, suc, ◌+◌, ◌/◌, ◌%�
 use lib.Utf8.{encode}
 use Rattle.std.specs.Str.{is_utf8}
 use Rattle.std.proofs.lemmas.Str.{is_utf8-from_IsUtf8, IsUtf8-nil, len_utf8_bounds, length-encode}
-use Rattle.json_spell.specs.Number.{Each}
+use Rattle.json_spell.specs.Number.{EachPasses}
 use Rattle.json_spell.specs.Text.{Char, unescaped, short, unicode, surrogates, is_unescaped, surrogate_pair, AreChars, all_spelled, all_meant}
 use Rattle.json_spell.specs.Reading.{Parse, read_map, ◌>>=◌, skip, before, escape_at, after_run, run_at, content_by, content, content_at}
 use Rattle.json_spell.proofs.Skips.{skip-le, before-append}
@@ -11,7 +11,7 @@ use Rattle.json_spell.proofs.Chars.{escape-sound, short-complete, unicode-comple
 use Rattle.json_spell.proofs.Contents.{high-unescaped, content-past, content_by-step}
 
 -- each byte of an unescaped character is one that stands for itself
-pub unescaped-bytes : (c : ℕ) → is_unescaped c ≡ true → Each is_unescaped (encode c)
+pub unescaped-bytes : (c : ℕ) → is_unescaped c ≡ true → EachPasses is_unescaped (encode c)
 unfolding encode
 unescaped-bytes c h = at (ltb c 128) (ltb c 2048) (ltb c 65536)
   where
@@ -21,7 +21,7 @@ unescaped-bytes c h = at (ltb c 128) (ltb c 2048) (ltb c 65536)
     higher : (m n : ℕ) → 0x5D ≤ m → is_unescaped (m + n) ≡ true
     higher m n l = high-unescaped (m + n) (omega arith)
 
-    at : (x y z : Bool) → Each is_unescaped (cond x (c ∷ []) (cond y ((192 + c / 64) ∷ (128 + c % 64) ∷ []) (cond z ((224 + c / 4096) ∷ (128 + (c / 64) % 64) ∷ (128 + c % 64) ∷ []) ((240 + c / 262144) ∷ (128 + (c / 4096) % 64) ∷ (128 + (c / 64) % 64) ∷ (128 + c % 64) ∷ []))))
+    at : (x y z : Bool) → EachPasses is_unescaped (cond x (c ∷ []) (cond y ((192 + c / 64) ∷ (128 + c % 64) ∷ []) (cond z ((224 + c / 4096) ∷ (128 + (c / 64) % 64) ∷ (128 + c % 64) ∷ []) ((240 + c / 262144) ∷ (128 + (c / 4096) % 64) ∷ (128 + (c / 64) % 64) ∷ (128 + c % 64) ∷ []))))
     at true y z = (h, tt)
     at false true z = (higher 192 (c / 64) (omega arith), (high (c % 64), tt))
     at false false true = (higher 224 (c / 4096) (omega arith), (high ((c / 64) % 64), (high (c % 64), tt)))

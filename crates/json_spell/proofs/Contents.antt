@@ -7,7 +7,7 @@ use lib.Utf8.{scalar, scalars}
 use Rattle.std.proofs.lemmas.Str.{IsUtf8-from_is_utf8, is_utf8-from_IsUtf8, IsUtf8-append, IsUtf8-encode, encode_ascii}
 use Rattle.std.proofs.lemmas.Bool.{cases_lt}
 use Rattle.std.proofs.lemmas.Bool.Decides.{nat_tests}
-use Rattle.json_spell.specs.Number.{Each}
+use Rattle.json_spell.specs.Number.{EachPasses}
 use Rattle.json_spell.specs.Text.{Char, unescaped, is_unescaped, spelled, meant, AreChars, all_spelled, all_meant}
 use Rattle.json_spell.specs.Reading.{Parse, read_map, ◌>>=◌, skip, before, escape_at, after_run, run_at, content_by, content, content_at}
 use Rattle.json_spell.proofs.Opened.{some_is, bind_some, map_some, chosen, guarded}
@@ -43,23 +43,23 @@ spells-append {s} {t} {m} {n} f g = record {
     meant-append (p ∷ ps) = rw (meant-append ps) (sym (append_assoc (encode_utf8 (meant p)) (all_meant ps) (all_meant g.chars)))
 
 -- a run of bytes that stand for themselves is one of characters that do
-each-split : (test : ℕ → Bool) (x y : List ℕ) → Each test (x ++ y) → Each test x × Each test y
+each-split : (test : ℕ → Bool) (x y : List ℕ) → EachPasses test (x ++ y) → EachPasses test x × EachPasses test y
 each-split test [] y h = (tt, h)
 each-split test (a ∷ x) y h = let r = each-split test x y h.1 in ((h.0, r.0), r.1)
 
 pub high-unescaped : (x : ℕ) → 0x5D ≤ x → is_unescaped x ≡ true
 high-unescaped x h = grind (arith, nat_tests)
 
-unescaped-from_bytes : (c : ℕ) → Each is_unescaped (encode_utf8 c) → is_unescaped c ≡ true
+unescaped-from_bytes : (c : ℕ) → EachPasses is_unescaped (encode_utf8 c) → is_unescaped c ≡ true
 unescaped-from_bytes c h = ⊎_elim low high (cases_lt c 128)
   where
     low : c < 128 → is_unescaped c ≡ true
-    low l = (subst (Each is_unescaped) (encode_ascii c l) h).0
+    low l = (subst (EachPasses is_unescaped) (encode_ascii c l) h).0
 
     high : 128 ≤ c → is_unescaped c ≡ true
     high l = high-unescaped c (omega arith)
 
-run-spells-all : (cs : List ℕ) → scalars cs ≡ true → Each is_unescaped (encode_utf8_all cs) → Spells (encode_utf8_all cs) (encode_utf8_all cs)
+run-spells-all : (cs : List ℕ) → scalars cs ≡ true → EachPasses is_unescaped (encode_utf8_all cs) → Spells (encode_utf8_all cs) (encode_utf8_all cs)
 run-spells-all [] s h = record { chars = []; are_chars = tt; text_is = refl; means_is = refl }
 run-spells-all (c ∷ cs) s h =
     let both = both-true (scalar c) (scalars cs) s in
@@ -76,11 +76,11 @@ run-spells-all (c ∷ cs) s h =
     both-true true b e = (refl, e)
     both-true false b e = absurd cc
 
-run-spells : (run : List ℕ) → is_utf8 run ≡ true → Each is_unescaped run → Spells run run
+run-spells : (run : List ℕ) → is_utf8 run ≡ true → EachPasses is_unescaped run → Spells run run
 run-spells run u h =
     let text = IsUtf8-from_is_utf8 run u in
     subst (λ (bytes : List ℕ). Spells bytes bytes) text.1.1
-    (run-spells-all text.0 text.1.0 (subst (Each is_unescaped) (sym text.1.1) h))
+    (run-spells-all text.0 text.1.0 (subst (EachPasses is_unescaped) (sym text.1.1) h))
 
 escape-spells : (s : List ℕ) (c : ℕ) (r : List ℕ) (e : Escape s c r) → Spells (0x5C ∷ e.tail) (encode_utf8 c)
 escape-spells s c r e = record {
@@ -158,7 +158,7 @@ content-sound (suc n) s m r e =
     record { text = got.text; spells = got.spells; is = f.is ∙ got.is }
 
 -- where the run of unescaped bytes ends behind more such bytes
-skip-past : (test : ℕ → Bool) (x s : List ℕ) → Each test x → skip test (x ++ s) ≡ skip test s
+skip-past : (test : ℕ → Bool) (x s : List ℕ) → EachPasses test x → skip test (x ++ s) ≡ skip test s
 skip-past test [] s h = refl
 skip-past test (a ∷ x) s h = rw (h.0) (skip-past test x s h.1)
 
@@ -201,7 +201,7 @@ after_run-past more x run (y ∷ rest) m r e = at (y == 0x22) (y == 0x5C) (escap
 pub content_by-step : (more : Parse (List ℕ)) (s : List ℕ) → is_utf8 (before (skip is_unescaped s) s) ≡ true → content_by more s ≡ after_run more (before (skip is_unescaped s) s) (skip is_unescaped s)
 content_by-step more s e = rw e refl
 
-pub content-past : (n : ℕ) (c : ℕ) (s m r : List ℕ) → IsScalar c → Each is_unescaped (encode_utf8 c) → content n s ≡ Some (m, r) → content n (encode_utf8 c ++ s) ≡ Some (encode_utf8 c ++ m, r)
+pub content-past : (n : ℕ) (c : ℕ) (s m r : List ℕ) → IsScalar c → EachPasses is_unescaped (encode_utf8 c) → content n s ≡ Some (m, r) → content n (encode_utf8 c ++ s) ≡ Some (encode_utf8 c ++ m, r)
 unfolding content
 content-past zero c s m r scalar_is h e = absurd cc
 content-past (suc n) c s m r scalar_is h e =

@@ -1,11 +1,12 @@
 -- What nests at most 64 levels isn't deep.
 use Rattle.std.proofs.Common.{◌≡◌, ℕ, zero, suc, Bool, true, false, List, [], ◌∷◌, ◌++◌, ⊎_elim, refl, sym, ap, subst, ◌∙◌, arith}
+use Rattle.std.specs.Char.{is_ascii_digit}
 use Rattle.std.proofs.lemmas.List.{append-nil}
 use Rattle.std.proofs.lemmas.Bool.Decides.{nat_tests}
 use Rattle.json_spell.specs.declared.deep.Position.TheVariants.{Outside}
 use Rattle.json_spell.specs.Deep.{IsDeep, deep_from}
 use Rattle.json_spell.specs.Tree.{Tree, null, boolean, number, string, array, object, Trees, no_trees, tree, Pairs, no_pairs, pair}
-use Rattle.json_spell.specs.Number.{is_digit, is_digit1_9, is_minus, is_sign, is_point, is_e, AreDigits, IsOptional, IsInt, IsFrac, IsExp, IsNumber}
+use Rattle.json_spell.specs.Number.{is_digit1_9, is_minus, is_sign, is_point, is_e, AreDigits, IsOptional, IsInt, IsFrac, IsExp, IsNumber}
 use Rattle.json_spell.specs.Text.{IsString}
 use Rattle.json_spell.specs.Grammar.{is_ws, IsWs, Spaced, Then, After, IsMember, IsValue, AreValues, AreMoreValues, AreMembers, AreMoreMembers, Reads, null_name, true_name, false_name}
 use Rattle.json_spell.specs.Nesting.{Nests, AllNest, MembersNest}
@@ -19,7 +20,7 @@ ws-passes : (n : ℕ) (xs : List ℕ) → IsWs xs → Passes n xs
 ws-passes n xs h = passes-each is_ws ws-calm n xs h
 
 -- numbers
-digit-calm : (x : ℕ) → is_digit x ≡ true → calm x ≡ true
+digit-calm : (x : ℕ) → is_ascii_digit x ≡ true → calm x ≡ true
 digit-calm x h = grind (arith, nat_tests)
 
 digit1_9-calm : (x : ℕ) → is_digit1_9 x ≡ true → calm x ≡ true
@@ -42,7 +43,7 @@ first-passes n x xs quiet h = passes-append n (x ∷ []) xs (passes-byte n x qui
 
 digits-passes : (n : ℕ) (xs : List ℕ) → AreDigits xs → Passes n xs
 digits-passes n [] h = absurd h
-digits-passes n (x ∷ xs) h = passes-each is_digit digit-calm n (x ∷ xs) h
+digits-passes n (x ∷ xs) h = passes-each is_ascii_digit digit-calm n (x ∷ xs) h
 
 optional-passes : (test : ℕ → Bool) → ((x : ℕ) → test x ≡ true → calm x ≡ true) → (n : ℕ) (xs : List ℕ) → IsOptional test xs → Passes n xs
 optional-passes test quiet n [] h = passes-none n
@@ -52,7 +53,7 @@ int-passes : (n : ℕ) (xs : List ℕ) → IsInt xs → Passes n xs
 int-passes n [] h = absurd h
 int-passes n (x ∷ xs) h = ⊎_elim
     (λ z. subst (λ (q : List ℕ). Passes n q) (ap (λ q. q ∷ xs) (sym z.0) ∙ refl) (first-passes n 0x30 xs refl (subst (λ (q : List ℕ). Passes n q) (sym z.1) (passes-none n))))
-    (λ d. first-passes n x xs (digit1_9-calm x d.0) (passes-each is_digit digit-calm n xs d.1)) h
+    (λ d. first-passes n x xs (digit1_9-calm x d.0) (passes-each is_ascii_digit digit-calm n xs d.1)) h
 
 frac-passes : (n : ℕ) (xs : List ℕ) → IsFrac xs → Passes n xs
 frac-passes n [] h = passes-none n

@@ -1,35 +1,36 @@
 -- Reading a number finds exactly the numbers of the grammar.
 use Rattle.std.proofs.Common.{◌≡◌, ℕ, ◌<◌, Bool, true, false, not, ◌||◌, ◌==◌, cond, List, [], ◌∷◌, ◌++◌, Some, None, inl, inr, ⊎_elim, refl, sym, ap, subst, ◌∙◌, arith, append_assoc}
+use Rattle.std.specs.Char.{is_ascii_digit}
 use Rattle.std.specs.Str.{is_utf8, IsAscii}
 use Rattle.std.proofs.lemmas.Str.{IsUtf8-from_ascii, is_utf8-from_IsUtf8, IsAscii-append}
 use Rattle.std.proofs.lemmas.Str.Ascii.{IsAscii-nil, IsAscii-cons}
 use Rattle.std.proofs.lemmas.Bool.Decides.{nat_tests}
-use Rattle.json_spell.specs.Number.{Each, is_digit, is_digit1_9, is_minus, is_sign, is_point, is_e, AreDigits, IsOptional, IsInt, IsFrac, IsExp, IsNumber}
+use Rattle.json_spell.specs.Number.{EachPasses, is_digit1_9, is_minus, is_sign, is_point, is_e, AreDigits, IsOptional, IsInt, IsFrac, IsExp, IsNumber}
 use Rattle.json_spell.specs.Reading.{skip, skip_one, before, after_digits, after_int, after_frac, after_exp, after_number, number_at}
 use Rattle.json_spell.proofs.Opened.{some_is, bind_some, map_some, chosen, guarded, Found}
 use Rattle.json_spell.proofs.Skips.{stops, skip-split, skip-all, skip_one-split, skip_one-all, before-append}
 
 -- a byte that a number may go on with
 abbrev pub in_number : ℕ → Bool
-in_number x = is_digit x || (is_point x || is_e x)
+in_number x = is_ascii_digit x || (is_point x || is_e x)
 
 -- what the bytes of one kind are not
-digit-no_sign : (x : ℕ) → is_digit x ≡ true → not (is_sign x) ≡ true
+digit-no_sign : (x : ℕ) → is_ascii_digit x ≡ true → not (is_sign x) ≡ true
 digit-no_sign x h = grind (arith, nat_tests)
 
-digit-no_minus : (x : ℕ) → is_digit x ≡ true → not (is_minus x) ≡ true
+digit-no_minus : (x : ℕ) → is_ascii_digit x ≡ true → not (is_minus x) ≡ true
 digit-no_minus x h = grind (arith, nat_tests)
 
-digit1_9-digit : (x : ℕ) → is_digit1_9 x ≡ true → is_digit x ≡ true
+pub digit1_9-digit : (x : ℕ) → is_digit1_9 x ≡ true → is_ascii_digit x ≡ true
 digit1_9-digit x h = grind (arith, nat_tests)
 
 digit1_9-no_zero : (x : ℕ) → is_digit1_9 x ≡ true → (x == 0x30) ≡ false
 digit1_9-no_zero x h = grind (arith, nat_tests)
 
-point-no_digit : (x : ℕ) → is_point x ≡ true → not (is_digit x) ≡ true
+point-no_digit : (x : ℕ) → is_point x ≡ true → not (is_ascii_digit x) ≡ true
 point-no_digit x h = grind (arith, nat_tests)
 
-e-no_digit : (x : ℕ) → is_e x ≡ true → not (is_digit x) ≡ true
+e-no_digit : (x : ℕ) → is_e x ≡ true → not (is_ascii_digit x) ≡ true
 e-no_digit x h = grind (arith, nat_tests)
 
 e-no_point : (x : ℕ) → is_e x ≡ true → not (is_point x) ≡ true
@@ -42,29 +43,29 @@ none-of-three false true c e = absurd cc
 none-of-three false false true e = absurd cc
 
 -- what stops a number stops each of its parts
-ends-digits : (r : List ℕ) → stops in_number r ≡ true → stops is_digit r ≡ true
+ends-digits : (r : List ℕ) → stops in_number r ≡ true → stops is_ascii_digit r ≡ true
 ends-digits [] e = refl
-ends-digits (x ∷ r) e = (none-of-three (is_digit x) (is_point x) (is_e x) e).0
+ends-digits (x ∷ r) e = (none-of-three (is_ascii_digit x) (is_point x) (is_e x) e).0
 
 ends-point : (r : List ℕ) → stops in_number r ≡ true → stops is_point r ≡ true
 ends-point [] e = refl
-ends-point (x ∷ r) e = (none-of-three (is_digit x) (is_point x) (is_e x) e).1
+ends-point (x ∷ r) e = (none-of-three (is_ascii_digit x) (is_point x) (is_e x) e).1
 
 ends-e : (r : List ℕ) → stops in_number r ≡ true → stops is_e r ≡ true
 ends-e [] e = refl
-ends-e (x ∷ r) e = (none-of-three (is_digit x) (is_point x) (is_e x) e).2
+ends-e (x ∷ r) e = (none-of-three (is_ascii_digit x) (is_point x) (is_e x) e).2
 
 -- 1*DIGIT
 digits-sound : (s r : List ℕ) → after_digits s ≡ Some r → Found AreDigits s r
 digits-sound [] r e = absurd cc
 digits-sound (x ∷ s) r e =
-    let g = guarded (is_digit x) e in
-    let f = skip-split is_digit s in
+    let g = guarded (is_ascii_digit x) e in
+    let f = skip-split is_ascii_digit s in
     record { text = x ∷ f.text; holds = (g.0, f.holds); is = ap (λ q. x ∷ q) (f.is ∙ ap (λ q. f.text ++ q) (some_is g.1)) }
 
-digits-complete : (x r : List ℕ) → AreDigits x → stops is_digit r ≡ true → after_digits (x ++ r) ≡ Some r
+digits-complete : (x r : List ℕ) → AreDigits x → stops is_ascii_digit r ≡ true → after_digits (x ++ r) ≡ Some r
 digits-complete [] r h e = absurd h
-digits-complete (a ∷ x) r h e = rw (h.0) (ap Some (skip-all is_digit x r h.1 e))
+digits-complete (a ∷ x) r h e = rw (h.0) (ap Some (skip-all is_ascii_digit x r h.1 e))
 
 digits-start : (x r : List ℕ) → AreDigits x → stops is_sign (x ++ r) ≡ true
 digits-start [] r h = absurd h
@@ -78,21 +79,21 @@ int-sound (x ∷ s) r e = ⊎_elim (λ zero_is. zero zero_is) (λ other. digits 
     zero : ((x == 0x30) ≡ true) × (Some s ≡ Some r) → Found IsInt (x ∷ s) r
     zero h = let z : x ≡ 0x30 = grind (arith, nat_tests) in record { text = x ∷ []; holds = inl (z, refl); is = ap (λ q. x ∷ q) (some_is h.1) }
 
-    digits : ((x == 0x30) ≡ false) × (cond (is_digit1_9 x) (Some (skip is_digit s)) None ≡ Some r) → Found IsInt (x ∷ s) r
+    digits : ((x == 0x30) ≡ false) × (cond (is_digit1_9 x) (Some (skip is_ascii_digit s)) None ≡ Some r) → Found IsInt (x ∷ s) r
     digits h =
         let g = guarded (is_digit1_9 x) h.1 in
-        let f = skip-split is_digit s in
+        let f = skip-split is_ascii_digit s in
         record { text = x ∷ f.text; holds = inr (g.0, f.holds); is = ap (λ q. x ∷ q) (f.is ∙ ap (λ q. f.text ++ q) (some_is g.1)) }
 
-int-complete : (x r : List ℕ) → IsInt x → stops is_digit r ≡ true → after_int (x ++ r) ≡ Some r
+int-complete : (x r : List ℕ) → IsInt x → stops is_ascii_digit r ≡ true → after_int (x ++ r) ≡ Some r
 int-complete [] r h e = absurd h
 int-complete (a ∷ x) r h e = ⊎_elim zero digits h
   where
     zero : (a ≡ 0x30) × (x ≡ []) → after_int (a ∷ (x ++ r)) ≡ Some r
     zero z = rw (z.0, z.1) refl
 
-    digits : (is_digit1_9 a ≡ true) × Each is_digit x → after_int (a ∷ (x ++ r)) ≡ Some r
-    digits d = rw (digit1_9-no_zero a d.0, d.0) (ap Some (skip-all is_digit x r d.1 e))
+    digits : (is_digit1_9 a ≡ true) × EachPasses is_ascii_digit x → after_int (a ∷ (x ++ r)) ≡ Some r
+    digits d = rw (digit1_9-no_zero a d.0, d.0) (ap Some (skip-all is_ascii_digit x r d.1 e))
 
 int-start : (x r : List ℕ) → IsInt x → stops is_minus (x ++ r) ≡ true
 int-start [] r h = absurd h
@@ -109,7 +110,7 @@ frac-sound (x ∷ s) r e = ⊎_elim there none (chosen (is_point x) e)
     none : (is_point x ≡ false) × (Some (x ∷ s) ≡ Some r) → Found IsFrac (x ∷ s) r
     none h = record { text = []; holds = tt; is = some_is h.1 }
 
-frac-complete : (x r : List ℕ) → IsFrac x → stops is_point r ≡ true → stops is_digit r ≡ true → after_frac (x ++ r) ≡ Some r
+frac-complete : (x r : List ℕ) → IsFrac x → stops is_point r ≡ true → stops is_ascii_digit r ≡ true → after_frac (x ++ r) ≡ Some r
 frac-complete [] [] h p e = refl
 frac-complete [] (y ∷ r) h p e = absent (is_point y) p
   where
@@ -118,7 +119,7 @@ frac-complete [] (y ∷ r) h p e = absent (is_point y) p
     absent false q = refl
 frac-complete (a ∷ x) r h p e = rw (h.0) (digits-complete x r h.1 e)
 
-frac-start : (x r : List ℕ) → IsFrac x → stops is_digit r ≡ true → stops is_digit (x ++ r) ≡ true
+frac-start : (x r : List ℕ) → IsFrac x → stops is_ascii_digit r ≡ true → stops is_ascii_digit (x ++ r) ≡ true
 frac-start [] r h e = e
 frac-start (a ∷ x) r h e = point-no_digit a h.0
 
@@ -179,7 +180,7 @@ number-complete x r h e =
     let after_f = h.frac ++ after_e in
     let after_i = h.int ++ after_f in
     let is : x ++ r ≡ h.minus ++ after_i = rw (h.is) (simp append_assoc) in
-    let no_digit : stops is_digit after_e ≡ true = exp-start is_digit e-no_digit h.exp r h.exp_holds (ends-digits r e) in
+    let no_digit : stops is_ascii_digit after_e ≡ true = exp-start is_ascii_digit e-no_digit h.exp r h.exp_holds (ends-digits r e) in
     let no_point : stops is_point after_e ≡ true = exp-start is_point e-no_point h.exp r h.exp_holds (ends-point r e) in
     rw (
       is,
@@ -205,16 +206,16 @@ unfolding number_at
 number_at-complete x r h e = rw (number-complete x r h e, before-append x r) refl
 
 -- a number is ASCII
-pub each-ascii : (test : ℕ → Bool) → ((x : ℕ) → test x ≡ true → x < 128) → (xs : List ℕ) → Each test xs → IsAscii xs
+pub each-ascii : (test : ℕ → Bool) → ((x : ℕ) → test x ≡ true → x < 128) → (xs : List ℕ) → EachPasses test xs → IsAscii xs
 each-ascii test low [] h = IsAscii-nil
 each-ascii test low (x ∷ xs) h = IsAscii-cons x xs (low x h.0) (each-ascii test low xs h.1)
 
-digit-low : (x : ℕ) → is_digit x ≡ true → x < 128
+digit-low : (x : ℕ) → is_ascii_digit x ≡ true → x < 128
 digit-low x h = grind (arith, nat_tests)
 
 digits-ascii : (xs : List ℕ) → AreDigits xs → IsAscii xs
 digits-ascii [] h = absurd h
-digits-ascii (x ∷ xs) h = each-ascii is_digit digit-low (x ∷ xs) h
+digits-ascii (x ∷ xs) h = each-ascii is_ascii_digit digit-low (x ∷ xs) h
 
 optional-ascii : (test : ℕ → Bool) → ((x : ℕ) → test x ≡ true → x < 128) → (xs : List ℕ) → IsOptional test xs → IsAscii xs
 optional-ascii test low [] h = IsAscii-nil
@@ -224,7 +225,7 @@ int-ascii : (xs : List ℕ) → IsInt xs → IsAscii xs
 int-ascii [] h = absurd h
 int-ascii (x ∷ xs) h = ⊎_elim
     (λ z. IsAscii-cons x xs (let e : x ≡ 0x30 = z.0 in omega arith) (rw (z.1) IsAscii-nil))
-    (λ d. each-ascii is_digit digit-low (x ∷ xs) (digit1_9-digit x d.0, d.1)) h
+    (λ d. each-ascii is_ascii_digit digit-low (x ∷ xs) (digit1_9-digit x d.0, d.1)) h
 
 point-low : (x : ℕ) → is_point x ≡ true → x < 128
 point-low x h = grind (arith, nat_tests)

@@ -3,7 +3,7 @@ use Rattle.std.proofs.Common.{◌≡◌, ℕ, ◌<◌, true, List, [], ◌∷◌
 use Rattle.std.specs.Str.{IsUtf8, is_utf8}
 use Rattle.std.proofs.lemmas.Str.{IsUtf8-from_ascii, is_utf8-from_IsUtf8}
 use Rattle.std.proofs.lemmas.Bool.Decides.{nat_tests}
-use Rattle.json_spell.specs.Number.{Each}
+use Rattle.json_spell.specs.Number.{EachPasses}
 use Rattle.json_spell.specs.Text.{is_unescaped}
 use Rattle.json_spell.specs.Reading.{skip, before, run_at, content_at}
 use Rattle.json_spell.specs.Runs.{is_plain}
@@ -17,7 +17,7 @@ plain-low x h = grind (arith, nat_tests)
 plain-unescaped : (x : ℕ) → is_plain x ≡ true → is_unescaped x ≡ true
 plain-unescaped x h = grind (arith, nat_tests)
 
-each-unescaped : (x : List ℕ) → Each is_plain x → Each is_unescaped x
+each-unescaped : (x : List ℕ) → EachPasses is_plain x → EachPasses is_unescaped x
 each-unescaped [] h = tt
 each-unescaped (x ∷ xs) h = (plain-unescaped x h.0, each-unescaped xs h.1)
 

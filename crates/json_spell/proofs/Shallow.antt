@@ -5,7 +5,7 @@ use Rattle.std.proofs.lemmas.Bool.Decides.{nat_tests}
 use Rattle.std.specs.Prelude.{encode_utf8}
 use Rattle.json_spell.specs.declared.deep.Position.TheVariants.{Outside, Inside}
 use Rattle.json_spell.specs.Deep.{position_after, is_opening, is_closing, deep_from}
-use Rattle.json_spell.specs.Number.{Each}
+use Rattle.json_spell.specs.Number.{EachPasses}
 use Rattle.json_spell.specs.Text.{Char, unescaped, short, unicode, surrogates, is_unescaped, code_unit, IsChar, spelled, AreChars, all_spelled, IsString}
 use Rattle.json_spell.proofs.Opened.{guarded}
 use Rattle.json_spell.proofs.ContentSteps.{unescaped-bytes}
@@ -56,7 +56,7 @@ passes-byte n x quiet o c r low =
     let below : nat_lt (c + cond (is_closing x) 1 0 + 64) (o + cond (is_opening x) 1 0) ≡ false = grind (arith, nat_tests, opens, closes, low) in
     record { opened = o + cond (is_opening x) 1 0; closed = c + cond (is_closing x) 1 0; same = omega (arith, opens, closes); is = step x o c r stays below }
 
-pub passes-each : (test : ℕ → Bool) → ((x : ℕ) → test x ≡ true → calm x ≡ true) → (n : ℕ) (xs : List ℕ) → Each test xs → Passes n xs
+pub passes-each : (test : ℕ → Bool) → ((x : ℕ) → test x ≡ true → calm x ≡ true) → (n : ℕ) (xs : List ℕ) → EachPasses test xs → Passes n xs
 passes-each test quiet n [] h = passes-none n
 passes-each test quiet n (x ∷ xs) h = passes-append n (x ∷ []) xs (passes-byte n x (quiet x h.0)) (passes-each test quiet n xs h.1)
 
@@ -85,7 +85,7 @@ inside-step x o c r h =
     let stays : position_after Inside x ≡ Inside = rw (no_mark, no_backslash) refl in
     ap (λ p. deep_from p o c r) stays
 
-inside-run : (xs : List ℕ) (o c : ℕ) (r : List ℕ) → Each is_unescaped xs → deep_from Inside o c (xs ++ r) ≡ deep_from Inside o c r
+inside-run : (xs : List ℕ) (o c : ℕ) (r : List ℕ) → EachPasses is_unescaped xs → deep_from Inside o c (xs ++ r) ≡ deep_from Inside o c r
 inside-run [] o c r h = refl
 inside-run (x ∷ xs) o c r h = inside-step x o c (xs ++ r) h.0 ∙ inside-run xs o c r h.1
 

@@ -1,7 +1,7 @@
 -- What stands before the rest that a skip leaves, and which rest it leaves.
 use Rattle.std.proofs.Common.{◌≡◌, ℕ, ◌-◌, ◌≤◌, Bool, true, false, not, cond, List, [], ◌∷◌, ◌++◌, length, refl, ap, arith, length-append}
 use Rattle.std.proofs.Math.Seq.{take-append_seam}
-use Rattle.json_spell.specs.Number.{Each, IsOptional}
+use Rattle.json_spell.specs.Number.{EachPasses, IsOptional}
 use Rattle.json_spell.specs.Reading.{skip, skip_one, before}
 use Rattle.json_spell.proofs.Opened.{Found}
 
@@ -10,15 +10,15 @@ abbrev pub stops : (ℕ → Bool) → List ℕ → Bool
 stops test [] = true
 stops test (x ∷ s) = not (test x)
 
-skip-split-at : (test : ℕ → Bool) (x : ℕ) (s : List ℕ) (b : Bool) → test x ≡ b → Found (Each test) s (skip test s) → Found (Each test) (x ∷ s) (cond b (skip test s) (x ∷ s))
+skip-split-at : (test : ℕ → Bool) (x : ℕ) (s : List ℕ) (b : Bool) → test x ≡ b → Found (EachPasses test) s (skip test s) → Found (EachPasses test) (x ∷ s) (cond b (skip test s) (x ∷ s))
 skip-split-at test x s true e f = record { text = x ∷ f.text; holds = (e, f.holds); is = ap (λ r. x ∷ r) f.is }
 skip-split-at test x s false e f = record { text = []; holds = tt; is = refl }
 
-pub skip-split : (test : ℕ → Bool) (s : List ℕ) → Found (Each test) s (skip test s)
+pub skip-split : (test : ℕ → Bool) (s : List ℕ) → Found (EachPasses test) s (skip test s)
 skip-split test [] = record { text = []; holds = tt; is = refl }
 skip-split test (x ∷ s) = skip-split-at test x s (test x) refl (skip-split test s)
 
-pub skip-all : (test : ℕ → Bool) (x r : List ℕ) → Each test x → stops test r ≡ true → skip test (x ++ r) ≡ r
+pub skip-all : (test : ℕ → Bool) (x r : List ℕ) → EachPasses test x → stops test r ≡ true → skip test (x ++ r) ≡ r
 skip-all test [] [] h e = refl
 skip-all test [] (y ∷ r) h e = skip-none (test y) e
   where

@@ -2,7 +2,7 @@
 -- There is no byte order mark (section 8.1), as no production has one.
 use Rattle.std.specs.Prelude.{ℕ, List, [], ◌∷◌, ◌++◌, Bool, true, false, ◌≡◌, ◌||◌, ◌==◌}
 use Rattle.json_spell.specs.Tree.{Tree, null, boolean, number, string, array, object, Trees, no_trees, tree, Pairs, no_pairs, pair}
-use Rattle.json_spell.specs.Number.{Each, IsNumber}
+use Rattle.json_spell.specs.Number.{EachPasses, IsNumber}
 use Rattle.json_spell.specs.Text.{IsString}
 
 -- Section 2, ws: space, tab, line feed or carriage return.
@@ -11,7 +11,7 @@ is_ws x = (x == 0x20) || (x == 0x09) || (x == 0x0A) || (x == 0x0D)
 
 -- ws
 abbrev pub IsWs : List ℕ → Type 0
-IsWs = Each is_ws
+IsWs = EachPasses is_ws
 
 -- ws P ws. The RFC counts white space with the structural character beside it, and here it goes with what stands between them.
 pub record Spaced (P : List ℕ → Type 0) (text : List ℕ) : Type 0 where

@@ -1,14 +1,11 @@
 -- RFC 8259, section 6: numbers.
 use Rattle.std.specs.Prelude.{ℕ, List, [], ◌∷◌, ◌++◌, Bool, true, ◌≡◌, ◌⊎◌, ◌&&◌, ◌||◌, ◌==◌, nat_le}
+use Rattle.std.specs.Char.{is_ascii_digit}
+use Rattle.rising.specs.Rising.{Each}
 
 -- each byte passes the test
-abbrev pub Each : (ℕ → Bool) → List ℕ → Type 0
-Each test [] = Unit {0}
-Each test (x ∷ xs) = (test x ≡ true) × Each test xs
-
--- DIGIT
-abbrev pub is_digit : ℕ → Bool
-is_digit x = nat_le 0x30 x && nat_le x 0x39
+abbrev pub EachPasses : (ℕ → Bool) → List ℕ → Type 0
+EachPasses test = Each (λ x. test x ≡ true)
 
 -- digit1-9
 abbrev pub is_digit1_9 : ℕ → Bool
@@ -33,7 +30,7 @@ is_e x = (x == 0x65) || (x == 0x45)
 -- 1*DIGIT
 abbrev pub AreDigits : List ℕ → Type 0
 AreDigits [] = ⊥
-AreDigits (x ∷ xs) = (is_digit x ≡ true) × Each is_digit xs
+AreDigits (x ∷ xs) = (is_ascii_digit x ≡ true) × EachPasses is_ascii_digit xs
 
 -- [ minus ], and likewise [ minus / plus ]
 abbrev pub IsOptional : (ℕ → Bool) → List ℕ → Type 0
@@ -43,7 +40,7 @@ IsOptional test (x ∷ xs) = (test x ≡ true) × (xs ≡ [])
 -- int = zero / ( digit1-9 *DIGIT )
 abbrev pub IsInt : List ℕ → Type 0
 IsInt [] = ⊥
-IsInt (x ∷ xs) = ((x ≡ 0x30) × (xs ≡ [])) ⊎ ((is_digit1_9 x ≡ true) × Each is_digit xs)
+IsInt (x ∷ xs) = ((x ≡ 0x30) × (xs ≡ [])) ⊎ ((is_digit1_9 x ≡ true) × EachPasses is_ascii_digit xs)
 
 -- [ frac ], with frac = decimal-point 1*DIGIT
 abbrev pub IsFrac : List ℕ → Type 0

@@ -2,10 +2,11 @@
 -- Clauses of private functions cite them, and what a document of an entity is stands on them; that they agree with the grammar is
 -- proved.
 use Rattle.std.specs.Prelude.{ℕ, zero, suc, ◌-◌, List, [], ◌∷◌, ◌++◌, length, take, Bool, true, false, cond, ◌&&◌, ◌==◌, Option, Some, None, option_map, option_and_then, encode_utf8}
+use Rattle.std.specs.Char.{is_ascii_digit}
 use Rattle.std.specs.Str.{is_utf8}
 use lib.Utf8.{scalar}
 use Rattle.json_spell.specs.Tree.{Tree, null, boolean, number, string, array, object, Trees, no_trees, tree, Pairs, no_pairs, pair, first_there}
-use Rattle.json_spell.specs.Number.{is_digit, is_digit1_9, is_minus, is_sign, is_point, is_e}
+use Rattle.json_spell.specs.Number.{is_digit1_9, is_minus, is_sign, is_point, is_e}
 use Rattle.json_spell.specs.Text.{is_unescaped, short_escape, code_unit, is_high_surrogate, is_low_surrogate, surrogate_pair}
 use Rattle.json_spell.specs.Grammar.{is_ws, null_name, true_name, false_name}
 
@@ -43,11 +44,11 @@ skip_one test (x ∷ s) = cond (test x) s (x ∷ s)
 -- what follows one digit or more
 abbrev pub after_digits : List ℕ → Option (List ℕ)
 after_digits [] = None
-after_digits (x ∷ s) = cond (is_digit x) (Some (skip is_digit s)) None
+after_digits (x ∷ s) = cond (is_ascii_digit x) (Some (skip is_ascii_digit s)) None
 
 abbrev pub after_int : List ℕ → Option (List ℕ)
 after_int [] = None
-after_int (x ∷ s) = cond (x == 0x30) (Some s) (cond (is_digit1_9 x) (Some (skip is_digit s)) None)
+after_int (x ∷ s) = cond (x == 0x30) (Some s) (cond (is_digit1_9 x) (Some (skip is_ascii_digit s)) None)
 
 abbrev pub after_frac : List ℕ → Option (List ℕ)
 after_frac [] = Some []

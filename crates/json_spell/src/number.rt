@@ -5,7 +5,7 @@ ghost use Rattle.json_spell.specs.Number.{is_minus, is_sign};
 ghost use Rattle.json_spell.specs.Reading.{skip_one, after_digits, after_int, after_frac, after_exp, after_number, number_at};
 ghost use Rattle.json_spell.specs.Parses.{Parses};
 
-use crate::bytes::{before, is_digit, skip_digits, text_of};
+use crate::bytes::{before, skip_digits, text_of};
 use crate::fault::JsonFault;
 
 fn after_minus(bytes: &[u8]) -> &[u8]
@@ -33,7 +33,7 @@ fn after_digits(bytes: &[u8]) -> Option<&[u8]>
     ensures no_longer { IfSome result (λ rest. length rest.now ≤ length bytes.now) }
 {
     match bytes {
-        [digit, rest @ ..] if is_digit(*digit) => Some(skip_digits(rest)),
+        [digit, rest @ ..] if digit.is_ascii_digit() => Some(skip_digits(rest)),
         _ => None,
     }
 }
