@@ -4,6 +4,7 @@
 //! `best` judges the statements of a list, and `emit_statement` hands on the triples of one.
 #![tactic(auto)]
 
+mod label;
 mod laws;
 mod node;
 mod ranking;

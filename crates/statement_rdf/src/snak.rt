@@ -1,8 +1,7 @@
 // The triples of snaks.
 
-ghost use Rattle.std.specs.Prelude.{◌≡◌, [], ◌∷◌, ◌++◌, IfOk, OnOk, decimal, string_bytes};
+ghost use Rattle.std.specs.Prelude.{◌≡◌, [], ◌∷◌, ◌++◌, OnOk};
 ghost use Rattle.std.specs.List.{flat_map};
-ghost use Rattle.rdf_vocabulary.specs.Fields.{field};
 ghost use Rattle.triple_sink.specs.Gains.{Gains};
 ghost use Rattle.triple_sink.specs.TermRef.{meant};
 ghost use Rattle.value_nodes.specs.Name.{node_name};
@@ -10,54 +9,56 @@ ghost use Rattle.value_nodes.specs.Nodes.{node_triples};
 ghost use Rattle.value_nodes.specs.Said.{object_triples};
 ghost use Rattle.value_nodes.specs.Terms.{simple_term};
 ghost use Rattle.rdf_vocabulary.specs.Prefix.{id_term};
-ghost use Rattle.statement_rdf.specs.Snak.{link_triples, no_value_triple, snak_triples, unknown_label, value_triples};
+ghost use Rattle.statement_rdf.specs.Snak.{link_triples, no_value_triple, snak_triples, value_triples};
 
+use crate::label::Labels;
 use crate::role::Role;
 use entity_model::{Content, EntityId, Snak, Value};
-use itoa::Buffer;
-use rdf_term::{OutOfMemory, Text};
-use rdf_vocabulary::{Predicate, Prefix, hashed_name, push_field};
+use rdf_term::OutOfMemory;
+use rdf_vocabulary::{Predicate, Prefix};
 use std::alloc::Global;
 use triple_sink::{Setting, TermRef, TripleSink};
 use value_nodes::{emit_parts, emit_simple, node_name};
 
-/// Hands on the triples of snaks in this role of the statement with this id.
+/// Hands on the triples of snaks in this role of the statement that has these labels.
 pub fn emit_snaks<S: TripleSink>(
     setting: Setting,
     subject: &TermRef<'_>,
-    id: &str,
+    labels: &mut Labels<'_>,
     role: &Role,
     snaks: &[Snak],
     out: &mut S,
 ) -> Result<(), OutOfMemory>
     ensures gains { OnOk result (Gains S.items S.keeps out.old out.new
-        (flat_map (snak_triples setting.version (meant subject.now) id.now role.now) snaks.now)) }
+        (flat_map (snak_triples setting.version (meant subject.now) labels.old role.now) snaks.now)) }
     ensures stays { S.rest out.new ≡ S.rest out.old }
+    ensures same { labels.new ≡ labels.old }
 {
     for snak in snaks {
-        emit_snak(setting, subject, id, role, snak, out)?;
+        emit_snak(setting, subject, labels, role, snak, out)?;
     }
     Ok(())
 }
 
-/// Hands on the triples of a snak in this role of the statement with this id.
+/// Hands on the triples of a snak in this role of the statement that has these labels.
 pub fn emit_snak<S: TripleSink>(
     setting: Setting,
     subject: &TermRef<'_>,
-    id: &str,
+    labels: &mut Labels<'_>,
     role: &Role,
     snak: &Snak,
     out: &mut S,
 ) -> Result<(), OutOfMemory>
     ensures gains { OnOk result (Gains S.items S.keeps out.old out.new
-        (snak_triples setting.version (meant subject.now) id.now role.now snak.now)) }
+        (snak_triples setting.version (meant subject.now) labels.old role.now snak.now)) }
     ensures stays { S.rest out.new ≡ S.rest out.old }
+    ensures same { labels.new ≡ labels.old }
 {
     match &snak.content {
         Content::Value(value) => emit_value(setting, subject, role, snak, value, out),
         Content::NoValue => emit_no_value(setting.alloc, subject, snak.property, out),
         Content::SomeValue => {
-            let label = unknown_label(setting.alloc, id, role, snak)?;
+            let label = labels.label(setting.alloc, role, snak)?;
             let predicate = TermRef::Id(role.value_prefix(), snak.property);
             let object = TermRef::Blank(label.as_str());
             out.emit(setting.alloc, subject, &predicate, &object)
@@ -152,24 +153,4 @@ pub fn emit_no_value<S: TripleSink>(
     let predicate = TermRef::Predicate(Predicate::RdfType);
     let class = TermRef::Id(Prefix::Wdno, property);
     out.emit(alloc, subject, &predicate, &class)
-}
-
-/// The label of the node that stands for an unknown value.
-pub fn unknown_label(alloc: Global, id: &str, role: &Role, snak: &Snak) -> Result<Text, OutOfMemory>
-    ensures { IfOk result (λ label. label ≡ unknown_label id.now role.now snak.now) }
-{
-    let mut fields = String::new(alloc);
-    push_field(id, &mut fields)?;
-    push_field(snak.property.text(alloc)?.as_str(), &mut fields)?;
-    push_field(role.text(alloc)?.as_str(), &mut fields)?;
-    push_decimal(snak.place, &mut fields)?;
-    hashed_name(alloc, fields.as_str())
-}
-
-// Appends the field of a number in decimal.
-fn push_decimal(number: u32, fields: &mut String) -> Result<(), OutOfMemory>
-    ensures { OnOk result (string_bytes fields.new ≡ string_bytes fields.old ++ field (decimal number)) }
-{
-    let mut buffer = Buffer::new();
-    push_field(buffer.format(number), fields)
 }

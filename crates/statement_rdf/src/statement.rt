@@ -6,9 +6,10 @@ ghost use Rattle.triple_sink.specs.Gains.{Gains};
 ghost use Rattle.triple_sink.specs.TermRef.{meant};
 ghost use Rattle.statement_rdf.specs.Statement.{direct_triples, head_triples, main_triples, part_triples, qualifier_triples, rank_resource, reference_triples, source_triples, statement_triples};
 
+use crate::label::Labels;
 use crate::node::statement_name;
 use crate::role::Role;
-use crate::snak::{emit_no_value, emit_object, emit_snak, emit_snaks, unknown_label};
+use crate::snak::{emit_no_value, emit_object, emit_snak, emit_snaks};
 use entity_model::{Content, Rank, Reference, Snak, Statement};
 use rdf_term::{OutOfMemory, Piece};
 use rdf_vocabulary::{Predicate, Prefix, Resource};
@@ -47,11 +48,12 @@ fn emit_all_parts<S: TripleSink>(
         (part_triples setting.version (meant entity.now) (meant node.now) statement.now best)) }
     ensures stays { S.rest out.new ≡ S.rest out.old }
 {
+    let mut labels = Labels::new(statement.id.as_str());
     emit_head(setting.alloc, entity, node, statement, best, out)?;
-    emit_main(setting, entity, node, statement, best, out)?;
-    emit_qualifiers(setting, node, statement, out)?;
+    emit_main(setting, entity, node, statement, best, &mut labels, out)?;
+    emit_qualifiers(setting, node, statement, &mut labels, out)?;
     let references = statement.references.as_slice();
-    emit_references(setting, node, statement.id.as_str(), references, out)
+    emit_references(setting, node, references, &mut labels, out)
 }
 
 // Hands on that the entity has the statement, the statement's class and rank, and whether it is best.
@@ -96,16 +98,18 @@ fn emit_main<S: TripleSink>(
     node: &TermRef<'_>,
     statement: &Statement,
     best: bool,
+    labels: &mut Labels<'_>,
     out: &mut S,
 ) -> Result<(), OutOfMemory>
+    requires { labels.old ≡ statement.now.id }
     ensures gains { OnOk result (Gains S.items S.keeps out.old out.new
         (main_triples setting.version (meant entity.now) (meant node.now) statement.now best)) }
     ensures stays { S.rest out.new ≡ S.rest out.old }
+    ensures same { labels.new ≡ labels.old }
 {
-    let id = statement.id.as_str();
-    emit_snak(setting, node, id, &Role::Main, &statement.main, out)?;
+    emit_snak(setting, node, labels, &Role::Main, &statement.main, out)?;
     if best {
-        emit_direct(setting.alloc, entity, id, &statement.main, out)?;
+        emit_direct(setting.alloc, entity, labels, &statement.main, out)?;
     }
     Ok(())
 }
@@ -114,19 +118,20 @@ fn emit_main<S: TripleSink>(
 fn emit_direct<S: TripleSink>(
     alloc: Global,
     entity: &TermRef<'_>,
-    id: &str,
+    labels: &mut Labels<'_>,
     snak: &Snak,
     out: &mut S,
 ) -> Result<(), OutOfMemory>
     ensures gains { OnOk result (Gains S.items S.keeps out.old out.new
-        (direct_triples (meant entity.now) id.now snak.now)) }
+        (direct_triples (meant entity.now) labels.old snak.now)) }
     ensures stays { S.rest out.new ≡ S.rest out.old }
+    ensures same { labels.new ≡ labels.old }
 {
     match &snak.content {
         Content::Value(value) => emit_object(alloc, entity, Prefix::Wdt, snak, value, out),
         Content::NoValue => emit_no_value(alloc, entity, snak.property, out),
         Content::SomeValue => {
-            let label = unknown_label(alloc, id, &Role::Main, snak)?;
+            let label = labels.label(alloc, &Role::Main, snak)?;
             let predicate = TermRef::Id(Prefix::Wdt, snak.property);
             out.emit(alloc, entity, &predicate, &TermRef::Blank(label.as_str()))
         }
@@ -138,52 +143,56 @@ fn emit_qualifiers<S: TripleSink>(
     setting: Setting,
     node: &TermRef<'_>,
     statement: &Statement,
+    labels: &mut Labels<'_>,
     out: &mut S,
 ) -> Result<(), OutOfMemory>
+    requires { labels.old ≡ statement.now.id }
     ensures gains { OnOk result (Gains S.items S.keeps out.old out.new
         (qualifier_triples setting.version (meant node.now) statement.now)) }
     ensures stays { S.rest out.new ≡ S.rest out.old }
+    ensures same { labels.new ≡ labels.old }
 {
-    let id = statement.id.as_str();
     let qualifiers = statement.qualifiers.as_slice();
-    emit_snaks(setting, node, id, &Role::Qualifier, qualifiers, out)
+    emit_snaks(setting, node, labels, &Role::Qualifier, qualifiers, out)
 }
 
-// Hands on the references of the statement with this id.
+// Hands on the references of the statement that has these labels.
 fn emit_references<S: TripleSink>(
     setting: Setting,
     node: &TermRef<'_>,
-    id: &str,
     references: &[Reference],
+    labels: &mut Labels<'_>,
     out: &mut S,
 ) -> Result<(), OutOfMemory>
     ensures gains { OnOk result (Gains S.items S.keeps out.old out.new
-        (flat_map (reference_triples setting.version (meant node.now) id.now) references.now)) }
+        (flat_map (reference_triples setting.version (meant node.now) labels.old) references.now)) }
     ensures stays { S.rest out.new ≡ S.rest out.old }
+    ensures same { labels.new ≡ labels.old }
 {
     for reference in references {
-        emit_reference(setting, node, id, reference, out)?;
+        emit_reference(setting, node, reference, labels, out)?;
     }
     Ok(())
 }
 
-// Hands on a reference of the statement with this id, and what it says of the source.
+// Hands on a reference of the statement that has these labels, and what it says of the source.
 fn emit_reference<S: TripleSink>(
     setting: Setting,
     node: &TermRef<'_>,
-    id: &str,
     reference: &Reference,
+    labels: &mut Labels<'_>,
     out: &mut S,
 ) -> Result<(), OutOfMemory>
     ensures gains { OnOk result (Gains S.items S.keeps out.old out.new
-        (reference_triples setting.version (meant node.now) id.now reference.now)) }
+        (reference_triples setting.version (meant node.now) labels.old reference.now)) }
     ensures stays { S.rest out.new ≡ S.rest out.old }
+    ensures same { labels.new ≡ labels.old }
 {
     let source = TermRef::Named(Prefix::Wdref, reference.hash.as_str());
     emit_source(setting.alloc, node, &source, out)?;
     let role = Role::Reference(Piece::borrowed(reference.hash.as_str()));
     let snaks = reference.snaks.as_slice();
-    emit_snaks(setting, &source, id, &role, snaks, out)
+    emit_snaks(setting, &source, labels, &role, snaks, out)
 }
 
 // Hands on that the statement is from the source, and the source's class.
