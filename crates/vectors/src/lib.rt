@@ -32,5 +32,3 @@ mod stores;
 mod streams;
 #[cfg(test)]
 mod terms;
-#[cfg(test)]
-mod worlds;

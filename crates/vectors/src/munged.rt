@@ -27,6 +27,8 @@ const LINES: &str =
 <http://www.wikidata.org/entity/Q64> <http://schema.org/name> \"Berlin\"@en .
 <http://www.wikidata.org/entity/Q64> <http://www.w3.org/2004/02/skos/core#altLabel> \"Berlin, Germany\"@en .
 <https://en.wikipedia.org/wiki/Berlin> <http://schema.org/name> \"Berlin\"@en .
+<http://www.wikidata.org/entity/Q64> <http://www.wikidata.org/prop/direct/P2> \"2\"^^<http://a/a> .
+<http://www.wikidata.org/entity/Q64> <http://www.wikidata.org/prop/direct/P2> \"1\"^^<http://a/b> .
 <http://www.wikidata.org/entity/Q64> <http://www.wikidata.org/prop/direct/P1> _:0a .
 _:0a <http://a/p> _:0b .";
 
@@ -41,6 +43,8 @@ const MUNGED: &str =
 <http://www.wikidata.org/entity/Q64> <http://www.w3.org/2000/01/rdf-schema#label> \"Berlin\"@en .
 <http://www.wikidata.org/entity/Q64> <http://www.w3.org/2004/02/skos/core#altLabel> \"Berlin, Germany\"@en .
 <http://www.wikidata.org/entity/Q64> <http://www.wikidata.org/prop/direct/P1> <http://www.wikidata.org/.well-known/genid/0a> .
+<http://www.wikidata.org/entity/Q64> <http://www.wikidata.org/prop/direct/P2> \"1\"^^<http://a/b> .
+<http://www.wikidata.org/entity/Q64> <http://www.wikidata.org/prop/direct/P2> \"2\"^^<http://a/a> .
 <http://www.wikidata.org/entity/statement/Q64-1> <http://www.w3.org/1999/02/22-rdf-syntax-ns#type> <http://wikiba.se/ontology#BestRank> .
 <https://en.wikipedia.org/wiki/Berlin> <http://schema.org/name> \"Berlin\"@en .
 <https://www.wikidata.org/wiki/Special:EntityData/Q6> <http://schema.org/version> \"6\" .
@@ -76,7 +80,7 @@ fn set(alloc: Global, lines: &str) -> Result<TripleSet, Fail> {
 }
 
 // Checks that the set has the lines.
-pub(crate) fn check_lines(
+fn check_lines(
     rt: &(impl Abort + Alloc<A = Global>),
     set: &TripleSet,
     lines: &str,
