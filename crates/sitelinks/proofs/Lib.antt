@@ -1,3 +1,4 @@
+pub mod Around
 pub mod Characters
 pub mod Fit
 pub mod Languages

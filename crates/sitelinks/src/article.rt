@@ -5,13 +5,15 @@ ghost use Rattle.std.specs.List.{AllByRecursion};
 ghost use Rattle.rdf_term.specs.Fit.{HasFitAndShortTerms};
 ghost use Rattle.entity_model.specs.Document.{IsSmallLink};
 ghost use Rattle.rdf_vocabulary.specs.Predicate.{about};
+ghost use Rattle.rdf_vocabulary.specs.Unreserved.{escaped_name};
+ghost use Rattle.sitelinks.specs.Replaced.{replaced};
 ghost use Rattle.triple_sink.specs.Gains.{Gains};
 ghost use Rattle.triple_sink.specs.TermRef.{meant};
 ghost use Rattle.sitelinks.specs.Article.{article_iri, article_triples, badge_triple, group_triple, article_head_triples, site_triples};
 ghost use Rattle.rdf_term.specs.Grammar.{tagged_of};
 
 use crate::lookup::site;
-use crate::replaced::replaced;
+use crate::replaced::around;
 use crate::sites::Site;
 use entity_model::{EntityId, Link};
 use rdf_term::OutOfMemory;
@@ -45,7 +47,7 @@ fn emit_at_site<S: TripleSink>(
     setting: Setting,
     entity: EntityId,
     link: &Link,
-    site: &Site,
+    site: &Site<'_>,
     out: &mut S,
 ) -> Result<(), OutOfMemory>
     ensures gains { OnOk result (Gains S.items S.keeps out.old out.new (site_triples entity link.now site.now)) }
@@ -60,15 +62,27 @@ fn emit_at_site<S: TripleSink>(
 }
 
 // The IRI of the article with this title.
-fn article_iri(alloc: Global, site: &Site, title: &str) -> Result<String, OutOfMemory>
+fn article_iri(alloc: Global, site: &Site<'_>, title: &str) -> Result<String, OutOfMemory>
     ensures { IfOk result (λ iri. string_bytes iri ≡ article_iri site.now title.now) }
 {
-    let title = replaced(alloc, title, ' ', '_')?;
     let mut iri = String::with_capacity(alloc, IRI_ROOM)?;
     iri.push_str(site.base.as_str())?;
     iri.push_str("wiki/")?;
-    push_escaped_name(title.as_str(), &mut iri)?;
+    push_title(title, &mut iri)?;
     Ok(iri)
+}
+
+// Appends a title word by word: `_` stands for each space, and what is reserved in a path is percent-encoded.
+fn push_title(title: &str, iri: &mut String) -> Result<(), OutOfMemory>
+    ensures { OnOk result (string_bytes iri.new ≡ string_bytes iri.old ++ escaped_name (replaced 32 95 title.now)) }
+{
+    let mut left = title;
+    while let Some((word, rest)) = around(left, ' ') {
+        push_escaped_name(word, iri)?;
+        iri.push('_')?;
+        left = rest;
+    }
+    push_escaped_name(left, iri)
 }
 
 // Emits what the article is, and where.
@@ -76,7 +90,7 @@ fn emit_head<S: TripleSink>(
     setting: Setting,
     article: &TermRef<'_>,
     entity: EntityId,
-    site: &Site,
+    site: &Site<'_>,
     out: &mut S,
 ) -> Result<(), OutOfMemory>
     ensures gains { OnOk result (Gains S.items S.keeps out.old out.new (article_head_triples (meant article.now) entity site.now)) }
@@ -102,7 +116,7 @@ fn emit_name<S: TripleSink>(
     setting: Setting,
     article: &TermRef<'_>,
     title: &str,
-    site: &Site,
+    site: &Site<'_>,
     out: &mut S,
 ) -> Result<(), OutOfMemory>
     ensures gains { OnOk result (Gains S.items S.keeps out.old out.new (about (meant article.now) Predicate.Name (tagged_of title.now site.now.language) ∷ [])) }
@@ -130,7 +144,11 @@ fn emit_badges<S: TripleSink>(
 }
 
 // Emits the group of the site.
-fn emit_group<S: TripleSink>(setting: Setting, site: &Site, out: &mut S) -> Result<(), OutOfMemory>
+fn emit_group<S: TripleSink>(
+    setting: Setting,
+    site: &Site<'_>,
+    out: &mut S,
+) -> Result<(), OutOfMemory>
     ensures gains { OnOk result (Gains S.items S.keeps out.old out.new (group_triple site.now ∷ [])) }
     ensures stays { S.rest out.new ≡ S.rest out.old }
 {

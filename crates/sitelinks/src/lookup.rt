@@ -9,19 +9,19 @@ use crate::project::{Project, coded};
 use crate::replaced::replaced;
 use crate::sites::Site;
 use crate::special::SpecialSite;
-use rdf_term::{OutOfMemory, Text};
+use rdf_term::{OutOfMemory, Piece, Text};
 use std::alloc::Global;
 
 // Room for what most IRIs of sites begin with, in bytes.
 const BASE_ROOM: usize = 40;
 
 /// The site with this id, as `enwiki`: one of eight special sites, or the site of a project in a language.
-pub fn site(alloc: Global, id: &str) -> Result<Option<Site>, OutOfMemory>
+pub fn site(alloc: Global, id: &str) -> Result<Option<Site<'_>>, OutOfMemory>
     ensures value { IfOk result (λ site. site ≡ site_of id.now) }
     ensures rules { IfOk result (IsNamed id.now) }
 {
     if let Some(special) = SpecialSite::of_id(id) {
-        return Ok(Some(special_site(alloc, special)?));
+        return Ok(Some(special_site(special)));
     }
     match coded(id) {
         Some((code, project)) => language_site(alloc, code, project),
@@ -30,29 +30,33 @@ pub fn site(alloc: Global, id: &str) -> Result<Option<Site>, OutOfMemory>
 }
 
 #[tactic(auto, unfolding(crate::specs::Site::english))]
-fn special_site(alloc: Global, special: SpecialSite) -> Result<Site, OutOfMemory>
-    ensures { IfOk result (λ site. site ≡ special_site special) }
+fn special_site(special: SpecialSite) -> Site<'static>
+    ensures { result ≡ special_site special }
 {
-    Ok(Site {
-        base: Text::new(alloc, special.base())?,
-        language: Text::new(alloc, "en")?,
-        group: Text::new(alloc, special.group())?,
-    })
+    Site {
+        base: Piece::borrowed(special.base()),
+        language: Piece::borrowed("en"),
+        group: Piece::borrowed(special.group()),
+    }
 }
 
 // The site of a project in the language with this code, if the code is one.
-fn language_site(alloc: Global, code: &str, project: Project) -> Result<Option<Site>, OutOfMemory>
+fn language_site(
+    alloc: Global,
+    code: &str,
+    project: Project,
+) -> Result<Option<Site<'_>>, OutOfMemory>
     ensures { IfOk result (λ site. site ≡ language_site code.now project) }
 {
     let language = replaced(alloc, code, '_', '-')?;
-    if !is_language(language.as_str().as_bytes()) {
+    if !is_language(language.as_bytes()) {
         return Ok(None);
     }
     let base = language_base(alloc, language.as_str(), project)?;
     Ok(Some(Site {
-        base,
-        language: Text::from_string(language),
-        group: Text::new(alloc, project.group())?,
+        base: Piece::owned(base),
+        language,
+        group: Piece::borrowed(project.group()),
     }))
 }
 

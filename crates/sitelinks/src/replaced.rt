@@ -1,18 +1,42 @@
 // Texts with one character in place of another.
 
-ghost use Rattle.std.specs.Prelude.{◌≡◌, ◌<◌, ◌++◌, IfOk, OnOk, string_bytes, encode_utf8};
+ghost use Rattle.std.specs.Prelude.{◌≡◌, ◌<◌, ◌++◌, ◌∷◌, ℕ, IfOk, OnOk, MatchOption, string_bytes, encode_utf8};
 ghost use Rattle.sitelinks.specs.Replaced.{replaced};
 
-use rdf_term::OutOfMemory;
+use rdf_term::{OutOfMemory, Piece, Text};
 use std::alloc::Global;
 
-/// The text with one ASCII character in place of another.
-pub(crate) fn replaced(
+/// What stands before the first of an ASCII character in the text, and what stands behind it.
+pub(crate) fn around(text: &str, from: char) -> Option<(&str, &str)>
+    requires { from < 128 }
+    ensures { (to : ℕ) → MatchOption result (replaced from to text.now ≡ text.now)
+        (λ parts. replaced from to text.now ≡ parts.0.now ++ to ∷ replaced from to parts.1.now) }
+{
+    text.split_once(from)
+}
+
+/// The text with one ASCII character in place of another; a text that lacks the character is borrowed.
+pub(crate) fn replaced<'a>(
     alloc: Global,
-    text: &str,
+    text: &'a str,
     from: char,
     to: char,
-) -> Result<String, OutOfMemory>
+) -> Result<Piece<'a>, OutOfMemory>
+    requires from { from < 128 }
+    requires to { to < 128 }
+    ensures { IfOk result (λ out. out ≡ replaced from to text.now) }
+{
+    match around(text, from) {
+        Some(_) => {
+            let out = replaced_copy(alloc, text, from, to)?;
+            Ok(Piece::owned(Text::from_string(out)))
+        }
+        None => Ok(Piece::borrowed(text)),
+    }
+}
+
+// The text with one ASCII character in place of another, in memory of its own.
+fn replaced_copy(alloc: Global, text: &str, from: char, to: char) -> Result<String, OutOfMemory>
     requires from { from < 128 }
     requires to { to < 128 }
     ensures { IfOk result (λ out. string_bytes out ≡ replaced from to text.now) }

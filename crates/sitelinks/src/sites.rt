@@ -1,14 +1,14 @@
 // Where articles are.
 
-use rdf_term::Text;
+use rdf_term::Piece;
 
-/// A site with articles.
+/// A site with articles. What its id spells out is borrowed from there.
 #[derive(Debug, Drop)]
-pub struct Site {
+pub struct Site<'a> {
     /// What the IRIs of the site begin with, as `https://en.wikipedia.org/`.
-    pub base: Text,
+    pub base: Piece<'a>,
     /// The language of the articles, as `en`.
-    pub language: Text,
+    pub language: Piece<'a>,
     /// The group of sites that it counts to, as `wikipedia`.
-    pub group: Text,
+    pub group: Piece<'a>,
 }

@@ -1,6 +1,6 @@
 // The labels of the nodes that stand for unknown values.
 
-ghost use Rattle.std.specs.Prelude.{◌≡◌, ◌++◌, ◌∷◌, IfOk, OnOk, decimal, string_bytes};
+ghost use Rattle.std.specs.Prelude.{◌≡◌, ◌++◌, IfOk, OnOk, decimal, string_bytes};
 ghost use Rattle.md5.specs.Md5.{Holds};
 ghost use Rattle.entity_model.specs.EntityId.{id_text};
 ghost use Rattle.rdf_vocabulary.specs.Fields.{field};

@@ -8,8 +8,8 @@ use Rattle.sitelinks.proofs.lookup.site.Goals as goal
 
 pub returns-in-Some-clause-rules : goal.returns-in-Some-clause-rules
 returns-in-Some-clause-rules c =
-    let value : Some c.in_ok-special_site.field-0 ≡ site_of c.args.id.now = first_of (search rules, grind (arith, common_steps)) in
-    IsNamed-looked_up c.args.id.now (Some c.in_ok-special_site.field-0) value
+    let value : Some c.special_site.result ≡ site_of c.args.id.now = first_of (search rules, grind (arith, common_steps)) in
+    IsNamed-looked_up c.args.id.now (Some c.special_site.result) value
 
 pub returns-in-Some-coded-clause-rules : goal.returns-in-Some-coded-clause-rules
 returns-in-Some-coded-clause-rules c =
