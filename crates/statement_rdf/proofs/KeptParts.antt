@@ -5,15 +5,15 @@ use Rattle.std.proofs.lemmas.List.Concat.{flat_map-append}
 use Rattle.std.specs.List.{list_all}
 use Rattle.std.proofs.lemmas.Bool.Decides.{nat_tests}
 use Rattle.rdf_vocabulary.proofs.Shared.{both}
-use Rattle.statement_rdf.specs.Node.{is_kept, name_byte, statement_name}
+use Rattle.statement_rdf.specs.Node.{is_node_char, name_byte, statement_name}
 
-stands : (b : ℕ) → is_kept b ≡ true → name_byte b ≡ b ∷ []
+stands : (b : ℕ) → is_node_char b ≡ true → name_byte b ≡ b ∷ []
 stands b h = grind (arith, nat_tests)
 
-pub kept_same : (id : List ℕ) → list_all is_kept id ≡ true → statement_name id ≡ id
+pub kept_same : (id : List ℕ) → list_all is_node_char id ≡ true → statement_name id ≡ id
 kept_same [] h = refl
 kept_same (b ∷ id) h =
-    let parts = both (is_kept b) (list_all is_kept id) h in
+    let parts = both (is_node_char b) (list_all is_node_char id) h in
     rw (stands b parts.0) (ap (λ t. b ∷ t) (kept_same id parts.1))
 
 pub name_around : (id front back : List ℕ) → id ≡ front ++ 36 ∷ back → statement_name id ≡ statement_name front ++ 45 ∷ statement_name back

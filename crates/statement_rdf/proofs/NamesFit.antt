@@ -14,16 +14,16 @@ use Rattle.rdf_vocabulary.specs.Fields.{hashed_name}
 use Rattle.rdf_vocabulary.proofs.Fit.{prefixed_fit}
 use Rattle.rdf_vocabulary.proofs.NamesFit.{hashed_name_letters, length-hashed_name, letters_iri}
 use Rattle.rdf_vocabulary.proofs.Shared.{both, chosen}
-use Rattle.statement_rdf.specs.Node.{is_continuation, is_kept, name_byte, name_char, statement_name, statement_node, reference_node}
+use Rattle.statement_rdf.specs.Node.{is_continuation, is_node_char, name_byte, name_char, statement_name, statement_node, reference_node}
 
 -- what a byte of a statement's id becomes may stand in an IRI
-kept_fit : (c : ℕ) → is_kept c ≡ true → is_iri_char c ≡ true
+kept_fit : (c : ℕ) → is_node_char c ≡ true → is_iri_char c ≡ true
 kept_fit c h = grind (arith, nat_tests)
 
 char_fit : (c : ℕ) → is_iri_char (name_char c) ≡ true
-char_fit c = by_test (is_kept c) refl
+char_fit c = by_test (is_node_char c) refl
   where
-    by_test : (b : Bool) → is_kept c ≡ b → is_iri_char (cond b c 45) ≡ true
+    by_test : (b : Bool) → is_node_char c ≡ b → is_iri_char (cond b c 45) ≡ true
     by_test true e = kept_fit c e
     by_test false e = refl
 

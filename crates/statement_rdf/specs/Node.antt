@@ -7,12 +7,12 @@ use Rattle.rdf_vocabulary.specs.declared.prefix.Prefix.TheVariants.{Wds, Wdref}
 use Rattle.rdf_vocabulary.specs.Prefix.{prefixed}
 
 -- whether a character may stand in the name of a statement's node: ASCII letters, digits, `_` and `-`
-abbrev pub is_kept : ℕ → Bool
-is_kept c = is_ascii_alphanumeric c || (c == 95) || (c == 45)
+abbrev pub is_node_char : ℕ → Bool
+is_node_char c = is_ascii_alphanumeric c || (c == 95) || (c == 45)
 
 -- a character of a statement's id in the name of its node: any other becomes `-`
 abbrev pub name_char : ℕ → ℕ
-name_char c = if is_kept c then c else 45
+name_char c = if is_node_char c then c else 45
 
 -- whether a byte of a text in UTF-8 goes on with a character that began before it
 abbrev pub is_continuation : ℕ → Bool

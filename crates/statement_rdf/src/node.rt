@@ -2,7 +2,7 @@
 
 ghost use Rattle.std.specs.Prelude.{◌≡◌, ◌++◌, ◌∷◌, IfOk, IfSome, OnOk, string_bytes};
 ghost use Rattle.std.specs.List.{list_all};
-ghost use Rattle.statement_rdf.specs.Node.{is_kept, name_byte, statement_name};
+ghost use Rattle.statement_rdf.specs.Node.{is_node_char, name_byte, statement_name};
 
 use rdf_term::{OutOfMemory, Text};
 use std::alloc::Global;
@@ -52,7 +52,7 @@ fn push_part(id: &str, name: &mut String) -> Result<(), OutOfMemory>
 
 // Whether each byte stands for itself in the name.
 fn are_kept(id: &[u8]) -> bool
-    ensures { result ≡ list_all is_kept id.now }
+    ensures { result ≡ list_all is_node_char id.now }
 {
     id.iter().all(|byte| byte.is_ascii_alphanumeric() || matches!(*byte, b'_' | b'-'))
 }

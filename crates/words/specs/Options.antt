@@ -45,8 +45,8 @@ abbrev pub greatest_horizon : ℕ
 greatest_horizon = 9223372036854775807
 
 -- the most bytes, the most terms and the horizon are within what may be allowed
-abbrev pub IsWithin : Choices → Type 0
-IsWithin c =
+abbrev pub IsAllowed : Choices → Type 0
+IsAllowed c =
     (unwrap_or c.limit 0 ≤ greatest_limit) × (1 ≤ unwrap_or c.terms 1) × (unwrap_or c.terms 1 ≤ greatest_terms)
     × (unwrap_or c.horizon 0 ≤ greatest_horizon)
 

@@ -5,7 +5,7 @@ ghost use Rattle.std.specs.Fmt.{decimal};
 ghost use Rattle.std.specs.Option.{option_and_then};
 ghost use Rattle.clap.specs.Words.{app_of, first_of, first_value, found_of, kind_of, matches_of, one_text, rows_of, rule_of, takes};
 ghost use Rattle.words.specs.Arguments.{HasChoices, drill_command, drill_words, flag_rule, option_rule, replay_command, word_of_flag, word_of_value, words_of};
-ghost use Rattle.words.specs.Options.{Choices, IsWithin, horizon_in, limit_in, limit_of, place_of, terms_in, terms_of};
+ghost use Rattle.words.specs.Options.{Choices, IsAllowed, horizon_in, limit_in, limit_of, place_of, terms_in, terms_of};
 ghost use Rattle.words.specs.Plan.{greatest_size, size_in};
 
 use crate::options::{ReplayOptions, read_horizon, read_limit, read_terms};
@@ -129,7 +129,7 @@ pub fn take_arguments(alloc: Global, options: &ReplayOptions<'_>) -> Result<Argu
 // The command's name, and then one word for each item that is there.
 fn item_words(alloc: Global, options: &ReplayOptions<'_>) -> Result<Vec<String>, OutOfMemory>
     ensures words { IfOk result (λ words. map (λ w. string_bytes w) words.items ≡ words_of options.now) }
-    ensures within { IfOk result (λ _. IsWithin options.now) }
+    ensures within { IfOk result (λ _. IsAllowed options.now) }
 {
     let mut words = Vec::new(alloc);
     words.push(String::from_str(alloc, "replay")?)?;
@@ -238,7 +238,7 @@ fn flag<'a>(alloc: Global, name: &'a str) -> Arg<'a>
 
 // The values that clap matched.
 fn arguments_in(alloc: Global, matches: &ArgMatches<'_>) -> Result<Arguments, OutOfMemory>
-    ensures { (c : Choices) → IsWithin c → HasChoices (rows_of (found_of matches.now)) c → IfOk result (λ arguments. arguments ≡ c) }
+    ensures { (c : Choices) → IsAllowed c → HasChoices (rows_of (found_of matches.now)) c → IfOk result (λ arguments. arguments ≡ c) }
 {
     Ok(Arguments {
         place: place_in(alloc, matches)?,

@@ -3,7 +3,7 @@
 ghost use Rattle.std.specs.Prelude.{◌≡◌, ◌≤◌, not, true, IfSome};
 ghost use Rattle.std.specs.Option.{option_map};
 ghost use Rattle.words.specs.Items.{is_value};
-ghost use Rattle.words.specs.Options.{IsAdded, IsWithin, greatest_horizon, greatest_limit, greatest_terms, horizon_in, limit_in, nothing_chosen, terms_in, with_flag, with_horizon, with_item, with_limit, with_place, with_terms, with_value};
+ghost use Rattle.words.specs.Options.{IsAdded, IsAllowed, greatest_horizon, greatest_limit, greatest_terms, horizon_in, limit_in, nothing_chosen, terms_in, with_flag, with_horizon, with_item, with_limit, with_place, with_terms, with_value};
 
 use crate::items::is_value;
 use crate::numbers::read_number;
@@ -78,7 +78,7 @@ impl<'a> ReplayOptions<'a> {
     /// The most bytes of the input, if the words say how many.
     pub fn limit(&self) -> Option<u64>
         ensures value { result ≡ self.now.limit }
-        ensures within { IsWithin self.now }
+        ensures within { IsAllowed self.now }
     {
         self.limit
     }

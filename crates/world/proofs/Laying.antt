@@ -1,5 +1,6 @@
 -- The region has the texts of the stored terms and the held pages, and nothing else.
 use Rattle.std.proofs.Common.{◌≡◌, ℕ, ◌⊎◌, inl, inr, Bool, true, false, ◌||◌, List, [], ◌∷◌, Option, Some, None, is_some, unwrap_or, refl, sym, ◌∙◌, ap, subst, true≢false, ⊎_elim}
+use Rattle.std.proofs.lemmas.Bool.{or_cases}
 use Rattle.std.specs.Prelude.{slice_index_or}
 use Rattle.std.specs.List.{flat_map, list_any}
 use Rattle.std.specs.FinMap as map
@@ -60,10 +61,6 @@ passing : (p : Triple → Bool) (ts : List Triple) → list_any p ts ≡ true �
 passing p [] h = absurd (true≢false (sym h))
 passing p (t ∷ ts) h = passing_step p t ts (p t) refl h (passing p ts)
 
-one_of : (a b : Bool) → (a || b) ≡ true → (a ≡ true) ⊎ (b ≡ true)
-one_of true b h = inl refl
-one_of false b h = inr h
-
 some_is : (o : Option Bytes) → is_some o ≡ true → o ≡ Some (unwrap_or o [])
 some_is None h = absurd (true≢false (sym h))
 some_is (Some v) h = refl
@@ -104,9 +101,9 @@ module _ (m : Meaning Triple) (st : Store) (r : Texts) (kept : KeptRecords) (h :
       (λ last. ⊎_elim
       (λ c. (key.third, has.object ∙ ap (λ v. Some (term_text v)) (sym (term_cmp-IsAntisymmetric t u.object (equal _ c)))))
       (λ none. absurd (true≢false (sym none)))
-      (one_of (eq_by_cmp term_cmp t u.object) false last))
-      (one_of (eq_by_cmp term_cmp t u.predicate) (eq_by_cmp term_cmp t u.object || false) rest))
-      (one_of (eq_by_cmp term_cmp t u.subject) (eq_by_cmp term_cmp t u.predicate || (eq_by_cmp term_cmp t u.object || false)) there)
+      (or_cases (eq_by_cmp term_cmp t u.object) false last))
+      (or_cases (eq_by_cmp term_cmp t u.predicate) (eq_by_cmp term_cmp t u.object || false) rest))
+      (or_cases (eq_by_cmp term_cmp t u.subject) (eq_by_cmp term_cmp t u.predicate || (eq_by_cmp term_cmp t u.object || false)) there)
 
   was_stored : (u : Triple) → has triple_cmp u (union triple_cmp m (seen st r kept)) ≡ true → has triple_cmp u (map.keys (counts_in st r)) ≡ true
   was_stored u there = subst (λ (ts : List Triple). has triple_cmp u ts ≡ true) (sym (stored_union m st r kept h)) there
