@@ -1,5 +1,5 @@
 -- What a read takes and a write puts, where the bytes are told, and what it is that a count rose.
-use Rattle.std.specs.Prelude.{◌≡◌, ℕ, ◌+◌, ◌-◌, ◌^◌, ◌≤◌, List, [], ◌++◌, take, max, min, Option, Result, IfSome, MatchResult}
+use Rattle.std.specs.Prelude.{◌≡◌, ℕ, ◌+◌, ◌-◌, ◌^◌, ◌≤◌, List, [], ◌++◌, take, max, min, Option, Result, Ok, Err, IfSome, MatchResult}
 use Rattle.std.specs.Option.{option_map}
 
 -- the bytes, and then the ones that are told
@@ -19,6 +19,20 @@ IsAtEnd known = IfSome known (λ xs. xs ≡ [])
 abbrev pub ReadTakes : {E : Type 0} → Option (List ℕ) → Option (List ℕ) → Result ℕ E → List ℕ → Type 0
 ReadTakes old new outcome buffer =
     MatchResult outcome (λ n. (old ≡ before_known (take n buffer) new) × (n ≡ 0 → IsAtEnd old)) (λ _. new ≡ old)
+
+-- what a call of `read` asked for, and how many bytes it gave: none where it failed. Before the first call both are 0
+pub record LastRead : Type 0 where
+  pub asked : ℕ
+  pub gave : ℕ
+
+-- how many bytes a read gave
+abbrev pub given_by : {E : Type 0} → Result ℕ E → ℕ
+given_by (Ok n) = n
+given_by (Err _) = 0
+
+-- where the last read is told, it is the one that asked for so many bytes and has this outcome; whether it is told never changes
+abbrev pub IsLastRead : {E : Type 0} → Option LastRead → Option LastRead → ℕ → Result ℕ E → Type 0
+IsLastRead old new asked outcome = new ≡ option_map (λ _. record { asked = asked; gave = given_by outcome }) old
 
 -- a write that took n bytes put the first n bytes at the end; one that failed put none
 abbrev pub WritePuts : {E : Type 0} → Option (List ℕ) → Option (List ℕ) → Result ℕ E → List ℕ → Type 0

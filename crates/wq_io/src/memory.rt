@@ -3,7 +3,7 @@
 ghost use Rattle.std.specs.Prelude.{◌≡◌, ◌↔◌, ◌<◌, ◌≤◌, Some, [], length, min, nat_le, vec_len, IfErr, IfOk, IsErr, IsTrue, OnErr, OnOk, Err};
 ghost use Rattle.std.proofs.lemmas.List.Sums.{count_by-le-length};
 ghost use Rattle.wq_io.specs.Failing.{after_call, fails_next, failures};
-ghost use Rattle.wq_io.specs.Streams.{ReadTakes, Rose, WritePuts};
+ghost use Rattle.wq_io.specs.Streams.{IsLastRead, ReadTakes, Rose, WritePuts};
 
 use crate::failing::FailingCalls;
 use crate::sink::{NoWrite, Sink};
@@ -19,6 +19,8 @@ pub struct MemorySource {
     at: usize,
     piece: usize,
     failing: FailingCalls,
+    asked: usize,
+    gave: usize,
 }
 
 impl Model for MemorySource {
@@ -27,7 +29,12 @@ impl Model for MemorySource {
 
     ghost Value = { Reads };
 
-    ghost view = { λ a. record { left = drop a.at a.bytes.items; piece = a.piece; calls = a.failing } };
+    ghost view = { λ a. record {
+      left = drop a.at a.bytes.items;
+      piece = a.piece;
+      calls = a.failing;
+      last = record { asked = a.asked; gave = a.gave };
+    } };
 
     ghost invariant = { λ a. (a.at ≤ vec_len a.bytes) × (1 ≤ a.piece) };
 }
@@ -40,6 +47,7 @@ impl MemorySource {
           left = bytes.items;
           piece = piece;
           calls = record { numbers = failing; calls = 0 };
+          last = record { asked = 0; gave = 0 };
         } }
     {
         MemorySource {
@@ -47,6 +55,8 @@ impl MemorySource {
             at: 0,
             piece,
             failing: FailingCalls::new(failing),
+            asked: 0,
+            gave: 0,
         }
     }
 
@@ -61,6 +71,8 @@ impl MemorySource {
 impl Source for MemorySource {
     ghost left = { λ s. Some s.left };
 
+    ghost last = { λ s. Some s.last };
+
     ghost faults = { λ s. failures s.calls };
 
     ghost most_faults = { λ s. Some (length s.calls.numbers) };
@@ -73,11 +85,14 @@ impl Source for MemorySource {
         ensures piece { self.new.piece ≡ self.old.piece }
         ensures bound { IfOk result (λ n. n ≤ length buf.new) }
         ensures bytes { ReadTakes (Some self.old.left) (Some self.new.left) result buf.new }
+        ensures asked { IsLastRead (Some self.old.last) (Some self.new.last) (length buf.old) result }
         ensures later { failures self.old.calls ≤ failures self.new.calls }
         ensures quiet { OnOk result (failures self.new.calls ≡ failures self.old.calls) }
         ensures cause { OnErr result (Rose (failures self.old.calls) (failures self.new.calls)) }
         ensures most { Some (length self.new.calls.numbers) ≡ Some (length self.old.calls.numbers) }
     {
+        self.asked = buf.len();
+        self.gave = 0;
         if self.failing.next_fails() {
             return Err(Failed);
         }
@@ -85,6 +100,7 @@ impl Source for MemorySource {
         let count = self.piece.min(buf.len()).min(left.len());
         buf[..count].copy_from_slice(&left[..count]);
         self.at += count;
+        self.gave = count;
         Ok(count)
     }
 
