@@ -116,6 +116,7 @@ impl SlotIndex {
         ensures found { IfOk result (λ found. (p : TheKey → Bool) → count_by p found ≡ count_by (λ key. agrees pattern key && p key) (map.keys self.now)) }
         ensures rising { IsRising key_cmp (map.keys self.now) }
         ensures cost { IfOk result (λ found. Within (map.len self.now) (9 + length found) steps.old steps.new) }
+        ensures forward { steps.old ≤ steps.new }
     {
         let found = self.orders.range(pattern, steps)?;
         Ok(found)

@@ -123,6 +123,7 @@ impl Orders {
         ensures found { IfOk result (λ found. (p : TheKey → Bool) → count_by p found ≡ count_by (λ key. agrees pattern key && p key) self.now) }
         ensures rising { IsRising key_cmp self.now }
         ensures cost { IfOk result (λ found. Within (length self.now) (9 + length found) steps.old steps.new) }
+        ensures forward { steps.old ≤ steps.new }
     {
         if pattern.leads() {
             let found = leading(&self.subjects, pattern, steps)?;
@@ -149,6 +150,7 @@ fn leading<L: Ledger>(
     requires fit { All IsFit (keys_of index.now) }
     ensures keys { IfOk result (λ keys. keys ≡ filter (agrees pattern) (keys_of index.now)) }
     ensures cost { IfOk result (λ keys. Within (length (keys_of index.now)) (9 + length keys) steps.old steps.new) }
+    ensures forward { steps.old ≤ steps.new }
 {
     let keys = index.range(pattern.low(), pattern.high(), steps)?;
     Ok(keys)
