@@ -1,8 +1,7 @@
 -- A store after one owner more or less of a triple.
-use Rattle.std.proofs.Common.{◌≡◌, ℕ, suc, ◌+◌, ◌-◌, ◌*◌, ◌^◌, ◌<◌, ◌≤◌, ◌==◌, length, [], ◌∷◌, Bool, true, false, List, Option, Some, None, is_eq, is_some, unwrap_or, refl, sym, ◌∙◌, ap, subst, arith, add-one, ⊎_elim}
+use Rattle.std.proofs.Common.{◌≡◌, ℕ, suc, ◌+◌, ◌-◌, ◌<◌, [], ◌∷◌, Bool, true, false, List, Option, Some, None, is_eq, is_some, unwrap_or, refl, sym, ◌∙◌, ap, subst, arith, add-one, ⊎_elim}
 use Rattle.std.specs.FinMap as map
 use Rattle.std.proofs.lemmas.Bool.{cases_eq, cases_lt}
-use Rattle.std.proofs.lemmas.List.{length-map}
 use Rattle.std.proofs.lemmas.List.Sums.{sum_by-cons}
 use Rattle.std.proofs.lemmas.Cmp.{tied_itself}
 use Rattle.rising.specs.Rising.{has}
@@ -134,18 +133,6 @@ pub back : (p q u : Pool) (r s v : Texts) (k : Key) (of : TripleText) → Held p
 back p q u r s v k of held gone x = omega (arith, held.counts x, gone.counts x)
 
 -- ---- the places of a slot
-
-few_places : (keys : List Key) (slot : ℕ) → slots.used keys slot ≤ 3 * length keys
-few_places [] slot = omega arith
-few_places (k ∷ ks) slot = omega (arith, sum_by-cons (uses slot) k ks, few_places ks slot, one_most (k.first == slot), one_most (k.second == slot), one_most (k.third == slot))
-  where
-    one_most : (b : Bool) → one_if b ≤ 1
-    one_most true = omega arith
-    one_most false = omega arith
-
-pub few_uses : (st : Store) (r : Texts) (slot : ℕ) → IsStored st r → map.len st.index < 2 ^ 44 → count_at st.pool slot < 2 ^ 46
-few_uses st r slot h few =
-    omega (arith, h.counted slot, few_places (map.keys st.index) slot, few, map.len-entries st.index, length-map (map.entries st.index) (λ e. e.0))
 
 -- a slot that is used stands in a stored triple
 record User (keys : List Key) (slot : ℕ) : Type 0 where

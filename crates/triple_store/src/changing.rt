@@ -20,10 +20,6 @@ use term_pool::{Pool, PoolFault};
 use text_region::Region;
 use triple_texts::TripleText;
 
-// The most triples that a store takes, more than any memory holds. While it has fewer, no term has 2^46 uses, so a count of a
-// term fits into 48 bits.
-const MOST_TRIPLES: usize = 1 << 44;
-
 impl Store {
     // The triple of slots with these texts, where each of them is there; the triple need not be stored. Subject and
     // predicate are tried first in the slots that they have in a triple near by, since triples that follow each other mostly
@@ -82,9 +78,6 @@ impl Store {
         ensures beside { (piece : ThePiece) → beside self.new region.new piece ≡ beside self.old region.old piece }
         ensures limit { limit_of self.new ≡ limit_of self.old }
     {
-        if self.index.len() >= MOST_TRIPLES {
-            return Err(StoreFault::OutOfMemory);
-        }
         let key = match hold(&mut self.pool, region, texts) {
             Ok(key) => key,
             Err(PoolFault::Full) => return Err(StoreFault::Full),

@@ -1,6 +1,6 @@
 // The terms of a triple, used once more and once less.
 
-ghost use Rattle.std.specs.Prelude.{◌≡◌, ℕ, ◌<◌, ◌≤◌, ◌^◌, List, Err, IfOk, OnErr};
+ghost use Rattle.std.specs.Prelude.{◌≡◌, ℕ, ◌<◌, ◌≤◌, List, Err, IfOk, OnErr};
 ghost use Rattle.rdf_term.specs.declared.term.Term.{Term};
 ghost use Rattle.text_region.specs.Region.{Texts};
 ghost use Rattle.term_pool.specs.Pool.{LiesIn, KeepsForeign, SameSlots, count_at};
@@ -22,7 +22,6 @@ pub(crate) fn hold(
 ) -> Result<Key, PoolFault>
     requires lies { LiesIn pool.old region.old }
     requires canonical { HasCanonicalTexts texts.now }
-    requires countable { (slot : ℕ) → count_at pool.old slot < 2 ^ 46 }
     ensures lies { LiesIn pool.new region.new }
     ensures ok { IfOk result (λ key. Held pool.old region.old pool.new region.new key texts.now) }
     ensures err { OnErr result (SameSlots pool.old region.old pool.new region.new) }

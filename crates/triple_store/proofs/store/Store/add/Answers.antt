@@ -7,11 +7,8 @@ use Rattle.triple_store.specs.Counts.{count_of}
 use Rattle.triple_store.specs.Holding.{KeepsTexts}
 use Rattle.triple_store.specs.Slots.{HasTriple, triple_of}
 use Rattle.triple_store.proofs.Live.{count_image}
-use Rattle.triple_store.proofs.Storing.{again, back, counts_after, counts_kept, counts_unmoved, few_uses, has_triple, keeps_let_go, key_after, keys_after, keys_unmoved, live_kept, live_stored, stored_again, stored_new, terms_stored}
+use Rattle.triple_store.proofs.Storing.{again, back, counts_after, counts_kept, counts_unmoved, has_triple, keeps_let_go, key_after, keys_after, keys_unmoved, live_kept, live_stored, stored_again, stored_new, terms_stored}
 use Rattle.triple_store.proofs.store.Store.add.Goals as goal
-
-pub hold-requires-clause-countable : goal.hold-requires-clause-countable
-hold-requires-clause-countable c = λ slot. few_uses c.args.self.now c.args.region.now slot c.requires.stored (omega (arith, c.len.ensures.len, c.if-len-ge-MOST_TRIPLES.false))
 
 pub returns-in-Err-Full-clause-err : goal.returns-in-Err-Full-clause-err
 returns-in-Err-Full-clause-err c = counts_unmoved c.args.self.now _ c.args.region.now _ c.requires.stored (record { kept = λ x t e. c.in-Err-Full.ensures.err.texts x ∙ e }) refl
