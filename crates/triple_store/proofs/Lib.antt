@@ -1,4 +1,5 @@
 pub mod AtHand
+pub mod Costs
 pub mod Distinct
 pub mod Exchanged
 pub mod Held

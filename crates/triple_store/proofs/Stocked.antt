@@ -45,7 +45,7 @@ module _ {K : Type 0} (R : K → K → Ordering) where
       ]
 
   -- a list has no more different elements than elements
-  length-sorted : (xs : List K) → length (sorted R xs) ≤ length xs
+  pub length-sorted : (xs : List K) → length (sorted R xs) ≤ length xs
   length-sorted [] = omega arith
   length-sorted (x ∷ xs) = omega (arith, length-insert x (sorted R xs), length-sorted xs)
 

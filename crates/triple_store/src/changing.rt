@@ -1,11 +1,13 @@
 // One owner of a triple more or less.
 
 ghost use Rattle.std.specs.Prelude.{◌≡◌, ◌<◌, true, Err, IfNone, IfOk, IfSome, IsTrue, List, OnErr, OnOk, Some};
+ghost use Rattle.std.specs.FinMap as map;
 ghost use Rattle.rdf_term.specs.declared.term.Term.{Term};
 ghost use Rattle.rdf_term.specs.declared.triple.Triple.{Triple};
 ghost use Rattle.text_region.specs.declared.piece.Piece.{Piece as ThePiece};
 ghost use Rattle.term_pool.specs.Pool.{IsNowhere, LiesIn, text_at};
 ghost use Rattle.slot_index.specs.declared.key.Key.{Key as TheKey};
+ghost use Rattle.triple_store.specs.Costs.{Costs};
 ghost use Rattle.triple_store.specs.Counts.{count_of, lowered, raised};
 ghost use Rattle.triple_store.specs.Room.{distinct, terms_of};
 ghost use Rattle.triple_store.specs.Slots.{HasCanonicalTexts, HasTermsIn, HasTexts, IsAllOf, triple_at, triple_of};
@@ -14,8 +16,9 @@ ghost use Rattle.triple_store.specs.Stored.{HasKey, IsStored, KeepsKeys, beside,
 use crate::fault::StoreFault;
 use crate::holding::{hold, let_go};
 use crate::store::Store;
-use crate::uncounted::{lower, raise};
+use block_index::Steps;
 use slot_index::Key;
+use std::sync::ledger::Ledger;
 use term_pool::{Pool, PoolFault};
 use text_region::Region;
 use triple_texts::TripleText;
@@ -61,10 +64,11 @@ impl Store {
 
     // Counts one owner more of the triple with these texts, which is taken in where it isn't stored. After a fault every
     // triple has the count that it had.
-    pub(crate) fn add(
+    pub(crate) fn add<L: Ledger>(
         &mut self,
         region: &mut Region,
         texts: &TripleText<'_>,
+        steps: &mut Steps<L>,
     ) -> Result<Key, StoreFault>
         requires stored { IsStored self.old region.old }
         requires canonical { HasCanonicalTexts texts.now }
@@ -77,13 +81,14 @@ impl Store {
         ensures kept { (key : TheKey) (triple : Triple) → HasKey self.old region.old key triple → HasKey self.new region.new key triple }
         ensures beside { (piece : ThePiece) → beside self.new region.new piece ≡ beside self.old region.old piece }
         ensures limit { limit_of self.new ≡ limit_of self.old }
+        ensures cost { Costs (map.len self.old.index) (map.len self.new.index) 1 0 steps.old steps.new }
     {
         let key = match hold(&mut self.pool, region, texts) {
             Ok(key) => key,
             Err(PoolFault::Full) => return Err(StoreFault::Full),
             Err(PoolFault::OutOfMemory) => return Err(StoreFault::OutOfMemory),
         };
-        match raise(&mut self.index, key) {
+        match self.index.raise(key, steps) {
             Ok(true) => Ok(key),
             Ok(false) => {
                 let_go(&mut self.pool, region, key);
@@ -97,7 +102,7 @@ impl Store {
     }
 
     // Counts one owner less of a stored triple, which goes with its last owner. Takes no memory.
-    pub(crate) fn remove(&mut self, region: &mut Region, key: Key)
+    pub(crate) fn remove<L: Ledger>(&mut self, region: &mut Region, key: Key, steps: &mut Steps<L>)
         requires stored { IsStored self.old region.old }
         requires there { is_key self.old key ≡ true }
         ensures stored { IsStored self.new region.new }
@@ -105,8 +110,9 @@ impl Store {
         ensures keeps { KeepsKeys self.old region.old self.new region.new }
         ensures beside { (piece : ThePiece) → beside self.new region.new piece ≡ beside self.old region.old piece }
         ensures limit { limit_of self.new ≡ limit_of self.old }
+        ensures cost { Costs (map.len self.old.index) (map.len self.new.index) 0 1 steps.old steps.new }
     {
-        if lower(&mut self.index, key) {
+        if self.index.lower(key, steps) {
             let_go(&mut self.pool, region, key);
         }
     }

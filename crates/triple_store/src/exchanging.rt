@@ -1,6 +1,7 @@
 // Triples of one owner in the place of others.
 
-ghost use Rattle.std.specs.Prelude.{◌≡◌, ◌<◌, ◌≤◌, ◌++◌, true, false, List, [], length, take, vec_len, vec_capacity, Err, IfSome, IfNone, IfOk, IsOk, OnOk, OnErr};
+ghost use Rattle.std.specs.Prelude.{◌≡◌, ◌+◌, ◌<◌, ◌≤◌, ◌++◌, true, false, List, [], length, take, vec_len, vec_capacity, Err, IfSome, IfNone, IfOk, IsOk, OnOk, OnErr};
+ghost use Rattle.std.specs.FinMap as map;
 ghost use Rattle.std.specs.List.{AllByRecursion};
 ghost use Rattle.rising.specs.Rising.{IsRising, has};
 ghost use Rattle.rdf_term.specs.declared.triple.Triple.{Triple};
@@ -9,6 +10,7 @@ ghost use Rattle.rdf_term.specs.Order.{triple_cmp};
 ghost use Rattle.text_region.specs.declared.piece.Piece.{Piece as ThePiece};
 ghost use Rattle.slot_index.specs.declared.key.Key.{Key as TheKey};
 ghost use Rattle.slot_index.specs.Keys.{key_cmp};
+ghost use Rattle.triple_store.specs.Costs.{Costs};
 ghost use Rattle.triple_store.specs.Counts.{Exchanges, count_of};
 ghost use Rattle.triple_store.specs.Moves.{Takes};
 ghost use Rattle.triple_store.specs.Room.{room_for};
@@ -18,8 +20,10 @@ ghost use Rattle.triple_store.specs.Stored.{AreKeysOf, IsStored, KeepsKeys, besi
 use crate::fault::StoreFault;
 use crate::keys::{Keys, NOWHERE, in_order, narrowed};
 use crate::store::Store;
+use block_index::Steps;
 use slot_index::Key;
 use std::collections::BTreeSet;
+use std::sync::ledger::Ledger;
 use text_region::Region;
 use triple_texts::{TripleText, TripleTexts};
 
@@ -48,13 +52,16 @@ struct Found {
 impl Store {
     /// Puts the triples of one owner in the place of those that it had, which its keys tell; the walk beside these is a hint.
     /// What is in both costs its comparisons alone where it comes in the order of the walk, and else its look-ups. After a fault
-    /// every triple has the count that it had. Without new triples it always succeeds.
-    pub fn exchange(
+    /// every triple has the count that it had. Without new triples it always succeeds. In the index it takes at most 8 (d + 8)
+    /// steps for each new triple and 3 (d + 8) for each old one, where d is the number of binary digits of the number of stored
+    /// and new triples together.
+    pub fn exchange<L: Ledger>(
         &mut self,
         region: &mut Region,
         old: &[Key],
         walk: &[u32],
         new: &TripleTexts,
+        steps: &mut Steps<L>,
     ) -> Result<Keys, StoreFault>
         requires stored { IsStored self.old region.old }
         requires fit { AllByRecursion HasFitAndShortTerms new.now }
@@ -71,6 +78,7 @@ impl Store {
         ensures keeps { KeepsKeys self.old region.old self.new region.new }
         ensures beside { (piece : ThePiece) → beside self.new region.new piece ≡ beside self.old region.old piece }
         ensures limit { limit_of self.new ≡ limit_of self.old }
+        ensures cost { Costs (map.len (counts_in self.old region.old)) (map.len (counts_in self.new region.new)) (length new.now) (length new.now + length old.now) steps.old steps.new }
     {
         let Ok(mut keys) = Vec::with_capacity(self.alloc, new.len()) else {
             return Err(StoreFault::OutOfMemory);
@@ -78,15 +86,15 @@ impl Store {
         let Ok(mut places) = Vec::with_capacity(self.alloc, new.len()) else {
             return Err(StoreFault::OutOfMemory);
         };
-        let taken = self.take_in(region, old, walk, new, &mut keys, &mut places);
+        let taken = self.take_in(region, old, walk, new, &mut keys, &mut places, steps);
         let keys = in_order(self.alloc, old, keys, places.as_slice());
         match taken {
             Ok(()) => {
-                self.remove_beside(region, old, keys.slices().rising);
+                self.remove_beside(region, old, keys.slices().rising, steps);
                 Ok(keys)
             }
             Err(fault) => {
-                self.remove_beside(region, keys.slices().rising, old);
+                self.remove_beside(region, keys.slices().rising, old, steps);
                 Err(fault)
             }
         }
@@ -94,7 +102,7 @@ impl Store {
 
     // Puts the keys of the triples at the end of a list that has room. Each triple is counted once more, but for those of
     // the keys that the owner had. After a fault the keys tell how far it came.
-    fn take_in(
+    fn take_in<L: Ledger>(
         &mut self,
         region: &mut Region,
         old: &[Key],
@@ -102,6 +110,7 @@ impl Store {
         new: &TripleTexts,
         keys: &mut Vec<Key>,
         places: &mut Vec<u32>,
+        steps: &mut Steps<L>,
     ) -> Result<(), StoreFault>
         requires stored { IsStored self.old region.old }
         requires fit { AllByRecursion HasFitAndShortTerms new.now }
@@ -116,6 +125,8 @@ impl Store {
         ensures whole { OnOk result (vec_len keys.new ≡ length new.now) }
         ensures full { result ≡ Err StoreFault.Full → limit_of self.old < room_for (counts_in self.old region.old) new.now }
         ensures free { new.now ≡ [] → IsOk result }
+        ensures few { vec_len keys.new ≤ length new.now }
+        ensures cost { Costs (map.len self.old.index) (map.len self.new.index) (length new.now) 0 steps.old steps.new }
     {
         let mut added = BTreeSet::new(self.alloc);
         let mut next = 0;
@@ -132,7 +143,7 @@ impl Store {
                 next = found.next;
                 continue;
             }
-            let key = match self.add(region, &texts) {
+            let key = match self.add(region, &texts, steps) {
                 Ok(key) => key,
                 Err(fault) => return Err(fault),
             };

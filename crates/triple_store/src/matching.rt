@@ -1,6 +1,6 @@
 // The stored triples that agree with a pattern.
 
-ghost use Rattle.std.specs.Prelude.{◌≡◌, ◌+◌, ◌<◌, ℕ, true, length, IfNone, IfOk, IfSome};
+ghost use Rattle.std.specs.Prelude.{◌≡◌, ◌+◌, ◌<◌, ◌≤◌, ℕ, true, length, IfNone, IfOk, IfSome};
 ghost use Rattle.std.specs.FinMap as map;
 ghost use Rattle.block_index.specs.Steps.{Within};
 ghost use Rattle.rdf_term.specs.Pattern.{agrees, agrees_at, rows};
@@ -39,6 +39,7 @@ impl Store {
         requires { IsStored self.now region.now }
         ensures rows { IfOk result (λ set. set ≡ rows (map.keys (counts_in self.now region.now)) pattern.now) }
         ensures cost { IfOk result (λ set. Within (map.len (counts_in self.now region.now)) (9 + length set) steps.old steps.new) }
+        ensures forward { steps.old ≤ steps.new }
     {
         self.matching(region, pattern, steps)?.triples(self.alloc)
     }

@@ -1,12 +1,14 @@
 // A patch of triples, applied.
 
-ghost use Rattle.std.specs.Prelude.{◌≡◌, ◌<◌, ◌≤◌, true, [], Err, IfOk, IsOk, OnOk, OnErr};
+ghost use Rattle.std.specs.Prelude.{◌≡◌, ◌+◌, ◌<◌, ◌≤◌, true, [], length, Err, IfOk, IsOk, OnOk, OnErr};
+ghost use Rattle.std.specs.FinMap as map;
 ghost use Rattle.std.specs.List.{AllByRecursion};
 ghost use Rattle.rising.specs.Rising.{IsRising, has};
 ghost use Rattle.rdf_term.specs.declared.triple.Triple.{Triple as TheTriple};
 ghost use Rattle.rdf_term.specs.Fit.{HasFitAndShortTerms};
 ghost use Rattle.rdf_term.specs.Order.{triple_cmp};
 ghost use Rattle.text_region.specs.declared.piece.Piece.{Piece as ThePiece};
+ghost use Rattle.triple_store.specs.Costs.{Costs};
 ghost use Rattle.triple_store.specs.Counts.{Exchanges, count_of};
 ghost use Rattle.triple_store.specs.Moves.{Loses};
 ghost use Rattle.triple_store.specs.Room.{room_for};
@@ -14,8 +16,10 @@ ghost use Rattle.triple_store.specs.Stored.{IsStored, KeepsKeys, beside, counts_
 
 use crate::fault::StoreFault;
 use crate::store::Store;
+use block_index::Steps;
 use rdf_term::{OutOfMemory, Triple};
 use std::alloc::Global;
+use std::sync::ledger::Ledger;
 use text_region::Region;
 use triple_patch::Patch;
 use triple_sink::emit_all;
@@ -24,7 +28,14 @@ use triple_texts::TripleTexts;
 impl Store {
     /// Counts one owner more of each triple that comes and one less of each that goes; what has no owner left is no longer
     /// stored. After a fault every triple has the count that it had. Where none comes it takes no memory and always succeeds.
-    pub fn apply(&mut self, region: &mut Region, patch: &Patch) -> Result<(), StoreFault>
+    /// In the index it takes at most 8 (d + 8) steps for each triple that comes and 3 (d + 8) for each that goes, where d is the
+    /// number of binary digits of the number of stored triples and those that come together.
+    pub fn apply<L: Ledger>(
+        &mut self,
+        region: &mut Region,
+        patch: &Patch,
+        steps: &mut Steps<L>,
+    ) -> Result<(), StoreFault>
         requires stored { IsStored self.old region.old }
         requires fit { AllByRecursion HasFitAndShortTerms patch.now.adds }
         requires countable { (triple : TheTriple) → has triple_cmp triple patch.now.adds ≡ true → count_of (counts_in self.old region.old) triple < 18446744073709551615 }
@@ -38,13 +49,14 @@ impl Store {
         ensures keeps { KeepsKeys self.old region.old self.new region.new }
         ensures beside { (piece : ThePiece) → beside self.new region.new piece ≡ beside self.old region.old piece }
         ensures limit { limit_of self.new ≡ limit_of self.old }
+        ensures cost { Costs (map.len (counts_in self.old region.old)) (map.len (counts_in self.new region.new)) (length patch.now.adds) (length patch.now.adds + length patch.now.removes) steps.old steps.new }
     {
         let Ok(texts) = texts_of(self.alloc, patch.adds.items()) else {
             return Err(StoreFault::OutOfMemory);
         };
-        match self.exchange(region, &[], &[], &texts) {
+        match self.exchange(region, &[], &[], &texts, steps) {
             Ok(_keys) => {
-                self.remove_all(region, patch.removes.items());
+                self.remove_all(region, patch.removes.items(), steps);
                 Ok(())
             }
             Err(fault) => Err(fault),
@@ -52,17 +64,23 @@ impl Store {
     }
 
     // Counts one owner less of each triple. It takes no memory.
-    fn remove_all(&mut self, region: &mut Region, triples: &[Triple])
+    fn remove_all<L: Ledger>(
+        &mut self,
+        region: &mut Region,
+        triples: &[Triple],
+        steps: &mut Steps<L>,
+    )
         requires stored { IsStored self.old region.old }
         requires rising { IsRising triple_cmp triples.now }
         requires there { (triple : TheTriple) → has triple_cmp triple triples.now ≡ true → 0 < count_of (counts_in self.old region.old) triple }
-        ensures { Loses self.old region.old self.new region.new triples.now }
+        ensures loses { Loses self.old region.old self.new region.new triples.now }
+        ensures cost { Costs (map.len self.old.index) (map.len self.new.index) 0 (length triples.now) steps.old steps.new }
     {
         for triple in triples {
             let Some(key) = self.key_of(region, triple) else {
                 unreachable!()
             };
-            self.remove(region, key);
+            self.remove(region, key, steps);
         }
     }
 }

@@ -1,23 +1,28 @@
 // Triples of one owner that go.
 
 ghost use Rattle.std.specs.Prelude.{◌≡◌, true, List, [], length, is_ok};
+ghost use Rattle.std.specs.FinMap as map;
 ghost use Rattle.std.specs.List.Sorted.{IsSearchInRange};
 ghost use Rattle.rising.specs.Rising.{IsRising, difference, has};
 ghost use Rattle.rdf_term.specs.declared.triple.Triple.{Triple};
 ghost use Rattle.text_region.specs.declared.piece.Piece.{Piece as ThePiece};
 ghost use Rattle.slot_index.specs.declared.key.Key.{Key as TheKey};
 ghost use Rattle.slot_index.specs.Keys.{key_cmp};
+ghost use Rattle.triple_store.specs.Costs.{Costs};
 ghost use Rattle.triple_store.specs.Counts.{Exchanges};
 ghost use Rattle.triple_store.specs.Moves.{Removes};
 ghost use Rattle.triple_store.specs.Stored.{AreKeysOf, IsStored, KeepsKeys, beside, counts_in, is_key, limit_of};
 
 use crate::store::Store;
+use block_index::Steps;
 use slot_index::Key;
+use std::sync::ledger::Ledger;
 use text_region::Region;
 
 impl Store {
-    /// Takes one owner away from the triples of these keys. It takes no memory.
-    pub fn release(&mut self, region: &mut Region, old: &[Key])
+    /// Takes one owner away from the triples of these keys. It takes no memory, and at most 3 (d + 8) steps in the index for
+    /// each key, where d is the number of binary digits of the number of stored triples.
+    pub fn release<L: Ledger>(&mut self, region: &mut Region, old: &[Key], steps: &mut Steps<L>)
         requires stored { IsStored self.old region.old }
         requires rising { IsRising key_cmp old.now }
         requires there { (key : TheKey) → has key_cmp key old.now ≡ true → is_key self.old key ≡ true }
@@ -26,24 +31,32 @@ impl Store {
         ensures keeps { KeepsKeys self.old region.old self.new region.new }
         ensures beside { (piece : ThePiece) → beside self.new region.new piece ≡ beside self.old region.old piece }
         ensures limit { limit_of self.new ≡ limit_of self.old }
+        ensures cost { Costs (map.len (counts_in self.old region.old)) (map.len (counts_in self.new region.new)) 0 (length old.now) steps.old steps.new }
     {
-        self.remove_beside(region, old, &[]);
+        self.remove_beside(region, old, &[], steps);
     }
 
     // Takes one owner away from the triples of these keys, but for the keys that are among others. It takes no memory.
-    pub(crate) fn remove_beside(&mut self, region: &mut Region, keys: &[Key], others: &[Key])
+    pub(crate) fn remove_beside<L: Ledger>(
+        &mut self,
+        region: &mut Region,
+        keys: &[Key],
+        others: &[Key],
+        steps: &mut Steps<L>,
+    )
         requires stored { IsStored self.old region.old }
         requires rising { IsRising key_cmp keys.now }
         requires others { IsRising key_cmp others.now }
         requires there { (key : TheKey) → has key_cmp key keys.now ≡ true → is_key self.old key ≡ true }
-        ensures { Removes self.old region.old self.new region.new (difference key_cmp keys.now others.now) }
+        ensures removes { Removes self.old region.old self.new region.new (difference key_cmp keys.now others.now) }
+        ensures cost { Costs (map.len self.old.index) (map.len self.new.index) 0 (length keys.now) steps.old steps.new }
     {
         let mut next = 0;
         for key in keys {
             match find_from(others, *key, next) {
                 Ok(place) => next = place + 1,
                 Err(place) => {
-                    self.remove(region, *key);
+                    self.remove(region, *key, steps);
                     next = place;
                 }
             }

@@ -1,6 +1,6 @@
 // The stored triples in their order, by the texts of their terms.
 
-ghost use Rattle.std.specs.Prelude.{◌≡◌, ◌+◌, ◌<◌, ◌++◌, ◌∷◌, [], true, length, slice_get, map as mapped, IfOk, IfSome, OnOk, OnErr};
+ghost use Rattle.std.specs.Prelude.{◌≡◌, ◌+◌, ◌<◌, ◌≤◌, ◌++◌, ◌∷◌, [], true, length, slice_get, map as mapped, IfOk, IfSome, OnOk, OnErr};
 ghost use Rattle.std.specs.FinMap as map;
 ghost use Rattle.std.specs.List.{All};
 ghost use Rattle.std.specs.List.Sorted.{IsPermutation, IsSorted};
@@ -96,6 +96,7 @@ impl Store {
         requires { IsStored self.now region.now }
         ensures rows { IfOk result (λ found. found ≡ rows (map.keys (counts_in self.now region.now)) pattern.now) }
         ensures cost { IfOk result (λ found. Within (map.len (counts_in self.now region.now)) (9 + length found) steps.old steps.new) }
+        ensures forward { steps.old ≤ steps.new }
     {
         let Some(wanted) = self.slots_of(region, pattern) else {
             return Ok(Rows {

@@ -73,7 +73,7 @@ fn is_full_for<L: Ledger>(
         adds: set_of(alloc, triple)?,
         removes: TripleSet::from_rising(List::new(alloc)),
     };
-    match store.apply(region, &patch) {
+    match store.apply(region, &patch, steps) {
         Ok(()) => Ok(false),
         Err(StoreFault::Full) => Ok(true),
         Err(StoreFault::OutOfMemory) => Err("out of memory".into()),
@@ -98,7 +98,7 @@ fn lower<L: Ledger>(
         adds: TripleSet::from_rising(List::new(alloc)),
         removes: set_of(alloc, triple)?,
     };
-    store.apply(region, &patch)?;
+    store.apply(region, &patch, steps)?;
     Ok(())
 }
 

@@ -22,6 +22,7 @@ use crate::applied::Outcome;
 use crate::fetching::Page;
 use crate::holders::{Holders, other};
 use crate::kept::Kept;
+use crate::uncounted::{exchange, release};
 use entity_model::{EntityId, MappingVersion};
 use entity_state::{Held, Mode, Record, Standing, Table};
 use text_region::Region;
@@ -66,7 +67,7 @@ pub fn hold(
         return Err(StoreFault::OutOfMemory);
     };
     let old = keys_of(table, id);
-    match store.exchange(region, old.rising, old.walk, &page.triples) {
+    match exchange(store, region, old.rising, old.walk, &page.triples) {
         Ok(keys) => {
             let held = Held {
                 revision: after.state.rev,
@@ -158,7 +159,7 @@ fn drop_held(
     }) }
     ensures limit { limit_of store.new ≡ limit_of store.old }
 {
-    store.release(region, keys_of(table, id).rising);
+    release(store, region, keys_of(table, id).rising);
     replace(store, region, table, id, after, None);
     holders.remove(id, MappingVersion::One);
     holders.remove(id, MappingVersion::Two);

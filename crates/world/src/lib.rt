@@ -5,7 +5,7 @@
 //! store of all triples and the region with all texts in step, `remapping` where a held page is mapped anew. `kept` is what is
 //! kept of a page, and `holders` names the entities that hold one, by the version of the mapping that it is mapped by. `versions`
 //! has what they say of each version, and maps the pages of the other one anew. `rows` gives the triples, with or without a copy
-//! of their texts, and `uncounted` asks the store where nobody counts its steps. `applied` says what an application led to, and
+//! of their texts, and `uncounted` calls the store where nobody counts its steps. `applied` says what an application led to, and
 //! `laws` what holds of the meaning of pages and of their versions.
 #![tactic(auto)]
 

@@ -20,6 +20,7 @@ use crate::fetching::texts_in;
 use crate::holders::{Holders, other};
 use crate::holding::keys_of;
 use crate::kept::Kept;
+use crate::uncounted::exchange;
 use entity_json::DocumentFault;
 use entity_model::{EntityId, MappingVersion};
 use entity_state::{Held, Record, Table};
@@ -61,7 +62,7 @@ pub fn remap(
         return Err(StoreFault::OutOfMemory);
     };
     let old = keys_of(table, id);
-    match store.exchange(region, old.rising, old.walk, &triples) {
+    match exchange(store, region, old.rising, old.walk, &triples) {
         Ok(keys) => {
             set_keys(table, id, keys);
             holders.remove(id, other(version));

@@ -33,15 +33,15 @@ exchange-requires-clause-countable c =
 
 pub returns-in-Ok-exchange-clause-step : goal.returns-in-Ok-exchange-clause-step
 returns-in-Ok-exchange-clause-step c = rw c.replace.ensures.records
-    (page_step c.args.store.now c.args.region.now c.args.holders.now c.args.table.now.records c.args.id c.requires.step c.place.new.region c.exchange.new.self c.exchange.new.region c.replace.new.region
+    (page_step c.args.store.now c.args.region.now c.args.holders.now c.args.table.now.records c.args.id c.requires.step c.place.new.region c.exchange.new.store c.exchange.new.region c.replace.new.region
     c.args.after.state c.args.after.reconciled c.args.after.state.rev (record { piece = c.in-Ok-place.piece; keys = c.in-Ok-exchange.keys }) c.args.page.bytes c.args.page.triples c.keys_of-old.result.rising.now c.args.page.version
     (rw c.as_slice.ensures at c.in-Ok-place.ensures.ok) c.place.ensures.kept c.place.ensures.counts c.exchange.ensures.keeps c.exchange.ensures.beside c.replace.ensures.counts c.replace.ensures.kept c.replace.ensures.freed
     c.remove.new.self (moves c.args.holders.now c.add.new.self c.remove.new.self c.args.id c.args.page.version c.other.result c.in-Ok.ensures.ok c.other.ensures c.remove.ensures)
     c.replace.ensures.stored c.keys_of-old.ensures c.in-Ok-exchange.ensures.ok c.in-Ok-exchange.ensures.keys c.requires.page.meant)
 
 pub returns-in-Ok-exchange-clause-ok : goal.returns-in-Ok-exchange-clause-ok
-returns-in-Ok-exchange-clause-ok c = ap (seen c.exchange.new.self c.replace.new.region) c.replace.ensures.records
-    ∙ page_seen c.args.store.now c.args.region.now c.args.holders.now c.args.table.now.records c.args.id c.requires.step c.place.new.region c.exchange.new.self c.exchange.new.region c.replace.new.region
+returns-in-Ok-exchange-clause-ok c = ap (seen c.exchange.new.store c.replace.new.region) c.replace.ensures.records
+    ∙ page_seen c.args.store.now c.args.region.now c.args.holders.now c.args.table.now.records c.args.id c.requires.step c.place.new.region c.exchange.new.store c.exchange.new.region c.replace.new.region
     c.args.after.state c.args.after.reconciled c.args.after.state.rev (record { piece = c.in-Ok-place.piece; keys = c.in-Ok-exchange.keys }) c.args.page.bytes c.args.page.triples c.keys_of-old.result.rising.now c.args.page.version
     (rw c.as_slice.ensures at c.in-Ok-place.ensures.ok) c.place.ensures.kept c.place.ensures.counts c.exchange.ensures.keeps c.exchange.ensures.beside c.replace.ensures.counts c.replace.ensures.kept c.replace.ensures.freed
 
@@ -54,8 +54,8 @@ returns-in-Ok-exchange-clause-within c =
 pub returns-clause-step : goal.returns-clause-step
 returns-clause-step c =
     let same = undone c.args.holders.now c.add.new.self c.take_back-in-Err.new.self c.args.table.now.records c.args.id c.args.page.version c.in-Ok.added c.requires.step.by c.in-Ok.ensures.ok c.in-Ok.ensures.added c.take_back-in-Err.ensures in
-    subst (λ (i : ByVersion). AreInStep c.exchange.new.self c.free.new.region i c.args.table.now.records) (sym same) (record {
-      kept = kept_undone (meaning_by meaning c.args.holders.now.second) c.args.store.now c.args.region.now c.place.new.region c.exchange.new.self c.exchange.new.region c.free.new.region c.args.table.now.records c.in-Ok-place.piece _
+    subst (λ (i : ByVersion). AreInStep c.exchange.new.store c.free.new.region i c.args.table.now.records) (sym same) (record {
+      kept = kept_undone (meaning_by meaning c.args.holders.now.second) c.args.store.now c.args.region.now c.place.new.region c.exchange.new.store c.exchange.new.region c.free.new.region c.args.table.now.records c.in-Ok-place.piece _
           c.requires.step.kept c.in-Ok-place.ensures.ok c.place.ensures.kept c.place.ensures.counts c.exchange.ensures.keeps c.exchange.ensures.beside c.in-Err.ensures.err c.free.ensures.stored c.free.ensures.counts c.free.ensures.kept c.free.ensures.freed;
       by = c.requires.step.by;
     })
@@ -73,6 +73,6 @@ returns-clause-full c = λ is.
 
 pub returns-clause-err : goal.returns-clause-err
 returns-clause-err c =
-    seen_again (beside c.args.store.now c.args.region.now) (beside c.exchange.new.self c.free.new.region) c.args.table.now.records
-    (placed_freed (beside c.args.store.now c.args.region.now) (beside c.args.store.now c.place.new.region) (beside c.exchange.new.self c.exchange.new.region) (beside c.exchange.new.self c.free.new.region) c.in-Ok-place.piece _
+    seen_again (beside c.args.store.now c.args.region.now) (beside c.exchange.new.store c.free.new.region) c.args.table.now.records
+    (placed_freed (beside c.args.store.now c.args.region.now) (beside c.args.store.now c.place.new.region) (beside c.exchange.new.store c.exchange.new.region) (beside c.exchange.new.store c.free.new.region) c.in-Ok-place.piece _
     c.in-Ok-place.ensures.ok c.exchange.ensures.beside c.free.ensures.freed)

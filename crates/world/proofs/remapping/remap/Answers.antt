@@ -28,15 +28,15 @@ exchange-requires-clause-countable c =
 
 pub returns-in-Ok-exchange-clause-step : goal.returns-in-Ok-exchange-clause-step
 returns-in-Ok-exchange-clause-step c = rw c.set_keys.ensures
-    (again_step c.args.store.now c.args.region.now c.args.holders.now c.args.table.now.records c.args.id c.requires.step c.exchange.new.self c.exchange.new.region
+    (again_step c.args.store.now c.args.region.now c.args.holders.now c.args.table.now.records c.args.id c.requires.step c.exchange.new.store c.exchange.new.region
     c.in-Ok-exchange.keys c.args.version c.requires.held c.exchange.ensures.beside c.remove.new.self c.keys_of-old.result.rising.now c.in-Ok.triples
     (moves c.args.holders.now c.add.new.self c.remove.new.self c.args.id c.args.version c.other.result c.in-Ok-add.ensures.ok c.other.ensures c.remove.ensures)
     c.exchange.ensures.stored c.keys_of-old.ensures c.in-Ok-exchange.ensures.ok c.exchange.ensures.keeps c.in-Ok-exchange.ensures.keys
     (λ t. sym (has-sorted triple_cmp-total t c.in-Ok.triples) ∙ ap (has triple_cmp t) c.in-Ok.ensures.value))
 
 pub returns-in-Ok-exchange-clause-seen : goal.returns-in-Ok-exchange-clause-seen
-returns-in-Ok-exchange-clause-seen c = ap (seen c.exchange.new.self c.exchange.new.region) c.set_keys.ensures
-    ∙ again_seen c.args.store.now c.args.region.now c.args.holders.now c.args.table.now.records c.args.id c.requires.step c.exchange.new.self c.exchange.new.region
+returns-in-Ok-exchange-clause-seen c = ap (seen c.exchange.new.store c.exchange.new.region) c.set_keys.ensures
+    ∙ again_seen c.args.store.now c.args.region.now c.args.holders.now c.args.table.now.records c.args.id c.requires.step c.exchange.new.store c.exchange.new.region
     c.in-Ok-exchange.keys c.args.version c.requires.held c.exchange.ensures.beside
 
 pub returns-in-Ok-exchange-clause-within : goal.returns-in-Ok-exchange-clause-within
@@ -50,8 +50,8 @@ returns-in-Ok-exchange-clause-within c =
 pub returns-clause-step : goal.returns-clause-step
 returns-clause-step c =
     let same = undone c.args.holders.now c.add.new.self c.take_back.new.self c.args.table.now.records c.args.id c.args.version c.in-Ok-add.added c.requires.step.by c.in-Ok-add.ensures.ok c.in-Ok-add.ensures.added c.take_back.ensures in
-    subst (λ (i : ByVersion). AreInStep c.exchange.new.self c.exchange.new.region i c.args.table.now.records) (sym same) (record {
-      kept = kept_refused (meaning_by meaning c.args.holders.now.second) c.args.store.now c.args.region.now c.exchange.new.self c.exchange.new.region c.args.table.now.records
+    subst (λ (i : ByVersion). AreInStep c.exchange.new.store c.exchange.new.region i c.args.table.now.records) (sym same) (record {
+      kept = kept_refused (meaning_by meaning c.args.holders.now.second) c.args.store.now c.args.region.now c.exchange.new.store c.exchange.new.region c.args.table.now.records
           c.requires.step.kept c.exchange.ensures.stored c.in-Err.ensures.err c.exchange.ensures.keeps c.exchange.ensures.beside;
       by = c.requires.step.by;
     })

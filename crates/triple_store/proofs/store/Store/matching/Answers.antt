@@ -14,6 +14,7 @@ pub returns-in_default : goal.returns-in_default
 returns-in_default g c = record {
   rows = ap (mapped triple_of) c.new.ensures.items ∙ none_matched c.args.self.now.pool c.args.region.now c.args.self.now.index c.args.pattern.now c.in_default.ensures;
   cost = (omega arith, λ d few. omega arith);
+  forward = omega arith;
 }
 
 pub texts_of-requires-clause-there : goal.texts_of-requires-clause-there
@@ -42,4 +43,5 @@ returns g c =
           c.in_ok-rows.ensures.triples c.in_ok-rows.ensures.canonical c.sort_rows.ensures.same c.sort_rows.ensures.sorted;
       cost = subst (λ n. Within n (9 + length (mapped triple_of after)) c.args.steps.now c.range.new.steps) (sym (len_image st r c.requires))
           (subst (λ n. Within (map.len st.index) (9 + n) c.args.steps.now c.range.new.steps) (sym long ∙ as_many) c.in_ok-keys.ensures.cost);
+      forward = c.range.ensures.forward;
     }
