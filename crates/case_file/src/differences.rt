@@ -1,5 +1,6 @@
 // The first lines in which two texts differ.
 
+use crate::pieces::lines_of;
 use anyhow::Result;
 use std::alloc::Global;
 
@@ -41,11 +42,13 @@ pub fn differing(
     if expected == found {
         return Ok(None);
     }
-    let place = equal_lines(expected, found);
+    let expected = lines_of(alloc, expected)?;
+    let found = lines_of(alloc, found)?;
+    let place = equal_lines(expected.as_slice(), found.as_slice());
     let number = place.saturating_add(1);
-    let expected = line_at(alloc, expected, place)?;
+    let expected = line_at(alloc, expected.as_slice(), place)?;
     let expected = expected.as_str();
-    let found = line_at(alloc, found, place)?;
+    let found = line_at(alloc, found.as_slice(), place)?;
     let found = found.as_str();
     Ok(Some(format!(in alloc;
         "     {what}, line {number}\n     expected {expected}\n     found    {found}"
@@ -53,15 +56,13 @@ pub fn differing(
 }
 
 // How many lines at the front are equal.
-fn equal_lines(a: &[u8], b: &[u8]) -> usize {
-    let a = a.split_inclusive(|byte| *byte == b'\n');
-    let b = b.split_inclusive(|byte| *byte == b'\n');
-    a.zip(b).take_while(|pair| pair.0 == pair.1).count()
+fn equal_lines(a: &[&[u8]], b: &[&[u8]]) -> usize {
+    a.iter().zip(b).take_while(|pair| pair.0 == pair.1).count()
 }
 
 // The line at a place, or that there is none.
-fn line_at(alloc: Global, text: &[u8], place: usize) -> Result<String> {
-    match text.split_inclusive(|byte| *byte == b'\n').nth(place) {
+fn line_at(alloc: Global, lines: &[&[u8]], place: usize) -> Result<String> {
+    match lines.get(place) {
         Some(line) => printable(alloc, line),
         None => Ok(String::from_str(alloc, "nothing more")?),
     }

@@ -35,11 +35,16 @@ pub fn filled(alloc: Global, case: &Case, row: &str) -> Result<Case> {
 
 // A section with the parts of a row in place of the marks.
 fn filled_section(alloc: Global, section: &Section, row: &str) -> Result<Section> {
-    let mut head = section.head.clone()?;
-    let mut body = section.body.clone()?;
-    for (mark, part) in MARKS.iter().zip(row.split(" | ")) {
-        head = replaced(alloc, head.as_str(), mark, part)?;
-        body = replaced(alloc, body.as_str(), mark, part)?;
-    }
+    let head = filled_text(alloc, section.head.as_str(), row)?;
+    let body = filled_text(alloc, section.body.as_str(), row)?;
     Ok(Section { head, body })
+}
+
+// A text with the parts of a row in place of the marks.
+fn filled_text(alloc: Global, text: &str, row: &str) -> Result<String> {
+    let mut made = String::from_str(alloc, text)?;
+    for (mark, part) in MARKS.iter().zip(row.split(" | ")) {
+        made = replaced(alloc, made.as_str(), mark, part)?;
+    }
+    Ok(made)
 }

@@ -87,10 +87,15 @@ fn words(alloc: Global, case: &Case) -> Result<Vec<String>> {
         return Ok(words);
     }
     for word in line.split(' ') {
-        let word = if word == "''" { "" } else { word };
-        words.push(String::from_str(alloc, word)?)?;
+        words.push(word_in(alloc, word)?)?;
     }
     Ok(words)
+}
+
+// A word of the run.
+fn word_in(alloc: Global, word: &str) -> Result<String> {
+    let word = if word == "''" { "" } else { word };
+    Ok(String::from_str(alloc, word)?)
 }
 
 // The pages of a case.

@@ -7,32 +7,30 @@ use crate::filling::replaced;
 use anyhow::{Context, Result};
 use std::alloc::Global;
 
-// What may stand behind `<` and before `:`, and what it stands for.
-const PREFIXES: &[(&str, &str)] = &[
-    ("wd", "http://www.wikidata.org/entity/"),
-    ("wds", "http://www.wikidata.org/entity/statement/"),
-    ("wdv", "http://www.wikidata.org/value/"),
-    ("wdref", "http://www.wikidata.org/reference/"),
-    ("wdt", "http://www.wikidata.org/prop/direct/"),
-    ("wdno", "http://www.wikidata.org/prop/novalue/"),
-    ("p", "http://www.wikidata.org/prop/"),
-    ("ps", "http://www.wikidata.org/prop/statement/"),
-    ("psv", "http://www.wikidata.org/prop/statement/value/"),
-    ("pq", "http://www.wikidata.org/prop/qualifier/"),
-    ("pqv", "http://www.wikidata.org/prop/qualifier/value/"),
-    ("pr", "http://www.wikidata.org/prop/reference/"),
-    ("prv", "http://www.wikidata.org/prop/reference/value/"),
-    ("genid", "http://www.wikidata.org/.well-known/genid/"),
-    ("wikibase", "http://wikiba.se/ontology#"),
-    ("schema", "http://schema.org/"),
-    ("rdf", "http://www.w3.org/1999/02/22-rdf-syntax-ns#"),
-    ("rdfs", "http://www.w3.org/2000/01/rdf-schema#"),
-    ("owl", "http://www.w3.org/2002/07/owl#"),
-    ("skos", "http://www.w3.org/2004/02/skos/core#"),
-    ("prov", "http://www.w3.org/ns/prov#"),
-    ("xsd", "http://www.w3.org/2001/XMLSchema#"),
-    ("geo", "http://www.opengis.net/ont/geosparql#"),
-];
+// What may stand behind `<` and before `:`, and what it stands for, a line each.
+const PREFIXES: &str = "wd http://www.wikidata.org/entity/
+wds http://www.wikidata.org/entity/statement/
+wdv http://www.wikidata.org/value/
+wdref http://www.wikidata.org/reference/
+wdt http://www.wikidata.org/prop/direct/
+wdno http://www.wikidata.org/prop/novalue/
+p http://www.wikidata.org/prop/
+ps http://www.wikidata.org/prop/statement/
+psv http://www.wikidata.org/prop/statement/value/
+pq http://www.wikidata.org/prop/qualifier/
+pqv http://www.wikidata.org/prop/qualifier/value/
+pr http://www.wikidata.org/prop/reference/
+prv http://www.wikidata.org/prop/reference/value/
+genid http://www.wikidata.org/.well-known/genid/
+wikibase http://wikiba.se/ontology#
+schema http://schema.org/
+rdf http://www.w3.org/1999/02/22-rdf-syntax-ns#
+rdfs http://www.w3.org/2000/01/rdf-schema#
+owl http://www.w3.org/2002/07/owl#
+skos http://www.w3.org/2004/02/skos/core#
+prov http://www.w3.org/ns/prov#
+xsd http://www.w3.org/2001/XMLSchema#
+geo http://www.opengis.net/ont/geosparql#";
 
 /// The bytes of lines.
 pub fn bytes_of(alloc: Global, lines: &str) -> Result<Vec<u8>> {
@@ -117,7 +115,7 @@ fn mode_member(alloc: Global, mode: &str) -> Result<String> {
 // `t5` is five seconds after ten o'clock of the day on which all cases play, and `t5.000001` a microsecond later.
 fn time_text(alloc: Global, time: &str) -> Result<String> {
     let seconds = time.strip_prefix('t').context("no time")?;
-    let whole = seconds.split_once('.').map_or(seconds, |parts| parts.0);
+    let (whole, _) = seconds.split_once('.').unwrap_or((seconds, ""));
     let zero = if whole.len() < 2 { "0" } else { "" };
     Ok(format!(in alloc; "2024-05-01T10:00:{zero}{seconds}Z")?)
 }
@@ -196,11 +194,22 @@ fn push_prefixed(bytes: &mut Vec<u8>, text: &str) -> Result<()> {
 
 // Appends a name with its prefix written out; the whole where it is no prefix.
 fn push_name(bytes: &mut Vec<u8>, whole: &str, prefix: &str, rest: &str) -> Result<()> {
-    match PREFIXES.iter().find(|pair| pair.0 == prefix) {
-        Some(pair) => {
-            push_str(bytes, pair.1)?;
+    match iri_of(prefix) {
+        Some(iri) => {
+            push_str(bytes, iri)?;
             push_str(bytes, rest)
         }
         None => push_str(bytes, whole),
     }
+}
+
+// What a prefix stands for.
+fn iri_of(prefix: &str) -> Option<&'static str> {
+    for line in PREFIXES.lines() {
+        match line.split_once(' ') {
+            Some((name, iri)) if name == prefix => return Some(iri),
+            _ => {}
+        }
+    }
+    None
 }

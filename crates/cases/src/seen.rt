@@ -1,10 +1,10 @@
 // What is seen of a run besides its output, in lines.
 
 use crate::running::Left;
-use anyhow::{Context, Result};
+use anyhow::{Context, Result, bail};
 use entity_model::{EntityId, Event, Kind, Unfit};
 use entity_state::Mode;
-use rdf_term::{Term, Triple, read_term};
+use rdf_term::{Pattern, Term, Triple, read_term};
 use session::{status_number, status_text};
 use side_output::{Cause, Entry};
 use std::alloc::Global;
@@ -107,17 +107,31 @@ fn cause_word(cause: Cause) -> &'static str {
     }
 }
 
-// Lines like those given, a number and a triple each, with the number of entities that hold the triple.
+// Lines like those given, a number and a triple each, with the number of entities that hold the triple. What is stored has to agree.
 pub fn owners(alloc: Global, world: &World, given: &[u8]) -> Result<String> {
     let mut lines = String::new(alloc);
     for line in str::from_utf8(given)?.lines() {
         let (_, triple_text) = line.split_once(' ').context("a number and a triple")?;
         let triple = triple_in(alloc, triple_text)?;
         let count = world.owners(&triple);
+        if !agrees(alloc, world, &triple, count > 0)? {
+            bail!("what is stored has another number of {triple_text}");
+        }
         let line = format!(in alloc; "{count} {triple_text}\n")?;
         lines.push_str(line.as_str())?;
     }
     Ok(lines)
+}
+
+// Whether all that is stored, and what of it agrees with the triple's object, has the triple or not. Both are in memory of their own.
+fn agrees(alloc: Global, world: &World, triple: &Triple, is_stored: bool) -> Result<bool> {
+    let pattern = Pattern {
+        subject: None,
+        predicate: None,
+        object: Some(triple.object.copy(alloc)?),
+    };
+    let found = world.matches(&pattern)?.contains(triple);
+    Ok(found == is_stored && world.export()?.contains(triple) == is_stored)
 }
 
 // The triple of a line of N-Triples.

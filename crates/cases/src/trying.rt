@@ -93,7 +93,8 @@ fn tried_with_reads(
     let mut call = 1u64;
     for piece in &pieces {
         given.reads.failing = vec![in alloc; call]?;
-        let out = answers(alloc, expected.out.as_slice(), questions(taken.as_slice()))?;
+        let asked = questions(alloc, taken.as_slice())?;
+        let out = answers(alloc, expected.out.as_slice(), asked)?;
         let before = stopped(alloc, "3 wdq: read fault", out)?;
         if let Some(difference) = tried_once(alloc, keys, &given, &before)? {
             return at_call(alloc, "read", call, difference.as_str());
