@@ -1,6 +1,6 @@
 -- How far the taking of lines has come, and what follows where it goes on, stops or ends.
 use Rattle.std.proofs.Common.{refl, sym, subst, ◌∙◌, ap, inl, ⊎_elim, ◌≡◌, ◌⊎◌, ℕ, ◌+◌, ◌≤◌, true, false, List, [], ◌∷◌, ◌++◌, length, Option, None, Some, IfSome, Ok, Err, arith, append-nil}
-use Rattle.wq_io.specs.Streams.{IsAtEnd}
+use Rattle.wq_io.specs.Streams.{IsAtEnd, LastRead}
 use Rattle.wq_io.specs.Lines.{HasCause, IsSound, Leaves, ReadsAsNeeded, Reading, fresh, unread}
 use Rattle.wq_io.specs.declared.lines.LineFault.{LineFault}
 use Rattle.wq_io.specs.declared.lines.LineFault.TheVariants.{ReadFault as NotRead, TooLong as PastLimit, LineLong as OverLong, OutOfMemory as NoMemory}
@@ -104,23 +104,27 @@ module _ (run : Run) (before now : Moment) (reader : Reading) (asked : ℕ) (so_
   played = is_played run.setting (course_after so_far.deliveries before.stage) before.stage now.stage so_far.at_rest.leads so_far.at_rest.rests so_far.at_rest.mapped
 
   -- what was taken, after a call of the reader, whatever it answered
-  pub taken_on : (next : Reading) (left_next : Option (List ℕ)) → ReadsAsNeeded reader next now.input.left left_next → IfSome before.input.left (λ bytes. TakesByNeed (limit_of run.choices) bytes left_next)
-  taken_on next left_next reads =
-      takes_on (limit_of run.choices) reader now.input.left so_far.deliveries so_far.max so_far.sound before.input.left next left_next so_far.read reads so_far.taken
+  pub taken_on : (next : Reading) (left_next : Option (List ℕ)) (last last_next : Option LastRead) → ReadsAsNeeded reader next now.input.left left_next last last_next →
+      IfSome before.input.left (λ bytes. TakesByNeed (limit_of run.choices) bytes left_next)
+  taken_on next left_next last last_next reads =
+      takes_on (limit_of run.choices) reader now.input.left so_far.deliveries so_far.max so_far.sound before.input.left next left_next last last_next so_far.read reads so_far.taken
 
   -- the lines so far, and none more
-  first_still : (next : Reading) (left_next : Option (List ℕ)) → ReadsAsNeeded reader next now.input.left left_next → AreFirst (limit_of run.choices) before.input.left left_next (so_far.deliveries ++ [])
-  first_still next left_next reads =
-      rw (append-nil so_far.deliveries) (first_lines (limit_of run.choices) reader now.input.left so_far.deliveries so_far.max so_far.sound before.input.left next left_next reads so_far.read)
+  first_still : (next : Reading) (left_next : Option (List ℕ)) (last last_next : Option LastRead) → ReadsAsNeeded reader next now.input.left left_next last last_next →
+      AreFirst (limit_of run.choices) before.input.left left_next (so_far.deliveries ++ [])
+  first_still next left_next last last_next reads =
+      rw (append-nil so_far.deliveries)
+      (first_lines (limit_of run.choices) reader now.input.left so_far.deliveries so_far.max so_far.sound before.input.left next left_next last last_next reads so_far.read)
 
   -- memory was refused: the world is as it was after the lines so far
-  pub stands : (next : Reading) (input : Input) → ReadsAsNeeded reader next now.input.left input.left → StopsWithin Starved run before (record now { input = input })
-  stands next input reads = record {
+  pub stands : (next : Reading) (input : Input) (last last_next : Option LastRead) → ReadsAsNeeded reader next now.input.left input.left last last_next →
+      StopsWithin Starved run before (record now { input = input })
+  stands next input last last_next reads = record {
     deliveries = so_far.deliveries;
     last = None;
     within = rest_within run.setting so_far.deliveries before.stage now.stage so_far.at_rest;
     mapped = so_far.at_rest.mapped;
-    first = first_still next input.left reads;
+    first = first_still next input.left last last_next reads;
   }
 
   -- the number of the next line
@@ -128,17 +132,17 @@ module _ (run : Run) (before now : Moment) (reader : Reading) (asked : ℕ) (so_
   numbered number next = next ∙ ap (λ n. n + 1) (so_far.read.counted ∙ sym (as_many so_far.read.done so_far.deliveries so_far.read.delivered))
 
   -- a fault of the reader stops the taking
-  pub fault_stops : (fault : LineFault) (next : Reading) (input : Input) → HasCause fault reader now.input.left now.input.faults input.faults → Leaves fault reader now.input.left input.left →
-      ReadsAsNeeded reader next now.input.left input.left → Stopped (stop_of_fault fault) run before (record now { input = input })
-  fault_stops NotRead next input cause leaves reads = (
+  pub fault_stops : (fault : LineFault) (next : Reading) (input : Input) (last last_next : Option LastRead) → HasCause fault reader now.input.left now.input.faults input.faults →
+      Leaves fault reader now.input.left input.left → ReadsAsNeeded reader next now.input.left input.left last last_next → Stopped (stop_of_fault fault) run before (record now { input = input })
+  fault_stops NotRead next input last last_next cause leaves reads = (
     rose_since before.input.faults now.input.faults input.faults so_far.earlier cause,
     record { deliveries = so_far.deliveries; played = played; whole = whole_read (limit_of run.choices) reader now.input.left so_far.deliveries so_far.max so_far.sound before.input.left input.left so_far.read leaves },
   )
-  fault_stops PastLimit next input cause leaves reads =
+  fault_stops PastLimit next input last last_next cause leaves reads =
       record { deliveries = so_far.deliveries; played = played; past = past_limit (limit_of run.choices) reader now.input.left so_far.deliveries so_far.max so_far.sound before.input.left so_far.read cause }
-  fault_stops (OverLong number) next input cause leaves reads =
+  fault_stops (OverLong number) next input last last_next cause leaves reads =
       record { deliveries = so_far.deliveries; played = played; counted = numbered number cause.0; bad = over_long (limit_of run.choices) reader now.input.left so_far.deliveries so_far.max so_far.sound before.input.left number so_far.read cause.0 cause.1 }
-  fault_stops NoMemory next input cause leaves reads = inl (inl (inl (stands next input reads)))
+  fault_stops NoMemory next input last last_next cause leaves reads = inl (inl (inl (stands next input last last_next reads)))
 
   -- at the end of the input all lines were taken
   pub end_reached : (input : Input) → IsAtEnd input.left → IsAtEnd (unread reader now.input.left) → HasTaken run before (record now { input = input })
@@ -149,26 +153,26 @@ module _ (run : Run) (before now : Moment) (reader : Reading) (asked : ℕ) (so_
     at_rest = so_far.at_rest;
   }
 
-  module _ (line : List ℕ) (next : Reading) where
+  module _ (line : List ℕ) (next : Reading) (last last_next : Option LastRead) where
     -- a line that is refused stops the taking
-    pub line_stops : (stop : Stop) (input : Input) (number : ℕ) → IsNextLine line reader next now.input.left input.left → number ≡ reader.given + 1 →
+    pub line_stops : (stop : Stop) (input : Input) (number : ℕ) → IsNextLine line reader next now.input.left input.left last last_next → number ≡ reader.given + 1 →
         ((cause : LineCause) × (stop ≡ BadLine number cause) × (delivery_of line ≡ Err cause)) ⊎ (stop ≡ OutOfMemory) → Stopped stop run before (record now { input = input })
     line_stops stop input number is counted why = ⊎_elim
         (λ bad. subst (λ s. Stopped s run before (record now { input = input })) (sym bad.1) (record {
           deliveries = so_far.deliveries;
           played = played;
           counted = numbered number counted;
-          bad = bad_line (limit_of run.choices) reader now.input.left so_far.deliveries so_far.max so_far.sound line next input.left is before.input.left number bad.0 so_far.read counted bad.2;
+          bad = bad_line (limit_of run.choices) reader now.input.left so_far.deliveries so_far.max so_far.sound line next input.left last last_next is before.input.left number bad.0 so_far.read counted bad.2;
         }))
-        (λ refused. subst (λ s. Stopped s run before (record now { input = input })) (sym refused) (inl (inl (inl (stands next input is.reads)))))
+        (λ refused. subst (λ s. Stopped s run before (record now { input = input })) (sym refused) (inl (inl (inl (stands next input last last_next is.reads)))))
         why
 
-    module _ (after : Moment) (d : Delivery) (asked_now : ℕ) (is : IsNextLine line reader next now.input.left after.input.left) (delivers : delivery_of line ≡ Ok d) (more : asked_now ≡ asked + asks (d ∷ [])) where
+    module _ (after : Moment) (d : Delivery) (asked_now : ℕ) (is : IsNextLine line reader next now.input.left after.input.left last last_next) (delivers : delivery_of line ≡ Ok d) (more : asked_now ≡ asked + asks (d ∷ [])) where
       asked_is : asked_now ≡ asks (so_far.deliveries ++ d ∷ [])
       asked_is = more ∙ ap (λ n. n + asks (d ∷ [])) so_far.asked_is ∙ sym (asks-push so_far.deliveries d)
 
       first : AreFirst (limit_of run.choices) before.input.left after.input.left (so_far.deliveries ++ d ∷ [])
-      first = first_with (limit_of run.choices) reader now.input.left so_far.deliveries so_far.max so_far.sound line next after.input.left is before.input.left d so_far.read delivers
+      first = first_with (limit_of run.choices) reader now.input.left so_far.deliveries so_far.max so_far.sound line next after.input.left last last_next is before.input.left d so_far.read delivers
 
       -- what was played before stands with a stage in which nothing else changed but the output
       played_still : after.stage.world ≡ now.stage.world → after.stage.counts ≡ now.stage.counts → (mapped : Mapped) → mapped ≡ now.stage.mapped →
@@ -221,7 +225,7 @@ module _ (run : Run) (before now : Moment) (reader : Reading) (asked : ℕ) (so_
             last = None;
             within = still same.0 same.1;
             mapped = mapped;
-            first = first_still next after.input.left is.reads;
+            first = first_still next after.input.left last last_next is.reads;
           }
 
       -- not all that is held was mapped anew, and nothing was printed
@@ -259,8 +263,8 @@ module _ (run : Run) (before now : Moment) (reader : Reading) (asked : ℕ) (so_
           TakesDelivery run.setting (turn asked_now d) now.stage after.stage → Progress run before after next asked_now
       line_taken later given ended one takes = record {
         deliveries = so_far.deliveries ++ d ∷ [];
-        taken = taken_on next after.input.left is.reads;
-        read = read_more (limit_of run.choices) reader now.input.left so_far.deliveries so_far.max so_far.sound line next after.input.left is before.input.left d so_far.read given delivers;
+        taken = taken_on next after.input.left last last_next is.reads;
+        read = read_more (limit_of run.choices) reader now.input.left so_far.deliveries so_far.max so_far.sound line next after.input.left last last_next is before.input.left d so_far.read given delivers;
         at_rest = takes so_far.deliveries before.stage asked_is so_far.at_rest;
         earlier = omega (arith, so_far.earlier, later);
         asked_is = asked_is;
@@ -275,5 +279,5 @@ module _ (run : Run) (before now : Moment) (reader : Reading) (asked : ℕ) (so_
 pub stands_at_start : (run : Run) (h : Option ℕ) (input : Input) (output : Output) (counts : Counts) → StopsWithin Starved run (at_start h input output counts) (at_start h input output counts)
 stands_at_start run h input output counts =
     let so_far : Progress run (at_start h input output counts) (at_start h input output counts) (fresh (limit_of run.choices)) 0 = nothing_begun run h input output counts in
-    stands run (at_start h input output counts) (at_start h input output counts) (fresh (limit_of run.choices)) 0 so_far (fresh (limit_of run.choices)) input
-    (not_called (fresh (limit_of run.choices)) input.left so_far.sound)
+    stands run (at_start h input output counts) (at_start h input output counts) (fresh (limit_of run.choices)) 0 so_far (fresh (limit_of run.choices)) input None None
+    (not_called (fresh (limit_of run.choices)) input.left None so_far.sound)

@@ -1,12 +1,12 @@
 -- How far the reading of lines has come, and what that says of the input.
-use Rattle.std.proofs.Common.{refl, sym, subst, ◌∙◌, ap, inl, inr, ◌≡◌, ℕ, ◌+◌, ◌-◌, ◌<◌, ◌≤◌, Bool, true, false, cond, List, [], ◌∷◌, ◌++◌, length, drop, Option, None, Some, IfSome, Result, Ok, Err, arith, append_assoc, append-nil, length-append}
+use Rattle.std.proofs.Common.{refl, sym, subst, ◌∙◌, ap, inl, inr, ◌≡◌, ◌⊎◌, ℕ, ◌+◌, ◌-◌, ◌<◌, ◌≤◌, Bool, true, false, cond, List, [], ◌∷◌, ◌++◌, length, drop, Option, None, Some, IfSome, Result, Ok, Err, arith, append_assoc, append-nil, length-append}
 use Rattle.std.proofs.lemmas.Bool.{le-leb}
 use Rattle.std.proofs.lemmas.Grind.{flat_map-append}
 use Rattle.std.proofs.Math.Seq.{drop-append_seam}
 use Rattle.std.specs.Option.{option_map}
 use Rattle.rising.specs.Rising.{Each}
-use Rattle.wq_io.specs.Streams.{IsAtEnd, before_known}
-use Rattle.wq_io.specs.Lines.{GoesOn, IsLineLong, IsOneLine, IsSound, IsTooLong, IsUndecided, ReadsAsNeeded, Reading, StopsInLine, TakesBytes, before_lines, ended_lines, fresh, input_length, line_feed, lines, lines_of, longest_line, longest_read, room, unread, whole_lines}
+use Rattle.wq_io.specs.Streams.{IsAtEnd, LastRead, before_known}
+use Rattle.wq_io.specs.Lines.{GoesOn, IsLineLong, IsNeeded, IsOneLine, IsSound, IsTooLong, IsUndecided, ReadsAsNeeded, Reading, StopsInLine, TakesBytes, before_lines, ended_lines, fresh, input_length, line_feed, lines, lines_of, longest_line, longest_read, room, unread, whole_lines}
 use Rattle.wq_io.proofs.LineLists.{whole_lines-ended}
 use Rattle.entity_model.specs.declared.delivery.Delivery.{Delivery}
 use Rattle.event_line.specs.declared.faults.LineCause.{LineCause}
@@ -85,14 +85,13 @@ still None = refl
 still (Some bytes) = refl
 
 -- a reader that wasn't called took nothing
-pub not_called : (reader : Reading) (left : Option (List ℕ)) → IsSound reader → ReadsAsNeeded reader reader left left
-not_called reader left sound = record {
+pub not_called : (reader : Reading) (left : Option (List ℕ)) (read : Option LastRead) → IsSound reader → ReadsAsNeeded reader reader left left read read
+not_called reader left read sound = record {
   before = [];
   last = [];
   told = still left;
   counted = omega arith;
-  needed = λ some. absurd (omega (arith, some));
-  going = λ some. absurd (omega (arith, some));
+  needed = inr (refl, refl);
   piece = omega arith;
   limit = refl;
   sound = sound;
@@ -196,12 +195,12 @@ not_ended true now still is = sym (still refl) ∙ is
 not_ended false now still is = refl
 
 -- the reader took this line
-pub record IsNextLine (line : List ℕ) (reader next : Reading) (left left_next : Option (List ℕ)) : Type 0 where
+pub record IsNextLine (line : List ℕ) (reader next : Reading) (left left_next : Option (List ℕ)) (last last_next : Option LastRead) : Type 0 where
   pub first : lines_of (unread reader left) ≡ before_lines line (lines_of (unread next left_next))
   pub total : input_length next left_next ≡ input_length reader left
   pub takes : TakesBytes next.ended (unread reader left) (unread next left_next) line
   pub goes : GoesOn reader next line
-  pub reads : ReadsAsNeeded reader next left left_next
+  pub reads : ReadsAsNeeded reader next left left_next last last_next
 
 module _ (limit : ℕ) (reader : Reading) (left : Option (List ℕ)) (ds : List Delivery) (max : reader.max_bytes ≡ limit) (sound : IsSound reader) where
   known_now : (bytes : List ℕ) (read : HasRead (Some bytes) reader left ds) → Known bytes read.done read.read reader.consumed (unread reader left)
@@ -233,27 +232,27 @@ module _ (limit : ℕ) (reader : Reading) (left : Option (List ℕ)) (ds : List 
       }
 
   -- the lines so far are the first ones, after a call of the reader, whatever it answered
-  pub first_lines : (start : Option (List ℕ)) (next : Reading) (left_next : Option (List ℕ)) → ReadsAsNeeded reader next left left_next → HasRead start reader left ds → AreFirst limit start left_next ds
-  first_lines None next left_next reads read =
+  pub first_lines : (start : Option (List ℕ)) (next : Reading) (left_next : Option (List ℕ)) (last last_next : Option LastRead) → ReadsAsNeeded reader next left left_next last last_next →
+      HasRead start reader left ds → AreFirst limit start left_next ds
+  first_lines None next left_next last last_next reads read =
       first_untold limit left_next read.done ds read.delivered (untold (reads.before ++ reads.last) left_next (untold reader.held left (untold read.read (unread reader left) read.bytes) ∙ reads.told))
-  first_lines (Some bytes) next left_next reads read = by (reads.before ++ reads.last) refl
+  first_lines (Some bytes) next left_next last last_next reads read = by reads.needed
     where
       behind : unread reader left ≡ before_known (reader.held ++ (reads.before ++ reads.last)) left_next
       behind = ap (λ (o : Option (List ℕ)). before_known reader.held o) reads.told ∙ before_both reader.held (reads.before ++ reads.last) left_next
 
-      by : (moved : List ℕ) → reads.before ++ reads.last ≡ moved → AreFirst limit (Some bytes) left_next ds
-      by [] none =
-          first_before bytes left_next [] reader.held read (behind ∙ ap (λ xs. before_known (reader.held ++ xs) left_next) none ∙ ap (λ xs. before_known xs left_next) (append-nil reader.held)) (nothing_undecided (room reader)) sound.buffered
-      by (b ∷ bs) some =
-          let size : length (reads.before ++ reads.last) ≡ length (b ∷ bs) = ap length some in
-          first_before bytes left_next (reader.held ++ reads.before) reads.last read (behind ∙ ap (λ xs. before_known xs left_next) (sym (append_assoc reader.held reads.before reads.last))) (reads.needed (omega (arith, size))) reads.piece
+      by : IsNeeded reader reads.before reads.last last last_next ⊎ ((reads.before ++ reads.last ≡ []) × (last_next ≡ last)) → AreFirst limit (Some bytes) left_next ds
+      by (inl is) =
+          first_before bytes left_next (reader.held ++ reads.before) reads.last read (behind ∙ ap (λ xs. before_known xs left_next) (sym (append_assoc reader.held reads.before reads.last))) is.undecided reads.piece
+      by (inr none) =
+          first_before bytes left_next [] reader.held read (behind ∙ ap (λ xs. before_known (reader.held ++ xs) left_next) none.0 ∙ ap (λ xs. before_known xs left_next) (append-nil reader.held)) (nothing_undecided (room reader)) sound.buffered
 
   -- a call of the reader took what it needed
-  needed : (bytes : List ℕ) (next : Reading) (left_next : Option (List ℕ)) → HasRead (Some bytes) reader left ds → (reads : ReadsAsNeeded reader next left left_next) → 0 < length (reads.before ++ reads.last) → TakesByNeed limit bytes left_next
-  needed bytes next left_next read reads some =
+  needed : (bytes : List ℕ) (next : Reading) (left_next : Option (List ℕ)) (last last_next : Option LastRead) → HasRead (Some bytes) reader left ds →
+      (reads : ReadsAsNeeded reader next left left_next last last_next) → IsNeeded reader reads.before reads.last last last_next → TakesByNeed limit bytes left_next
+  needed bytes next left_next last last_next read reads is =
       let parts = known_now bytes read in
-      let ends : read.read ≡ ended_lines read.done = read.whole (reads.going some) in
-      let undecided : IsUndecided (room reader) (reader.held ++ reads.before) = reads.needed some in
+      let ends : read.read ≡ ended_lines read.done = read.whole is.going in
       let size : length (read.read ++ (reader.held ++ reads.before) ++ reads.last) ≡ length read.read + (length reader.held + length (reads.before ++ reads.last)) =
       omega (
         arith,
@@ -277,22 +276,20 @@ module _ (limit : ℕ) (reader : Reading) (left : Option (List ℕ)) (ds : List 
         are_lines = read.are_lines;
         ds = ds;
         delivered = read.delivered;
-        undecided = subst (λ n. IsUndecided n (reader.held ++ reads.before)) (same_room limit reader read.read max parts.read_is ∙ ap (λ xs. limit - length xs) ends) undecided;
+        undecided = subst (λ n. IsUndecided n (reader.held ++ reads.before)) (same_room limit reader read.read max parts.read_is ∙ ap (λ xs. limit - length xs) ends) is.undecided;
         piece = reads.piece;
         bounded = subst Fits ends fits;
       }
 
   -- what was taken, after a call of the reader, whatever it answered
-  pub takes_on : (start : Option (List ℕ)) (next : Reading) (left_next : Option (List ℕ)) → HasRead start reader left ds → ReadsAsNeeded reader next left left_next → IfSome start (λ bytes. TakesByNeed limit bytes left) →
-      IfSome start (λ bytes. TakesByNeed limit bytes left_next)
-  takes_on None next left_next read reads so_far = tt
-  takes_on (Some bytes) next left_next read reads so_far = by (reads.before ++ reads.last) refl
+  pub takes_on : (start : Option (List ℕ)) (next : Reading) (left_next : Option (List ℕ)) (last last_next : Option LastRead) → HasRead start reader left ds →
+      ReadsAsNeeded reader next left left_next last last_next → IfSome start (λ bytes. TakesByNeed limit bytes left) → IfSome start (λ bytes. TakesByNeed limit bytes left_next)
+  takes_on None next left_next last last_next read reads so_far = tt
+  takes_on (Some bytes) next left_next last last_next read reads so_far = by reads.needed
     where
-      by : (moved : List ℕ) → reads.before ++ reads.last ≡ moved → TakesByNeed limit bytes left_next
-      by [] none = subst (λ o. TakesByNeed limit bytes o) (reads.told ∙ ap (λ xs. before_known xs left_next) none ∙ sym (still left_next)) so_far
-      by (b ∷ bs) some =
-          let size : length (reads.before ++ reads.last) ≡ length (b ∷ bs) = ap length some in
-          needed bytes next left_next read reads (omega (arith, size))
+      by : IsNeeded reader reads.before reads.last last last_next ⊎ ((reads.before ++ reads.last ≡ []) × (last_next ≡ last)) → TakesByNeed limit bytes left_next
+      by (inl is) = needed bytes next left_next last last_next read reads is
+      by (inr none) = subst (λ o. TakesByNeed limit bytes o) (reads.told ∙ ap (λ xs. before_known xs left_next) none.0 ∙ sym (still left_next)) so_far
 
   -- what was read and a part of a line within the limit are within it
   part_within : (start : Option (List ℕ)) (read : HasRead start reader left ds) (part : List ℕ) → length part ≤ room reader → IfSome start (λ bytes. length (read.read ++ part) ≤ limit)
@@ -364,7 +361,7 @@ module _ (limit : ℕ) (reader : Reading) (left : Option (List ℕ)) (ds : List 
       let nothing : length parts.u ≡ 0 = ap length none in
       record { within = omega (arith, parts.total, max, sound.within); delivered = rw all read.delivered }
 
-  module _ (line : List ℕ) (next : Reading) (left_next : Option (List ℕ)) (is : IsNextLine line reader next left left_next) where
+  module _ (line : List ℕ) (next : Reading) (left_next : Option (List ℕ)) (last last_next : Option LastRead) (is : IsNextLine line reader next left left_next last last_next) where
     bytes_grow : (start : Option (List ℕ)) (read : HasRead start reader left ds) → start ≡ before_known (read.read ++ is.takes.moved) (unread next left_next)
     bytes_grow start read = read.bytes ∙ ap (λ (o : Option (List ℕ)). before_known read.read o) is.takes.front ∙ before_both read.read is.takes.moved (unread next left_next)
 

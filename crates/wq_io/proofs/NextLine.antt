@@ -1,17 +1,17 @@
 -- The search for the next line: what stands between its start and each read, and what follows at its ends.
-use Rattle.std.proofs.Common.{refl, sym, ◌∙◌, ap, ◌≡◌, ◌↔◌, ℕ, ◌+◌, ◌<◌, ◌≤◌, Bool, true, false, List, [], ◌∷◌, Option, Some, None, IfSome, IsNone, ◌++◌, length, arith, append_assoc, length-append}
+use Rattle.std.proofs.Common.{refl, sym, ◌∙◌, ap, ◌≡◌, ◌↔◌, ℕ, ◌+◌, ◌<◌, ◌≤◌, Bool, true, false, List, [], ◌∷◌, Option, Some, None, IfSome, IsNone, MatchOption, ◌++◌, length, arith, append_assoc, length-append}
 use Rattle.std.proofs.lemmas.List.{take-append-le, append-nil}
-use Rattle.wq_io.specs.Streams.{before_known, IsAtEnd}
+use Rattle.wq_io.specs.Streams.{AreFewEmpty, before_known, IsAtEnd, LastRead}
 use Rattle.wq_io.specs.Lines.{Reading, IsSound, IsOneLine, IsLineLong, GivesLine, HasCause, ReadsAsNeeded, TakesBytes, line_feed, lines, lines_of, before_lines, longest_line, unread, room}
 use Rattle.wq_io.specs.Taking.{HasByte, IsOverLong, IsRefusedLine, ReadsByNeed, Takes}
 use Rattle.wq_io.specs.declared.lines.LineFault.{LineFault}
 use Rattle.wq_io.specs.declared.lines.LineFault.TheVariants.{ReadFault, TooLong, LineLong, OutOfMemory}
-use Rattle.wq_io.proofs.NeededReads.{HasRead, read_more, reads_as_needed, went_by}
+use Rattle.wq_io.proofs.NeededReads.{HasRead, read_more, reads_as_needed, still_few, went_by}
 use Rattle.wq_io.proofs.LineLists.{lines-line, lines-last, one_line-append, one_line-take}
 
 -- the line so far was taken from the front of what was unread, and it is one line that isn't too long
 pub record Going (start now : Reading) (left_start left : Option (List ℕ)) (line : List ℕ) (faults_start faults : ℕ)
-    (most_start most : Option ℕ) : Type 0 where
+    (most_start most : Option ℕ) (read_start read : Option LastRead) : Type 0 where
   pub front : unread start left_start ≡ before_known line (unread now left)
   pub in_line : IsOneLine line
   pub short : length line ≤ longest_line
@@ -21,8 +21,9 @@ pub record Going (start now : Reading) (left_start left : Option (List ℕ)) (li
   pub ended : now.ended ≡ true → IsAtEnd left
   pub still : start.ended ≡ true → now.ended ≡ true
   pub later : faults_start ≤ faults
-  pub reads : HasRead start now left_start left line
+  pub reads : HasRead start now left_start left read_start read line
   pub told_most : most ≡ most_start
+  pub few : AreFewEmpty read_start read 0
 
 nothing_before : (line : List ℕ) (left : Option (List ℕ)) → before_known line (before_known [] left) ≡ before_known line left
 nothing_before line None = refl
@@ -121,61 +122,76 @@ cause_of (LineLong number) start now left_start left line before after front in_
 cause_of OutOfMemory start now left_start left line before after front in_line short consumed limit given cause = tt
 
 -- the reads of a call with one more, which may have been needed
-pub going_reads : (start now next : Reading) (left_start left left_next : Option (List ℕ)) (line : List ℕ) (faults_start faults : ℕ) (most_start most : Option ℕ) →
-    Going start now left_start left line faults_start faults most_start most → ReadsByNeed now next left left_next →
-    HasRead start next left_start left_next line
-going_reads start now next left_start left left_next line faults_start faults most_start most going by_need =
+pub going_reads : (start now next : Reading) (left_start left left_next : Option (List ℕ)) (line : List ℕ) (faults_start faults : ℕ) (most_start most : Option ℕ)
+    (read_start read read_next : Option LastRead) → Going start now left_start left line faults_start faults most_start most read_start read →
+    ReadsByNeed now next left left_next read read_next → HasRead start next left_start left_next read_start read_next line
+going_reads start now next left_start left left_next line faults_start faults most_start most read_start read read_next going by_need =
     let consumed : now.consumed ≡ start.consumed + length line = ap (λ (r : Reading). r.consumed) going.others in
     let limit : now.max_bytes ≡ start.max_bytes = ap (λ (r : Reading). r.max_bytes) going.others in
     let within : length line ≤ room start = omega (arith, consumed, limit, going.sound.within) in
-    read_more start now next left_start left left_next line going.reads going.in_line going.short within (not_true start.ended now.ended going.still) by_need
+    read_more start now next left_start left left_next read_start read read_next line going.reads going.in_line going.short within consumed limit
+    (not_true start.ended now.ended going.still) going.few by_need
 
 -- the call ends after it
-pub going_stops : (start now next : Reading) (left_start left left_next : Option (List ℕ)) (line : List ℕ) (faults_start faults : ℕ) (most_start most : Option ℕ) →
-    Going start now left_start left line faults_start faults most_start most → ReadsByNeed now next left left_next →
-    next ≡ record now { held = next.held; ended = next.ended } → IsSound next → ReadsAsNeeded start next left_start left_next
-going_stops start now next left_start left left_next line faults_start faults most_start most going by_need others sound =
+pub going_stops : (start now next : Reading) (left_start left left_next : Option (List ℕ)) (line : List ℕ) (faults_start faults : ℕ) (most_start most : Option ℕ)
+    (read_start read read_next : Option LastRead) → Going start now left_start left line faults_start faults most_start most read_start read →
+    ReadsByNeed now next left left_next read read_next → next ≡ record now { held = next.held; ended = next.ended } → IsSound next →
+    ReadsAsNeeded start next left_start left_next read_start read_next
+going_stops start now next left_start left left_next line faults_start faults most_start most read_start read read_next going by_need others sound =
     let consumed : next.consumed ≡ start.consumed + length line = ap (λ (r : Reading). r.consumed) others ∙ ap (λ (r : Reading). r.consumed) going.others in
     let limit : next.max_bytes ≡ start.max_bytes = ap (λ (r : Reading). r.max_bytes) others ∙ ap (λ (r : Reading). r.max_bytes) going.others in
-    reads_as_needed start next left_start left_next line (going_reads start now next left_start left left_next line faults_start faults most_start most going by_need) consumed limit sound
+    let so_far = going_reads start now next left_start left left_next line faults_start faults most_start most read_start read read_next going by_need in
+    reads_as_needed start next left_start left_next read_start read_next line so_far consumed limit sound
 
 -- the call ends with a line
-pub going_gives : (start now next after : Reading) (left_start left left_next : Option (List ℕ)) (line line_now : List ℕ) (faults_start faults : ℕ) (most_start most : Option ℕ) →
-    Going start now left_start left line faults_start faults most_start most → ReadsByNeed now next left left_next →
-    next ≡ record now { held = next.held; ended = next.ended } → Takes next after line line_now true → ReadsAsNeeded start after left_start left_next
-going_gives start now next after left_start left left_next line line_now faults_start faults most_start most going by_need others takes =
+pub going_gives : (start now next after : Reading) (left_start left left_next : Option (List ℕ)) (line line_now : List ℕ) (faults_start faults : ℕ)
+    (most_start most : Option ℕ) (read_start read read_next : Option LastRead) → Going start now left_start left line faults_start faults most_start most read_start read →
+    ReadsByNeed now next left left_next read read_next → next ≡ record now { held = next.held; ended = next.ended } → Takes next after line line_now true →
+    ReadsAsNeeded start after left_start left_next read_start read_next
+going_gives start now next after left_start left left_next line line_now faults_start faults most_start most read_start read read_next going by_need others takes =
     let gone : List ℕ = takes.moved ++ line_feed ∷ [] in
-    let read = going_reads start now next left_start left left_next line faults_start faults most_start most going by_need in
+    let so_far = going_reads start now next left_start left left_next line faults_start faults most_start most read_start read read_next going by_need in
     let held : next.held ≡ gone ++ after.held = takes.held ∙ sym (append_assoc takes.moved (line_feed ∷ []) after.held) in
     let long : length (line ++ gone) ≡ length line + length gone = length-append line gone in
     let longer : length gone ≡ length takes.moved + 1 = length-append takes.moved (line_feed ∷ []) in
     let before : next.consumed ≡ start.consumed + length line = ap (λ (r : Reading). r.consumed) others ∙ ap (λ (r : Reading). r.consumed) going.others in
     let consumed : after.consumed ≡ start.consumed + length (line ++ gone) = omega (arith, takes.consumed, before, long, longer) in
     let limit : after.max_bytes ≡ start.max_bytes = ap (λ (r : Reading). r.max_bytes) takes.others ∙ ap (λ (r : Reading). r.max_bytes) others ∙ ap (λ (r : Reading). r.max_bytes) going.others in
-    reads_as_needed start after left_start left_next (line ++ gone) (went_by start next after left_start left_next line gone read held) consumed limit takes.sound
+    let went = went_by start next after left_start left_next read_start read_next line gone so_far held in
+    reads_as_needed start after left_start left_next read_start read_next (line ++ gone) went consumed limit takes.sound
 
 -- a line that is counted takes nothing
-pub line_counted : (start after : Reading) (left_start left : Option (List ℕ)) (number : ℕ) → ReadsAsNeeded start after left_start left →
-    IsSound (record after { given = number }) → ReadsAsNeeded start (record after { given = number }) left_start left
-line_counted start after left_start left number reads sound = record {
+pub line_counted : (start after : Reading) (left_start left : Option (List ℕ)) (read_start read : Option LastRead) (number : ℕ) →
+    ReadsAsNeeded start after left_start left read_start read → IsSound (record after { given = number }) →
+    ReadsAsNeeded start (record after { given = number }) left_start left read_start read
+line_counted start after left_start left read_start read number reads sound = record {
   before = reads.before;
   last = reads.last;
   told = reads.told;
   counted = reads.counted;
   needed = reads.needed;
-  going = reads.going;
   piece = reads.piece;
   limit = reads.limit;
   sound = sound;
 }
 
+-- nor does the last line, where there is one
+pub last_counted : (number : Option ℕ) (start next after : Reading) (left_start left : Option (List ℕ)) (read_start read : Option LastRead) →
+    ReadsAsNeeded start next left_start left read_start read →
+    MatchOption number (after ≡ next) (λ n. (n ≡ next.given + 1) × (after ≡ record next { given = next.given + 1 })) → IsSound after →
+    ReadsAsNeeded start after left_start left read_start read
+last_counted None start next after left_start left read_start read reads is sound = rw is reads
+last_counted (Some n) start next after left_start left read_start read reads is sound =
+    rw is.1 (line_counted start next left_start left read_start read (next.given + 1) reads (rw is.1 at sound))
+
 -- the call goes on with more of the line
 pub going_on : (start now next after : Reading) (left_start left left_next : Option (List ℕ)) (line line_now : List ℕ) (faults_start faults faults_next : ℕ)
-    (most_start most most_next : Option ℕ) → Going start now left_start left line faults_start faults most_start most → HasByte now next left left_next →
-    ReadsByNeed now next left left_next → Takes next after line line_now false → faults ≤ faults_next → most_next ≡ most →
-    Going start after left_start left_next line_now faults_start faults_next most_start most_next
-going_on start now next after left_start left left_next line line_now faults_start faults faults_next most_start most most_next going has by_need takes later same =
-    let read = going_reads start now next left_start left left_next line faults_start faults most_start most going by_need in
+    (most_start most most_next : Option ℕ) (read_start read read_next : Option LastRead) →
+    Going start now left_start left line faults_start faults most_start most read_start read → HasByte now next left left_next →
+    ReadsByNeed now next left left_next read read_next → Takes next after line line_now false → faults ≤ faults_next → most_next ≡ most →
+    Going start after left_start left_next line_now faults_start faults_next most_start most_next read_start read_next
+going_on start now next after left_start left left_next line line_now faults_start faults faults_next most_start most most_next read_start read read_next going has by_need takes later same =
+    let so_far = going_reads start now next left_start left left_next line faults_start faults most_start most read_start read read_next going by_need in
     let moved : List ℕ = takes.moved in
     let ended : after.ended ≡ next.ended = ap (λ (r : Reading). r.ended) takes.others in
     let before : next.consumed ≡ start.consumed + length line = ap (λ (r : Reading). r.consumed) has.others ∙ ap (λ (r : Reading). r.consumed) going.others in
@@ -192,6 +208,7 @@ going_on start now next after left_start left left_next line line_now faults_sta
       ended = λ is. has.ended (sym ended ∙ is);
       still = λ is. ended ∙ has.still (going.still is);
       later = omega arith;
-      reads = rw takes.line (went_by start next after left_start left_next line moved read takes.held);
+      reads = rw takes.line (went_by start next after left_start left_next read_start read_next line moved so_far takes.held);
       told_most = same ∙ going.told_most;
+      few = still_few now next left left_next read_start read read_next by_need has.some going.few;
     }

@@ -3,7 +3,7 @@
 ghost use Rattle.std.specs.Prelude.{◌≡◌, ◌+◌, ◌<◌, ◌≤◌, ◌^◌, ◌↔◌, true, false, [], ◌∷◌, ◌++◌, length, take, drop, IsTrue, IfOk, IfErr, IfSome, OnOk, IsErr, is_err, MatchOption, MatchBool, vec_len, position, ◌==◌, ◌≢◌, IsNone, ◌⊎◌};
 ghost use Rattle.wq_io.specs.Streams.{before_known, IsAtEnd, Rose};
 ghost use Rattle.wq_io.specs.Lines.{fresh, taken, room, unread, input_length, GivesLine, GoesOn, HasCause, IsOneLine, IsSound, Leaves, ReadsAsNeeded, TakesBytes, line_feed, longest_line};
-ghost use Rattle.wq_io.specs.Taking.{EndsAt, HasByte, IsEnded, IsRefusedLine, IsUnreadable, ReadsByNeed, Takes};
+ghost use Rattle.wq_io.specs.Taking.{EndsAt, HasByte, IsEnded, IsRefusedLine, IsUnreadable, ReadsByNeed, Refills, Takes};
 ghost use Rattle.wq_io.specs.declared.lines.LineFault.TheVariants.{ReadFault as NotRead, LineLong as OverLong, OutOfMemory as Refused};
 
 use crate::source::Source;
@@ -42,7 +42,9 @@ impl From<OutOfMemory> for LineFault {
     }
 }
 
-/// Splits a source at its line feeds, reading no further than it has to.
+/// Splits a source at its line feeds, reading no further than it has to: it reads where the bytes that it holds decide neither a
+/// line nor a fault, one read at a time, each for 4,096 bytes, or for those up to the byte after the limit where these are fewer.
+/// After a read that failed it makes no other.
 #[derive(Debug, Drop)]
 pub struct Lines {
     buffer: [u8; BUFFER],
@@ -115,7 +117,7 @@ impl Lines {
         ensures cause { IfErr result (λ fault.
             HasCause fault self.old (S.left source.old) (S.faults source.old) (S.faults source.new)) }
         ensures leaves { IfErr result (λ fault. Leaves fault self.old (S.left source.old) (S.left source.new)) }
-        ensures reads { ReadsAsNeeded self.old self.new (S.left source.old) (S.left source.new) }
+        ensures reads { ReadsAsNeeded self.old self.new (S.left source.old) (S.left source.new) (S.last source.old) (S.last source.new) }
         ensures most { S.most_faults source.new ≡ S.most_faults source.old }
         ensures refused { IsErr result → self.new.failed ≡ true }
     {
@@ -153,7 +155,7 @@ impl Lines {
         ensures cause { IfErr result (λ fault.
             HasCause fault self.old (S.left source.old) (S.faults source.old) (S.faults source.new)) }
         ensures leaves { IfErr result (λ fault. Leaves fault self.old (S.left source.old) (S.left source.new)) }
-        ensures reads { ReadsAsNeeded self.old self.new (S.left source.old) (S.left source.new) }
+        ensures reads { ReadsAsNeeded self.old self.new (S.left source.old) (S.left source.new) (S.last source.old) (S.last source.new) }
         ensures most { S.most_faults source.new ≡ S.most_faults source.old }
     {
         let _ = &self.given;
@@ -195,7 +197,7 @@ impl Lines {
         ensures later { S.faults source.old ≤ S.faults source.new }
         ensures cause { IfErr result (λ fault. (fault ≡ NotRead) × Rose (S.faults source.old) (S.faults source.new)) }
         ensures leaves { IsErr result → IsUnreadable self.old (S.left source.old) (S.left source.new) }
-        ensures by_need { ReadsByNeed self.old self.new (S.left source.old) (S.left source.new) }
+        ensures by_need { ReadsByNeed self.old self.new (S.left source.old) (S.left source.new) (S.last source.old) (S.last source.new) }
         ensures others { self.new ≡ record self.old { held = self.new.held; ended = self.new.ended } }
         ensures sound { IsSound self.new }
         ensures most { S.most_faults source.new ≡ S.most_faults source.old }
@@ -216,7 +218,7 @@ impl Lines {
         ensures later { S.faults source.old ≤ S.faults source.new }
         ensures cause { IfErr result (λ fault. (fault ≡ NotRead) × Rose (S.faults source.old) (S.faults source.new)) }
         ensures leaves { IsErr result → IsUnreadable self.old (S.left source.old) (S.left source.new) }
-        ensures by_need { ReadsByNeed self.old self.new (S.left source.old) (S.left source.new) }
+        ensures by_need { ReadsByNeed self.old self.new (S.left source.old) (S.left source.new) (S.last source.old) (S.last source.new) }
         ensures others { self.new ≡ record self.old { held = self.new.held; ended = self.new.ended } }
         ensures sound { IsSound self.new }
         ensures most { S.most_faults source.new ≡ S.most_faults source.old }
@@ -237,7 +239,7 @@ impl Lines {
         ensures later { S.faults source.old ≤ S.faults source.new }
         ensures cause { IfErr result (λ fault. (fault ≡ NotRead) × Rose (S.faults source.old) (S.faults source.new)) }
         ensures leaves { IsErr result → IsUnreadable self.old (S.left source.old) (S.left source.new) }
-        ensures by_need { ReadsByNeed self.old self.new (S.left source.old) (S.left source.new) }
+        ensures by_need { Refills self.old self.new (S.left source.old) (S.left source.new) (S.last source.old) (S.last source.new) }
         ensures others { self.new ≡ record self.old { held = self.new.held; ended = self.new.ended } }
         ensures sound { IsSound self.new }
         ensures most { S.most_faults source.new ≡ S.most_faults source.old }

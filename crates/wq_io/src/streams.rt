@@ -26,6 +26,8 @@ impl<R: Read> StdSource<R> {
 impl<R: Read> Source for StdSource<R> {
     ghost left = { λ _. None };
 
+    ghost last = { λ _. None };
+
     ghost faults = { λ s. s.faults };
 
     ghost most_faults = { λ _. None };

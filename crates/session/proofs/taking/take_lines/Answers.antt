@@ -21,7 +21,7 @@ loop-line-init g c =
 pub returns-in_err-number-clause-err : goal.returns-in_err-number-clause-err
 returns-in_err-number-clause-err g c =
     let p = err_from_is_err_and c.from_residual.result c.from_residual.ensures.1 in
-    rw (p.1, p.2) (fault_stops _ _ _ _ _ c.loop-line.invariant.0 _ c.next.new.self _ c.in_err-number.ensures.cause c.in_err-number.ensures.leaves c.next.ensures.reads)
+    rw (p.1, p.2) (fault_stops _ _ _ _ _ c.loop-line.invariant.0 _ c.next.new.self _ _ _ c.in_err-number.ensures.cause c.in_err-number.ensures.leaves c.next.ensures.reads)
 
 pub returns-in_err-delivery-clause-err : goal.returns-in_err-delivery-clause-err
 returns-in_err-delivery-clause-err g c =
@@ -30,7 +30,7 @@ returns-in_err-delivery-clause-err g c =
     let number = rw c.in-Some.is at c.in_ok-number.ensures.number in
     let bytes = rw c.in-Some.is at c.in_ok-number.ensures.bytes in
     let refused = rw c.as_slice.ensures.value at c.in_err-delivery.ensures.err in
-    rw (p.1, p.2) (line_stops _ _ _ _ _ c.loop-line.invariant.0 c.next.new.line.items c.next.new.self _ _ c.in-Some.number
+    rw (p.1, p.2) (line_stops _ _ _ _ _ c.loop-line.invariant.0 c.next.new.line.items c.next.new.self _ _ _ _ c.in-Some.number
     (record { first = line; total = c.in_ok-number.ensures.length; takes = bytes; goes = c.in_ok-number.ensures.goes_on; reads = c.next.ensures.reads }) number.0 refused)
 
 pub deliver-requires : goal.deliver-requires
@@ -43,7 +43,7 @@ returns-in_err-deliver-clause-err g c =
     let bytes = rw c.in-Some.is at c.in_ok-number.ensures.bytes in
     let delivered = rw c.as_slice.ensures.value at c.in_ok-delivery.ensures.ok in
     let cuts = rw (c.loop-line.invariant.1.known, c.place-directory.ensures, c.loop-line.invariant.2 ∙ c.requires.room) at c.in_err-deliver.ensures.err in
-    rw (p.1, p.2) (delivery_stops _ _ _ _ _ c.loop-line.invariant.0 c.next.new.line.items c.next.new.self
+    rw (p.1, p.2) (delivery_stops _ _ _ _ _ c.loop-line.invariant.0 c.next.new.line.items c.next.new.self _ _
     (moment g.S.Source g.R.Revisions g.K.Sink c.next.new.source c.deliver.new.revisions c.deliver.new.out c.deliver.new.world) c.in_ok-delivery.delivery _
     (record { first = line; total = c.in_ok-number.ensures.length; takes = bytes; goes = c.in_ok-number.ensures.goes_on; reads = c.next.ensures.reads }) delivered (omega (arith, c.asks-asked.ensures.number)) _ cuts)
 
@@ -59,7 +59,7 @@ loop-line-preserved g c =
     let takes = rw (c.loop-line.invariant.1.known, c.place-directory.ensures, c.loop-line.invariant.2 ∙ c.requires.room) at c.in_ok-deliver.ensures.ok in
     let one = c.asks-asked.ensures.at_most_one in
     let asked = c.asks-asked.ensures.number in (
-      line_taken _ _ _ _ _ c.loop-line.invariant.0 c.next.new.line.items c.next.new.self
+      line_taken _ _ _ _ _ c.loop-line.invariant.0 c.next.new.line.items c.next.new.self _ _
           (moment g.S.Source g.R.Revisions g.K.Sink c.next.new.source c.deliver.new.revisions c.deliver.new.out c.deliver.new.world) c.in_ok-delivery.delivery _
           (record { first = line; total = c.in_ok-number.ensures.length; takes = bytes; goes = c.in_ok-number.ensures.goes_on; reads = c.next.ensures.reads }) delivered (omega (arith, asked))
           c.in_ok-number.ensures.later (sym number.1 ∙ number.0) c.in_ok-number.ensures.ended (omega (arith, asked, one)) takes,
@@ -75,16 +75,16 @@ returns-clause-ok g c =
     end_reached _ _ _ _ _ c.loop-line.invariant.0 _ (nothing_left c.next.new.self.held _ (rw line.1 line.0)) line.0
 
 pub returns-clause-taken : goal.returns-clause-taken
-returns-clause-taken g c = taken_on _ _ _ _ _ c.loop-line.invariant.0 c.next.new.self _ c.next.ensures.reads
+returns-clause-taken g c = taken_on _ _ _ _ _ c.loop-line.invariant.0 c.next.new.self _ _ _ c.next.ensures.reads
 
 pub returns-in_err-number-clause-taken : goal.returns-in_err-number-clause-taken
-returns-in_err-number-clause-taken g c = taken_on _ _ _ _ _ c.loop-line.invariant.0 c.next.new.self _ c.next.ensures.reads
+returns-in_err-number-clause-taken g c = taken_on _ _ _ _ _ c.loop-line.invariant.0 c.next.new.self _ _ _ c.next.ensures.reads
 
 pub returns-in_err-delivery-clause-taken : goal.returns-in_err-delivery-clause-taken
-returns-in_err-delivery-clause-taken g c = taken_on _ _ _ _ _ c.loop-line.invariant.0 c.next.new.self _ c.next.ensures.reads
+returns-in_err-delivery-clause-taken g c = taken_on _ _ _ _ _ c.loop-line.invariant.0 c.next.new.self _ _ _ c.next.ensures.reads
 
 pub returns-in_err-deliver-clause-taken : goal.returns-in_err-deliver-clause-taken
-returns-in_err-deliver-clause-taken g c = taken_on _ _ _ _ _ c.loop-line.invariant.0 c.next.new.self _ c.next.ensures.reads
+returns-in_err-deliver-clause-taken g c = taken_on _ _ _ _ _ c.loop-line.invariant.0 c.next.new.self _ _ _ c.next.ensures.reads
 
 pub returns-clause-most : goal.returns-clause-most
 returns-clause-most g c = (c.next.ensures.most ∙ c.loop-line.invariant.3.0, c.loop-line.invariant.3.1)

@@ -4,7 +4,7 @@ use Rattle.std.proofs.lemmas.Result.{err_from_is_err_and}
 use Rattle.wq_io.specs.Streams.{before_known, IsAtEnd}
 use Rattle.wq_io.specs.Lines.{Reading}
 use Rattle.wq_io.specs.Taking.{HasByte, IsEnded, Takes}
-use Rattle.wq_io.proofs.NextLine.{at_end, cause_of, going_gives, going_on, going_stops, line_bytes, line_counted, line_ended}
+use Rattle.wq_io.proofs.NextLine.{at_end, cause_of, going_gives, going_on, going_stops, last_counted, line_bytes, line_counted, line_ended}
 use Rattle.std.proofs.Common.{true, false, refl}
 use Rattle.wq_io.proofs.lines.Lines.next_line.Goals as goal
 
@@ -55,23 +55,28 @@ returns-then-branch-clause-bytes g c =
 
 pub returns-in_err-has_byte-clause-reads : goal.returns-in_err-has_byte-clause-reads
 returns-in_err-has_byte-clause-reads g c =
-    going_stops _ _ _ _ _ _ _ _ _ _ _ c.loop-self.invariant c.has_byte.ensures.by_need c.has_byte.ensures.others c.has_byte.ensures.sound
+    going_stops _ _ _ _ _ _ _ _ _ _ _ _ _ _ c.loop-self.invariant c.has_byte.ensures.by_need c.has_byte.ensures.others c.has_byte.ensures.sound
 
 pub returns-then-is_at_limit-clause-reads : goal.returns-then-is_at_limit-clause-reads
 returns-then-is_at_limit-clause-reads g c =
-    going_stops _ _ _ _ _ _ _ _ _ _ _ c.loop-self.invariant c.has_byte.ensures.by_need c.has_byte.ensures.others c.has_byte.ensures.sound
+    going_stops _ _ _ _ _ _ _ _ _ _ _ _ _ _ c.loop-self.invariant c.has_byte.ensures.by_need c.has_byte.ensures.others c.has_byte.ensures.sound
+
+pub returns-then-not-branch-clause-reads : goal.returns-then-not-branch-clause-reads
+returns-then-not-branch-clause-reads g c =
+    last_counted _ _ _ _ _ _ _ _ (going_stops _ _ _ _ _ _ _ _ _ _ _ _ _ _ c.loop-self.invariant c.has_byte.ensures.by_need c.has_byte.ensures.others c.has_byte.ensures.sound)
+    c.last_line.ensures.number c.last_line.ensures.sound
 
 pub returns-in_err-take_held-clause-reads : goal.returns-in_err-take_held-clause-reads
 returns-in_err-take_held-clause-reads g c =
     rw (c.in_err-take_held.ensures.unchanged refl)
-    (going_stops _ _ _ _ _ _ _ _ _ _ _ c.loop-self.invariant c.has_byte.ensures.by_need c.has_byte.ensures.others c.has_byte.ensures.sound)
+    (going_stops _ _ _ _ _ _ _ _ _ _ _ _ _ _ c.loop-self.invariant c.has_byte.ensures.by_need c.has_byte.ensures.others c.has_byte.ensures.sound)
 
 pub returns-then-branch-clause-reads : goal.returns-then-branch-clause-reads
 returns-then-branch-clause-reads g c =
     let line : List ℕ = c.loop-self.line.items in
     let takes : Takes c.has_byte.new.self c.take_held.new.self line c.take_held.new.line.items true = rw c.if-branch.true at c.in_ok-take_held.ensures.takes in
-    let reads = going_gives _ _ _ _ _ _ _ _ _ _ _ _ _ c.loop-self.invariant c.has_byte.ensures.by_need c.has_byte.ensures.others takes in
-    rw c.count_line.ensures.counted (line_counted _ _ _ _ _ reads (rw c.count_line.ensures.counted at c.count_line.ensures.sound))
+    let reads = going_gives _ _ _ _ _ _ _ _ _ _ _ _ _ _ _ _ c.loop-self.invariant c.has_byte.ensures.by_need c.has_byte.ensures.others takes in
+    rw c.count_line.ensures.counted (line_counted _ _ _ _ _ _ _ reads (rw c.count_line.ensures.counted at c.count_line.ensures.sound))
 
 pub loop-self-preserved : goal.loop-self-preserved
 loop-self-preserved g c =
@@ -79,4 +84,4 @@ loop-self-preserved g c =
     let line : List ℕ = c.loop-self.line.items in
     let has : HasByte c.loop-self.self c.has_byte.new.self (g.S.Source.left c.loop-self.source) left = rw c.if-not-branch.false at c.in_ok-has_byte.ensures.reads in
     let takes : Takes c.has_byte.new.self c.take_held.new.self line c.take_held.new.line.items false = rw c.if-branch.false at c.in_ok-take_held.ensures.takes in
-    going_on _ _ _ _ _ _ _ _ _ _ _ _ _ _ _ c.loop-self.invariant has c.has_byte.ensures.by_need takes c.has_byte.ensures.later c.has_byte.ensures.most
+    going_on _ _ _ _ _ _ _ _ _ _ _ _ _ _ _ _ _ _ c.loop-self.invariant has c.has_byte.ensures.by_need takes c.has_byte.ensures.later c.has_byte.ensures.most
