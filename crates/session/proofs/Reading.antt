@@ -241,7 +241,7 @@ module _ (limit : ℕ) (reader : Reading) (left : Option (List ℕ)) (ds : List 
       behind : unread reader left ≡ before_known (reader.held ++ (reads.before ++ reads.last)) left_next
       behind = ap (λ (o : Option (List ℕ)). before_known reader.held o) reads.told ∙ before_both reader.held (reads.before ++ reads.last) left_next
 
-      by : IsNeeded reader reads.before reads.last last_next ⊎ ((reads.before ++ reads.last ≡ []) × (last_next ≡ last)) → AreFirst limit (Some bytes) left_next ds
+      by : IsNeeded reader reads.before reads.last last last_next ⊎ ((reads.before ++ reads.last ≡ []) × (last_next ≡ last)) → AreFirst limit (Some bytes) left_next ds
       by (inl is) =
           first_before bytes left_next (reader.held ++ reads.before) reads.last read (behind ∙ ap (λ xs. before_known xs left_next) (sym (append_assoc reader.held reads.before reads.last))) is.undecided reads.piece
       by (inr none) =
@@ -249,7 +249,7 @@ module _ (limit : ℕ) (reader : Reading) (left : Option (List ℕ)) (ds : List 
 
   -- a call of the reader took what it needed
   needed : (bytes : List ℕ) (next : Reading) (left_next : Option (List ℕ)) (last last_next : Option LastRead) → HasRead (Some bytes) reader left ds →
-      (reads : ReadsAsNeeded reader next left left_next last last_next) → IsNeeded reader reads.before reads.last last_next → TakesByNeed limit bytes left_next
+      (reads : ReadsAsNeeded reader next left left_next last last_next) → IsNeeded reader reads.before reads.last last last_next → TakesByNeed limit bytes left_next
   needed bytes next left_next last last_next read reads is =
       let parts = known_now bytes read in
       let ends : read.read ≡ ended_lines read.done = read.whole is.going in
@@ -287,7 +287,7 @@ module _ (limit : ℕ) (reader : Reading) (left : Option (List ℕ)) (ds : List 
   takes_on None next left_next last last_next read reads so_far = tt
   takes_on (Some bytes) next left_next last last_next read reads so_far = by reads.needed
     where
-      by : IsNeeded reader reads.before reads.last last_next ⊎ ((reads.before ++ reads.last ≡ []) × (last_next ≡ last)) → TakesByNeed limit bytes left_next
+      by : IsNeeded reader reads.before reads.last last last_next ⊎ ((reads.before ++ reads.last ≡ []) × (last_next ≡ last)) → TakesByNeed limit bytes left_next
       by (inl is) = needed bytes next left_next last last_next read reads is
       by (inr none) = subst (λ o. TakesByNeed limit bytes o) (reads.told ∙ ap (λ xs. before_known xs left_next) none.0 ∙ sym (still left_next)) so_far
 

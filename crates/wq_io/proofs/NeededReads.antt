@@ -1,7 +1,8 @@
 -- What the reads of a call took so far, and that each was needed.
-use Rattle.std.proofs.Common.{refl, sym, subst, ◌∙◌, ap, ◌≡◌, ◌⊎◌, inl, inr, ℕ, ◌+◌, ◌-◌, ◌≤◌, false, List, [], Option, Some, None, IfSome, ◌++◌, length, min, arith, append_assoc, length-append}
+use Rattle.std.proofs.Common.{refl, sym, subst, ◌∙◌, ap, ◌≡◌, ◌⊎◌, inl, inr, ℕ, ◌+◌, ◌-◌, ◌<◌, ◌≤◌, ◌==◌, Bool, true, false, cond, List, [], Option, Some, None, IfSome, ◌++◌, length, min, arith, append_assoc, length-append}
+use Rattle.std.proofs.lemmas.Bool.Decides.{nat_tests}
 use Rattle.std.proofs.lemmas.List.{append-nil}
-use Rattle.wq_io.specs.Streams.{LastRead, before_known}
+use Rattle.wq_io.specs.Streams.{AreFewEmpty, LastRead, after_read, before_known, counted}
 use Rattle.wq_io.specs.Lines.{Reading, IsNeeded, IsOneLine, IsSound, ReadsAsNeeded, longest_line, longest_read, room, taken}
 use Rattle.wq_io.specs.Taking.{ReadsByNeed}
 
@@ -11,7 +12,7 @@ pub record HasRead (start now : Reading) (left_start left : Option (List ℕ)) (
   pub last : List ℕ
   pub told : left_start ≡ before_known (before ++ last) left
   pub all : start.held ++ (before ++ last) ≡ gone ++ now.held
-  pub needed : IsNeeded start before last read ⊎ ((before ++ last ≡ []) × (read ≡ read_start))
+  pub needed : IsNeeded start before last read_start read ⊎ ((before ++ last ≡ []) × (read ≡ read_start))
   pub piece : length last ≤ longest_read
 
 nothing_told : (known : Option (List ℕ)) → known ≡ before_known [] known
@@ -22,6 +23,38 @@ told_more : (start left left_now : Option (List ℕ)) (bytes piece : List ℕ) �
     start ≡ before_known (bytes ++ piece) left_now
 told_more start left None bytes piece first then = rw (first, then) refl
 told_more start left (Some others) bytes piece first then = rw (first, then) (ap Some (sym (append_assoc bytes piece others)))
+
+-- what is told of one more read
+asked_for : (old new : Option LastRead) (asked gave : ℕ) → new ≡ after_read asked gave old → IfSome new (λ r. r.asked ≡ asked)
+asked_for None new asked gave is = rw is tt
+asked_for (Some r) new asked gave is = rw is refl
+
+all_given : (old new : Option LastRead) (asked gave : ℕ) → new ≡ after_read asked gave old → IfSome new (λ r. r.gave ≡ gave)
+all_given None new asked gave is = rw is tt
+all_given (Some r) new asked gave is = rw is refl
+
+-- with it there is one more that gave nothing, or none more
+empty_one : (n gave : ℕ) (none : Bool) → (gave == 0) ≡ none → cond none (counted n) n ≤ n + (1 - gave)
+empty_one n gave true is = grind (arith, nat_tests)
+empty_one n gave false is = omega arith
+
+one_more : (start old new : Option LastRead) (asked gave : ℕ) → new ≡ after_read asked gave old → AreFewEmpty start old 0 → AreFewEmpty start new (1 - gave)
+one_more None old new asked gave is few = tt
+one_more (Some s) None new asked gave is few = rw is tt
+one_more (Some s) (Some r) new asked gave is few = rw is (omega (arith, few, empty_one r.empty gave (gave == 0) refl))
+
+-- no read was made yet, or each gave a byte
+pub none_empty : (read : Option LastRead) → AreFewEmpty read read 0
+none_empty None = tt
+none_empty (Some r) = omega arith
+
+-- where a byte is held after a step, no read gave nothing
+pub still_few : (now next : Reading) (left left_next : Option (List ℕ)) (read_start read read_next : Option LastRead) →
+    ReadsByNeed now next left left_next read read_next → 0 < length next.held → AreFewEmpty read_start read 0 → AreFewEmpty read_start read_next 0
+still_few now next left left_next read_start read read_next (inl refills) some few =
+    let all : 1 - length next.held ≡ 0 = omega (arith, some) in
+    subst (λ n. AreFewEmpty read_start read_next n) all (one_more read_start read read_next _ _ refills.last few)
+still_few now next left left_next read_start read read_next (inr uncalled) some few = rw uncalled.read few
 
 -- no read was made yet
 pub none_read : (start : Reading) (left : Option (List ℕ)) (read : Option LastRead) → HasRead start start left left read read []
@@ -38,8 +71,8 @@ none_read start left read = record {
 pub read_more : (start now next : Reading) (left_start left left_next : Option (List ℕ)) (read_start read read_next : Option LastRead) (line : List ℕ) →
     HasRead start now left_start left read_start read line → IsOneLine line → length line ≤ longest_line → length line ≤ room start →
     now.consumed ≡ start.consumed + length line → now.max_bytes ≡ start.max_bytes → (now.ended ≡ false → start.ended ≡ false) →
-    ReadsByNeed now next left left_next read read_next → HasRead start next left_start left_next read_start read_next line
-read_more start now next left_start left left_next read_start read read_next line so_far in_line short within consumed limit ended (inl refills) =
+    AreFewEmpty read_start read 0 → ReadsByNeed now next left left_next read read_next → HasRead start next left_start left_next read_start read_next line
+read_more start now next left_start left left_next read_start read read_next line so_far in_line short within consumed limit ended few (inl refills) =
     let bytes : List ℕ = so_far.before ++ so_far.last in
     let whole : start.held ++ bytes ≡ line = so_far.all ∙ ap (λ h. line ++ h) refills.empty ∙ append-nil line in
     let up_to : now.max_bytes + 1 - now.consumed ≡ start.max_bytes + 1 - (taken start + length bytes) =
@@ -52,12 +85,13 @@ read_more start now next left_start left left_next read_start read read_next lin
       needed = inl (record {
         undecided = rw whole (record { in_line = in_line; within = within; short = short });
         going = ended refills.going;
-        asked = subst (λ n. IfSome read_next (λ r. r.asked ≡ min longest_read n)) up_to refills.asked;
-        gave = refills.gave;
+        asked = subst (λ n. IfSome read_next (λ r. r.asked ≡ min longest_read n)) up_to (asked_for read read_next _ _ refills.last);
+        gave = all_given read read_next _ _ refills.last;
+        few = one_more read_start read read_next _ _ refills.last few;
       });
       piece = refills.piece;
     }
-read_more start now next left_start left left_next read_start read read_next line so_far in_line short within consumed limit ended (inr uncalled) = record {
+read_more start now next left_start left left_next read_start read read_next line so_far in_line short within consumed limit ended few (inr uncalled) = record {
   before = so_far.before;
   last = so_far.last;
   told = so_far.told ∙ ap (λ (l : Option (List ℕ)). before_known (so_far.before ++ so_far.last) l) (sym uncalled.left);

@@ -1,12 +1,12 @@
 -- The search for the next line: what stands between its start and each read, and what follows at its ends.
 use Rattle.std.proofs.Common.{refl, sym, ◌∙◌, ap, ◌≡◌, ◌↔◌, ℕ, ◌+◌, ◌<◌, ◌≤◌, Bool, true, false, List, [], ◌∷◌, Option, Some, None, IfSome, IsNone, MatchOption, ◌++◌, length, arith, append_assoc, length-append}
 use Rattle.std.proofs.lemmas.List.{take-append-le, append-nil}
-use Rattle.wq_io.specs.Streams.{before_known, IsAtEnd, LastRead}
+use Rattle.wq_io.specs.Streams.{AreFewEmpty, before_known, IsAtEnd, LastRead}
 use Rattle.wq_io.specs.Lines.{Reading, IsSound, IsOneLine, IsLineLong, GivesLine, HasCause, ReadsAsNeeded, TakesBytes, line_feed, lines, lines_of, before_lines, longest_line, unread, room}
 use Rattle.wq_io.specs.Taking.{HasByte, IsOverLong, IsRefusedLine, ReadsByNeed, Takes}
 use Rattle.wq_io.specs.declared.lines.LineFault.{LineFault}
 use Rattle.wq_io.specs.declared.lines.LineFault.TheVariants.{ReadFault, TooLong, LineLong, OutOfMemory}
-use Rattle.wq_io.proofs.NeededReads.{HasRead, read_more, reads_as_needed, went_by}
+use Rattle.wq_io.proofs.NeededReads.{HasRead, read_more, reads_as_needed, still_few, went_by}
 use Rattle.wq_io.proofs.LineLists.{lines-line, lines-last, one_line-append, one_line-take}
 
 -- the line so far was taken from the front of what was unread, and it is one line that isn't too long
@@ -23,6 +23,7 @@ pub record Going (start now : Reading) (left_start left : Option (List ℕ)) (li
   pub later : faults_start ≤ faults
   pub reads : HasRead start now left_start left read_start read line
   pub told_most : most ≡ most_start
+  pub few : AreFewEmpty read_start read 0
 
 nothing_before : (line : List ℕ) (left : Option (List ℕ)) → before_known line (before_known [] left) ≡ before_known line left
 nothing_before line None = refl
@@ -129,7 +130,7 @@ going_reads start now next left_start left left_next line faults_start faults mo
     let limit : now.max_bytes ≡ start.max_bytes = ap (λ (r : Reading). r.max_bytes) going.others in
     let within : length line ≤ room start = omega (arith, consumed, limit, going.sound.within) in
     read_more start now next left_start left left_next read_start read read_next line going.reads going.in_line going.short within consumed limit
-    (not_true start.ended now.ended going.still) by_need
+    (not_true start.ended now.ended going.still) going.few by_need
 
 -- the call ends after it
 pub going_stops : (start now next : Reading) (left_start left left_next : Option (List ℕ)) (line : List ℕ) (faults_start faults : ℕ) (most_start most : Option ℕ)
@@ -209,4 +210,5 @@ going_on start now next after left_start left left_next line line_now faults_sta
       later = omega arith;
       reads = rw takes.line (went_by start next after left_start left_next read_start read_next line moved so_far takes.held);
       told_most = same ∙ going.told_most;
+      few = still_few now next left left_next read_start read read_next by_need has.some going.few;
     }

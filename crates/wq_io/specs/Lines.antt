@@ -2,7 +2,7 @@
 use Rattle.std.specs.Prelude.{◌≡◌, ◌⊎◌, ℕ, ◌+◌, ◌-◌, ◌<◌, ◌≤◌, ◌==◌, Bool, true, false, List, [], ◌∷◌, ◌++◌, length, min, take, Option, cond, flat_map, MatchOption, IfSome, ⊤}
 use Rattle.std.specs.Option.{option_map}
 use Rattle.std.specs.List.{list_any}
-use Rattle.wq_io.specs.Streams.{before_known, IsAtEnd, LastRead, Rose}
+use Rattle.wq_io.specs.Streams.{before_known, IsAtEnd, LastRead, AreFewEmpty, Rose}
 use Rattle.wq_io.specs.declared.lines.LineFault.{LineFault}
 use Rattle.wq_io.specs.declared.lines.LineFault.TheVariants.{ReadFault, TooLong, LineLong, OutOfMemory}
 
@@ -103,12 +103,14 @@ pub record IsUndecided (room : ℕ) (bytes : List ℕ) : Type 0 where
 
 -- the last read of a call gave `last`, where the reads before it gave `before`: it was made while all bytes that were held or read
 -- decided nothing, and the end of the source wasn't seen. Where it is told, it asked for as many bytes as one read may, or for those
--- up to the byte after the limit where these are fewer, and `last` is all that it gave
-pub record IsNeeded (old : Reading) (before last : List ℕ) (read : Option LastRead) : Type 0 where
+-- up to the byte after the limit where these are fewer; `last` is all that it gave; and each read before it gave at least a byte, so
+-- none of them failed
+pub record IsNeeded (old : Reading) (before last : List ℕ) (read read_now : Option LastRead) : Type 0 where
   pub undecided : IsUndecided (room old) (old.held ++ before)
   pub going : old.ended ≡ false
-  pub asked : IfSome read (λ r. r.asked ≡ min longest_read (old.max_bytes + 1 - (taken old + length before)))
-  pub gave : IfSome read (λ r. r.gave ≡ length last)
+  pub asked : IfSome read_now (λ r. r.asked ≡ min longest_read (old.max_bytes + 1 - (taken old + length before)))
+  pub gave : IfSome read_now (λ r. r.gave ≡ length last)
+  pub few : AreFewEmpty read read_now (1 - length last)
 
 -- what a call took of the source, whatever it answers: the last read gave `last`, and the reads before it gave `before`. The last read
 -- was needed, or none was made: then nothing was taken, and the source's last read is that of before. What was taken is counted, and
@@ -118,7 +120,7 @@ pub record ReadsAsNeeded (old new : Reading) (left left_now : Option (List ℕ))
   pub last : List ℕ
   pub told : left ≡ before_known (before ++ last) left_now
   pub counted : taken new ≡ taken old + length (before ++ last)
-  pub needed : IsNeeded old before last read_now ⊎ ((before ++ last ≡ []) × (read_now ≡ read))
+  pub needed : IsNeeded old before last read read_now ⊎ ((before ++ last ≡ []) × (read_now ≡ read))
   pub piece : length last ≤ longest_read
   pub limit : new.max_bytes ≡ old.max_bytes
   pub sound : IsSound new

@@ -3,7 +3,7 @@ use Rattle.std.specs.Prelude.{ℕ, List}
 use Rattle.wq_io.specs.Failing.{Counting}
 use Rattle.wq_io.specs.Streams.{LastRead}
 
--- the bytes left, the most that one read gives, the calls, and what the last one asked for and gave
+-- the bytes left, the most that one read gives, the calls, and the last one
 pub record Reads : Type 0 where
   pub left : List ℕ
   pub piece : ℕ

@@ -1,5 +1,5 @@
 -- What a read takes and a write puts, where the bytes are told, and what it is that a count rose.
-use Rattle.std.specs.Prelude.{◌≡◌, ℕ, ◌+◌, ◌-◌, ◌^◌, ◌≤◌, List, [], ◌++◌, take, max, min, Option, Result, Ok, Err, IfSome, MatchResult}
+use Rattle.std.specs.Prelude.{◌≡◌, ℕ, ◌+◌, ◌-◌, ◌^◌, ◌≤◌, ◌==◌, cond, List, [], ◌++◌, take, max, min, Option, Result, Ok, Err, IfSome, MatchResult}
 use Rattle.std.specs.Option.{option_map}
 
 -- the bytes, and then the ones that are told
@@ -20,27 +20,33 @@ abbrev pub ReadTakes : {E : Type 0} → Option (List ℕ) → Option (List ℕ) 
 ReadTakes old new outcome buffer =
     MatchResult outcome (λ n. (old ≡ before_known (take n buffer) new) × (n ≡ 0 → IsAtEnd old)) (λ _. new ≡ old)
 
--- what a call of `read` asked for, and how many bytes it gave: none where it failed. Before the first call both are 0
+-- a count in 64 bits after one more: it stays at its last value, and never falls
+abbrev pub counted : ℕ → ℕ
+counted n = max n (min (n + 1) (2 ^ 64 - 1))
+
+-- the last call of `read`: how many bytes it asked for, how many it gave, and how many calls up to it gave none, as far as 64 bits
+-- count them; all are 0 before the first call
 pub record LastRead : Type 0 where
   pub asked : ℕ
   pub gave : ℕ
+  pub empty : ℕ
 
--- how many bytes a read gave
+-- the last read, where it is told, after one more that asked for and gave so many bytes
+abbrev pub after_read : ℕ → ℕ → Option LastRead → Option LastRead
+after_read asked gave last = option_map (λ (r : LastRead). record { asked = asked; gave = gave; empty = cond (gave == 0) (counted r.empty) r.empty }) last
+
+-- how many bytes a read gave: none where it failed
 abbrev pub given_by : {E : Type 0} → Result ℕ E → ℕ
 given_by (Ok n) = n
 given_by (Err _) = 0
 
--- where the last read is told, it is the one that asked for so many bytes and has this outcome; whether it is told never changes
-abbrev pub IsLastRead : {E : Type 0} → Option LastRead → Option LastRead → ℕ → Result ℕ E → Type 0
-IsLastRead old new asked outcome = new ≡ option_map (λ _. record { asked = asked; gave = given_by outcome }) old
+-- where the last reads are told, at most so many of those after the one up to the other gave nothing
+abbrev pub AreFewEmpty : Option LastRead → Option LastRead → ℕ → Type 0
+AreFewEmpty before now most = IfSome before (λ r. IfSome now (λ s. s.empty ≤ r.empty + most))
 
 -- a write that took n bytes put the first n bytes at the end; one that failed put none
 abbrev pub WritePuts : {E : Type 0} → Option (List ℕ) → Option (List ℕ) → Result ℕ E → List ℕ → Type 0
 WritePuts old new outcome bytes = MatchResult outcome (λ n. new ≡ after_known old (take n bytes)) (λ _. new ≡ old)
-
--- a count in 64 bits after one more: it stays at its last value, and never falls
-abbrev pub counted : ℕ → ℕ
-counted n = max n (min (n + 1) (2 ^ 64 - 1))
 
 -- a count of 64 bits rose: it is greater than before, or stands at its last value
 abbrev pub Rose : ℕ → ℕ → Type 0

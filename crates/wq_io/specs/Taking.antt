@@ -1,6 +1,6 @@
 -- One step of a reader of lines: a read, and the move of held bytes into a line.
-use Rattle.std.specs.Prelude.{◌≡◌, ℕ, suc, ◌+◌, ◌-◌, ◌<◌, ◌≤◌, Bool, true, false, List, [], ◌∷◌, ◌++◌, length, min, take, drop, Option, IfSome, MatchBool, cond, ◌⊎◌, ⊤}
-use Rattle.wq_io.specs.Streams.{before_known, IsAtEnd, LastRead}
+use Rattle.std.specs.Prelude.{◌≡◌, ℕ, suc, ◌+◌, ◌-◌, ◌<◌, ◌≤◌, Bool, true, false, List, [], ◌∷◌, ◌++◌, length, min, take, drop, Option, MatchBool, cond, ◌⊎◌, ⊤}
+use Rattle.wq_io.specs.Streams.{after_read, before_known, IsAtEnd, LastRead}
 use Rattle.wq_io.specs.Lines.{Reading, IsSound, IsOneLine, line_feed, longest_line, longest_read, room, unread}
 use Rattle.wq_io.specs.declared.lines.LineFault.{LineFault}
 use Rattle.wq_io.specs.declared.lines.LineFault.TheVariants.{ReadFault, TooLong, LineLong, OutOfMemory}
@@ -37,13 +37,12 @@ pub record IsUnreadable (old : Reading) (left_old left_new : Option (List ℕ)) 
 
 -- what one read gave is held now: it was made where nothing was held and the end of the source wasn't seen, and asked for as many
 -- bytes as one may
-pub record Refills (old new : Reading) (left_old left_new : Option (List ℕ)) (read : Option LastRead) : Type 0 where
+pub record Refills (old new : Reading) (left_old left_new : Option (List ℕ)) (read_old read_new : Option LastRead) : Type 0 where
   pub empty : old.held ≡ []
   pub going : old.ended ≡ false
   pub told : left_old ≡ before_known new.held left_new
   pub piece : length new.held ≤ longest_read
-  pub asked : IfSome read (λ r. r.asked ≡ min longest_read (old.max_bytes + 1 - old.consumed))
-  pub gave : IfSome read (λ r. r.gave ≡ length new.held)
+  pub last : read_new ≡ after_read (min longest_read (old.max_bytes + 1 - old.consumed)) (length new.held) read_old
 
 -- the source wasn't called
 pub record IsUncalled (old new : Reading) (left_old left_new : Option (List ℕ)) (read_old read_new : Option LastRead) : Type 0 where
@@ -54,7 +53,7 @@ pub record IsUncalled (old new : Reading) (left_old left_new : Option (List ℕ)
 -- the source wasn't called, or once, where it was needed
 abbrev pub ReadsByNeed : Reading → Reading → Option (List ℕ) → Option (List ℕ) → Option LastRead → Option LastRead → Type 0
 ReadsByNeed old new left_old left_new read_old read_new =
-    Refills old new left_old left_new read_new ⊎ IsUncalled old new left_old left_new read_old read_new
+    Refills old new left_old left_new read_old read_new ⊎ IsUncalled old new left_old left_new read_old read_new
 
 -- bytes of one line moved from what is held into the line; where it ended, its line feed went too
 pub record Takes (old new : Reading) (before after : List ℕ) (ended : Bool) : Type 0 where

@@ -42,7 +42,9 @@ impl From<OutOfMemory> for LineFault {
     }
 }
 
-/// Splits a source at its line feeds, reading no further than it has to.
+/// Splits a source at its line feeds, reading no further than it has to: it reads where the bytes that it holds decide neither a
+/// line nor a fault, one read at a time, each for 4,096 bytes, or for those up to the byte after the limit where these are fewer.
+/// After a read that failed it makes no other.
 #[derive(Debug, Drop)]
 pub struct Lines {
     buffer: [u8; BUFFER],
@@ -237,7 +239,7 @@ impl Lines {
         ensures later { S.faults source.old ≤ S.faults source.new }
         ensures cause { IfErr result (λ fault. (fault ≡ NotRead) × Rose (S.faults source.old) (S.faults source.new)) }
         ensures leaves { IsErr result → IsUnreadable self.old (S.left source.old) (S.left source.new) }
-        ensures by_need { Refills self.old self.new (S.left source.old) (S.left source.new) (S.last source.new) }
+        ensures by_need { Refills self.old self.new (S.left source.old) (S.left source.new) (S.last source.old) (S.last source.new) }
         ensures others { self.new ≡ record self.old { held = self.new.held; ended = self.new.ended } }
         ensures sound { IsSound self.new }
         ensures most { S.most_faults source.new ≡ S.most_faults source.old }

@@ -3,7 +3,7 @@
 ghost use Rattle.std.specs.Prelude.{◌≡◌, ◌↔◌, ◌<◌, ◌≤◌, Some, [], length, min, nat_le, vec_len, IfErr, IfOk, IsErr, IsTrue, OnErr, OnOk, Err};
 ghost use Rattle.std.proofs.lemmas.List.Sums.{count_by-le-length};
 ghost use Rattle.wq_io.specs.Failing.{after_call, fails_next, failures};
-ghost use Rattle.wq_io.specs.Streams.{IsLastRead, ReadTakes, Rose, WritePuts};
+ghost use Rattle.wq_io.specs.Streams.{ReadTakes, Rose, WritePuts, after_read, given_by};
 
 use crate::failing::FailingCalls;
 use crate::sink::{NoWrite, Sink};
@@ -12,6 +12,46 @@ use rdf_term::{List, OutOfMemory};
 use std::alloc::Global;
 use std::marker::Model;
 
+// The last read of a source.
+#[derive(Debug, Drop)]
+struct NotedRead {
+    asked: usize,
+    gave: usize,
+    empty: u64,
+}
+
+impl Model for NotedRead {
+    ghost use Rattle.wq_io.specs.Streams.{LastRead};
+
+    ghost Value = { LastRead };
+
+    ghost view = { λ a. record { asked = a.asked; gave = a.gave; empty = a.empty } };
+}
+
+impl NotedRead {
+    // No read was made yet.
+    fn none() -> NotedRead
+        ensures { result ≡ record { asked = 0; gave = 0; empty = 0 } }
+    {
+        NotedRead {
+            asked: 0,
+            gave: 0,
+            empty: 0,
+        }
+    }
+
+    // Notes a read that asked for and gave so many bytes.
+    fn note(&mut self, asked: usize, gave: usize)
+        ensures { Some self.new ≡ after_read asked gave (Some self.old) }
+    {
+        self.asked = asked;
+        self.gave = gave;
+        if gave == 0 {
+            self.empty = self.empty.saturating_add(1);
+        }
+    }
+}
+
 /// A source over bytes in memory.
 #[derive(Debug, Drop)]
 pub struct MemorySource {
@@ -19,8 +59,7 @@ pub struct MemorySource {
     at: usize,
     piece: usize,
     failing: FailingCalls,
-    asked: usize,
-    gave: usize,
+    last: NotedRead,
 }
 
 impl Model for MemorySource {
@@ -33,7 +72,7 @@ impl Model for MemorySource {
       left = drop a.at a.bytes.items;
       piece = a.piece;
       calls = a.failing;
-      last = record { asked = a.asked; gave = a.gave };
+      last = a.last;
     } };
 
     ghost invariant = { λ a. (a.at ≤ vec_len a.bytes) × (1 ≤ a.piece) };
@@ -47,7 +86,7 @@ impl MemorySource {
           left = bytes.items;
           piece = piece;
           calls = record { numbers = failing; calls = 0 };
-          last = record { asked = 0; gave = 0 };
+          last = record { asked = 0; gave = 0; empty = 0 };
         } }
     {
         MemorySource {
@@ -55,8 +94,7 @@ impl MemorySource {
             at: 0,
             piece,
             failing: FailingCalls::new(failing),
-            asked: 0,
-            gave: 0,
+            last: NotedRead::none(),
         }
     }
 
@@ -85,22 +123,21 @@ impl Source for MemorySource {
         ensures piece { self.new.piece ≡ self.old.piece }
         ensures bound { IfOk result (λ n. n ≤ length buf.new) }
         ensures bytes { ReadTakes (Some self.old.left) (Some self.new.left) result buf.new }
-        ensures asked { IsLastRead (Some self.old.last) (Some self.new.last) (length buf.old) result }
+        ensures last { Some self.new.last ≡ after_read (length buf.old) (given_by result) (Some self.old.last) }
         ensures later { failures self.old.calls ≤ failures self.new.calls }
         ensures quiet { OnOk result (failures self.new.calls ≡ failures self.old.calls) }
         ensures cause { OnErr result (Rose (failures self.old.calls) (failures self.new.calls)) }
         ensures most { Some (length self.new.calls.numbers) ≡ Some (length self.old.calls.numbers) }
     {
-        self.asked = buf.len();
-        self.gave = 0;
         if self.failing.next_fails() {
+            self.last.note(buf.len(), 0);
             return Err(Failed);
         }
         let left = self.rest();
         let count = self.piece.min(buf.len()).min(left.len());
         buf[..count].copy_from_slice(&left[..count]);
         self.at += count;
-        self.gave = count;
+        self.last.note(buf.len(), count);
         Ok(count)
     }
 

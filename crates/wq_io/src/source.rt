@@ -1,7 +1,7 @@
 // What bytes are read from.
 
 ghost use Rattle.std.specs.Prelude.{◌≡◌, ℕ, ◌<◌, ◌≤◌, List, Option, length, IfOk, IfSome, OnErr};
-ghost use Rattle.wq_io.specs.Streams.{IsLastRead, LastRead, ReadTakes, Rose};
+ghost use Rattle.wq_io.specs.Streams.{LastRead, ReadTakes, Rose, after_read, given_by};
 
 use thiserror::Error;
 
@@ -15,7 +15,7 @@ pub trait Source {
     // the bytes left, where they are told; whether they are told never changes
     ghost left: { Self → Option (List ℕ) };
 
-    // what the last call of `read` asked for and gave, where it is told; whether it is told never changes
+    // the last call of `read`, where it is told; whether it is told never changes
     ghost last: { Self → Option LastRead };
 
     // how many calls failed, as far as 64 bits count them
@@ -29,7 +29,7 @@ pub trait Source {
         requires { 0 < length buf.old }
         ensures bound { IfOk result (λ n. n ≤ length buf.new) }
         ensures bytes { ReadTakes (left self.old) (left self.new) result buf.new }
-        ensures asked { IsLastRead (last self.old) (last self.new) (length buf.old) result }
+        ensures last { last self.new ≡ after_read (length buf.old) (given_by result) (last self.old) }
         ensures later { faults self.old ≤ faults self.new }
         ensures cause { OnErr result (Rose (faults self.old) (faults self.new)) }
         ensures most { most_faults self.new ≡ most_faults self.old };
