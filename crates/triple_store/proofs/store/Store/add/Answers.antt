@@ -11,6 +11,7 @@ use Rattle.triple_store.specs.Slots.{HasTriple, triple_of}
 use Rattle.triple_store.proofs.Costs.{none_came, nothing, one_came}
 use Rattle.triple_store.proofs.Live.{count_image}
 use Rattle.triple_store.proofs.Storing.{again, back, counts_after, counts_kept, counts_unmoved, has_triple, keeps_let_go, key_after, keys_after, keys_unmoved, live_kept, live_stored, stored_again, stored_new, terms_stored}
+use Rattle.triple_store.proofs.store.Store.add.Given.{Over}
 use Rattle.triple_store.proofs.store.Store.add.Goals as goal
 
 pub returns-in-Err-Full-clause-err : goal.returns-in-Err-Full-clause-err
