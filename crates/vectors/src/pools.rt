@@ -1,8 +1,8 @@
 // A pool that fills up, and that has room again.
 
-ghost use Rattle.std.specs.Prelude.{◌+◌, ◌≤◌, ℕ, IfOk, OnOk};
+ghost use Rattle.std.specs.Prelude.{IfOk, OnOk};
 ghost use Rattle.rdf_term.specs.Fit.{IsFitAndShort};
-ghost use Rattle.term_pool.specs.Pool.{LiesIn, count_at};
+ghost use Rattle.term_pool.specs.Pool.{LiesIn};
 
 use rdf_term::{Term, read_term, write_term};
 use std::alloc::Global;
@@ -47,13 +47,10 @@ fn is_full_for(
     pool: &mut Pool,
     region: &mut Region,
     term: &Term,
-    uses: u32,
 ) -> Result<bool, Fail>
     requires lies { LiesIn pool.old region.old }
     requires fit { IsFitAndShort term.now }
-    requires few { (slot : ℕ) → count_at pool.old slot ≤ uses }
-    ensures lies { LiesIn pool.new region.new }
-    ensures few { (slot : ℕ) → count_at pool.new slot ≤ uses + 1 }
+    ensures { LiesIn pool.new region.new }
 {
     let before = pool.find(region, term);
     match pool.intern(region, term) {
@@ -68,11 +65,9 @@ fn is_full_for(
 }
 
 // Counts a use less of a term that is there.
-fn release(pool: &mut Pool, region: &mut Region, term: &Term, uses: u32) -> Result<(), Fail>
-    requires lies { LiesIn pool.old region.old }
-    requires few { (slot : ℕ) → count_at pool.old slot ≤ uses }
-    ensures lies { LiesIn pool.new region.new }
-    ensures few { (slot : ℕ) → count_at pool.new slot ≤ uses + 1 }
+fn release(pool: &mut Pool, region: &mut Region, term: &Term) -> Result<(), Fail>
+    requires { LiesIn pool.old region.old }
+    ensures { LiesIn pool.new region.new }
 {
     let Some(slot) = pool.find(region, term) else {
         return Err("a term that is there".into());
@@ -88,18 +83,15 @@ fn is_full_for_call(
     region: &mut Region,
     sign: &str,
     term: &Term,
-    uses: u32,
 ) -> Result<bool, Fail>
     requires lies { LiesIn pool.old region.old }
     requires fit { IsFitAndShort term.now }
-    requires few { (slot : ℕ) → count_at pool.old slot ≤ uses }
-    ensures lies { LiesIn pool.new region.new }
-    ensures few { (slot : ℕ) → count_at pool.new slot ≤ uses + 1 }
+    ensures { LiesIn pool.new region.new }
 {
     if sign == "+" {
-        return is_full_for(rt, pool, region, term, uses);
+        return is_full_for(rt, pool, region, term);
     }
-    release(pool, region, term, uses)?;
+    release(pool, region, term)?;
     Ok(false)
 }
 
@@ -109,18 +101,15 @@ fn check_step(
     pool: &mut Pool,
     region: &mut Region,
     step: &str,
-    uses: u32,
 ) -> Result<(), Fail>
-    requires lies { LiesIn pool.old region.old }
-    requires few { (slot : ℕ) → count_at pool.old slot ≤ uses }
-    ensures lies { OnOk result (LiesIn pool.new region.new) }
-    ensures few { OnOk result ((slot : ℕ) → count_at pool.new slot ≤ uses + 1) }
+    requires { LiesIn pool.old region.old }
+    ensures { OnOk result (LiesIn pool.new region.new) }
 {
     let (sign, row) = step.split_once(' ').ok_or("a step")?;
     let (text, row) = row.split_once(' ').ok_or("a row")?;
     let (want, found) = row.split_once(' ').ok_or("a count")?;
     let term = term_of(rt.alloc(), text)?;
-    let full = is_full_for_call(rt, pool, region, sign, &term, uses)?;
+    let full = is_full_for_call(rt, pool, region, sign, &term)?;
     assert_eq!(rt; full, want == "full", "{step:?}");
     if !full {
         assert_eq!(rt; pool.len(), want.parse::<u32>()?, "{step:?}");
@@ -137,10 +126,8 @@ fn check_step(
 fn a_pool_fills_up(rt: HostRuntime) -> Result<(), Fail> {
     let mut region = Region::new(rt.alloc())?;
     let mut pool = Pool::new(rt.alloc(), RandomState::new(&rt)?, 2);
-    let mut uses: u32 = 0;
     for step in STEPS.lines() {
-        check_step(&rt, &mut pool, &mut region, step, uses)?;
-        uses = uses.checked_add(1).ok_or("few steps")?;
+        check_step(&rt, &mut pool, &mut region, step)?;
     }
     Ok(())
 }

@@ -1,6 +1,5 @@
-use Rattle.std.proofs.Common.{ℕ, ◌≤◌}
-use Rattle.term_pool.specs.Pool.{LiesIn, count_at}
+use Rattle.term_pool.specs.Pool.{LiesIn}
 use Rattle.vectors.proofs.pools.a_pool_fills_up.Given as goal
 
 abbrev pub invariant-loop-step : goal.invariant-loop-step
-invariant-loop-step g l = LiesIn l.pool l.region × ((slot : ℕ) → count_at l.pool slot ≤ l.uses)
+invariant-loop-step g l = LiesIn l.pool l.region
