@@ -15,14 +15,14 @@ use Rattle.replay_model.specs.Fate.{in_order}
 use Rattle.replay_model.specs.Play.{Replies}
 use Rattle.replay_model.specs.ReplayState.{following}
 use Rattle.replay_model.proofs.Deliveries.{events_passing-kept, events_passing-told}
-use Rattle.drill_replay.specs.declared.playing.Counts.{Counts}
+use Rattle.drill_replay.specs.declared.playing.DrillCounts.{DrillCounts}
 use Rattle.drill_replay.specs.Playing.{Counted, HasFew, answer_of, with_answer}
 
 one_more : (ds : List Delivery) (d : Delivery) (n : ℕ) → n ≡ length ds → n + 1 ≡ length (ds ++ d ∷ [])
 one_more ds d n is = omega (arith, length-append ds (d ∷ []))
 
 -- what tells no event is one delivery more
-no_event : (ds : List Delivery) (d : Delivery) (c : Counts) → accepted None (ds ++ d ∷ []) ≡ accepted None ds → late None (ds ++ d ∷ []) ≡ late None ds → Counted ds c
+no_event : (ds : List Delivery) (d : Delivery) (c : DrillCounts) → accepted None (ds ++ d ∷ []) ≡ accepted None ds → late None (ds ++ d ∷ []) ≡ late None ds → Counted ds c
     → Counted (ds ++ d ∷ []) (with_answer None c)
 no_event ds d c same_accepted same_late counted = record {
   deliveries = one_more ds d c.deliveries counted.deliveries;
@@ -42,7 +42,7 @@ passing_more test passing ds e false n more is counted =
     omega (arith, ap length same, counted)
 
 -- an event that is this
-event_counted : (ds : List Delivery) (e : Event) (c : Counts) (repeat reach : Bool) → is_repeat None ds e ≡ repeat → reached (mark ds) e.time ≡ reach → Counted ds c
+event_counted : (ds : List Delivery) (e : Event) (c : DrillCounts) (repeat reach : Bool) → is_repeat None ds e ≡ repeat → reached (mark ds) e.time ≡ reach → Counted ds c
     → Counted (ds ++ Told e ∷ []) (with_answer (Some (cond repeat Repeat (cond reach Late New))) c)
 event_counted ds e c repeat reach is_r is_m counted =
     let accepting : is_accepted None ds e ≡ (not repeat && not reach) = (λ i. not (is_r i) && not (is_m i)) in
@@ -62,7 +62,7 @@ event_counted ds e c repeat reach is_r is_m counted =
     by false false a l = record { deliveries = one_more ds (Told e) c.deliveries counted.deliveries; accepted = a; late = same _ _ l }
 
 -- one delivery more, by what the world of those before answers
-pub counted-next : (replies : Replies) (ds : List Delivery) (d : Delivery) (c : Counts) → Counted ds c
+pub counted-next : (replies : Replies) (ds : List Delivery) (d : Delivery) (c : DrillCounts) → Counted ds c
     → Counted (ds ++ d ∷ []) (with_answer (answer_of (following None replies ds).buffer d) c)
 counted-next replies ds (Told e) c counted =
     event_counted ds e c (has event_cmp e (following None replies ds).buffer.kept) (reached (mark ds) e.time)
@@ -72,7 +72,7 @@ counted-next replies ds (Ask p) c counted = no_event ds (Ask p) c (events_passin
 counted-next replies ds (Mapping v) c counted = no_event ds (Mapping v) c (events_passing-kept (is_accepted None) ds (Mapping v) refl) (events_passing-kept (is_late None) ds (Mapping v) refl) counted
 
 -- each count rises by one at most
-pub few-next : (answer : Option Taken) (c : Counts) (n : ℕ) → HasFew c n → HasFew (with_answer answer c) (n + 1)
+pub few-next : (answer : Option Taken) (c : DrillCounts) (n : ℕ) → HasFew c n → HasFew (with_answer answer c) (n + 1)
 few-next None c n few = (omega arith, omega arith, omega arith)
 few-next (Some New) c n few = (omega arith, omega arith, omega arith)
 few-next (Some Late) c n few = (omega arith, omega arith, omega arith)

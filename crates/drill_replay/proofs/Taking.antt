@@ -11,7 +11,7 @@ use Rattle.reorder_buffer.specs.declared.taken.Taken.{Taken}
 use Rattle.replay_model.specs.ReplayState.{ReplayState, after_due, after_end, after_event, after_mark, after_some, entered, following}
 use Rattle.replay_model.proofs.Following.{following-delivered, following-end}
 use Rattle.drill.specs.Drill.{deliveries_of, drill}
-use Rattle.drill_replay.specs.declared.playing.Counts.{Counts}
+use Rattle.drill_replay.specs.declared.playing.DrillCounts.{DrillCounts}
 use Rattle.drill_replay.specs.Playing.{Counted, HasBegun, HasFew, IsAfter, IsPartOf, answer_of, with_answer}
 use Rattle.drill_replay.specs.Summary.{drilled, replies_of}
 use Rattle.drill_replay.proofs.Counting.{counted-next, few-next}
@@ -64,14 +64,14 @@ module _ (n : ℕ) (items : List Delivery) (i : ℕ) where
   taken size d new within is after = after ∙ ap (following None (replies_of size)) (one_more d within is)
 
   -- and counted
-  pub counted : (size : ℕ) (d : Delivery) (old : ReplayState) (answer : Option Taken) (c now : Counts) → i < length items → d ≡ get_or items i d → IsAfter size (drill n ++ take i items) old
+  pub counted : (size : ℕ) (d : Delivery) (old : ReplayState) (answer : Option Taken) (c now : DrillCounts) → i < length items → d ≡ get_or items i d → IsAfter size (drill n ++ take i items) old
       → answer ≡ answer_of old.buffer d → now ≡ with_answer answer c → Counted (drill n ++ take i items) c → Counted (drill n ++ take (i + 1) items) now
   counted size d old answer c now within is after answered new so_far =
       let ds : List Delivery = drill n ++ take i items in
       let next : Counted (ds ++ d ∷ []) (with_answer (answer_of (following None (replies_of size) ds).buffer d) c) = counted-next (replies_of size) ds d c so_far in
       let same : now ≡ with_answer (answer_of (following None (replies_of size) ds).buffer d) c =
       new ∙ ap (λ (a : Option Taken). with_answer a c) (answered ∙ ap (λ (w : ReplayState). answer_of w.buffer d) after) in
-      let At : Counts → Type 0 = λ x. Counted (ds ++ d ∷ []) x in
+      let At : DrillCounts → Type 0 = λ x. Counted (ds ++ d ∷ []) x in
       let Of : List Delivery → Type 0 = λ l. Counted l now in
       subst Of (one_more d within is) (subst At (sym same) next)
 
@@ -90,9 +90,9 @@ module _ (n : ℕ) (items : List Delivery) (i : ℕ) where
         is = some.1;
       }))
 
-pub few_more : (answer : Option Taken) (c now : Counts) (n m : ℕ) → now ≡ with_answer answer c → n + 1 ≡ m → HasFew c n → HasFew now m
+pub few_more : (answer : Option Taken) (c now : DrillCounts) (n m : ℕ) → now ≡ with_answer answer c → n + 1 ≡ m → HasFew c n → HasFew now m
 few_more answer c now n m is same few =
-    let Few : Counts → Type 0 = λ x. HasFew x m in
+    let Few : DrillCounts → Type 0 = λ x. HasFew x m in
     let At : ℕ → Type 0 = λ k. HasFew (with_answer answer c) k in
     subst Few (sym is) (subst At same (few-next answer c n few))
 

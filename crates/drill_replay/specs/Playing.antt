@@ -13,17 +13,17 @@ use Rattle.world.specs.Meaning.{meaning}
 use Rattle.world.specs.Roomed.{HasRoom}
 use Rattle.world.specs.WorldState.{WorldState}
 use Rattle.drill.specs.Drill.{drill}
-use Rattle.drill_replay.specs.declared.playing.Counts.{Counts}
+use Rattle.drill_replay.specs.declared.playing.DrillCounts.{DrillCounts}
 use Rattle.drill_replay.specs.Summary.{replies_of}
 
 -- these deliveries were counted
-pub record Counted (ds : List Delivery) (counts : Counts) : Type 0 where
+pub record Counted (ds : List Delivery) (counts : DrillCounts) : Type 0 where
   pub deliveries : counts.deliveries ≡ length ds
   pub accepted : counts.accepted ≡ length (accepted None ds)
   pub late : counts.late ≡ length (late None ds)
 
 -- each count is at most this
-abbrev pub HasFew : Counts → ℕ → Type 0
+abbrev pub HasFew : DrillCounts → ℕ → Type 0
 HasFew counts most = (counts.deliveries ≤ most) × (counts.accepted ≤ most) × (counts.late ≤ most)
 
 -- what the event of a delivery is, if it is one
@@ -34,7 +34,7 @@ answer_of b (Ask pattern) = None
 answer_of b (Mapping version) = None
 
 -- the counts with one delivery more, whose event was this
-abbrev pub with_answer : Option Taken → Counts → Counts
+abbrev pub with_answer : Option Taken → DrillCounts → DrillCounts
 with_answer None c = record c { deliveries = c.deliveries + 1 }
 with_answer (Some New) c = record c { deliveries = c.deliveries + 1; accepted = c.accepted + 1 }
 with_answer (Some Late) c = record c { deliveries = c.deliveries + 1; late = c.late + 1 }

@@ -41,8 +41,8 @@ abbrev pub triple_lines : List Triple → List ℕ
 triple_lines triples = flat_map triple_text triples
 
 -- the triples that a drill ends with, in order, by version One of the mapping
-abbrev pub triples_of : ℕ → List Triple
-triples_of size = union triple_cmp (meaning One) (drilled size).played.records
+abbrev pub drill_triples : ℕ → List Triple
+drill_triples size = union triple_cmp (meaning One) (drilled size).played.records
 
 -- what is told of a drill: its size, its deliveries, how many distinct events were accepted and were late, how many
 -- entities' pages are kept and how many triples there are at its end, and the MD5 of their lines
@@ -53,8 +53,8 @@ summary_of size = record {
   accepted = length (accepted None (drill size));
   late = length (late None (drill size));
   kept = kept_in (drilled size).played.records;
-  triples = length (triples_of size);
-  digest = md5 (triple_lines (triples_of size));
+  triples = length (drill_triples size);
+  digest = md5 (triple_lines (drill_triples size));
 }
 
 -- the line of a number under a word

@@ -16,18 +16,18 @@ use world::{World, WorldFault};
 
 /// How many deliveries were taken, and how many of their events were accepted and were late, each distinct one once.
 #[derive(Clone, Copy, Debug)]
-pub struct Counts {
+pub struct DrillCounts {
     pub deliveries: u64,
     pub accepted: u64,
     pub late: u64,
 }
 
-impl Counts {
+impl DrillCounts {
     // Nothing was taken yet.
-    fn new() -> Counts
+    fn new() -> DrillCounts
         ensures { result ≡ record { deliveries = 0; accepted = 0; late = 0 } }
     {
-        Counts {
+        DrillCounts {
             deliveries: 0,
             accepted: 0,
             late: 0,
@@ -49,7 +49,7 @@ impl Counts {
 }
 
 /// Takes all deliveries of the drill of this size and the end, and applies all that they make due.
-pub fn play(alloc: Global, size: u32, world: &mut World) -> Result<Counts, OutOfMemory>
+pub fn play(alloc: Global, size: u32, world: &mut World) -> Result<DrillCounts, OutOfMemory>
     requires size { IsSize size }
     requires world { world.old.replay ≡ nothing_delivered }
     requires first { IsByFirst world.old }
@@ -61,7 +61,7 @@ pub fn play(alloc: Global, size: u32, world: &mut World) -> Result<Counts, OutOf
     ensures room { IsRoomy world.new }
     ensures within { KeepsRoom world.old world.new }
 {
-    let mut counts = Counts::new();
+    let mut counts = DrillCounts::new();
     for done in 0..size {
         take_item(alloc, size, done, &mut counts, world)?;
     }
@@ -75,7 +75,7 @@ fn take_item(
     alloc: Global,
     size: u32,
     done: u32,
-    counts: &mut Counts,
+    counts: &mut DrillCounts,
     world: &mut World,
 ) -> Result<(), OutOfMemory>
     requires size { IsSize size }

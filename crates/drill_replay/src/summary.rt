@@ -11,7 +11,7 @@ ghost use Rattle.drill.specs.Drill.{IsSize, drill};
 ghost use Rattle.drill_replay.specs.Playing.{Counted, HasBegun, IsByFirst, IsRoomy, KeepsRoom};
 ghost use Rattle.drill_replay.specs.Summary.{digest_line, drilled, kept_in, lines_of, number_line, summary_of, triple_lines};
 
-use crate::playing::{Counts, play};
+use crate::playing::{DrillCounts, play};
 use entity_state::Mode;
 use md5::{Digest, Md5};
 use rdf_term::OutOfMemory;
@@ -70,7 +70,7 @@ pub fn summary_lines(alloc: Global, summary: &Summary) -> Result<Vec<String>, Ou
 fn summarize(
     alloc: Global,
     size: u32,
-    counts: Counts,
+    counts: DrillCounts,
     world: &World,
 ) -> Result<Summary, OutOfMemory>
     requires counted { Counted (drill size) counts }

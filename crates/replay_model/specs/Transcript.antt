@@ -151,12 +151,12 @@ module _ (meaning : MappingVersion → Meaning Triple) where
   said h replies ds = flat_map (said_at h replies) (arrivals ds)
 
   -- what is printed after the end, where this version is in force
-  abbrev pub closing : MappingVersion → Sections → Played → List ℕ
-  closing version sections p =
+  abbrev pub closing_text : MappingVersion → Sections → Played → List ℕ
+  closing_text version sections p =
       cond sections.export (export_section (union triple_cmp (meaning version) p.records)) []
       ++ cond sections.state (state_section p.records) []
       ++ cond sections.side (side_section p.records p.side) []
 
   -- all that is printed
   abbrev pub transcript : Option ℕ → Sections → Replies → List Delivery → List ℕ
-  transcript h sections replies ds = said h replies ds ++ closing (version_in_force ds) sections (play_to_end h replies ds)
+  transcript h sections replies ds = said h replies ds ++ closing_text (version_in_force ds) sections (play_to_end h replies ds)

@@ -29,7 +29,7 @@ use Rattle.replay_model.proofs.Fetching.{failed-taken, missing-taken}
 use Rattle.replay_model.proofs.InForce.{version-kept, version-mapping}
 use Rattle.replay_model.proofs.Printing.{said-push}
 use Rattle.world.specs.Meaning.{meaning}
-use Rattle.session.specs.Counts.{Counts, HasCounted, RoseBy}
+use Rattle.session.specs.Counts.{SourceCounts, HasCounted, RoseBy}
 use Rattle.transcript.specs.declared.write.Unwritten.{Unwritten}
 use Rattle.transcript.specs.Printing.{Output, Prints}
 use Rattle.transcript.proofs.Parts.{after_twice}
@@ -56,7 +56,7 @@ module _ (setting : Setting) (ds : List Delivery) (start : Stage) where
       is ∙ ap (after_known start.output.bytes) (sym (said-push (horizon_at start) meaning replies ds d ∙ ap (λ l. said meaning (horizon_at start) replies ds ++ l) none ∙ append-nil (said meaning (horizon_at start) replies ds)))
 
   -- an event that is taken is no fetch
-  counted_taking : (now : Counts) (made : ℕ) (side : List Entry) (answer : Taken) (e : Event) → HasCounted start.counts now made side → HasCounted start.counts now made (side ++ taken_entries answer e)
+  counted_taking : (now : SourceCounts) (made : ℕ) (side : List Entry) (answer : Taken) (e : Event) → HasCounted start.counts now made side → HasCounted start.counts now made (side ++ taken_entries answer e)
   counted_taking now made side answer e counted =
       let Failed : List Event → Type 0 = λ es. RoseBy (length es) start.counts.faults now.faults in
       let Missing : List Event → Type 0 = λ es. RoseBy (length es) start.counts.misses now.misses in
@@ -169,7 +169,7 @@ module _ (setting : Setting) (ds : List Delivery) (start : Stage) where
   mark_mapped now m at_rest = still_mapped now.world.played.records now.world.played.records (Watermark m) refl now.mapped now.mapped (λ version is. is) at_rest.mapped
 
   -- a watermark is taken, and what is due is applied
-  pub mark_taken : (now : Stage) (counts : Counts) (new : ReplayState) (mapped : Mapped) (m : ℤ) → AppliesDue setting now.mapped now.counts counts (after_mark now.world m) new →
+  pub mark_taken : (now : Stage) (counts : SourceCounts) (new : ReplayState) (mapped : Mapped) (m : ℤ) → AppliesDue setting now.mapped now.counts counts (after_mark now.world m) new →
       KeepsVersion now.mapped mapped now.world.played.records new.played.records → AtRest setting ds start now → AtRest setting (ds ++ Watermark m ∷ []) start (onward (with_mapped now mapped) counts new)
   mark_taken now counts new mapped m applies keeps at_rest =
       let there = applies.leads (course_of_mark m) start (with_mapped now mapped) (mark_mapped now m at_rest) (mark_leads now mapped m at_rest) in
@@ -188,7 +188,7 @@ module _ (setting : Setting) (ds : List Delivery) (start : Stage) where
       }
 
   -- the end is taken, and what waits is applied
-  pub end_taken : (now : Stage) (counts : Counts) (new : ReplayState) (mapped : Mapped) → AppliesDue setting now.mapped now.counts counts (after_end now.world) new →
+  pub end_taken : (now : Stage) (counts : SourceCounts) (new : ReplayState) (mapped : Mapped) → AppliesDue setting now.mapped now.counts counts (after_end now.world) new →
       KeepsVersion now.mapped mapped now.world.played.records new.played.records → AtRest setting ds start now → AtEnd setting ds start (onward (with_mapped now mapped) counts new)
   end_taken now counts new mapped applies keeps at_rest = record {
     leads = applies.leads (course_to_end ds start) start (with_mapped now mapped) at_rest.mapped (end_leads now mapped at_rest);
@@ -204,7 +204,7 @@ module _ (setting : Setting) (ds : List Delivery) (start : Stage) where
       subst There (sym (append-nil ds)) (within Starved setting (course_after ds start) (λ replies. following (horizon_at start) replies ds) start now now.counts (no_call now.counts) (record { leads = at_rest.leads; steps = 0; is = rest_is now at_rest }))
 
   -- a watermark is taken, and some of what is due is applied
-  pub mark_begun : (why : Unapplied) (now : Stage) (counts : Counts) (new : ReplayState) (mapped : Mapped) (m : ℤ) → StaysWithin why setting now.mapped now.counts counts (after_mark now.world m) new → AtRest setting ds start now →
+  pub mark_begun : (why : Unapplied) (now : Stage) (counts : SourceCounts) (new : ReplayState) (mapped : Mapped) (m : ℤ) → StaysWithin why setting now.mapped now.counts counts (after_mark now.world m) new → AtRest setting ds start now →
       IsWithin why setting (course_of_mark m) (λ replies. entered (following (horizon_at start) replies ds) (Watermark m)) start (onward (with_mapped now mapped) counts new)
   mark_begun why now counts new mapped m stays at_rest =
       stays (course_of_mark m) (λ replies. entered (following (horizon_at start) replies ds) (Watermark m)) start (with_mapped now mapped) (mark_mapped now m at_rest) (record {
@@ -215,7 +215,7 @@ module _ (setting : Setting) (ds : List Delivery) (start : Stage) where
       })
 
   -- the end is taken, and some of what waits is applied
-  pub end_begun : (why : Unapplied) (now : Stage) (counts : Counts) (new : ReplayState) (mapped : Mapped) → StaysWithin why setting now.mapped now.counts counts (after_end now.world) new → AtRest setting ds start now →
+  pub end_begun : (why : Unapplied) (now : Stage) (counts : SourceCounts) (new : ReplayState) (mapped : Mapped) → StaysWithin why setting now.mapped now.counts counts (after_end now.world) new → AtRest setting ds start now →
       IsWithin why setting (course_to_end ds start) (λ replies. after_end (following (horizon_at start) replies ds)) start (onward (with_mapped now mapped) counts new)
   end_begun why now counts new mapped stays at_rest =
       stays (course_to_end ds start) (λ replies. after_end (following (horizon_at start) replies ds)) start (with_mapped now mapped) at_rest.mapped (record {
@@ -306,7 +306,7 @@ event_cut_off setting e asked now new mapped same same_mapped = inr (inl (
 ))
 
 -- a watermark was taken, and some of what is due was applied
-pub mark_cut_off : (why : Unapplied) (setting : Setting) (m : ℤ) (asked : ℕ) (now : Stage) (counts : Counts) (new : ReplayState) (mapped : Mapped) → IsHeldUp why setting new mapped →
+pub mark_cut_off : (why : Unapplied) (setting : Setting) (m : ℤ) (asked : ℕ) (now : Stage) (counts : SourceCounts) (new : ReplayState) (mapped : Mapped) → IsHeldUp why setting new mapped →
     KeepsVersion now.mapped mapped now.world.played.records new.played.records → StaysWithin why setting now.mapped now.counts counts (after_mark now.world m) new →
     CutsOff (stop_of_unapplied why) setting (turn asked (Watermark m)) now (onward (with_mapped now mapped) counts new)
 mark_cut_off why setting m asked now counts new mapped held_up keeps stays =

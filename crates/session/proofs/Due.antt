@@ -27,7 +27,7 @@ use Rattle.world.specs.WorldState.{WorldState}
 use Rattle.world.specs.declared.applied.Applied.{Applied}
 use Rattle.world.specs.declared.applied.Outcome.{Outcome}
 use Rattle.world.specs.declared.applied.Outcome.TheVariants.{Same, Dropped}
-use Rattle.session.specs.Counts.{Counts, HasCounted, HasCountedBefore, HasGoneOn, RoseBy}
+use Rattle.session.specs.Counts.{SourceCounts, HasCounted, HasCountedUnapplied, HasGoneOn, RoseBy}
 use Rattle.session.specs.declared.stop.Unapplied.{Unapplied}
 use Rattle.session.specs.declared.stop.Unapplied.TheVariants.{StoreFull, OutOfMemory}
 use Rattle.revisions.specs.declared.revisions.Revisions.{Ghosts as RevisionsOf}
@@ -38,11 +38,11 @@ use Rattle.session.specs.Taking.{AppliesDue, Course, IsFull, IsUnderWay, IsWithi
 use Rattle.session.proofs.Needed.{due-some, next_met, room_replied}
 
 -- events are applied: the world leads where it led, where every page was mapped by the version of the play
-pub record Goes (setting : Setting) (mapped : Mapped) (before now : Counts) (old new : ReplayState) : Type 0 where
+pub record Goes (setting : Setting) (mapped : Mapped) (before now : SourceCounts) (old new : ReplayState) : Type 0 where
   pub leads : (course : Course) (begun : Replies → ReplayState) (start s : Stage) → mapped ≡ mapped_by course.version old.played.records → IsUnderWay setting course begun start (onward s before old) → IsUnderWay setting course begun start (onward s now new)
 
 -- the counts after an application, as its outcome shows
-pub record Rises (outcome : Outcome) (before now : Counts) : Type 0 where
+pub record Rises (outcome : Outcome) (before now : SourceCounts) : Type 0 where
   pub shown : IsShown outcome before.misses now.misses before.faults now.faults
   pub calls : now.calls ≡ calls_after outcome before.calls
   pub more_faults : before.faults ≤ now.faults
@@ -105,7 +105,7 @@ rose_twice m n first before now rose then_rose more = λ below.
     let earlier : before < 2 ^ 64 - 1 = omega arith in
     omega (arith, rose earlier, then_rose below)
 
-counted_applying : (contents : Option Contents) (directory : List ℕ) (start before now : Counts) (made : ℕ) (old new : ReplayState) (applied : Applied) → Applies contents directory old new applied →
+counted_applying : (contents : Option Contents) (directory : List ℕ) (start before now : SourceCounts) (made : ℕ) (old new : ReplayState) (applied : Applied) → Applies contents directory old new applied →
     Rises applied.outcome before now → HasCounted start before made old.played.side → HasCounted start now (made + cond (is_fetching old applied.event) 1 0) new.played.side
 counted_applying contents directory start before now made old new applied a rises so_far =
     let e : Event = applied.event in
@@ -133,7 +133,7 @@ reply_gives contents directory x r (Ok bytes) is = is.0
 reply_gives contents directory x r (Err cause) is = tt
 
 -- the world still leads to its play, one application further
-pub applies-leads : (contents : Option Contents) (directory : List ℕ) (room : ℕ) (mapped : Mapped) (before now : Counts) (old new : ReplayState) (applied : Applied) (a : Applies contents directory old new applied) → Rises applied.outcome before now →
+pub applies-leads : (contents : Option Contents) (directory : List ℕ) (room : ℕ) (mapped : Mapped) (before now : SourceCounts) (old new : ReplayState) (applied : Applied) (a : Applies contents directory old new applied) → Rises applied.outcome before now →
     ((version : MappingVersion) → mapped ≡ mapped_by version old.played.records →
     HaveRoom room (cond (is_fetching old applied.event) (needed_for version old.played.records applied.event.entity (revision_wanted old applied.event) a.reply) [])) →
     Goes (setting contents directory room) mapped before now old new
@@ -171,11 +171,11 @@ applies-leads contents directory room mapped before now old new applied a rises 
 }
 
 -- before the first event
-pub goes-nowhere : (setting : Setting) (mapped : Mapped) (now : Counts) (world : ReplayState) → Goes setting mapped now now world world
+pub goes-nowhere : (setting : Setting) (mapped : Mapped) (now : SourceCounts) (world : ReplayState) → Goes setting mapped now now world world
 goes-nowhere setting mapped now world = record { leads = λ course begun start s is_mapped under_way. under_way }
 
 -- some events, and then more
-pub goes-further : (setting : Setting) (mapped mapped_then : Mapped) (before between now : Counts) (old middle new : ReplayState) → KeepsVersion mapped mapped_then old.played.records middle.played.records →
+pub goes-further : (setting : Setting) (mapped mapped_then : Mapped) (before between now : SourceCounts) (old middle new : ReplayState) → KeepsVersion mapped mapped_then old.played.records middle.played.records →
     Goes setting mapped before between old middle → Goes setting mapped_then between now middle new → Goes setting mapped before now old new
 goes-further setting mapped mapped_then before between now old middle new keeps first second = record {
   leads = λ course begun start s is_mapped under_way. second.leads course begun start s (keeps course.version is_mapped) (first.leads course begun start s is_mapped under_way);
@@ -186,7 +186,7 @@ pub gone-on : {R : Type 0} (members : RevisionsOf R) (old between new : R) → H
 gone-on members old between new x y = record { known = y.known ∙ x.known; faults = omega (arith, x.faults, y.faults); misses = omega (arith, x.misses, y.misses); most = y.most ∙ x.most }
 
 -- the counts of a source rise, and its calls by so many fetches
-counted_on : (start now last : Counts) (made more : ℕ) (side : List Entry) → last.calls ≡ risen_by more start.calls → now.faults ≤ last.faults → now.misses ≤ last.misses → HasCounted start now made side → HasCounted start last more side
+counted_on : (start now last : SourceCounts) (made more : ℕ) (side : List Entry) → last.calls ≡ risen_by more start.calls → now.faults ≤ last.faults → now.misses ≤ last.misses → HasCounted start now made side → HasCounted start last more side
 counted_on start now last made more side calls faults misses so_far = record {
   calls = calls;
   failed = λ below. let earlier : now.faults < 2 ^ 64 - 1 = omega arith in omega (arith, so_far.failed earlier);
@@ -199,16 +199,16 @@ LastCalls StoreFull before now = now ≡ counted before
 LastCalls OutOfMemory before now = (now ≡ before) ⊎ (now ≡ counted before)
 
 -- the counts after a call that applied nothing
-pub record Lasts (why : Unapplied) (before now : Counts) : Type 0 where
+pub record Lasts (why : Unapplied) (before now : SourceCounts) : Type 0 where
   pub calls : LastCalls why before.calls now.calls
   pub faults : before.faults ≤ now.faults
   pub misses : before.misses ≤ now.misses
 
-counted_once : (start before now : Counts) (made : ℕ) (side : List Entry) → now.calls ≡ counted before.calls → before.faults ≤ now.faults → before.misses ≤ now.misses → HasCounted start before made side → HasCounted start now (made + 1) side
+counted_once : (start before now : SourceCounts) (made : ℕ) (side : List Entry) → now.calls ≡ counted before.calls → before.faults ≤ now.faults → before.misses ≤ now.misses → HasCounted start before made side → HasCounted start now (made + 1) side
 counted_once start before now made side one faults misses so_far =
     counted_on start before now made (made + 1) side (one ∙ ap counted so_far.calls ∙ risen_by-more made start.calls true) faults misses so_far
 
-counted_last : (why : Unapplied) (start before now : Counts) (made : ℕ) (side : List Entry) → Lasts why before now → HasCounted start before made side → HasCountedBefore why start now made side
+counted_last : (why : Unapplied) (start before now : SourceCounts) (made : ℕ) (side : List Entry) → Lasts why before now → HasCounted start before made side → HasCountedUnapplied why start now made side
 counted_last StoreFull start before now made side last so_far = counted_once start before now made side last.calls last.faults last.misses so_far
 counted_last OutOfMemory start before now made side last so_far = ⊎_elim
     (λ same. inl (counted_on start before now made made side (same ∙ so_far.calls) last.faults last.misses so_far))
@@ -216,11 +216,11 @@ counted_last OutOfMemory start before now made side last so_far = ⊎_elim
     last.calls
 
 -- no call was made
-pub no_call : (counts : Counts) → Lasts OutOfMemory counts counts
+pub no_call : (counts : SourceCounts) → Lasts OutOfMemory counts counts
 no_call counts = record { calls = inl refl; faults = omega arith; misses = omega arith }
 
 -- no event is left: the last call has made no fetch
-pub none_due : (setting : Setting) (mapped : Mapped) (before now last : Counts) (old world new : ReplayState) → Goes setting mapped before now old world → last.calls ≡ now.calls → now.faults ≤ last.faults → now.misses ≤ last.misses →
+pub none_due : (setting : Setting) (mapped : Mapped) (before now last : SourceCounts) (old world new : ReplayState) → Goes setting mapped before now old world → last.calls ≡ now.calls → now.faults ≤ last.faults → now.misses ≤ last.misses →
     new ≡ world → first_due world.buffer ≡ None → AppliesDue setting mapped before last old new
 none_due setting mapped before now last old world new goes calls faults misses same none = rw same (record {
   leads = λ course start s is_mapped leads.
@@ -237,7 +237,7 @@ none_due setting mapped before now last old world new goes calls faults misses s
 })
 
 -- a world that is under way in a play is where some of its due events were applied, after a call that applied nothing too
-pub within : (why : Unapplied) (setting : Setting) (course : Course) (begun : Replies → ReplayState) (start now : Stage) (counts : Counts) → Lasts why now.counts counts → IsUnderWay setting course begun start now →
+pub within : (why : Unapplied) (setting : Setting) (course : Course) (begun : Replies → ReplayState) (start now : Stage) (counts : SourceCounts) → Lasts why now.counts counts → IsUnderWay setting course begun start now →
     IsWithin why setting course begun start (onward now counts now.world)
 within why setting course begun start now counts last under_way =
     let honest : (contents : ℕ → Option Bytes) → setting.known ≡ Some contents → AgreeOnApplied now.world under_way.leads.explained.replies (replies_there contents now.world) =
@@ -280,7 +280,7 @@ within_mapped why setting course begun start now mapped x = record {
 }
 
 -- an event isn't applied: the world is that before
-pub starved : (why : Unapplied) (setting : Setting) (mapped : Mapped) (before now last : Counts) (old world new : ReplayState) → Goes setting mapped before now old world → Lasts why now last → new ≡ world →
+pub starved : (why : Unapplied) (setting : Setting) (mapped : Mapped) (before now last : SourceCounts) (old world new : ReplayState) → Goes setting mapped before now old world → Lasts why now last → new ≡ world →
     StaysWithin why setting mapped before last old new
 starved why setting mapped before now last old world new goes lasts same =
     rw same (λ course begun start s is_mapped under_way. within why setting course begun start (onward s now world) last lasts (goes.leads course begun start s is_mapped under_way))

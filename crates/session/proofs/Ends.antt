@@ -13,7 +13,7 @@ use Rattle.replay_model.specs.Records.{Bytes, is_settled, record_of}
 use Rattle.replay_model.specs.Play.{Played, Replies, played}
 use Rattle.replay_model.specs.Replies.{HoldsWhatIsThere, TellsWhatIsThere, failed_events, source_replies}
 use Rattle.replay_model.specs.ReplayState.{ReplayState, following_to_end}
-use Rattle.replay_model.specs.Transcript.{Sections, closing, said, transcript}
+use Rattle.replay_model.specs.Transcript.{Sections, closing_text, said, transcript}
 use Rattle.replay_model.proofs.Explaining.{Explained-fetches, Explained-is, Explained-source, Explained-source_fetches}
 use Rattle.replay_model.proofs.RecordOf.{state-played}
 use Rattle.replay_model.proofs.Known.{fate-known}
@@ -37,7 +37,7 @@ use Rattle.session.specs.Reading.{AreDeliveries}
 use Rattle.session.specs.Remapping.{IsLeftStale, Mapped, held_triples, mapped_by}
 use Rattle.session.specs.Sections.{sections_of}
 use Rattle.session.specs.Stop.{stop_of_unapplied, stop_of_unwritten}
-use Rattle.session.specs.Stops.{IsStarved}
+use Rattle.session.specs.Stops.{IsHalted}
 use Rattle.session.specs.declared.stop.Unapplied.{Unapplied}
 use Rattle.session.specs.declared.stop.Unapplied.TheVariants.{StoreFull as NoRoom, OutOfMemory as Starved}
 use Rattle.session.specs.Taking.{AtEnd, Course, HoldsDocuments, IsHeldUp, Leads, course_printed, course_to_end, judgement, replies_there, said_behind}
@@ -120,20 +120,20 @@ none_failed (e ∷ es) before now rose same below = absurd (omega (arith, rose b
 
 -- the sections that were asked for were printed, by the version of the mapping that is in force
 pub prints_asked : (version : MappingVersion) (sections wanted : Sections) (mapped : Mapped) (p : Played) (old new : Output) (result : Result (Unit {0}) Unwritten) → sections ≡ wanted → mapped ≡ mapped_by version p.records →
-    Prints (closing_of (held_triples mapped p.records) sections p) old new result → Prints (closing meaning version wanted p) old new result
+    Prints (closing_of (held_triples mapped p.records) sections p) old new result → Prints (closing_text meaning version wanted p) old new result
 prints_asked version sections wanted mapped p old new result same by prints =
     let Printed : Sections → List Triple → Type 0 = λ s triples. Prints (closing_of triples s p) old new result in
     subst (λ s. Printed s (union triple_cmp (meaning version) p.records)) same (subst (Printed sections) (all_held_by version mapped p.records by) prints)
 
 -- the sections were printed behind the answers
 module _ (setting : Setting) (sections : Sections) (ds : List Delivery) (start now : Stage) (out : Output) (replay : IsReplayed setting (course_to_end ds start) ds start now)
-    (prints : Prints (closing meaning (version_in_force ds) sections now.world.played) now.output out (Ok tt)) where
+    (prints : Prints (closing_text meaning (version_in_force ds) sections now.world.played) now.output out (Ok tt)) where
   -- the answers and the sections are the transcript
   transcribed : (replies : Replies) → now.world ≡ following_to_end (horizon_at start) replies ds → now.output.bytes ≡ said_behind ds start replies → out.bytes ≡ after_known start.output.bytes (transcript meaning (horizon_at start) sections replies ds)
   transcribed replies is says =
-      prints.outcome ∙ ap (λ b. after_known b (closing meaning (version_in_force ds) sections now.world.played)) says
-      ∙ after_twice start.output.bytes (said meaning (horizon_at start) replies ds) (closing meaning (version_in_force ds) sections now.world.played)
-      ∙ ap (λ (w : ReplayState). after_known start.output.bytes (said meaning (horizon_at start) replies ds ++ closing meaning (version_in_force ds) sections w.played)) is
+      prints.outcome ∙ ap (λ b. after_known b (closing_text meaning (version_in_force ds) sections now.world.played)) says
+      ∙ after_twice start.output.bytes (said meaning (horizon_at start) replies ds) (closing_text meaning (version_in_force ds) sections now.world.played)
+      ∙ ap (λ (w : ReplayState). after_known start.output.bytes (said meaning (horizon_at start) replies ds ++ closing_text meaning (version_in_force ds) sections w.played)) is
 
   -- the same, with the replies of what is there
   transcribed_there : (contents : ℕ → Option Bytes) → setting.known ≡ Some contents → out.bytes ≡ after_known start.output.bytes (transcript meaning (horizon_at start) sections (replies_there contents now.world) ds)
@@ -171,7 +171,7 @@ module _ (setting : Setting) (sections : Sections) (ds : List Delivery) (start n
   }
 
 -- a run ended well
-pub ending : (run : Run) (before now : Moment) (out : Output) (replayed : HasReplayed run before now) → Prints (closing meaning (version_in_force replayed.deliveries) (sections_of run.choices) now.stage.world.played) now.stage.output out (Ok tt) →
+pub ending : (run : Run) (before now : Moment) (out : Output) (replayed : HasReplayed run before now) → Prints (closing_text meaning (version_in_force replayed.deliveries) (sections_of run.choices) now.stage.world.played) now.stage.output out (Ok tt) →
     Ending run before (record now { stage = with_output now.stage out })
 ending run before now out replayed prints =
     let sections : Sections = sections_of run.choices in
@@ -191,7 +191,7 @@ interrupted NotWritten run before now between earlier rose stands = (rose_since 
 interrupted Refused run before now between earlier rose stands = inr stands
 
 -- not all that was due was applied
-pub halted : (why : Unapplied) (run : Run) (before now : Moment) → IsHeldUp why run.setting now.stage.world now.stage.mapped → IsStarved why run before now → Stopped (stop_of_unapplied why) run before now
+pub halted : (why : Unapplied) (run : Run) (before now : Moment) → IsHeldUp why run.setting now.stage.world now.stage.mapped → IsHalted why run before now → Stopped (stop_of_unapplied why) run before now
 halted NoRoom run before now full stands = inl (full, stands)
 halted Starved run before now held_up stands = inl (inl stands)
 
@@ -202,7 +202,7 @@ left_stale Starved run before now stale stands = inl (inr stands)
 
 -- the sections weren't all written
 pub broken_off : (why : Unwritten) (run : Run) (before now : Moment) (out : Output) (replayed : HasReplayed run before now) → before.stage.output.faults ≤ now.stage.output.faults →
-    Prints (closing meaning (version_in_force replayed.deliveries) (sections_of run.choices) now.stage.world.played) now.stage.output out (Err why) → Stopped (stop_of_unwritten why) run before (record now { stage = with_output now.stage out })
+    Prints (closing_text meaning (version_in_force replayed.deliveries) (sections_of run.choices) now.stage.world.played) now.stage.output out (Err why) → Stopped (stop_of_unwritten why) run before (record now { stage = with_output now.stage out })
 broken_off why run before now out replayed earlier prints =
     let broken : BrokenOff why run before (record now { stage = with_output now.stage out }) = record { between = now.stage.output; replayed = replayed; cut_short = prints.outcome } in
     interrupted why run before (record now { stage = with_output now.stage out }) now.stage.output earlier (λ fault. (prints.outcome.failed fault).1) (inr broken)

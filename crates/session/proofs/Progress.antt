@@ -33,7 +33,7 @@ use Rattle.session.specs.declared.stop.Stop.{Stop}
 use Rattle.session.specs.declared.stop.Stop.TheVariants.{BadLine, OutOfMemory}
 use Rattle.session.specs.declared.stop.Unapplied.{Unapplied}
 use Rattle.session.specs.declared.stop.Unapplied.TheVariants.{StoreFull as NoRoom, OutOfMemory as Starved}
-use Rattle.session.specs.Counts.{Counts}
+use Rattle.session.specs.Counts.{SourceCounts}
 use Rattle.session.specs.Headline.{IsPlayedAfter, StandsAtMapping, StandsAtQuestion, Stopped}
 use Rattle.session.specs.Moment.{Input, Moment, Run, Setting, Stage, horizon_at, onward, with_mapped, with_output}
 use Rattle.session.specs.Needed.{HaveRoomBefore, needed_anew}
@@ -64,7 +64,7 @@ pub record Progress (run : Run) (before now : Moment) (reader : Reading) (asked 
   pub ended : reader.ended ≡ true → IsAtEnd now.input.left
 
 -- before the first delivery a world is at rest
-pub nothing_taken : (setting : Setting) (h : Option ℕ) (output : Output) (counts : Counts) → let s : Stage = record { output = output; counts = counts; world = nothing_delivered_within h; mapped = record { version = One; second = [] } } in AtRest setting [] s s
+pub nothing_taken : (setting : Setting) (h : Option ℕ) (output : Output) (counts : SourceCounts) → let s : Stage = record { output = output; counts = counts; world = nothing_delivered_within h; mapped = record { version = One; second = [] } } in AtRest setting [] s s
 nothing_taken setting h output counts = record {
   leads = record {
     made = 0;
@@ -80,11 +80,11 @@ nothing_taken setting h output counts = record {
 }
 
 -- a moment before the first delivery
-abbrev pub at_start : Option ℕ → Input → Output → Counts → Moment
+abbrev pub at_start : Option ℕ → Input → Output → SourceCounts → Moment
 at_start h input output counts = record { input = input; stage = record { output = output; counts = counts; world = nothing_delivered_within h; mapped = record { version = One; second = [] } } }
 
 -- before the first line
-pub nothing_begun : (run : Run) (h : Option ℕ) (input : Input) (output : Output) (counts : Counts) → Progress run (at_start h input output counts) (at_start h input output counts) (fresh (limit_of run.choices)) 0
+pub nothing_begun : (run : Run) (h : Option ℕ) (input : Input) (output : Output) (counts : SourceCounts) → Progress run (at_start h input output counts) (at_start h input output counts) (fresh (limit_of run.choices)) 0
 nothing_begun run h input output counts = record {
   deliveries = [];
   read = nothing_read (limit_of run.choices) input.left;
@@ -276,7 +276,7 @@ module _ (run : Run) (before now : Moment) (reader : Reading) (asked : ℕ) (so_
       }
 
 -- memory was refused before the first line
-pub stands_at_start : (run : Run) (h : Option ℕ) (input : Input) (output : Output) (counts : Counts) → StopsWithin Starved run (at_start h input output counts) (at_start h input output counts)
+pub stands_at_start : (run : Run) (h : Option ℕ) (input : Input) (output : Output) (counts : SourceCounts) → StopsWithin Starved run (at_start h input output counts) (at_start h input output counts)
 stands_at_start run h input output counts =
     let so_far : Progress run (at_start h input output counts) (at_start h input output counts) (fresh (limit_of run.choices)) 0 = nothing_begun run h input output counts in
     stands run (at_start h input output counts) (at_start h input output counts) (fresh (limit_of run.choices)) 0 so_far (fresh (limit_of run.choices)) input None None

@@ -8,13 +8,13 @@ use Rattle.session.specs.declared.stop.Unapplied.{Unapplied}
 use Rattle.session.specs.declared.stop.Unapplied.TheVariants.{StoreFull, OutOfMemory}
 
 -- how many calls a source of revisions had, how many of them found nothing, and how many failed
-pub record Counts : Type 0 where
+pub record SourceCounts : Type 0 where
   pub calls : ℕ
   pub misses : ℕ
   pub faults : ℕ
 
 -- the counts of a source of revisions
-abbrev pub counts : {R : Type 0} → RevisionsOf R → R → Counts
+abbrev pub counts : {R : Type 0} → RevisionsOf R → R → SourceCounts
 counts members revisions = record { calls = members.calls revisions; misses = members.misses revisions; faults = members.faults revisions }
 
 -- a count of 64 bits rose by at least n; at its last value it says nothing
@@ -23,16 +23,16 @@ RoseBy n before now = now < 2 ^ 64 - 1 → before + n ≤ now
 
 -- the calls rose by the fetches that were made, as far as 64 bits count them; the faults rose at least by the failed
 -- fetches that the side output names, and the misses by the missing revisions
-pub record HasCounted (start now : Counts) (made : ℕ) (side : List Entry) : Type 0 where
+pub record HasCounted (start now : SourceCounts) (made : ℕ) (side : List Entry) : Type 0 where
   pub calls : now.calls ≡ risen_by made start.calls
   pub failed : RoseBy (length (failed_events side)) start.faults now.faults
   pub missing : RoseBy (length (missing_events side)) start.misses now.misses
 
 -- the same where an event wasn't applied: for want of room one fetch more was made, which gave its page, and for want of memory
 -- perhaps one more
-abbrev pub HasCountedBefore : Unapplied → Counts → Counts → ℕ → List Entry → Type 0
-HasCountedBefore StoreFull start now made side = HasCounted start now (made + 1) side
-HasCountedBefore OutOfMemory start now made side = HasCounted start now made side ⊎ HasCounted start now (made + 1) side
+abbrev pub HasCountedUnapplied : Unapplied → SourceCounts → SourceCounts → ℕ → List Entry → Type 0
+HasCountedUnapplied StoreFull start now made side = HasCounted start now (made + 1) side
+HasCountedUnapplied OutOfMemory start now made side = HasCounted start now made side ⊎ HasCounted start now (made + 1) side
 
 -- a source was asked further: its contents and the most calls that ever fail are the same, and no count of what went wrong fell
 pub record HasGoneOn {R : Type 0} (members : RevisionsOf R) (old new : R) : Type 0 where

@@ -19,7 +19,7 @@ use Rattle.replay_model.specs.Records.{Bytes, is_settled, record_of}
 use Rattle.replay_model.specs.Play.{Replies}
 use Rattle.replay_model.specs.Replies.{GivesDocument, HoldsWhatIsThere, TellsWhatIsThere, failed_events, source_replies}
 use Rattle.replay_model.specs.ReplayState.{ReplayState, following_to_end}
-use Rattle.replay_model.specs.Transcript.{Sections, ask_section, asks, closing, transcript}
+use Rattle.replay_model.specs.Transcript.{Sections, ask_section, asks, closing_text, transcript}
 use Rattle.replay_model.specs.Union.{union}
 use Rattle.replay_model.specs.Versions.{all_by}
 use Rattle.rdf_term.specs.Pattern.{rows}
@@ -37,7 +37,7 @@ use Rattle.session.specs.Needed.{HaveRoom, HaveRoomBefore, needed_anew}
 use Rattle.session.specs.Reading.{AreDeliveries, AreFirst, AreWhole, IsPastLimit, IsRefusedLine}
 use Rattle.session.specs.Remapping.{IsFullOfStale, mapped_by, remapped_some}
 use Rattle.session.specs.Sections.{sections_of}
-use Rattle.session.specs.Stops.{IsStarved}
+use Rattle.session.specs.Stops.{IsHalted}
 use Rattle.session.specs.Taking.{Course, HoldsDocuments, IsFull, course_after, course_printed, course_to_end, judgement, replies_there}
 
 -- the world is where a play leads, with some replies to its fetches, each a document of its entity or a reason, the output has what the
@@ -118,7 +118,7 @@ pub record Ending (run : Run) (before now : Moment) : Type 0 where
 pub record BrokenOff (why : Unwritten) (run : Run) (before now : Moment) : Type 0 where
   pub between : Output
   pub replayed : HasReplayed run before (record now { stage = with_output now.stage between })
-  pub cut_short : IsCutShort why (closing meaning (version_in_force replayed.deliveries) (sections_of run.choices) now.stage.world.played) between now.stage.output
+  pub cut_short : IsCutShort why (closing_text meaning (version_in_force replayed.deliveries) (sections_of run.choices) now.stage.world.played) between now.stage.output
 
 -- the world has taken the deliveries of all whole lines of the bytes that were read before a read failed
 pub record StandsAfter (run : Run) (before now : Moment) : Type 0 where
@@ -172,6 +172,6 @@ Stopped ReadFault run before now = Rose before.input.faults now.input.faults × 
 Stopped WriteFault run before now = Rose before.stage.output.faults now.stage.output.faults × IsInterrupted NotWritten run before now
 Stopped TooLong run before now = StandsAtLimit run before now
 Stopped StoreFull run before now =
-    (IsFull run.setting now.stage.world now.stage.mapped × IsStarved NoRoom run before now)
+    (IsFull run.setting now.stage.world now.stage.mapped × IsHalted NoRoom run before now)
     ⊎ (IsFullOfStale run.setting.room now.stage.world.played.records now.stage.mapped × StandsAtMapping run before now)
-Stopped OutOfMemory run before now = (IsStarved Starved run before now ⊎ StandsAtMapping run before now) ⊎ IsInterrupted Refused run before now
+Stopped OutOfMemory run before now = (IsHalted Starved run before now ⊎ StandsAtMapping run before now) ⊎ IsInterrupted Refused run before now

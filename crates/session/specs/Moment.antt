@@ -10,7 +10,7 @@ use Rattle.replay_model.specs.Records.{Bytes}
 use Rattle.replay_model.specs.ReplayState.{ReplayState, nothing_delivered_within}
 use Rattle.world.specs.WorldState.{WorldState}
 use Rattle.transcript.specs.Printing.{Output, output}
-use Rattle.session.specs.Counts.{Counts, counts}
+use Rattle.session.specs.Counts.{SourceCounts, counts}
 use Rattle.session.specs.Remapping.{Mapped, mapped_in}
 use Rattle.words.specs.Options.{Choices, place_of, terms_of}
 
@@ -28,7 +28,7 @@ setting contents directory room = record { known = option_map (λ (c : Contents)
 -- it maps
 pub record Stage : Type 0 where
   pub output : Output
-  pub counts : Counts
+  pub counts : SourceCounts
   pub world : ReplayState
   pub mapped : Mapped
 
@@ -41,7 +41,7 @@ abbrev pub horizon_at : Stage → Option ℕ
 horizon_at s = s.world.buffer.horizon
 
 -- the stage with these counts and this world
-abbrev pub onward : Stage → Counts → ReplayState → Stage
+abbrev pub onward : Stage → SourceCounts → ReplayState → Stage
 onward s counts world = record { output = s.output; counts = counts; world = world; mapped = s.mapped }
 
 -- the stage with this output

@@ -23,23 +23,23 @@ abbrev pub bad_line_text : ℕ → LineCause → List ℕ
 bad_line_text number cause = codes "wdq: line " ++ decimal number ++ codes ": " ++ cause_name cause
 
 -- the line that says how a run ended
-abbrev pub text_of : Status → List ℕ
-text_of Ended = []
-text_of BadWords = codes "wdq: words not understood"
-text_of (BadLine number cause) = bad_line_text number cause
-text_of ReadFault = codes "wdq: read fault"
-text_of WriteFault = codes "wdq: write fault"
-text_of TooLong = codes "wdq: input too long"
-text_of StoreFull = codes "wdq: store full"
-text_of OutOfMemory = codes "wdq: out of memory"
+abbrev pub status_text : Status → List ℕ
+status_text Ended = []
+status_text BadWords = codes "wdq: words not understood"
+status_text (BadLine number cause) = bad_line_text number cause
+status_text ReadFault = codes "wdq: read fault"
+status_text WriteFault = codes "wdq: write fault"
+status_text TooLong = codes "wdq: input too long"
+status_text StoreFull = codes "wdq: store full"
+status_text OutOfMemory = codes "wdq: out of memory"
 
 -- the exit status of the process
-abbrev pub number_of : Status → ℕ
-number_of Ended = 0
-number_of BadWords = 1
-number_of (BadLine number cause) = 2
-number_of ReadFault = 3
-number_of WriteFault = 4
-number_of TooLong = 5
-number_of StoreFull = 6
-number_of OutOfMemory = 7
+abbrev pub status_number : Status → ℕ
+status_number Ended = 0
+status_number BadWords = 1
+status_number (BadLine number cause) = 2
+status_number ReadFault = 3
+status_number WriteFault = 4
+status_number TooLong = 5
+status_number StoreFull = 6
+status_number OutOfMemory = 7

@@ -39,5 +39,5 @@ pub record StopsAtEnd (why : Unapplied) (run : Run) (before now : Moment) : Type
   pub are : IfSome before.input.left (λ bytes. AreDeliveries (limit_of run.choices) bytes deliveries)
 
 -- what stands where memory was refused, or the store was full, while nothing was printed and no page was being mapped anew
-abbrev pub IsStarved : Unapplied → Run → Moment → Moment → Type 0
-IsStarved why run before now = StopsWithin why run before now ⊎ StopsAtEnd why run before now
+abbrev pub IsHalted : Unapplied → Run → Moment → Moment → Type 0
+IsHalted why run before now = StopsWithin why run before now ⊎ StopsAtEnd why run before now

@@ -24,7 +24,7 @@ use Rattle.transcript.specs.Printing.{IsCutShort}
 use Rattle.session.specs.declared.stop.Stop.{Stop}
 use Rattle.session.specs.declared.stop.Unapplied.{Unapplied}
 use Rattle.session.specs.declared.stop.Unapplied.TheVariants.{StoreFull, OutOfMemory}
-use Rattle.session.specs.Counts.{Counts, HasCounted, HasCountedBefore}
+use Rattle.session.specs.Counts.{SourceCounts, HasCounted, HasCountedUnapplied}
 use Rattle.session.specs.Moment.{Setting, Stage, onward, horizon_at}
 use Rattle.session.specs.Needed.{HaveRoomBefore, needed_anew, needed_by_due, needed_in, needed_to_end}
 use Rattle.session.specs.Remapping.{HasNoRoom, IsLeftStale, KeepsVersion, Mapped, held_triples, mapped_by, remapped_some}
@@ -125,7 +125,7 @@ pub record IsWithin (why : Unapplied) (setting : Setting) (course : Course) (beg
   pub fetched : made + length (fetches_due replies now.world) ≡ length (course.fetched replies)
   pub source_fetched : (contents : ℕ → Option Bytes) → setting.known ≡ Some contents →
       made + length (fetches_due (replies_there contents now.world) now.world) ≡ length (course.fetched (replies_there contents now.world))
-  pub counted : HasCountedBefore why start.counts now.counts made now.world.played.side
+  pub counted : HasCountedUnapplied why start.counts now.counts made now.world.played.side
 
 -- right after a delivery, if there is one, is taken, before what it makes due is applied
 abbrev pub entered_perhaps : ReplayState → Option Delivery → ReplayState
@@ -148,7 +148,7 @@ pub record AtEnd (setting : Setting) (ds : List Delivery) (start now : Stage) : 
   pub later : start.output.faults ≤ now.output.faults
 
 -- all due events were applied: where the world led to a play, by whose version every page was mapped, it does so now
-pub record AppliesDue (setting : Setting) (mapped : Mapped) (before now : Counts) (old new : ReplayState) : Type 0 where
+pub record AppliesDue (setting : Setting) (mapped : Mapped) (before now : SourceCounts) (old new : ReplayState) : Type 0 where
   pub leads : (course : Course) (start s : Stage) → mapped ≡ mapped_by course.version old.played.records →
       Leads setting course start (onward s before old) → Leads setting course start (onward s now new)
   pub rests : first_due new.buffer ≡ None
@@ -169,7 +169,7 @@ IsHeldUp StoreFull setting world mapped = IsFull setting world mapped
 IsHeldUp OutOfMemory setting world mapped = ⊤
 
 -- a due event wasn't applied: where the world was under way in a play, by whose version every page was mapped, it is so still
-abbrev pub StaysWithin : Unapplied → Setting → Mapped → Counts → Counts → ReplayState → ReplayState → Type 0
+abbrev pub StaysWithin : Unapplied → Setting → Mapped → SourceCounts → SourceCounts → ReplayState → ReplayState → Type 0
 StaysWithin why setting mapped before now old new =
     (course : Course) (begun : Replies → ReplayState) (start s : Stage) → mapped ≡ mapped_by course.version old.played.records →
     IsUnderWay setting course begun start (onward s before old) → IsWithin why setting course begun start (onward s now new)

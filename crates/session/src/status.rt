@@ -1,7 +1,7 @@
 // How a run ended.
 
 ghost use Rattle.std.specs.Prelude.{◌≡◌, IfOk};
-ghost use Rattle.session.specs.Status.{bad_line_text, cause_name as name_of, number_of, text_of};
+ghost use Rattle.session.specs.Status.{bad_line_text, cause_name as name_of, status_number, status_text};
 
 use event_line::LineCause;
 use rdf_term::{OutOfMemory, Text};
@@ -31,7 +31,7 @@ pub enum Status {
 /// The line that says how a run ended, without its line feed; empty where it ended well.
 #[tactic(auto, unfolding(crate::specs::Status::cause_name))]
 pub fn status_text(alloc: Global, status: &Status) -> Result<Text, OutOfMemory>
-    ensures { IfOk result (λ text. text ≡ text_of status.now) }
+    ensures { IfOk result (λ text. text ≡ status_text status.now) }
 {
     match status {
         Status::Ok => Text::new(alloc, ""),
@@ -55,7 +55,7 @@ fn bad_line(alloc: Global, number: u64, cause: LineCause) -> Result<Text, OutOfM
 
 /// The exit status of the process.
 pub fn status_number(status: &Status) -> u8
-    ensures { result ≡ number_of status.now }
+    ensures { result ≡ status_number status.now }
 {
     match status {
         Status::Ok => 0,

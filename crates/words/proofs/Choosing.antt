@@ -2,19 +2,12 @@
 use Rattle.std.proofs.Common.{◌≡◌, refl, sym, subst, ◌∙◌, ap, ℕ, Bool, true, false, cond, not, ◌&&◌, ◌||◌, List, [], ◌∷◌, Option, None, Some, is_none, is_some, codes}
 use Rattle.std.specs.Option.{option_and_then}
 use Rattle.std.specs.Str.{bytes_eq}
+use Rattle.std.proofs.lemmas.Bool.{and_parts}
 use Rattle.std.proofs.lemmas.Slice.Eq.{bytes_eq-Decides}
 use Rattle.std.specs.List.{AllByRecursion as Each}
 use Rattle.words.specs.Items.{Item, is_value, item}
 use Rattle.words.specs.Options.{Choices, horizon_in, limit_in, nothing_chosen, terms_in, with_export, with_flag, with_horizon, with_item, with_items, with_limit, with_place, with_side, with_state, with_terms, with_value}
 use Rattle.words.specs.Grammar.{IsSetOnce, Say, SaysOnce, has_value, is_flag, is_item, values_behind}
-
-pub and_left : (a b : Bool) → (a && b) ≡ true → a ≡ true
-and_left true b is = refl
-and_left false b is = cc
-
-pub and_right : (a b : Bool) → (a && b) ≡ true → b ≡ true
-and_right true b is = is
-and_right false b is = cc
 
 -- the value that items say from here on, where one may be said already
 abbrev GoesOn : {A : Type 0} → (List ℕ → Option A) → Option A → List (Option (List ℕ)) → Option A → Type 0
@@ -277,7 +270,7 @@ module _ (c : Choices) (items : List Item) (d : Choices) (later : (e : Choices) 
   value_made name text known f = by (bytes_eq name (codes "--from")) refl (bytes_eq name (codes "--max-bytes")) refl (bytes_eq name (codes "--max-terms")) refl
     where
       fit : is_value text ≡ true
-      fit = and_right (has_value name) (is_value text) known
+      fit = (and_parts (has_value name) (is_value text) known).1
 
       by : (p : Bool) → bytes_eq name (codes "--from") ≡ p → (q : Bool) → bytes_eq name (codes "--max-bytes") ≡ q → (r : Bool) → bytes_eq name (codes "--max-terms") ≡ r → with_items c (item name (Some text) ∷ items) ≡ Some d
       by true ps q qs r rs =
@@ -290,7 +283,7 @@ module _ (c : Choices) (items : List Item) (d : Choices) (later : (e : Choices) 
           let same : codes "--max-terms" ≡ name = sym (same_name name (codes "--max-terms") rs) in
           subst (λ n. From c (item n (Some text) ∷ items) d → with_items c (item n (Some text) ∷ items) ≡ Some d) same (terms_made text fit) f
       by false ps false qs false rs =
-          let ss : bytes_eq name (codes "--horizon") ≡ true = one_of_four _ _ _ _ (and_left (has_value name) (is_value text) known) ps qs rs in
+          let ss : bytes_eq name (codes "--horizon") ≡ true = one_of_four _ _ _ _ (and_parts (has_value name) (is_value text) known).0 ps qs rs in
           let same : codes "--horizon" ≡ name = sym (same_name name (codes "--horizon") ss) in
           subst (λ n. From c (item n (Some text) ∷ items) d → with_items c (item n (Some text) ∷ items) ≡ Some d) same (horizon_made text fit) f
 

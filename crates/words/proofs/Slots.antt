@@ -2,6 +2,7 @@
 use Rattle.std.proofs.Common.{◌≡◌, ◌∙◌, ◌&&◌, ◌||◌, Bool, cond, true, false, not, refl, sym, ap, ap₂, List, [], ◌∷◌, ◌++◌, Option, Some, None, option_map, append-nil, append_assoc}
 use Rattle.std.specs.List.{find, fold, list_all}
 use Rattle.std.specs.Str.{bytes_eq}
+use Rattle.std.proofs.lemmas.Bool.{and_parts, not-true}
 use Rattle.std.proofs.lemmas.Slice.Eq.{bytes_eq-Decides}
 use Rattle.clap.specs.declared.builder.value_parser.Reading.{Reading}
 use Rattle.clap.specs.declared.parser.matches.ValueSource.TheVariants.{CommandLine, DefaultValue}
@@ -12,14 +13,6 @@ use Rattle.clap.specs.Takes.{turn_passes, walk_passes}
 or_false : (a b : Bool) → (a || b) ≡ false → (a ≡ false) × (b ≡ false)
 or_false true b e = absurd (cc e)
 or_false false b e = (refl, e)
-
-both_true : (a b : Bool) → (a && b) ≡ true → (a ≡ true) × (b ≡ true)
-both_true true b e = (refl, e)
-both_true false b e = absurd (cc e)
-
-negated : (a : Bool) → not a ≡ true → a ≡ false
-negated true e = absurd (cc e)
-negated false e = refl
 
 -- ---- rows
 
@@ -91,10 +84,10 @@ still_free : (id : Text) (how : Reading) (value : Text) (rows : List Row) (slots
     → list_all (λ other. not (bytes_eq id other.id)) slots ≡ true → is_free (rows ++ use_row id how value ∷ []) slots ≡ true
 still_free id how value rows [] free apart = refl
 still_free id how value rows (slot ∷ slots) free apart =
-    let here = both_true _ _ free in
-    let other = both_true _ _ apart in
+    let here = and_parts _ _ free in
+    let other = and_parts _ _ apart in
     let none : has_row slot.id (rows ++ use_row id how value ∷ []) ≡ false =
-    has_row-append slot.id rows (use_row id how value ∷ []) ∙ ap₂ (λ a b. a || (b || false)) (negated _ here.0) (negated _ other.0) in
+    has_row-append slot.id rows (use_row id how value ∷ []) ∙ ap₂ (λ a b. a || (b || false)) (not-true _ here.0) (not-true _ other.0) in
     ap₂ (λ a b. not a && b) none (still_free id how value rows slots here.1 other.1)
 
 -- ---- the walk
@@ -135,9 +128,9 @@ module _ (s : Shape) where
   unfolding walk_passes
   walks_over [] rows taken distinct free = record { walks = ap resting (sym (append-nil rows)); passes = refl }
   walks_over (slot ∷ slots) rows taken distinct free =
-      let parts = both_true (list_all (λ (other : Slot). not (bytes_eq slot.id other.id)) slots) (is_distinct slots) distinct in
-      let here = both_true (not (has_row slot.id rows)) (is_free rows slots) free in
-      by (λ (more : List Row). λ (still : is_free more slots ≡ true). walks_over slots more taken.1 parts.1 still) parts.0 (negated (has_row slot.id rows) here.0) here.1 slot.given taken.0
+      let parts = and_parts (list_all (λ (other : Slot). not (bytes_eq slot.id other.id)) slots) (is_distinct slots) distinct in
+      let here = and_parts (not (has_row slot.id rows)) (is_free rows slots) free in
+      by (λ (more : List Row). λ (still : is_free more slots ≡ true). walks_over slots more taken.1 parts.1 still) parts.0 (not-true (has_row slot.id rows) here.0) here.1 slot.given taken.0
     where
       by : ((more : List Row) → is_free more slots ≡ true → WalksOver more (words_in slots) (rows_in slots)) → list_all (λ other. not (bytes_eq slot.id other.id)) slots ≡ true
           → has_row slot.id rows ≡ false → is_free rows slots ≡ true

@@ -3,14 +3,14 @@ use Rattle.std.proofs.Common.{◌≡◌, refl, sym, subst, ◌∙◌, ap, ℕ, �
 use Rattle.std.specs.List.{AllByRecursion as Each, position_or_len, before_first, after_first}
 use Rattle.std.specs.Option.{option_and_then}
 use Rattle.std.specs.Str.{bytes_eq}
-use Rattle.std.proofs.lemmas.Bool.{lt-ltb, ltb-true}
+use Rattle.std.proofs.lemmas.Bool.{and_parts, lt-ltb, ltb-true}
 use Rattle.std.proofs.lemmas.List.Sums.{passes_at_first, split_at_first}
 use Rattle.words.specs.Items.{Item, is_equals_sign, is_value, item, item_of_word, items_of, takes_value}
 use Rattle.words.specs.Options.{Choices, nothing_chosen, with_items}
 use Rattle.words.specs.Plan.{plan_of, size_in, size_of}
 use Rattle.words.specs.Grammar.{IsDrill, IsReplay, Written, has_value, is_flag, is_item, words_of_item, words_written}
 use Rattle.words.specs.declared.plan.Plan.TheVariants.{Replay, Drill}
-use Rattle.words.proofs.Choosing.{and_left, made_as_said, one_of_four, one_of_three, said_as_made, same_name}
+use Rattle.words.proofs.Choosing.{made_as_said, one_of_four, one_of_three, said_as_made, same_name}
 use Rattle.words.proofs.Following.{items_apart, items_whole}
 
 -- ---- one item
@@ -67,7 +67,7 @@ flag_read name joined others known = by (bytes_eq name (codes "--export")) refl 
 
 one_read : (name : List ℕ) (value : Option (List ℕ)) (joined : Bool) (others : List (List ℕ)) → is_item name value ≡ true → is_read name value joined others
 one_read name None joined others known = flag_read name joined others known
-one_read name (Some value) joined others known = value_read name value joined others (and_left (has_value name) (is_value value) known)
+one_read name (Some value) joined others known = value_read name value joined others (and_parts (has_value name) (is_value value) known).0
 
 -- ---- all items
 
