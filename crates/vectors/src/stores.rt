@@ -1,8 +1,12 @@
 // A store whose triples get owners and lose them, and that fills up.
 
-ghost use Rattle.std.specs.Prelude.{◌≡◌, ◌<◌, [], ◌∷◌, IfOk, OnOk};
+ghost use Rattle.std.specs.Prelude.{◌≡◌, ◌<◌, true, [], ◌∷◌, IfOk, OnOk};
+ghost use Rattle.rising.specs.Rising.{has};
+ghost use Rattle.rdf_term.specs.declared.triple.Triple.{Triple as TheTriple};
 ghost use Rattle.rdf_term.specs.Fit.{HasFitAndShortTerms};
-ghost use Rattle.triple_store.specs.Stored.{IsStored};
+ghost use Rattle.rdf_term.specs.Order.{triple_cmp};
+ghost use Rattle.triple_store.specs.Counts.{count_of};
+ghost use Rattle.triple_store.specs.Stored.{IsStored, counts_in};
 
 use crate::pools::term_of;
 use block_index::Steps;
@@ -18,19 +22,26 @@ use text_region::Region;
 use triple_patch::Patch;
 use triple_store::{Store, StoreFault};
 
-// For a store of two terms at most: a triple gets an owner (`+`) or loses one (`-`), or the store is full for it (`!`). Then how
-// many owners it has.
-const STEPS: &str = "! <a> <b> <c> = 0
-+ <a> <b> <a> = 1
-+ <a> <b> <a> = 2
-! <a> <b> \"a\" = 0
-+ <a> <b> <b> = 1
-- <a> <b> <a> = 1
-- <a> <b> <a> = 0
-! <a> <b> <c> = 0
-- <a> <b> <b> = 0
-+ <c> <c> \"a\" = 1
-- <c> <c> \"a\" = 0";
+// For a store of two terms at most: a triple gets an owner (`+`) or loses one (`-`), or gets one while the triple `<a> <b> <a>` loses
+// one in the same patch (`~`), or the store is full for it (`!`). Then how many owners it has, and how many triples are stored.
+const STEPS: &str = "! <a> <b> <c> = 0 0
++ <a> <b> <a> = 1 1
++ <a> <b> <a> = 2 1
+! <a> <b> \"a\" = 0 1
++ <a> <b> <b> = 1 2
+- <a> <b> <a> = 1 2
+~ <a> <b> <b> = 2 1
+! <a> <b> <c> = 0 1
++ <a> <b> <a> = 1 2
+~ <b> <b> <a> = 1 2
+- <b> <b> <a> = 0 1
+- <a> <b> <b> = 1 1
+- <a> <b> <b> = 0 0
++ <c> <c> \"a\" = 1 1
+- <c> <c> \"a\" = 0 0";
+
+// The triple that goes where another comes.
+const GOES: &str = "<a> <b> <a>";
 
 // The triple that three words write.
 fn triple_of(alloc: Global, words: &str) -> Result<Triple, Fail>
@@ -54,8 +65,36 @@ fn set_of(alloc: Global, triple: &Triple) -> Result<TripleSet, Fail>
     Ok(TripleSet::from_rising(triples))
 }
 
-// Gives a triple an owner, and says whether that was refused since the store is full.
+// Gives a triple an owner, and takes one from those that go, and says whether that was refused since the store is full.
 fn is_full_for<L: Ledger>(
+    alloc: Global,
+    store: &mut Store,
+    region: &mut Region,
+    triple: &Triple,
+    removes: TripleSet,
+    steps: &mut Steps<L>,
+) -> Result<bool, Fail>
+    requires stored { IsStored store.old region.old }
+    requires fit { HasFitAndShortTerms triple.now }
+    requires there { (gone : TheTriple) → has triple_cmp gone removes ≡ true → 0 < count_of (counts_in store.old region.old) gone }
+    ensures stored { IsStored store.new region.new }
+{
+    if store.count(region, triple, steps) == u64::MAX {
+        return Err("fewer owners".into());
+    }
+    let patch = Patch {
+        adds: set_of(alloc, triple)?,
+        removes,
+    };
+    match store.apply(region, &patch, steps) {
+        Ok(()) => Ok(false),
+        Err(StoreFault::Full) => Ok(true),
+        Err(StoreFault::OutOfMemory) => Err("out of memory".into()),
+    }
+}
+
+// Gives a triple an owner while another one loses one.
+fn is_full_beside<L: Ledger>(
     alloc: Global,
     store: &mut Store,
     region: &mut Region,
@@ -66,18 +105,12 @@ fn is_full_for<L: Ledger>(
     requires fit { HasFitAndShortTerms triple.now }
     ensures stored { IsStored store.new region.new }
 {
-    if store.count(region, triple, steps) == u64::MAX {
-        return Err("fewer owners".into());
+    let goes = triple_of(alloc, GOES)?;
+    if store.count(region, &goes, steps) == 0 {
+        return Err("an owner".into());
     }
-    let patch = Patch {
-        adds: set_of(alloc, triple)?,
-        removes: TripleSet::from_rising(List::new(alloc)),
-    };
-    match store.apply(region, &patch, steps) {
-        Ok(()) => Ok(false),
-        Err(StoreFault::Full) => Ok(true),
-        Err(StoreFault::OutOfMemory) => Err("out of memory".into()),
-    }
+    let removes = set_of(alloc, &goes)?;
+    is_full_for(alloc, store, region, triple, removes, steps)
 }
 
 // Takes an owner from a triple that has one.
@@ -102,7 +135,7 @@ fn lower<L: Ledger>(
     Ok(())
 }
 
-// Gives a triple an owner or takes one from it, and says whether the store is full for it.
+// Does the call of a step, and says whether the store is full for the triple.
 fn is_full_for_call<L: Ledger>(
     alloc: Global,
     store: &mut Store,
@@ -115,11 +148,17 @@ fn is_full_for_call<L: Ledger>(
     requires fit { HasFitAndShortTerms triple.now }
     ensures stored { IsStored store.new region.new }
 {
-    if sign == "-" {
-        lower(alloc, store, region, triple, steps)?;
-        return Ok(false);
+    match sign {
+        "-" => {
+            lower(alloc, store, region, triple, steps)?;
+            Ok(false)
+        }
+        "~" => is_full_beside(alloc, store, region, triple, steps),
+        _ => {
+            let none = TripleSet::from_rising(List::new(alloc));
+            is_full_for(alloc, store, region, triple, none, steps)
+        }
     }
-    is_full_for(alloc, store, region, triple, steps)
 }
 
 // Checks one step.
@@ -133,13 +172,15 @@ fn check_step<L: Ledger>(
     requires stored { IsStored store.old region.old }
     ensures stored { OnOk result (IsStored store.new region.new) }
 {
-    let (call, owners) = step.split_once(" = ").ok_or("a call")?;
+    let (call, counts) = step.split_once(" = ").ok_or("a call")?;
+    let (owners, triples) = counts.split_once(' ').ok_or("owners")?;
     let (sign, words) = call.split_once(' ').ok_or("a sign")?;
     let triple = triple_of(rt.alloc(), words)?;
     let full = is_full_for_call(rt.alloc(), store, region, sign, &triple, steps)?;
     assert_eq!(rt; full, sign == "!", "{step:?}");
     let owners: u64 = owners.parse()?;
     assert_eq!(rt; store.count(region, &triple, steps), owners, "{step:?}");
+    assert_eq!(rt; store.triples(), triples.parse::<usize>()?, "{step:?}");
     Ok(())
 }
 
