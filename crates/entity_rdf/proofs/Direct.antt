@@ -1,9 +1,9 @@
 -- What munging leaves of the dump of a small document is fit and short.
-use Rattle.std.proofs.Common.{ℕ, List, [], ◌∷◌, Ordering, refl, sym, subst, inl, inr}
+use Rattle.std.proofs.Common.{ℕ, List, Ordering, subst}
 use Rattle.std.specs.Cmp.{IsTotalOrder}
 use Rattle.std.specs.FinMap.{IsAntisymmetric}
 use Rattle.std.specs.List.{AllByRecursion, flat_map}
-use Rattle.rising.specs.Rising.{In, sorted}
+use Rattle.rising.specs.Rising.{sorted}
 use Rattle.rising.proofs.Members.{member-sorted}
 use Rattle.rdf_term.specs.Fit.{HasFitAndShortTerms}
 use Rattle.rdf_term.specs.Order.{triple_cmp, triple_cmp-total}

@@ -21,7 +21,7 @@ use Rattle.entity_model.specs.declared.document.Document.TheVariants.{Entity as 
 use Rattle.entity_model.specs.declared.mapping.MappingVersion.{MappingVersion}
 use Rattle.rdf_vocabulary.specs.declared.datatype.Datatype.TheVariants.{Decimal}
 use Rattle.rdf_vocabulary.specs.declared.predicate.Predicate.{Predicate}
-use Rattle.rdf_vocabulary.specs.declared.prefix.Prefix.TheVariants.{FilePath, Wd, Wdv}
+use Rattle.rdf_vocabulary.specs.declared.prefix.Prefix.TheVariants.{FilePath, Wd}
 use Rattle.rdf_vocabulary.specs.Datatype.{typed}
 use Rattle.rdf_vocabulary.specs.Fields.{hashed_name}
 use Rattle.rdf_vocabulary.specs.Prefix.{entity_term, prefixed}
