@@ -91,7 +91,8 @@ impl From<LineFault> for Stop {
 impl Stop {
     // The status of a run that stopped so.
     pub fn status(self) -> Status
-        ensures { stop_of result ≡ Some self }
+        ensures stops { stop_of result ≡ Some self }
+        ensures refused { self ≡ Refused → result ≡ Status.OutOfMemory }
     {
         match self {
             Stop::BadLine(number, cause) => Status::BadLine(number, cause),

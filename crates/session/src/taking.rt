@@ -44,7 +44,7 @@ pub fn take_lines<S: Source, R: Revisions, K: Sink>(
     ensures taken { IfSome (S.left events.old) (λ bytes. TakesByNeed (limit_of plan.now) bytes (S.left events.new)) }
     ensures most { (S.most_faults events.new ≡ S.most_faults events.old) × (K.most_faults out.new ≡ K.most_faults out.old) }
     ensures later { (S.faults events.old ≤ S.faults events.new) × (K.faults out.old ≤ K.faults out.new) }
-    ensures room { OnOk result (world.new.room ≡ world.old.room) }
+    ensures room { world.new.room ≡ world.old.room }
     ensures held { HoldsWithin world.old.room world.new }
     ensures err { IfErr result (λ stop. Stopped stop (run_of (R.contents revisions.old) plan.now)
         (moment S.Source R.Revisions K.Sink events.old revisions.old out.old world.old)
