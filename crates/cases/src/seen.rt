@@ -148,5 +148,8 @@ fn triple_in(alloc: Global, line: &str) -> Result<Triple> {
 
 // The term of a text.
 fn term_in(alloc: Global, text: &str) -> Result<Term> {
-    read_term(alloc, text)?.context(format_args!("no term: {text}"))
+    let Ok(Some(term)) = read_term(alloc, text) else {
+        bail!("no term: {text}");
+    };
+    Ok(term)
 }
