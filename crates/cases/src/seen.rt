@@ -114,8 +114,12 @@ pub fn owners(alloc: Global, world: &World, given: &[u8]) -> Result<String> {
         let (_, triple_text) = line.split_once(' ').context("a number and a triple")?;
         let triple = triple_in(alloc, triple_text)?;
         let count = world.owners(&triple);
-        if !agrees(alloc, world, &triple, count > 0)? {
-            bail!("what is stored has another number of {triple_text}");
+        let is_stored = count > 0;
+        if is_exported(world, &triple)? != is_stored {
+            bail!("all that is stored has another number of {triple_text}");
+        }
+        if is_found(alloc, world, &triple)? != is_stored {
+            bail!("what agrees with the object has another number of {triple_text}");
         }
         let line = format!(in alloc; "{count} {triple_text}\n")?;
         lines.push_str(line.as_str())?;
@@ -123,15 +127,28 @@ pub fn owners(alloc: Global, world: &World, given: &[u8]) -> Result<String> {
     Ok(lines)
 }
 
-// Whether all that is stored, and what of it agrees with the triple's object, has the triple or not. Both are in memory of their own.
-fn agrees(alloc: Global, world: &World, triple: &Triple, is_stored: bool) -> Result<bool> {
+// Whether the triple is in the set of all that is stored.
+fn is_exported(world: &World, triple: &Triple) -> Result<bool> {
+    let Ok(all) = world.export() else {
+        bail!("out of memory");
+    };
+    Ok(all.contains(triple))
+}
+
+// Whether the triple is in the set of what agrees with its object.
+fn is_found(alloc: Global, world: &World, triple: &Triple) -> Result<bool> {
+    let Ok(object) = triple.object.copy(alloc) else {
+        bail!("out of memory");
+    };
     let pattern = Pattern {
         subject: None,
         predicate: None,
-        object: Some(triple.object.copy(alloc)?),
+        object: Some(object),
     };
-    let found = world.matches(&pattern)?.contains(triple);
-    Ok(found == is_stored && world.export()?.contains(triple) == is_stored)
+    let Ok(found) = world.matches(&pattern) else {
+        bail!("out of memory");
+    };
+    Ok(found.contains(triple))
 }
 
 // The triple of a line of N-Triples.
