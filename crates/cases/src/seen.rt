@@ -107,24 +107,36 @@ fn cause_word(cause: Cause) -> &'static str {
     }
 }
 
-// Lines like those given, a number and a triple each, with the number of entities that hold the triple. What is stored has to agree.
+// Lines like those given, a number and a triple each, with the number of entities that hold the triple.
 pub fn owners(alloc: Global, world: &World, given: &[u8]) -> Result<String> {
     let mut lines = String::new(alloc);
     for line in str::from_utf8(given)?.lines() {
         let (_, triple_text) = line.split_once(' ').context("a number and a triple")?;
-        let triple = triple_in(alloc, triple_text)?;
-        let count = world.owners(&triple);
-        let is_stored = count > 0;
-        if is_exported(world, &triple)? != is_stored {
-            bail!("all that is stored has another number of {triple_text}");
-        }
-        if is_found(alloc, world, &triple)? != is_stored {
-            bail!("what agrees with the object has another number of {triple_text}");
-        }
+        let count = owners_of(alloc, world, triple_text)?;
         let line = format!(in alloc; "{count} {triple_text}\n")?;
         lines.push_str(line.as_str())?;
     }
     Ok(lines)
+}
+
+// How many entities hold the triple of a line. What is stored has to agree.
+fn owners_of(alloc: Global, world: &World, line: &str) -> Result<u64> {
+    let triple = triple_in(alloc, line)?;
+    let count = world.owners(&triple);
+    if is_stored(alloc, world, &triple)? != (count > 0) {
+        bail!("the sets of what is stored have another number of {line}");
+    }
+    Ok(count)
+}
+
+// Whether the triple is in both sets: of all that is stored, and of what agrees with its object.
+fn is_stored(alloc: Global, world: &World, triple: &Triple) -> Result<bool> {
+    let all = is_exported(world, triple)?;
+    let found = is_found(alloc, world, triple)?;
+    if all != found {
+        bail!("a triple is in one of two sets alone");
+    }
+    Ok(all)
 }
 
 // Whether the triple is in the set of all that is stored.
