@@ -1,6 +1,6 @@
 // A reader and a writer of std as a source and a sink.
 
-use std::io::{self, ErrorKind, Read};
+use std::io::{self, ErrorKind, Read, Write};
 use wq_io::{Failed, NoWrite, Sink, Source, StdSink, StdSource};
 
 // A reader whose calls fail.
@@ -9,6 +9,20 @@ struct Broken;
 
 impl Read for Broken {
     fn read(&mut self, _buf: &mut [u8]) -> io::Result<usize> {
+        Err(io::Error::from(ErrorKind::Other))
+    }
+}
+
+// A writer that takes all bytes and can't flush.
+#[derive(Drop)]
+struct Unflushed;
+
+impl Write for Unflushed {
+    fn write(&mut self, buf: &[u8]) -> io::Result<usize> {
+        Ok(buf.len())
+    }
+
+    fn flush(&mut self) -> io::Result<()> {
         Err(io::Error::from(ErrorKind::Other))
     }
 }
@@ -28,4 +42,5 @@ fn streams(rt: HostRuntime) {
     assert_eq!(rt; sink.write(b"abcd"), Ok(3));
     assert_eq!(rt; sink.write(b"d"), Err(NoWrite::Failed));
     assert_eq!(rt; written, *b"abc");
+    assert_eq!(rt; StdSink::new(Unflushed).write(b"abc"), Err(NoWrite::Failed));
 }
