@@ -8,5 +8,5 @@ use Rattle.vectors.proofs.stores.is_full_beside.Goals as goal
 
 pub is_full_for-requires-clause-there : goal.is_full_for-requires-clause-there
 is_full_for-requires-clause-there g c =
-    of_each (λ (t : Triple). 0 < count_of (counts_in c.args.store.now c.args.region.now) t) _ _ c.in_ok-set_of.ensures
+    of_each (λ (t : Triple). 0 < count_of (counts_in c.args.store.now c.args.region.now) t) _ _ c.in_ok-removes.ensures
     (omega (arith, c.if-count-eq0.false, c.count.ensures.count))
