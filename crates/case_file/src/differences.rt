@@ -1,6 +1,6 @@
 // The first lines in which two texts differ.
 
-use crate::pieces::lines_of;
+use crate::pieces::split_lines;
 use anyhow::Result;
 use std::alloc::Global;
 
@@ -42,8 +42,8 @@ pub fn differing(
     if expected == found {
         return Ok(None);
     }
-    let expected = lines_of(alloc, expected)?;
-    let found = lines_of(alloc, found)?;
+    let expected = split_lines(alloc, expected)?;
+    let found = split_lines(alloc, found)?;
     let place = equal_lines(expected.as_slice(), found.as_slice());
     let number = place.saturating_add(1);
     let expected = line_at(alloc, expected.as_slice(), place)?;

@@ -3,8 +3,8 @@
 use anyhow::Result;
 use std::alloc::Global;
 
-/// The lines of a text, each with its line feed.
-pub fn lines_of<'a>(alloc: Global, text: &'a [u8]) -> Result<Vec<&'a [u8]>> {
+/// The lines of a text, each with its line feed where it has one.
+pub fn split_lines<'a>(alloc: Global, text: &'a [u8]) -> Result<Vec<&'a [u8]>> {
     let lines = text.split_inclusive(|byte| *byte == b'\n');
     Ok(lines.collect(alloc)?)
 }
@@ -24,7 +24,7 @@ pub fn pieces_of_reads(alloc: Global, input: &[u8], bytes: usize) -> Result<Vec<
 /// What each write takes: no write has bytes of two lines.
 pub fn pieces_of_writes(alloc: Global, out: &[u8], bytes: usize) -> Result<Vec<Vec<u8>>> {
     let mut pieces = Vec::new(alloc);
-    for line in &lines_of(alloc, out)? {
+    for line in &split_lines(alloc, out)? {
         push_pieces(alloc, line, bytes, &mut pieces)?;
     }
     Ok(pieces)
@@ -42,7 +42,7 @@ fn push_pieces(alloc: Global, line: &[u8], bytes: usize, pieces: &mut Vec<Vec<u8
 
 /// How many whole lines ask.
 pub fn questions(alloc: Global, input: &[u8]) -> Result<usize> {
-    let lines = lines_of(alloc, input)?;
+    let lines = split_lines(alloc, input)?;
     let asking = lines.iter().filter(|line| is_question(line));
     Ok(asking.count())
 }
@@ -56,7 +56,7 @@ fn is_question(line: &[u8]) -> bool {
 pub fn answers(alloc: Global, out: &[u8], count: usize) -> Result<Vec<u8>> {
     let mut answers = Vec::new(alloc);
     let mut left = count;
-    for line in &lines_of(alloc, out)? {
+    for line in &split_lines(alloc, out)? {
         if line.starts_with(b"# ") {
             if left == 0 || !line.starts_with(b"# ask ") {
                 break;

@@ -119,12 +119,12 @@ pub fn owners(alloc: Global, world: &World, given: &[u8]) -> Result<String> {
     Ok(lines)
 }
 
-// How many entities hold the triple of a line. What is stored has to agree.
-fn owners_of(alloc: Global, world: &World, line: &str) -> Result<u64> {
-    let triple = triple_in(alloc, line)?;
+// How many entities hold the triple with this text. What is stored has to agree.
+fn owners_of(alloc: Global, world: &World, text: &str) -> Result<u64> {
+    let triple = triple_in(alloc, text)?;
     let count = world.owners(&triple);
     if is_stored(alloc, world, &triple)? != (count > 0) {
-        bail!("the sets of what is stored have another number of {line}");
+        bail!("what is stored doesn't agree with the owners of {text}");
     }
     Ok(count)
 }

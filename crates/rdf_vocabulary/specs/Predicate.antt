@@ -5,7 +5,11 @@ use Rattle.rdf_term.specs.declared.term.Term.TheVariants.{Iri}
 use Rattle.rdf_term.specs.declared.triple.Triple.{Triple}
 use Rattle.rdf_term.specs.Triple.{triple}
 use Rattle.rdf_vocabulary.specs.declared.predicate.Predicate.{Predicate}
-use Rattle.rdf_vocabulary.specs.declared.predicate.Predicate.TheVariants.{RdfType, Label, PrefLabel, AltLabel, Name, Description, About, SoftwareVersion, Version, DateModified, InLanguage, IsPartOf, License, SameAs, WasDerivedFrom, Rank, Statements, Identifiers, Sitelinks, Badge, WikiGroup, PropertyType, DirectClaim, Claim, StatementProperty, StatementValue, Qualifier, QualifierValue, Reference, ReferenceValue, Novalue, TimeValue, TimePrecision, TimeTimezone, TimeCalendarModel, QuantityAmount, QuantityUnit, QuantityUpperBound, QuantityLowerBound, GeoLatitude, GeoLongitude, GeoPrecision, GeoGlobe}
+use Rattle.rdf_vocabulary.specs.declared.predicate.Predicate.TheVariants.{RdfType, Label, PrefLabel, AltLabel, Name, Description, About, SoftwareVersion, Version, DateModified, InLanguage, IsPartOf}
+use Rattle.rdf_vocabulary.specs.declared.predicate.Predicate.TheVariants.{License, SameAs, WasDerivedFrom, Rank, Statements, Identifiers, Sitelinks, Badge, WikiGroup, PropertyType, DirectClaim, Claim}
+use Rattle.rdf_vocabulary.specs.declared.predicate.Predicate.TheVariants.{StatementProperty, StatementValue, Qualifier, QualifierValue, Reference, ReferenceValue, Novalue, TimeValue, TimePrecision}
+use Rattle.rdf_vocabulary.specs.declared.predicate.Predicate.TheVariants.{TimeTimezone, TimeCalendarModel, QuantityAmount, QuantityUnit, QuantityUpperBound, QuantityLowerBound, GeoLatitude}
+use Rattle.rdf_vocabulary.specs.declared.predicate.Predicate.TheVariants.{GeoLongitude, GeoPrecision, GeoGlobe}
 
 -- the text of a predicate's IRI
 unfoldable pub predicate_text : Predicate → List ℕ

@@ -5,7 +5,8 @@ use Rattle.rdf_term.specs.declared.term.Term.TheVariants.{Iri}
 use Rattle.rdf_term.specs.declared.triple.Triple.{Triple}
 use Rattle.rdf_vocabulary.specs.declared.predicate.Predicate.TheVariants.{RdfType}
 use Rattle.rdf_vocabulary.specs.declared.resource.Resource.{Resource}
-use Rattle.rdf_vocabulary.specs.declared.resource.Resource.TheVariants.{Item, Property, Statement, Reference, BestRank, PreferredRank, NormalRank, DeprecatedRank, TimeValue, QuantityValue, GlobecoordinateValue, Dataset, Article, PublicDomain}
+use Rattle.rdf_vocabulary.specs.declared.resource.Resource.TheVariants.{Item, Property, Statement, Reference, BestRank, PreferredRank, NormalRank, DeprecatedRank, TimeValue, QuantityValue}
+use Rattle.rdf_vocabulary.specs.declared.resource.Resource.TheVariants.{GlobecoordinateValue, Dataset, Article, PublicDomain}
 use Rattle.rdf_vocabulary.specs.Predicate.{about}
 
 -- the text of a resource's IRI

@@ -2,7 +2,7 @@
 //! Dump Format", Sitelinks).
 //!
 //! `special` and `project` name the sites, `language` reads a site's language, `lookup` puts these together to a
-//! site of `sites`; `replaced` writes names with one character for another, and `article` has the triples of a link.
+//! site of `sites`; `replaced` puts one character in the place of another, borrows a text that lacks it, and splits a text there; `article` has the triples of a link.
 //! `laws` has what holds of the definitions themselves.
 #![tactic(auto)]
 

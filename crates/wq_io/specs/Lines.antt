@@ -103,8 +103,8 @@ pub record IsUndecided (room : ℕ) (bytes : List ℕ) : Type 0 where
 
 -- the last read of a call gave `last`, where the reads before it gave `before`: it was made while all bytes that were held or read
 -- decided nothing, and the end of the source wasn't seen. Where it is told, it asked for as many bytes as one read may, or for those
--- up to the byte after the limit where these are fewer; `last` is all that it gave; and each read before it gave at least a byte, so
--- none of them failed
+-- up to the byte after the limit where these are fewer; `last` is all that it gave; and, as far as 64 bits count them, each read
+-- before it gave at least a byte, so none of them failed
 pub record IsNeeded (old : Reading) (before last : List ℕ) (read read_now : Option LastRead) : Type 0 where
   pub undecided : IsUndecided (room old) (old.held ++ before)
   pub going : old.ended ≡ false

@@ -25,7 +25,7 @@ abbrev pub counted : ℕ → ℕ
 counted n = max n (min (n + 1) (2 ^ 64 - 1))
 
 -- the last call of `read`: how many bytes it asked for, how many it gave, and how many calls up to it gave none, as far as 64 bits
--- count them; all are 0 before the first call
+-- count them; in a new source in memory all are 0
 pub record LastRead : Type 0 where
   pub asked : ℕ
   pub gave : ℕ

@@ -1,6 +1,6 @@
 //! Where bytes come from and go to: sources, sinks and the lines of an input.
 //!
-//! `source` and `sink` are the two traits of the outside. What an object of them has left, or holds, is told to
+//! `source` and `sink` are the two traits of the outside. What an object of them has left, last read, or holds is told to
 //! contracts where it can be known, as for the objects in `memory`; the adapters of `streams` tell nothing. `lines`
 //! splits a source at its line feeds.
 #![tactic(auto)]
