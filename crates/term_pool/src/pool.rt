@@ -121,6 +121,7 @@ impl Pool {
         // Full comes just where the term isn't there and as many are as the limit says, unless memory was refused.
         ensures full { result ≡ Err PoolFault.Full → IsNowhere self.old region.old (term_text term.now) × (self.old.limit ≤ terms self.old) }
         ensures within { OnOk result (IsNowhere self.old region.old (term_text term.now) → terms self.old < self.old.limit) }
+        ensures again { OnOk result ((slot : ℕ) → text_at self.old region.old slot ≡ Some (term_text term.now) → count_at self.old slot < most_uses) }
         ensures foreign { KeepsForeign self.old region.old self.new region.new }
         ensures limit { self.new.limit ≡ self.old.limit }
     {
