@@ -75,7 +75,10 @@ fn printable(alloc: Global, line: &[u8]) -> Result<String> {
         match byte {
             b' '..=b'~' => text.push(char::from(*byte))?,
             b'\n' => {}
-            _ => text.push_str(format!(in alloc; "\\x{byte:02x}")?.as_str())?,
+            _ => {
+                let escape = format!(in alloc; "\\x{byte:02x}")?;
+                text.push_str(escape.as_str())?;
+            }
         }
     }
     Ok(text)

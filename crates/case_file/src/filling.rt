@@ -24,13 +24,12 @@ pub fn filled(alloc: Global, case: &Case, row: &str) -> Result<Case> {
     let mut sections = Vec::new(alloc);
     for section in &case.sections {
         if section.words_of("rows").is_none() {
-            sections.push(filled_section(alloc, section, row)?)?;
+            let section = filled_section(alloc, section, row)?;
+            sections.push(section)?;
         }
     }
-    Ok(Case {
-        name: case.name.clone()?,
-        sections,
-    })
+    let name = case.name.clone()?;
+    Ok(Case { name, sections })
 }
 
 // A section with the parts of a row in place of the marks.

@@ -28,7 +28,8 @@ fn names(rt: &HostRuntime, folder: &str) -> Result<Vec<String>> {
     for entry in fs::read_dir(rt, folder)? {
         let entry = entry?;
         if let Some(name) = entry.file_name().strip_suffix(".case") {
-            names.push(String::from_str(rt.alloc(), name)?)?;
+            let name = String::from_str(rt.alloc(), name)?;
+            names.push(name)?;
         }
     }
     names.sort()?;

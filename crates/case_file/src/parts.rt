@@ -59,13 +59,19 @@ pub enum Turns {
 
 /// What the run of a case is given.
 pub fn given_of(alloc: Global, case: &Case) -> Result<Given> {
+    let words = words(alloc, case)?;
+    let input = bytes_of(alloc, lines(case, "in").unwrap_or(""))?;
+    let pages = pages(alloc, case)?;
+    let reads = calls_of(alloc, case, "bytes a read", "failing reads")?;
+    let writes = calls_of(alloc, case, "bytes a write", "failing writes")?;
+    let failing_fetches = numbers(alloc, text(case, "failing fetches").unwrap_or(""))?;
     Ok(Given {
-        words: words(alloc, case)?,
-        input: bytes_of(alloc, lines(case, "in").unwrap_or(""))?,
-        pages: pages(alloc, case)?,
-        reads: calls_of(alloc, case, "bytes a read", "failing reads")?,
-        writes: calls_of(alloc, case, "bytes a write", "failing writes")?,
-        failing_fetches: numbers(alloc, text(case, "failing fetches").unwrap_or(""))?,
+        words,
+        input,
+        pages,
+        reads,
+        writes,
+        failing_fetches,
     })
 }
 
@@ -87,7 +93,8 @@ fn words(alloc: Global, case: &Case) -> Result<Vec<String>> {
         return Ok(words);
     }
     for word in line.split(' ') {
-        words.push(word_in(alloc, word)?)?;
+        let word = word_in(alloc, word)?;
+        words.push(word)?;
     }
     Ok(words)
 }
@@ -103,7 +110,8 @@ fn pages(alloc: Global, case: &Case) -> Result<Vec<Page>> {
     let mut pages = Vec::new(alloc);
     for section in &case.sections {
         if let Some(words) = section.words_of("page") {
-            pages.push(page_in(alloc, words, section.body.as_str())?)?;
+            let page = page_in(alloc, words, section.body.as_str())?;
+            pages.push(page)?;
         }
         if let Some(words) = section.words_of("pages to") {
             push_pages(alloc, words, section.body.as_str(), &mut pages)?;
@@ -118,7 +126,8 @@ fn push_pages(alloc: Global, last: &str, lines: &str, pages: &mut Vec<Page>) -> 
     for rev in 1..=last {
         let number = format!(in alloc; "{rev}")?;
         let lines = replaced(alloc, lines, "%d", number.as_str())?;
-        pages.push(page_in(alloc, number.as_str(), lines.as_str())?)?;
+        let page = page_in(alloc, number.as_str(), lines.as_str())?;
+        pages.push(page)?;
     }
     Ok(())
 }
@@ -126,15 +135,13 @@ fn push_pages(alloc: Global, last: &str, lines: &str, pages: &mut Vec<Page>) -> 
 // A page, its revision, and its place where that isn't `.`. The line feed at its end is none of its bytes.
 fn page_in(alloc: Global, words: &str, lines: &str) -> Result<Page> {
     let (rev, place) = words.split_once(" at ").unwrap_or((words, "."));
+    let rev = rev.parse().context("a page's revision")?;
+    let place = String::from_str(alloc, place)?;
     let mut bytes = bytes_of(alloc, lines)?;
     if bytes.as_slice().ends_with(b"\n") {
         bytes.pop();
     }
-    Ok(Page {
-        place: String::from_str(alloc, place)?,
-        rev: rev.parse().context("a page's revision")?,
-        bytes,
-    })
+    Ok(Page { place, rev, bytes })
 }
 
 // The bytes of a call, 4,096 where the case doesn't say, and the calls that fail.
@@ -143,10 +150,9 @@ fn calls_of(alloc: Global, case: &Case, bytes: &str, failing: &str) -> Result<Ca
         None | Some("each") => "",
         Some(words) => words,
     };
-    Ok(Calls {
-        bytes: number(case, bytes)?.unwrap_or(4096),
-        failing: numbers(alloc, failing)?,
-    })
+    let bytes = number(case, bytes)?.unwrap_or(4096);
+    let failing = numbers(alloc, failing)?;
+    Ok(Calls { bytes, failing })
 }
 
 // The number behind the name of a section, where the case has it.
@@ -161,21 +167,29 @@ fn number(case: &Case, name: &str) -> Result<Option<usize>> {
 fn numbers(alloc: Global, words: &str) -> Result<Vec<u64>> {
     let mut numbers = Vec::new(alloc);
     for word in words.split_whitespace() {
-        numbers.push(word.parse().context(format_args!("{word}"))?)?;
+        let number = word.parse().context(format_args!("{word}"))?;
+        numbers.push(number)?;
     }
     Ok(numbers)
 }
 
 /// What the run of a case must leave: without a word of its own it ends well and prints nothing.
 pub fn expected_of(alloc: Global, case: &Case) -> Result<Expected> {
+    let fetches = number(case, "fetches")?.map(|n| n as u64);
+    let waiting = number(case, "waiting")?.map(|n| n as u64);
+    let status = String::from_str(alloc, text(case, "status").unwrap_or("0"))?;
+    let out = bytes_of(alloc, lines(case, "out").unwrap_or(""))?;
+    let records = bytes_where_told(alloc, case, "records")?;
+    let side = bytes_where_told(alloc, case, "side")?;
+    let owners = bytes_where_told(alloc, case, "owners")?;
     Ok(Expected {
-        status: String::from_str(alloc, text(case, "status").unwrap_or("0"))?,
-        out: bytes_of(alloc, lines(case, "out").unwrap_or(""))?,
-        records: bytes_where_told(alloc, case, "records")?,
-        side: bytes_where_told(alloc, case, "side")?,
-        owners: bytes_where_told(alloc, case, "owners")?,
-        fetches: number(case, "fetches")?.map(|n| n as u64),
-        waiting: number(case, "waiting")?.map(|n| n as u64),
+        status,
+        out,
+        records,
+        side,
+        owners,
+        fetches,
+        waiting,
     })
 }
 

@@ -14,7 +14,8 @@ pub fn pieces_of_reads(alloc: Global, input: &[u8], bytes: usize) -> Result<Vec<
     let mut pieces = Vec::new(alloc);
     if bytes > 0 {
         for piece in input.chunks(bytes) {
-            pieces.push(Vec::from_slice(alloc, piece)?)?;
+            let piece = Vec::from_slice(alloc, piece)?;
+            pieces.push(piece)?;
         }
     }
     pieces.push(Vec::new(alloc))?;
@@ -34,7 +35,8 @@ pub fn pieces_of_writes(alloc: Global, out: &[u8], bytes: usize) -> Result<Vec<V
 fn push_pieces(alloc: Global, line: &[u8], bytes: usize, pieces: &mut Vec<Vec<u8>>) -> Result<()> {
     if bytes > 0 {
         for piece in line.chunks(bytes) {
-            pieces.push(Vec::from_slice(alloc, piece)?)?;
+            let piece = Vec::from_slice(alloc, piece)?;
+            pieces.push(piece)?;
         }
     }
     Ok(())

@@ -50,7 +50,8 @@ pub fn cases_of(alloc: Global, file: &str, text: &str) -> Result<Vec<Case>> {
             continue;
         }
         if let Some(name) = line.strip_prefix("case ") {
-            cases.push(new_case(alloc, file, name)?)?;
+            let case = new_case(alloc, file, name)?;
+            cases.push(case)?;
             continue;
         }
         if !takes_line(alloc, &mut cases, line)? {
@@ -67,8 +68,9 @@ fn is_empty(line: &str) -> bool {
 
 // A case without sections.
 fn new_case(alloc: Global, file: &str, name: &str) -> Result<Case> {
+    let name = format!(in alloc; "{file}: {name}")?;
     Ok(Case {
-        name: format!(in alloc; "{file}: {name}")?,
+        name,
         sections: Vec::new(alloc),
     })
 }
@@ -81,10 +83,9 @@ fn takes_line(alloc: Global, cases: &mut Vec<Case>, line: &str) -> Result<bool> 
     match line.strip_prefix("  ") {
         Some(content) => add_content(case, content),
         None => {
-            case.sections.push(Section {
-                head: String::from_str(alloc, line)?,
-                body: String::new(alloc),
-            })?;
+            let head = String::from_str(alloc, line)?;
+            let body = String::new(alloc);
+            case.sections.push(Section { head, body })?;
             Ok(true)
         }
     }

@@ -21,13 +21,9 @@ pub struct Left {
 
 // Makes one run.
 pub fn run_over(alloc: Global, keys: RandomState, given: &Given) -> Result<Left> {
-    let input = Vec::from_slice(alloc, given.input.as_slice())?;
-    let failing = list(alloc, given.reads.failing.as_slice())?;
-    let mut events = MemorySource::new(input, given.reads.bytes.max(1), failing);
-    let failing = list(alloc, given.failing_fetches.as_slice())?;
-    let mut revisions = MemoryRevisions::new(entries(alloc, given.pages.as_slice())?, failing);
-    let failing = list(alloc, given.writes.failing.as_slice())?;
-    let mut out = MemorySink::new(alloc, given.writes.bytes.max(1), failing);
+    let mut events = source(alloc, given)?;
+    let mut revisions = revisions(alloc, given)?;
+    let mut out = sink(alloc, given)?;
     let mut world = World::new(alloc, keys)?;
     let status = run(
         alloc,
@@ -45,20 +41,49 @@ pub fn run_over(alloc: Global, keys: RandomState, given: &Given) -> Result<Left>
     })
 }
 
+// The input.
+fn source(alloc: Global, given: &Given) -> Result<MemorySource> {
+    let input = Vec::from_slice(alloc, given.input.as_slice())?;
+    let failing = list(alloc, given.reads.failing.as_slice())?;
+    Ok(MemorySource::new(input, given.reads.bytes.max(1), failing))
+}
+
+// The pages.
+fn revisions(alloc: Global, given: &Given) -> Result<MemoryRevisions> {
+    let entries = entries(alloc, given.pages.as_slice())?;
+    let failing = list(alloc, given.failing_fetches.as_slice())?;
+    Ok(MemoryRevisions::new(entries, failing))
+}
+
+// Where the output goes.
+fn sink(alloc: Global, given: &Given) -> Result<MemorySink> {
+    let failing = list(alloc, given.writes.failing.as_slice())?;
+    Ok(MemorySink::new(alloc, given.writes.bytes.max(1), failing))
+}
+
 // The numbers of calls that fail.
 fn list(alloc: Global, numbers: &[u64]) -> Result<List<u64>> {
-    Ok(List::from_vec(Vec::from_slice(alloc, numbers)?))
+    let numbers = Vec::from_slice(alloc, numbers)?;
+    Ok(List::from_vec(numbers))
 }
 
 // The pages, each with memory of its own.
 fn entries(alloc: Global, pages: &[Page]) -> Result<List<RevisionBytes>> {
     let mut entries = List::new(alloc);
     for page in pages {
-        entries.push(RevisionBytes {
-            place: Text::new(alloc, page.place.as_str())?,
-            rev: page.rev,
-            bytes: List::from_vec(Vec::from_slice(alloc, page.bytes.as_slice())?),
-        })?;
+        let entry = entry(alloc, page)?;
+        entries.push(entry)?;
     }
     Ok(entries)
+}
+
+// A page with memory of its own.
+fn entry(alloc: Global, page: &Page) -> Result<RevisionBytes> {
+    let place = Text::new(alloc, page.place.as_str())?;
+    let bytes = Vec::from_slice(alloc, page.bytes.as_slice())?;
+    Ok(RevisionBytes {
+        place,
+        rev: page.rev,
+        bytes: List::from_vec(bytes),
+    })
 }

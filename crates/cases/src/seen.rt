@@ -27,7 +27,8 @@ pub fn records(alloc: Global, world: &World) -> Result<String> {
     let mut lines = String::new(alloc);
     let ids = world.entities()?;
     for id in ids.as_slice() {
-        lines.push_str(record(alloc, world, *id)?.as_str())?;
+        let line = record(alloc, world, *id)?;
+        lines.push_str(line.as_str())?;
     }
     Ok(lines)
 }
@@ -59,7 +60,8 @@ pub fn side(alloc: Global, world: &World) -> Result<String> {
             "closed"
         };
         if let Some(entry) = world.side(place) {
-            lines.push_str(entry_line(alloc, entry, stands)?.as_str())?;
+            let line = entry_line(alloc, entry, stands)?;
+            lines.push_str(line.as_str())?;
         }
     }
     Ok(lines)
@@ -121,7 +123,7 @@ pub fn owners(alloc: Global, world: &World, given: &[u8]) -> Result<String> {
 
 // How many entities hold the triple with this text. What is stored has to agree.
 fn owners_of(alloc: Global, world: &World, text: &str) -> Result<u64> {
-    let triple = triple_in(alloc, text)?;
+    let triple = triple_in(alloc, text).context(format_args!("no triple: {text}"))?;
     let count = world.owners(&triple);
     if is_stored(alloc, world, &triple)? != (count > 0) {
         bail!("what is stored doesn't agree with the owners of {text}");
@@ -131,54 +133,54 @@ fn owners_of(alloc: Global, world: &World, text: &str) -> Result<u64> {
 
 // Whether the triple is in both sets: of all that is stored, and of what agrees with its object.
 fn is_stored(alloc: Global, world: &World, triple: &Triple) -> Result<bool> {
-    let all = is_exported(world, triple)?;
-    let found = is_found(alloc, world, triple)?;
+    let all = is_exported(world, triple).context("out of memory")?;
+    let found = is_found(alloc, world, triple).context("out of memory")?;
     if all != found {
         bail!("a triple is in one of two sets alone");
     }
     Ok(all)
 }
 
-// Whether the triple is in the set of all that is stored.
-fn is_exported(world: &World, triple: &Triple) -> Result<bool> {
-    let Ok(all) = world.export() else {
-        bail!("out of memory");
-    };
-    Ok(all.contains(triple))
+// Whether the triple is in the set of all that is stored; None where memory is refused.
+fn is_exported(world: &World, triple: &Triple) -> Option<bool> {
+    let all = world.export().ok()?;
+    Some(all.contains(triple))
 }
 
-// Whether the triple is in the set of what agrees with its object.
-fn is_found(alloc: Global, world: &World, triple: &Triple) -> Result<bool> {
-    let Ok(object) = triple.object.copy(alloc) else {
-        bail!("out of memory");
-    };
+// Whether the triple is in the set of what agrees with its object; None where memory is refused.
+fn is_found(alloc: Global, world: &World, triple: &Triple) -> Option<bool> {
+    let object = triple.object.copy(alloc).ok()?;
     let pattern = Pattern {
         subject: None,
         predicate: None,
         object: Some(object),
     };
-    let Ok(found) = world.matches(&pattern) else {
-        bail!("out of memory");
-    };
-    Ok(found.contains(triple))
+    let found = world.matches(&pattern).ok()?;
+    Some(found.contains(triple))
 }
 
 // The triple of a line of N-Triples.
-fn triple_in(alloc: Global, line: &str) -> Result<Triple> {
-    let line = line.strip_suffix(" .").context("no dot at the end")?;
-    let (subject, rest) = line.split_once(' ').context("no predicate")?;
-    let (predicate, object) = rest.split_once(' ').context("no object")?;
-    Ok(Triple {
-        subject: term_in(alloc, subject)?,
-        predicate: term_in(alloc, predicate)?,
-        object: term_in(alloc, object)?,
-    })
+fn triple_in(alloc: Global, line: &str) -> Option<Triple> {
+    let line = line.strip_suffix(" .")?;
+    let (subject, rest) = line.split_once(' ')?;
+    let (predicate, object) = rest.split_once(' ')?;
+    let subject = term_in(alloc, subject);
+    let predicate = term_in(alloc, predicate);
+    let object = term_in(alloc, object);
+    match (subject, predicate, object) {
+        (Some(subject), Some(predicate), Some(object)) => Some(Triple {
+            subject,
+            predicate,
+            object,
+        }),
+        _ => None,
+    }
 }
 
 // The term of a text.
-fn term_in(alloc: Global, text: &str) -> Result<Term> {
-    let Ok(Some(term)) = read_term(alloc, text) else {
-        bail!("no term: {text}");
-    };
-    Ok(term)
+fn term_in(alloc: Global, text: &str) -> Option<Term> {
+    match read_term(alloc, text) {
+        Ok(term) => term,
+        Err(_) => None,
+    }
 }

@@ -34,15 +34,12 @@ pub fn tried(alloc: Global, keys: RandomState, case: &Case) -> Result<Trial> {
 fn tried_with_rows(alloc: Global, keys: RandomState, case: &Case, rows: &str) -> Result<Trial> {
     let mut runs = 0u64;
     for row in rows.lines() {
-        let trial = tried_alone(alloc, keys, &filled(alloc, case, row)?).context(format_args!(
-            "{row}"
-        ))?;
+        let filled = filled(alloc, case, row)?;
+        let trial = tried_alone(alloc, keys, &filled).context(format_args!("{row}"))?;
         runs = runs.saturating_add(trial.runs);
         if let Some(difference) = trial.difference {
-            return Ok(Trial {
-                runs,
-                difference: Some(at_row(alloc, row, difference.as_str())?),
-            });
+            let difference = Some(at_row(alloc, row, difference.as_str())?);
+            return Ok(Trial { runs, difference });
         }
     }
     Ok(Trial {
@@ -61,10 +58,13 @@ fn tried_alone(alloc: Global, keys: RandomState, case: &Case) -> Result<Trial> {
     let given = given_of(alloc, case)?;
     let expected = expected_of(alloc, case)?;
     match turns_of(case)? {
-        Turns::Once => Ok(Trial {
-            runs: 1,
-            difference: tried_once(alloc, keys, &given, &expected)?,
-        }),
+        Turns::Once => {
+            let difference = tried_once(alloc, keys, &given, &expected)?;
+            Ok(Trial {
+                runs: 1,
+                difference,
+            })
+        }
         Turns::EachRead => tried_with_reads(alloc, keys, given, expected),
         Turns::EachWrite => tried_with_writes(alloc, keys, given, expected),
         Turns::EachFront(rev) => tried_with_fronts(alloc, keys, given, &expected, rev),
@@ -78,7 +78,8 @@ fn tried_once(
     given: &Given,
     expected: &Expected,
 ) -> Result<Option<String>> {
-    difference(alloc, expected, &run_over(alloc, keys, given)?)
+    let left = run_over(alloc, keys, given)?;
+    difference(alloc, expected, &left)
 }
 
 // Tries each read failing in turn, and then none: what the lines before it ask is answered.
@@ -103,9 +104,10 @@ fn tried_with_reads(
         call = call.saturating_add(1);
     }
     given.reads.failing = vec![in alloc; call]?;
+    let difference = tried_once(alloc, keys, &given, &expected)?;
     Ok(Trial {
         runs: call,
-        difference: tried_once(alloc, keys, &given, &expected)?,
+        difference,
     })
 }
 
@@ -130,9 +132,10 @@ fn tried_with_writes(
         call = call.saturating_add(1);
     }
     given.writes.failing = vec![in alloc; call]?;
+    let difference = tried_once(alloc, keys, &given, &expected)?;
     Ok(Trial {
         runs: call,
-        difference: tried_once(alloc, keys, &given, &expected)?,
+        difference,
     })
 }
 
@@ -162,8 +165,9 @@ fn tried_with_fronts(
 
 // What a run must leave that stopped.
 fn stopped(alloc: Global, status: &str, out: Vec<u8>) -> Result<Expected> {
+    let status = String::from_str(alloc, status)?;
     Ok(Expected {
-        status: String::from_str(alloc, status)?,
+        status,
         out,
         records: None,
         side: None,
@@ -175,9 +179,10 @@ fn stopped(alloc: Global, status: &str, out: Vec<u8>) -> Result<Expected> {
 
 // A difference, and the call at which it was found.
 fn at_call(alloc: Global, what: &str, call: u64, difference: &str) -> Result<Trial> {
+    let difference = format!(in alloc; "     where it fails: {what} {call}\n{difference}")?;
     Ok(Trial {
         runs: call,
-        difference: Some(format!(in alloc; "     where it fails: {what} {call}\n{difference}")?),
+        difference: Some(difference),
     })
 }
 
