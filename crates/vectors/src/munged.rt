@@ -1,8 +1,9 @@
 // Values from outside: the data differences that the Wikidata Query Service documents, by hand.
 
+use crate::stores::triple_of;
 use entity_model::EntityId;
 use munger::munge;
-use rdf_term::{List, Term, Triple, TripleSet, read_term, write_triple};
+use rdf_term::{List, Triple, TripleSet, write_triple};
 use std::alloc::Global;
 use std::process::Abort;
 use std::test::Fail;
@@ -50,31 +51,17 @@ const MUNGED: &str =
 <https://www.wikidata.org/wiki/Special:EntityData/Q6> <http://schema.org/version> \"6\" .
 ";
 
-// The term that the text writes.
-fn term(alloc: Global, text: &str) -> Result<Term, Fail> {
-    Ok(read_term(alloc, text)?.ok_or("a term")?)
-}
-
 // The triple of a line.
-fn triple(alloc: Global, line: &str) -> Result<Triple, Fail> {
-    let (subject, rest) = line.split_once(" ").ok_or("a subject")?;
-    let (predicate, rest) = rest.split_once(" ").ok_or("a predicate")?;
-    let object = rest.strip_suffix(" .").ok_or("an object")?;
-    let subject = term(alloc, subject)?;
-    let predicate = term(alloc, predicate)?;
-    let object = term(alloc, object)?;
-    Ok(Triple {
-        subject,
-        predicate,
-        object,
-    })
+fn triple_in(alloc: Global, line: &str) -> Option<Triple> {
+    triple_of(alloc, line.strip_suffix(" .")?)
 }
 
 // The set of the lines' triples.
 fn set(alloc: Global, lines: &str) -> Result<TripleSet, Fail> {
     let mut list = List::new(alloc);
     for line in lines.lines() {
-        list.push(triple(alloc, line)?)?;
+        let triple = triple_in(alloc, line).ok_or("a triple")?;
+        list.push(triple)?;
     }
     Ok(TripleSet::from_list(list)?)
 }

@@ -21,11 +21,13 @@ const ROWS: [(&str, &str, &str, &str); 9] = [
 
 // The triple of a letter.
 fn triple(alloc: Global, letter: char) -> Result<Triple, Fail> {
+    let subject = Text::new(alloc, "http://a/s")?;
+    let predicate = Text::new(alloc, "http://a/p")?;
     let mut object = String::new(alloc);
     object.push(letter)?;
     Ok(Triple {
-        subject: Term::Iri(Text::new(alloc, "http://a/s")?),
-        predicate: Term::Iri(Text::new(alloc, "http://a/p")?),
+        subject: Term::Iri(subject),
+        predicate: Term::Iri(predicate),
         object: Term::Plain(Text::from_string(object)),
     })
 }
@@ -34,7 +36,8 @@ fn triple(alloc: Global, letter: char) -> Result<Triple, Fail> {
 fn set(alloc: Global, letters: &str) -> Result<TripleSet, Fail> {
     let mut list = List::new(alloc);
     for letter in letters.chars() {
-        list.push(triple(alloc, letter)?)?;
+        let triple = triple(alloc, letter)?;
+        list.push(triple)?;
     }
     Ok(TripleSet::from_list(list)?)
 }

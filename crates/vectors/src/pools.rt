@@ -1,6 +1,6 @@
 // A pool that fills up, and that has room again.
 
-ghost use Rattle.std.specs.Prelude.{IfOk, OnOk};
+ghost use Rattle.std.specs.Prelude.{IfSome, OnOk};
 ghost use Rattle.rdf_term.specs.Fit.{IsFitAndShort};
 ghost use Rattle.term_pool.specs.Pool.{LiesIn};
 
@@ -26,28 +26,24 @@ const STEPS: &str = "+ <a> 1 there
 - <b> 0 gone
 + \"a\" 1 there";
 
-// The term that a text writes.
-pub(crate) fn term_of(alloc: Global, text: &str) -> Result<Term, Fail>
-    ensures { IfOk result IsFitAndShort }
+// The term that a text writes, where it is one that a pool takes.
+pub(crate) fn term_of(alloc: Global, text: &str) -> Option<Term>
+    ensures { IfSome result IsFitAndShort }
 {
-    let Some(term) = read_term(alloc, text)? else {
-        return Err("a term".into());
+    let Ok(Some(term)) = read_term(alloc, text) else {
+        return None;
     };
     let mut written = Vec::new(alloc);
-    write_term(&term, &mut written)?;
+    write_term(&term, &mut written).ok()?;
     if written.len() > 33_554_432 {
-        return Err("a short term".into());
+        return None;
     }
-    Ok(term)
+    Some(term)
 }
 
-// Counts a use more, and says whether that was refused since the pool is full. A term that was there stays in its slot.
-fn is_full_for(
-    rt: &impl Abort,
-    pool: &mut Pool,
-    region: &mut Region,
-    term: &Term,
-) -> Result<bool, Fail>
+// Counts a use more, and says whether that was refused since the pool is full. A term that was there stays in its slot. Here and below
+// there is no answer where memory is refused, or where a use is taken from a term that isn't there.
+fn is_full_for(rt: &impl Abort, pool: &mut Pool, region: &mut Region, term: &Term) -> Option<bool>
     requires lies { LiesIn pool.old region.old }
     requires fit { IsFitAndShort term.now }
     ensures { LiesIn pool.new region.new }
@@ -57,23 +53,21 @@ fn is_full_for(
         Ok(slot) => {
             assert_eq!(rt; before.unwrap_or(slot), slot);
             assert_eq!(rt; pool.find(region, term), Some(slot));
-            Ok(false)
+            Some(false)
         }
-        Err(PoolFault::Full) => Ok(true),
-        Err(PoolFault::OutOfMemory) => Err("out of memory".into()),
+        Err(PoolFault::Full) => Some(true),
+        Err(PoolFault::OutOfMemory) => None,
     }
 }
 
 // Counts a use less of a term that is there.
-fn release(pool: &mut Pool, region: &mut Region, term: &Term) -> Result<(), Fail>
+fn release(pool: &mut Pool, region: &mut Region, term: &Term) -> Option<()>
     requires { LiesIn pool.old region.old }
     ensures { LiesIn pool.new region.new }
 {
-    let Some(slot) = pool.find(region, term) else {
-        return Err("a term that is there".into());
-    };
+    let slot = pool.find(region, term)?;
     pool.release(region, slot);
-    Ok(())
+    Some(())
 }
 
 // Counts a use more of a term, or one less, and says whether the pool is full for it.
@@ -83,7 +77,7 @@ fn is_full_for_call(
     region: &mut Region,
     sign: &str,
     term: &Term,
-) -> Result<bool, Fail>
+) -> Option<bool>
     requires lies { LiesIn pool.old region.old }
     requires fit { IsFitAndShort term.now }
     ensures { LiesIn pool.new region.new }
@@ -92,7 +86,7 @@ fn is_full_for_call(
         return is_full_for(rt, pool, region, term);
     }
     release(pool, region, term)?;
-    Ok(false)
+    Some(false)
 }
 
 // Checks one step.
@@ -108,8 +102,8 @@ fn check_step(
     let (sign, row) = step.split_once(' ').ok_or("a step")?;
     let (text, row) = row.split_once(' ').ok_or("a row")?;
     let (want, found) = row.split_once(' ').ok_or("a count")?;
-    let term = term_of(rt.alloc(), text)?;
-    let full = is_full_for_call(rt, pool, region, sign, &term)?;
+    let term = term_of(rt.alloc(), text).ok_or("a term")?;
+    let full = is_full_for_call(rt, pool, region, sign, &term).ok_or("a term that is there")?;
     assert_eq!(rt; full, want == "full", "{step:?}");
     if !full {
         assert_eq!(rt; pool.len(), want.parse::<u32>()?, "{step:?}");

@@ -29,8 +29,10 @@ fn ranked(alloc: Global, property: &str, rank: Rank) -> Result<Statement<'static
 fn ranks_of_an_item_and_a_property(rt: HostRuntime) -> Result<(), Fail> {
     let alloc = rt.alloc();
     let mut statements = List::new(alloc);
-    statements.push(ranked(alloc, "Q1", Rank::Preferred)?)?;
-    statements.push(ranked(alloc, "P1", Rank::Normal)?)?;
+    let of_an_item = ranked(alloc, "Q1", Rank::Preferred)?;
+    statements.push(of_an_item)?;
+    let of_a_property = ranked(alloc, "P1", Rank::Normal)?;
+    statements.push(of_a_property)?;
     let answers = best(alloc, &statements)?;
     assert_eq!(rt; answers.as_slice(), [true, true].as_slice());
     Ok(())
@@ -42,7 +44,8 @@ fn many_statements(rt: HostRuntime) -> Result<(), Fail> {
     let alloc = rt.alloc();
     let mut statements = List::new(alloc);
     for _ in 0..300_000 {
-        statements.push(ranked(alloc, "P1", Rank::Normal)?)?;
+        let statement = ranked(alloc, "P1", Rank::Normal)?;
+        statements.push(statement)?;
     }
     let answers = best(alloc, &statements)?;
     assert_eq!(rt; answers.len(), 300_000);

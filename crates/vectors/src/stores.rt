@@ -1,6 +1,6 @@
 // A store whose triples get owners and lose them, and that fills up.
 
-ghost use Rattle.std.specs.Prelude.{◌≡◌, ◌<◌, true, [], ◌∷◌, IfOk, OnOk};
+ghost use Rattle.std.specs.Prelude.{◌≡◌, ◌<◌, true, [], ◌∷◌, IfSome, OnOk};
 ghost use Rattle.rising.specs.Rising.{has};
 ghost use Rattle.rdf_term.specs.declared.triple.Triple.{Triple as TheTriple};
 ghost use Rattle.rdf_term.specs.Fit.{HasFitAndShortTerms};
@@ -44,28 +44,40 @@ const STEPS: &str = "! <a> <b> <c> = 0 0
 const GOES: &str = "<a> <b> <a>";
 
 // The triple that three words write.
-fn triple_of(alloc: Global, words: &str) -> Result<Triple, Fail>
-    ensures { IfOk result HasFitAndShortTerms }
+pub(crate) fn triple_of(alloc: Global, words: &str) -> Option<Triple>
+    ensures { IfSome result HasFitAndShortTerms }
 {
-    let (subject, rest) = words.split_once(' ').ok_or("a subject")?;
-    let (predicate, object) = rest.split_once(' ').ok_or("a predicate")?;
-    Ok(Triple {
-        subject: term_of(alloc, subject)?,
-        predicate: term_of(alloc, predicate)?,
-        object: term_of(alloc, object)?,
-    })
+    let (subject, rest) = words.split_once(' ')?;
+    let (predicate, object) = rest.split_once(' ')?;
+    let subject = term_of(alloc, subject);
+    let predicate = term_of(alloc, predicate);
+    let object = term_of(alloc, object);
+    match (subject, predicate, object) {
+        (Some(subject), Some(predicate), Some(object)) => Some(Triple {
+            subject,
+            predicate,
+            object,
+        }),
+        _ => None,
+    }
 }
 
 // The set of one triple.
-fn set_of(alloc: Global, triple: &Triple) -> Result<TripleSet, Fail>
-    ensures { IfOk result (λ set. set ≡ triple.now ∷ []) }
+fn set_of(alloc: Global, triple: &Triple) -> Option<TripleSet>
+    ensures { IfSome result (λ set. set ≡ triple.now ∷ []) }
 {
+    let Ok(triple) = triple.copy(alloc) else {
+        return None;
+    };
     let mut triples = List::new(alloc);
-    triples.push(triple.copy(alloc)?)?;
-    Ok(TripleSet::from_rising(triples))
+    match triples.push(triple) {
+        Ok(()) => Some(TripleSet::from_rising(triples)),
+        Err(_) => None,
+    }
 }
 
-// Gives a triple an owner, and takes one from those that go, and says whether that was refused since the store is full.
+// Gives a triple an owner, and takes one from those that go, and says whether that was refused since the store is full. Here and below
+// there is no answer where memory is refused, or where a step asks for an owner of a triple that has none.
 fn is_full_for<L: Ledger>(
     alloc: Global,
     store: &mut Store,
@@ -73,23 +85,20 @@ fn is_full_for<L: Ledger>(
     triple: &Triple,
     removes: TripleSet,
     steps: &mut Steps<L>,
-) -> Result<bool, Fail>
+) -> Option<bool>
     requires stored { IsStored store.old region.old }
     requires fit { HasFitAndShortTerms triple.now }
     requires there { (gone : TheTriple) → has triple_cmp gone removes ≡ true → 0 < count_of (counts_in store.old region.old) gone }
     ensures stored { IsStored store.new region.new }
 {
     if store.count(region, triple, steps) == u64::MAX {
-        return Err("fewer owners".into());
+        return None;
     }
-    let patch = Patch {
-        adds: set_of(alloc, triple)?,
-        removes,
-    };
-    match store.apply(region, &patch, steps) {
-        Ok(()) => Ok(false),
-        Err(StoreFault::Full) => Ok(true),
-        Err(StoreFault::OutOfMemory) => Err("out of memory".into()),
+    let adds = set_of(alloc, triple)?;
+    match store.apply(region, &Patch { adds, removes }, steps) {
+        Ok(()) => Some(false),
+        Err(StoreFault::Full) => Some(true),
+        Err(StoreFault::OutOfMemory) => None,
     }
 }
 
@@ -100,14 +109,14 @@ fn is_full_beside<L: Ledger>(
     region: &mut Region,
     triple: &Triple,
     steps: &mut Steps<L>,
-) -> Result<bool, Fail>
+) -> Option<bool>
     requires stored { IsStored store.old region.old }
     requires fit { HasFitAndShortTerms triple.now }
     ensures stored { IsStored store.new region.new }
 {
     let goes = triple_of(alloc, GOES)?;
     if store.count(region, &goes, steps) == 0 {
-        return Err("an owner".into());
+        return None;
     }
     let removes = set_of(alloc, &goes)?;
     is_full_for(alloc, store, region, triple, removes, steps)
@@ -120,19 +129,17 @@ fn lower<L: Ledger>(
     region: &mut Region,
     triple: &Triple,
     steps: &mut Steps<L>,
-) -> Result<(), Fail>
+) -> Option<()>
     requires stored { IsStored store.old region.old }
     ensures stored { IsStored store.new region.new }
 {
     if store.count(region, triple, steps) == 0 {
-        return Err("an owner".into());
+        return None;
     }
-    let patch = Patch {
-        adds: TripleSet::from_rising(List::new(alloc)),
-        removes: set_of(alloc, triple)?,
-    };
-    store.apply(region, &patch, steps)?;
-    Ok(())
+    let adds = TripleSet::from_rising(List::new(alloc));
+    let removes = set_of(alloc, triple)?;
+    let patch = Patch { adds, removes };
+    store.apply(region, &patch, steps).ok()
 }
 
 // Does the call of a step, and says whether the store is full for the triple.
@@ -143,7 +150,7 @@ fn is_full_for_call<L: Ledger>(
     sign: &str,
     triple: &Triple,
     steps: &mut Steps<L>,
-) -> Result<bool, Fail>
+) -> Option<bool>
     requires stored { IsStored store.old region.old }
     requires fit { HasFitAndShortTerms triple.now }
     ensures stored { IsStored store.new region.new }
@@ -151,7 +158,7 @@ fn is_full_for_call<L: Ledger>(
     match sign {
         "-" => {
             lower(alloc, store, region, triple, steps)?;
-            Ok(false)
+            Some(false)
         }
         "~" => is_full_beside(alloc, store, region, triple, steps),
         _ => {
@@ -175,8 +182,8 @@ fn check_step<L: Ledger>(
     let (call, counts) = step.split_once(" = ").ok_or("a call")?;
     let (owners, triples) = counts.split_once(' ').ok_or("owners")?;
     let (sign, words) = call.split_once(' ').ok_or("a sign")?;
-    let triple = triple_of(rt.alloc(), words)?;
-    let full = is_full_for_call(rt.alloc(), store, region, sign, &triple, steps)?;
+    let triple = triple_of(rt.alloc(), words).ok_or("a triple")?;
+    let full = is_full_for_call(rt.alloc(), store, region, sign, &triple, steps).ok_or("an owner")?;
     assert_eq!(rt; full, sign == "!", "{step:?}");
     let owners: u64 = owners.parse()?;
     assert_eq!(rt; store.count(region, &triple, steps), owners, "{step:?}");

@@ -8,5 +8,5 @@ use Rattle.vectors.proofs.stores.is_full_for.Goals as goal
 
 pub apply-requires-clause-countable : goal.apply-requires-clause-countable
 apply-requires-clause-countable g c =
-    of_each (λ (t : Triple). count_of (counts_in c.args.store.now c.args.region.now) t < 18446744073709551615) c.args.triple.now _ c.in_ok-set_of.ensures
+    of_each (λ (t : Triple). count_of (counts_in c.args.store.now c.args.region.now) t < 18446744073709551615) c.args.triple.now _ c.in_ok-adds.ensures
     (omega (arith, c.if-count.false, c.count.ensures.count, c.count.type_inv))

@@ -8,5 +8,5 @@ use Rattle.vectors.proofs.stores.lower.Goals as goal
 
 pub apply-requires-clause-there : goal.apply-requires-clause-there
 apply-requires-clause-there g c =
-    of_each (λ (t : Triple). 0 < count_of (counts_in c.args.store.now c.args.region.now) t) c.args.triple.now _ c.in_ok-set_of.ensures
+    of_each (λ (t : Triple). 0 < count_of (counts_in c.args.store.now c.args.region.now) t) c.args.triple.now _ c.in_ok-removes.ensures
     (omega (arith, c.if-count-eq0.false, c.count.ensures.count))
