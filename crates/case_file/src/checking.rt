@@ -24,8 +24,8 @@ const ONE_LINE: &[&str] = &[
     "waiting",
 ];
 
-/// Sees that each section has a name that is known, stands once where it isn't a page, and has lines only where lines mean
-/// something, and that each part of a table's row has a mark.
+/// Sees that each section has a name that is known, stands once where it isn't a page, and has lines, and words behind its name, only
+/// where they mean something; that a table has a row; and that each part of a row has a mark, and each mark a part.
 pub fn check(case: &Case) -> Result<()> {
     for section in &case.sections {
         check_section(case, section)?;
@@ -43,11 +43,14 @@ fn check_section(case: &Case, section: &Section) -> Result<()> {
         return Ok(());
     }
     if let Some(name) = name_of(WITH_LINES, section) {
+        if head != name {
+            bail!("words behind the name {name:?}");
+        }
         return check_once(case, name);
     }
     let name = name_of(ONE_LINE, section).context(format_args!("no section is called {head:?}"))?;
     if !section.body.is_empty() {
-        bail!("{head:?} has lines below it");
+        bail!("lines below {head:?}");
     }
     check_once(case, name)
 }
@@ -73,19 +76,36 @@ fn check_once(case: &Case, name: &str) -> Result<()> {
     Ok(())
 }
 
-// Sees that each part of each row has a mark somewhere.
+// Sees that there is a row, and that each part of each row has a mark somewhere, and each mark a part.
 fn check_rows(case: &Case, rows: &str) -> Result<()> {
+    if rows.is_empty() {
+        bail!("a table without a row");
+    }
     for row in rows.lines() {
-        let parts = row.split(" | ").count();
-        if parts > MARKS.len() || !MARKS.iter().take(parts).all(|mark| has_mark(case, mark)) {
-            bail!("a part of the row {row:?} has no mark");
-        }
+        check_row(case, row)?;
     }
     Ok(())
 }
 
-// Whether a section has the mark.
+// Sees that each part of a row has a mark somewhere, and each mark a part.
+fn check_row(case: &Case, row: &str) -> Result<()> {
+    let parts = row.split(" | ").count();
+    if parts > MARKS.len() || !MARKS.iter().take(parts).all(|mark| has_mark(case, mark)) {
+        bail!("no mark for a part of the row {row:?}");
+    }
+    if MARKS.iter().skip(parts).any(|mark| has_mark(case, mark)) {
+        bail!("no part for a mark in the row {row:?}");
+    }
+    Ok(())
+}
+
+// Whether a section that isn't the table has the mark.
 fn has_mark(case: &Case, mark: &str) -> bool {
-    case.sections.iter().any(|section| section.head.as_str().contains(mark)
-        || section.body.as_str().contains(mark))
+    case.sections.iter().any(|section| section.words_of("rows").is_none()
+        && section_has(section, mark))
+}
+
+// Whether a section has the mark.
+fn section_has(section: &Section, mark: &str) -> bool {
+    section.head.as_str().contains(mark) || section.body.as_str().contains(mark)
 }

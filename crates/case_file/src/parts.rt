@@ -3,7 +3,7 @@
 use crate::filling::replaced;
 use crate::sections::Case;
 use crate::spelling::bytes_of;
-use anyhow::{Context, Result};
+use anyhow::{Context, Result, bail};
 use std::alloc::Global;
 
 /// What a run is given.
@@ -151,6 +151,9 @@ fn calls_of(alloc: Global, case: &Case, bytes: &str, failing: &str) -> Result<Ca
         Some(words) => words,
     };
     let bytes = number(case, bytes)?.unwrap_or(4096);
+    if bytes == 0 {
+        bail!("no bytes a call");
+    }
     let failing = numbers(alloc, failing)?;
     Ok(Calls { bytes, failing })
 }
@@ -201,16 +204,21 @@ fn bytes_where_told(alloc: Global, case: &Case, name: &str) -> Result<Option<Vec
     }
 }
 
-/// What a case is tried with.
+/// What a case is tried with: at most one thing that is done in turn.
 pub fn turns_of(case: &Case) -> Result<Turns> {
-    if text(case, "failing reads") == Some("each") {
-        return Ok(Turns::EachRead);
+    let each_read = text(case, "failing reads") == Some("each");
+    let each_write = text(case, "failing writes") == Some("each");
+    match (each_read, each_write, text(case, "cut page")) {
+        (false, false, None) => Ok(Turns::Once),
+        (true, false, None) => Ok(Turns::EachRead),
+        (false, true, None) => Ok(Turns::EachWrite),
+        (false, false, Some(rev)) => front_of(rev),
+        _ => bail!("reads, writes and fronts of a page are tried one at a time"),
     }
-    if text(case, "failing writes") == Some("each") {
-        return Ok(Turns::EachWrite);
-    }
-    match text(case, "cut page") {
-        None => Ok(Turns::Once),
-        Some(rev) => Ok(Turns::EachFront(rev.parse().context("a page's revision")?)),
-    }
+}
+
+// A run for each front of the page of a revision.
+fn front_of(rev: &str) -> Result<Turns> {
+    let rev = rev.parse().context("a page's revision")?;
+    Ok(Turns::EachFront(rev))
 }

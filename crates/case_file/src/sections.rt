@@ -3,7 +3,7 @@
 // A line that begins with `#` and an empty line say nothing. A line `case NAME` begins a case; each other line that doesn't begin with two
 // spaces begins a section of it; a line that begins with two spaces belongs to the section before it.
 
-use anyhow::{Result, bail};
+use anyhow::{Context, Result, bail};
 use std::alloc::Global;
 
 /// A case: its name with that of its file, and its sections.
@@ -46,19 +46,28 @@ pub fn cases_of(alloc: Global, file: &str, text: &str) -> Result<Vec<Case>> {
     let mut cases = Vec::new(alloc);
     for (place, line) in text.lines().enumerate() {
         let number = place.saturating_add(1);
-        if is_empty(line) {
-            continue;
-        }
-        if let Some(name) = line.strip_prefix("case ") {
-            let case = new_case(alloc, file, name)?;
-            cases.push(case)?;
-            continue;
-        }
-        if !takes_line(alloc, &mut cases, line)? {
-            bail!("{file}.case, line {number}: no case or no section begins before it");
-        }
+        take_line(alloc, &mut cases, file, line).context(format_args!(
+            "{file}.case, line {number}"
+        ))?;
     }
     Ok(cases)
+}
+
+// Takes a line: one that says nothing, a case's first, a section's first, or one that belongs to the section before it.
+fn take_line(alloc: Global, cases: &mut Vec<Case>, file: &str, line: &str) -> Result<()> {
+    if is_empty(line) {
+        return Ok(());
+    }
+    if let Some(name) = line.strip_prefix("case ") {
+        let case = new_case(alloc, file, name)?;
+        cases.push(case)?;
+        return Ok(());
+    }
+    let case = cases.last_mut().context("no case begins before it")?;
+    match line.strip_prefix("  ") {
+        Some(content) => add_content(case, content),
+        None => add_section(alloc, case, line),
+    }
 }
 
 // Whether a line says nothing.
@@ -75,28 +84,20 @@ fn new_case(alloc: Global, file: &str, name: &str) -> Result<Case> {
     })
 }
 
-// Adds a line to the last case; false where there is none for it.
-fn takes_line(alloc: Global, cases: &mut Vec<Case>, line: &str) -> Result<bool> {
-    let Some(case) = cases.last_mut() else {
-        return Ok(false);
-    };
-    match line.strip_prefix("  ") {
-        Some(content) => add_content(case, content),
-        None => {
-            let head = String::from_str(alloc, line)?;
-            let body = String::new(alloc);
-            case.sections.push(Section { head, body })?;
-            Ok(true)
-        }
-    }
+// Adds a section without lines.
+fn add_section(alloc: Global, case: &mut Case, head: &str) -> Result<()> {
+    let head = String::from_str(alloc, head)?;
+    let body = String::new(alloc);
+    case.sections.push(Section { head, body })?;
+    Ok(())
 }
 
-// Adds a line to the last section; false where there is none.
-fn add_content(case: &mut Case, content: &str) -> Result<bool> {
+// Adds a line to the last section.
+fn add_content(case: &mut Case, content: &str) -> Result<()> {
     let Some(section) = case.sections.last_mut() else {
-        return Ok(false);
+        bail!("{}: no section begins before it", case.name);
     };
     section.body.push_str(content)?;
     section.body.push_str("\n")?;
-    Ok(true)
+    Ok(())
 }

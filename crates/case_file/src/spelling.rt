@@ -1,7 +1,7 @@
 // The bytes that the lines of a section stand for.
 //
-// Each line has its short form written out, and its line feed after it. `times 3 LINE` is the line three times, with `%d` for 1, 2 and 3. A `\` at the end of a line takes the line feed away, and `\x` with two
-// hexadecimal digits is one byte.
+// Each line has its short form written out, and its line feed after it. `times 3 LINE` is the line three times, with `%d` for 1, 2
+// and 3. A `\` at the end of a line takes the line feed away, and `\x` with two hexadecimal digits is one byte.
 
 use crate::filling::replaced;
 use anyhow::{Context, Result};

@@ -123,9 +123,10 @@ pub fn owners(alloc: Global, world: &World, given: &[u8]) -> Result<String> {
 
 // How many entities hold the triple with this text. What is stored has to agree.
 fn owners_of(alloc: Global, world: &World, text: &str) -> Result<u64> {
-    let triple = triple_in(alloc, text).context(format_args!("no triple: {text}"))?;
+    let triple = triple_in(alloc, text).context(format_args!("no triple, or no memory: {text}"))?;
     let count = world.owners(&triple);
-    if is_stored(alloc, world, &triple)? != (count > 0) {
+    let stored = is_stored(alloc, world, &triple).context(format_args!("{text}"))?;
+    if stored != (count > 0) {
         bail!("what is stored doesn't agree with the owners of {text}");
     }
     Ok(count)
@@ -159,7 +160,7 @@ fn is_found(alloc: Global, world: &World, triple: &Triple) -> Option<bool> {
     Some(found.contains(triple))
 }
 
-// The triple of a line of N-Triples.
+// The triple of a line of N-Triples; None too where memory is refused.
 fn triple_in(alloc: Global, line: &str) -> Option<Triple> {
     let line = line.strip_suffix(" .")?;
     let (subject, rest) = line.split_once(' ')?;
@@ -177,7 +178,7 @@ fn triple_in(alloc: Global, line: &str) -> Option<Triple> {
     }
 }
 
-// The term of a text.
+// The term of a text; None too where memory is refused.
 fn term_in(alloc: Global, text: &str) -> Option<Term> {
     match read_term(alloc, text) {
         Ok(term) => term,

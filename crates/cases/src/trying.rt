@@ -98,7 +98,7 @@ fn tried_with_reads(
         let out = answers(alloc, expected.out.as_slice(), asked)?;
         let before = stopped(alloc, "3 wdq: read fault", out)?;
         if let Some(difference) = tried_once(alloc, keys, &given, &before)? {
-            return at_call(alloc, "read", call, difference.as_str());
+            return at_call(alloc, "read", call, call, difference.as_str());
         }
         taken.extend_from_slice(piece.as_slice())?;
         call = call.saturating_add(1);
@@ -126,7 +126,7 @@ fn tried_with_writes(
         let out = Vec::from_slice(alloc, taken.as_slice())?;
         let before = stopped(alloc, "4 wdq: write fault", out)?;
         if let Some(difference) = tried_once(alloc, keys, &given, &before)? {
-            return at_call(alloc, "write", call, difference.as_str());
+            return at_call(alloc, "write", call, call, difference.as_str());
         }
         taken.extend_from_slice(piece.as_slice())?;
         call = call.saturating_add(1);
@@ -154,7 +154,13 @@ fn tried_with_fronts(
         set_page(alloc, &mut given, rev, front.0)?;
         runs = runs.saturating_add(1);
         if let Some(difference) = tried_once(alloc, keys, &given, expected)? {
-            return at_call(alloc, "after byte", length as u64, difference.as_str());
+            return at_call(
+                alloc,
+                "after byte",
+                length as u64,
+                runs,
+                difference.as_str(),
+            );
         }
     }
     Ok(Trial {
@@ -177,22 +183,22 @@ fn stopped(alloc: Global, status: &str, out: Vec<u8>) -> Result<Expected> {
     })
 }
 
-// A difference, and the call at which it was found.
-fn at_call(alloc: Global, what: &str, call: u64, difference: &str) -> Result<Trial> {
+// A difference after so many runs, and the call at which it was found.
+fn at_call(alloc: Global, what: &str, call: u64, runs: u64, difference: &str) -> Result<Trial> {
     let difference = format!(in alloc; "     where it fails: {what} {call}\n{difference}")?;
     Ok(Trial {
-        runs: call,
+        runs,
         difference: Some(difference),
     })
 }
 
-// The bytes of a page.
+// The bytes of a page that has some.
 fn page_of(alloc: Global, given: &Given, rev: u64) -> Result<Vec<u8>> {
     let page = given
         .pages
         .iter()
-        .find(|page| page.rev == rev)
-        .context("no page of the revision")?;
+        .find(|page| page.rev == rev && !page.bytes.is_empty())
+        .context("no page of the revision, or an empty one")?;
     Ok(Vec::from_slice(alloc, page.bytes.as_slice())?)
 }
 
