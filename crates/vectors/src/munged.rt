@@ -60,7 +60,7 @@ fn triple_in(alloc: Global, line: &str) -> Option<Triple> {
 fn set(alloc: Global, lines: &str) -> Result<TripleSet, Fail> {
     let mut list = List::new(alloc);
     for line in lines.lines() {
-        let triple = triple_in(alloc, line).ok_or("a triple")?;
+        let triple = triple_in(alloc, line).ok_or("a triple, or memory")?;
         list.push(triple)?;
     }
     Ok(TripleSet::from_list(list)?)

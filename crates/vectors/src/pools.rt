@@ -26,7 +26,7 @@ const STEPS: &str = "+ <a> 1 there
 - <b> 0 gone
 + \"a\" 1 there";
 
-// The term that a text writes, where it is one that a pool takes.
+// The term that a text writes, where it is one that a pool takes; None too where memory is refused.
 pub(crate) fn term_of(alloc: Global, text: &str) -> Option<Term>
     ensures { IfSome result IsFitAndShort }
 {
@@ -102,8 +102,10 @@ fn check_step(
     let (sign, row) = step.split_once(' ').ok_or("a step")?;
     let (text, row) = row.split_once(' ').ok_or("a row")?;
     let (want, found) = row.split_once(' ').ok_or("a count")?;
-    let term = term_of(rt.alloc(), text).ok_or("a term")?;
-    let full = is_full_for_call(rt, pool, region, sign, &term).ok_or("a term that is there")?;
+    let term = term_of(rt.alloc(), text).ok_or("a term, or memory")?;
+    let full = is_full_for_call(rt, pool, region, sign, &term).ok_or(
+        "a term that is there, or memory",
+    )?;
     assert_eq!(rt; full, want == "full", "{step:?}");
     if !full {
         assert_eq!(rt; pool.len(), want.parse::<u32>()?, "{step:?}");

@@ -43,7 +43,7 @@ const STEPS: &str = "! <a> <b> <c> = 0 0
 // The triple that goes where another comes.
 const GOES: &str = "<a> <b> <a>";
 
-// The triple that three words write.
+// The triple that three words write, where they are terms that a pool takes; None too where memory is refused.
 pub(crate) fn triple_of(alloc: Global, words: &str) -> Option<Triple>
     ensures { IfSome result HasFitAndShortTerms }
 {
@@ -62,7 +62,7 @@ pub(crate) fn triple_of(alloc: Global, words: &str) -> Option<Triple>
     }
 }
 
-// The set of one triple.
+// The set of one triple; None where memory is refused.
 fn set_of(alloc: Global, triple: &Triple) -> Option<TripleSet>
     ensures { IfSome result (λ set. set ≡ triple.now ∷ []) }
 {
@@ -77,7 +77,8 @@ fn set_of(alloc: Global, triple: &Triple) -> Option<TripleSet>
 }
 
 // Gives a triple an owner, and takes one from those that go, and says whether that was refused since the store is full. Here and below
-// there is no answer where memory is refused, or where a step asks for an owner of a triple that has none.
+// there is no answer where memory is refused, or where a step asks for an owner of a triple that has none, or one more of a triple with
+// 2^64 - 1.
 fn is_full_for<L: Ledger>(
     alloc: Global,
     store: &mut Store,
@@ -182,8 +183,10 @@ fn check_step<L: Ledger>(
     let (call, counts) = step.split_once(" = ").ok_or("a call")?;
     let (owners, triples) = counts.split_once(' ').ok_or("owners")?;
     let (sign, words) = call.split_once(' ').ok_or("a sign")?;
-    let triple = triple_of(rt.alloc(), words).ok_or("a triple")?;
-    let full = is_full_for_call(rt.alloc(), store, region, sign, &triple, steps).ok_or("an owner")?;
+    let triple = triple_of(rt.alloc(), words).ok_or("a triple, or memory")?;
+    let full = is_full_for_call(rt.alloc(), store, region, sign, &triple, steps).ok_or(
+        "an owner, or memory",
+    )?;
     assert_eq!(rt; full, sign == "!", "{step:?}");
     let owners: u64 = owners.parse()?;
     assert_eq!(rt; store.count(region, &triple, steps), owners, "{step:?}");
