@@ -42,7 +42,7 @@ pub record AreDeliveries (limit : ℕ) (bytes : List ℕ) (ds : List Delivery) :
   pub delivered : deliveries_of (lines bytes) ≡ Some ds
 
 -- the first lines of the bytes that were taken are these deliveries, and end within the limit; behind them were taken a part of a
--- line that decided nothing and at most what one read gives; what is behind that is left
+-- line that decided nothing and at most as many bytes as one read may give; what is behind that is left
 pub record AreFirst (limit : ℕ) (left left_now : Option (List ℕ)) (ds : List Delivery) : Type 0 where
   pub before : List (List ℕ)
   pub read : List ℕ
@@ -68,8 +68,8 @@ pub record AreWhole (limit : ℕ) (left left_now : Option (List ℕ)) (ds : List
   pub delivered : deliveries_of (whole_lines read) ≡ Some ds
   pub short : length (last_part read) ≤ longest_line
 
--- what was taken of an input with these bytes: the last read gave `last`, and the reads before it whole lines, each of them a
--- delivery, and a part of a line that decided nothing; all of it is at most one byte past the limit
+-- what was taken of an input with these bytes: whole lines, each of them a delivery, a part of a line that decided nothing, and
+-- `last`, at most as many bytes as one read may give; all of it is at most one byte past the limit
 pub record TakesByNeed (limit : ℕ) (bytes : List ℕ) (left : Option (List ℕ)) : Type 0 where
   pub done : List (List ℕ)
   pub part : List ℕ

@@ -43,7 +43,7 @@ pub fn run<S: Source, R: Revisions, K: Sink>(
     ensures untouched { result ≡ Status.BadWords →
         (events.new ≡ events.old) × (revisions.new ≡ revisions.old) × (out.new ≡ out.old) × (world.new ≡ world.old) }
 
-    // The input was read to its end, everything was applied, and every answer and section was written. The horizon is that of the
+    // The input was read to its end, all due events were applied, and every answer and section was written. The horizon is that of the
     // words.
     ensures ok { result ≡ Status.Ok → (choices : Choices) → plan_of (map (λ w. string_bytes w) words.now) ≡ Some (Replay choices) →
         Ending (run_of (R.contents revisions.old) choices)
@@ -56,7 +56,7 @@ pub fn run<S: Source, R: Revisions, K: Sink>(
         (moment S.Source R.Revisions K.Sink events.old revisions.old out.old (world_at_start choices))
         (moment S.Source R.Revisions K.Sink events.new revisions.new out.new world.new)) }
 
-    // However a replay ends, the input was read no further than it had to be.
+    // However a replay ends, what was taken of the input is bounded.
     ensures taken { (choices : Choices) → plan_of (map (λ w. string_bytes w) words.now) ≡ Some (Replay choices) →
         IfSome (S.left events.old) (λ bytes. TakesByNeed (limit_of choices) bytes (S.left events.new)) }
 

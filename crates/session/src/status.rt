@@ -10,7 +10,7 @@ use std::alloc::Global;
 /// How a run ended.
 #[derive(Clone, Copy, Debug, PartialEq, Eq)]
 pub enum Status {
-    /// The input was read to its end, everything was applied, and everything was written.
+    /// The input was read to its end, all due events were applied, and everything was written.
     Ok,
     /// The words are not understood; nothing was read or written.
     BadWords,
