@@ -1,5 +1,6 @@
 -- Small lists of deliveries, split and stopped, worked out by hand: a wrong definition fails here.
 use Rattle.std.proofs.Common.{◌≡◌, ℕ, pos, Bool, true, false, not, cond, nat_eq, List, [], ◌∷◌, ◌++◌, None, Some, Ok, Err, count_by, refl}
+use Rattle.std.specs.Prelude.{map as mapped}
 use Rattle.std.specs.Ordering.{nat_cmp}
 use Rattle.rdf_term.specs.declared.pattern.Pattern.{Pattern}
 use Rattle.rdf_term.specs.declared.triple.Triple.{Triple}
@@ -18,7 +19,7 @@ use Rattle.replay_model.specs.Play.{Replies}
 use Rattle.replay_model.specs.Transcript.{asks, ask_section, export_section}
 use Rattle.replay_model.specs.Union.{Meaning}
 use Rattle.replay_parts.specs.Checkpoint.{checkpoint, checkpoint_at_start, advanced, advanced_by, fetches_from, replies_of_runs, version_after}
-use Rattle.replay_parts.specs.Parts.{Part, closing_together, is_in_part, merged, numbered_parts, part_of_fetches, part_of_side, part_of_state, replies_of_parts, routed, said_together}
+use Rattle.replay_parts.specs.Parts.{Part, closing_together, is_in_part, merged, numbered_parts, part_of_fetches, part_of_side, part_of_state, parts_modulo, replies_of_parts, routed, said_together}
 
 -- an edit of the item with this number
 abbrev edit : ℕ → ℕ → ℕ → Event
@@ -97,6 +98,10 @@ numbered-never = refl
 
 numbered-routed : routed (is_in_part number 2) mixed ≡ Told (edit 2 2 2) ∷ Mapping Two ∷ Watermark (pos 5) ∷ Told (edit 2 3 3) ∷ Ask all ∷ Told (edit 2 6 6) ∷ []
 numbered-routed = refl
+
+modulo-routed : mapped (λ (part : Part). routed part.contains (Told (edit 5 1 1) ∷ Told (edit 3 2 2) ∷ Watermark (pos 5) ∷ Told (edit 2 3 3) ∷ [])) (parts_modulo 3 there)
+    ≡ (Told (edit 3 2 2) ∷ Watermark (pos 5) ∷ []) ∷ (Watermark (pos 5) ∷ []) ∷ (Told (edit 5 1 1) ∷ Watermark (pos 5) ∷ Told (edit 2 3 3) ∷ []) ∷ []
+modulo-routed = refl
 
 replied-first : replies_of_parts number replies_to (edit 1 4 4) 4 ≡ Err Missing
 replied-first = refl

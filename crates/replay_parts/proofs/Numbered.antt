@@ -1,9 +1,10 @@
 -- A set of entities and all others are a partition, and so are the parts that numbers give.
-use Rattle.std.proofs.Common.{◌≡◌, ℕ, ◌+◌, ◌<◌, ◌≤◌, zero, suc, Bool, true, false, not, cond, ◌==◌, List, [], ◌∷◌, Option, count_by, refl, sym, ◌∙◌, ap, arith, eqb-true}
+use Rattle.std.proofs.Common.{◌≡◌, ℕ, ◌+◌, ◌<◌, ◌≤◌, zero, suc, Bool, true, false, not, cond, ◌%◌, ◌==◌, List, [], ◌∷◌, Option, count_by, refl, sym, ◌∙◌, ap, arith, eqb-true}
 use Rattle.std.specs.Prelude.{◌↔◌, map as mapped}
 use Rattle.std.specs.List.{range_with_len}
 use Rattle.std.proofs.lemmas.Bool.{eqb-false, ne_eqb}
 use Rattle.std.proofs.lemmas.List.Sums.{sum_by-cons}
+use Rattle.std.proofs.lemmas.Nat.{mod_below}
 use Rattle.rdf_term.specs.declared.triple.Triple.{Triple}
 use Rattle.rdf_term.specs.Order.{triple_cmp, triple_cmp-total}
 use Rattle.rising.specs.Rising.{Each, has}
@@ -13,7 +14,7 @@ use Rattle.entity_model.specs.declared.mapping.MappingVersion.{MappingVersion}
 use Rattle.replay_model.specs.Acceptance.{version_in_force}
 use Rattle.replay_model.specs.Play.{Replies, played}
 use Rattle.replay_model.specs.Union.{Meaning, union}
-use Rattle.replay_parts.specs.Parts.{routed, part_of_records, AgreeOnPart, Part, IsPartition, is_in_part, replies_of_parts, numbered_parts, union_played}
+use Rattle.replay_parts.specs.Parts.{routed, part_of_records, AgreeOnPart, Part, IsPartition, is_in_part, replies_of_parts, numbered_parts, parts_modulo, union_played}
 use Rattle.replay_parts.proofs.PlayedParts.{played-routed}
 use Rattle.replay_parts.proofs.Routed.{version-routed}
 use Rattle.replay_parts.proofs.UnionParts.{has-numbered}
@@ -63,6 +64,9 @@ numbered-partition number replies_to count below = record {
   one_each = λ x. count_within (number x) 0 count (omega arith) (omega (arith, below x)) (λ k. record { contains = is_in_part number k; replies = replies_to k }) x (λ k. refl);
   agree = each_numbered number replies_to (range_with_len 0 count);
 }
+
+pub modulo-partition : (replies : Replies) (count : ℕ) → 0 < count → IsPartition replies (parts_modulo count replies)
+modulo-partition replies count some = numbered-partition (λ (x : EntityId). x.number % count) (λ k. replies) count (λ x. mod_below x.number count some)
 
 -- a triple is in the union of the whole exactly where it is in the union of some numbered part
 pub has_triple-numbered : (meaning : MappingVersion → Meaning Triple) (number : EntityId → ℕ) (replies_to : ℕ → Replies) (hz : Option ℕ) (closed : Bool) (ds : List Delivery) (t : Triple)

@@ -1,5 +1,5 @@
 -- The deliveries split by entity: what goes to a part, what is a part's in the replay of them all, and what the parts give together.
-use Rattle.std.specs.Prelude.{◌≡◌, ℕ, ◌+◌, Bool, false, true, cond, ◌==◌, List, [], ◌++◌, Option, None, Some, filter, flat_map, count_by, map as mapped}
+use Rattle.std.specs.Prelude.{◌≡◌, ℕ, ◌+◌, Bool, false, true, cond, ◌%◌, ◌==◌, List, [], ◌++◌, Option, None, Some, filter, flat_map, count_by, map as mapped}
 use Rattle.std.specs.List.{range_with_len}
 use Rattle.std.specs.FinMap as map
 use Rattle.std.specs.declared.cmp.Ordering.{Ordering}
@@ -85,6 +85,10 @@ replies_of_parts number replies_to e r = replies_to (number e.entity) e r
 -- the parts with the numbers below this count
 abbrev pub numbered_parts : (EntityId → ℕ) → (ℕ → Replies) → ℕ → List Part
 numbered_parts number replies_to count = mapped (λ k. record { contains = is_in_part number k; replies = replies_to k }) (range_with_len 0 count)
+
+-- the parts that the numbers of entities give modulo the count of parts
+abbrev pub parts_modulo : ℕ → Replies → List Part
+parts_modulo count replies = numbered_parts (λ (x : EntityId). x.number % count) (λ k. replies) count
 
 -- what the parts give, merged: in rising order, each element once
 abbrev pub merged : {P Triple : Type 0} → (Triple → Triple → Ordering) → (P → List Triple) → List P → List Triple

@@ -22,7 +22,7 @@ ghost use Rattle.replay_model.specs.Records.{Records, record_of};
 ghost use Rattle.replay_model.specs.ReplayState.{following, following_to_end};
 ghost use Rattle.replay_model.specs.Transcript.{Sections, asks, said, said_at, transcript};
 ghost use Rattle.replay_model.specs.Union.{Meaning, owners, union};
-ghost use Rattle.replay_parts.specs.Parts.{AgreeOnPart, IsPartition, Part, closing_together, is_in_part, merged, numbered_parts, part_of_fetches, part_of_played, part_of_records, part_of_side, part_of_state, records_together, replies_of_parts, routed, rows_played, rows_together, said_together, union_played, union_together};
+ghost use Rattle.replay_parts.specs.Parts.{AgreeOnPart, IsPartition, Part, closing_together, is_in_part, merged, numbered_parts, part_of_fetches, part_of_played, part_of_records, part_of_side, part_of_state, parts_modulo, records_together, replies_of_parts, routed, rows_played, rows_together, said_together, union_played, union_together};
 
 /// A replay of the deliveries that go to a part is the part of the replay of all deliveries: of the events that are kept or wait, of the
 /// records, of the side output and of the fetches it has those of its entities, in their order, and its entries are open where the
@@ -121,13 +121,15 @@ pub fn parts_together_have_what_the_whole_has()
         ≡ sum_by (λ (part : Part). count_by test (fetches_to_end h part.replies (routed part.contains ds))) parts }
 {}
 
-/// What splits entities is a partition: a set of entities and all others, each replied to as the whole, and the parts that numbers give,
-/// whatever each of them is replied. Where the numbers have no greatest, a triple is still in the whole exactly where it is in one part.
+/// What splits entities is a partition: a set of entities and all others, each replied to as the whole; the parts that numbers give,
+/// whatever each of them is replied; and so the parts that an entity's number gives modulo their count. Where the numbers have no
+/// greatest, a triple is still in the whole exactly where it is in one part.
 pub fn splits_by_entity_are_partitions()
     ensures two { (replies : Replies) (contains : EntityId → Bool) →
         IsPartition replies (record { contains = contains; replies = replies } ∷ record { contains = λ x. not (contains x); replies = replies } ∷ []) }
     ensures numbered { (number : EntityId → ℕ) (replies_to : ℕ → Replies) (count : ℕ) → ((x : EntityId) → number x < count) →
         IsPartition (replies_of_parts number replies_to) (numbered_parts number replies_to count) }
+    ensures modulo { (replies : Replies) (count : ℕ) → 0 < count → IsPartition replies (parts_modulo count replies) }
     ensures some_number { (meaning : MappingVersion → Meaning Triple) (number : EntityId → ℕ) (replies_to : ℕ → Replies) (h : Option ℕ) (closed : Bool) (ds : List Delivery) (t : Triple) →
         (has triple_cmp t (union_played meaning h closed (replies_of_parts number replies_to) ds) ≡ true)
         ↔ ((k : ℕ) × (has triple_cmp t (union_played meaning h closed (replies_to k) (routed (is_in_part number k) ds)) ≡ true)) }
