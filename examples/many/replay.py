@@ -9,7 +9,7 @@ output is that of part 0, then that of part 1, and so on.
 Where a process is killed, or its worker is lost, Dask runs the part again. Where wdq ends with a status other than 0, the whole ends with
 that status, names the part, and prints nothing.
 
-With --scheduler the event file, the folder of the pages, the program and --work are at the same paths on every machine.
+With --scheduler the folder of the pages, the program and --work are at the same paths on every machine.
 """
 
 import argparse
@@ -39,10 +39,10 @@ class Ended(Exception):
 
 @dataclasses.dataclass
 class Job:
-    """What a worker has to know to run a part."""
+    """What a worker has to know to run a part: the file of its events, the program with its words and the folder that it runs in, and
+    where to write."""
 
     part: int
-    parts: int
     events: str
     program: str
     words: list
@@ -60,6 +60,23 @@ class Outcome:
     folder: str
     seconds: float
     memory: int
+
+
+def route(events, parts, work):
+    """Writes the lines of each part into a file of its own, and gives these files."""
+    paths = [os.path.join(work, f"part-{part}.jsonl") for part in range(parts)]
+    files = [open(path, "wb") for path in paths]
+    with open(events, "rb") as lines:
+        command = ["jq", "-R", "-r", "--argjson", "parts", str(parts), "-f", str(HERE / "route.jq")]
+        router = subprocess.Popen(command, stdin=lines, stdout=subprocess.PIPE)
+        for routed in router.stdout:
+            part, line = routed.split(b"\t", 1)
+            files[int(part)].write(line)
+    for file in files:
+        file.close()
+    if router.wait() != 0:
+        raise Ended(LOST, f"jq ended with status {router.returncode}")
+    return paths
 
 
 def section_name(line):
@@ -99,20 +116,16 @@ def split_sections(process, target):
 
 
 def run_part(job):
-    """Runs a part: its lines of the event file go through one process of wdq."""
+    """Runs a part: its lines go through one process of wdq."""
     # A folder of this run's own, since a run that Dask holds for lost may still be writing.
     target = pathlib.Path(tempfile.mkdtemp(prefix=f"part-{job.part}-", dir=job.work))
-    route = ["jq", "-R", "-r", "--argjson", "parts", str(job.parts), "--argjson", "part", str(job.part), "-f", str(HERE / "route.jq"), job.events]
-    with open(target / "message", "w+b") as message, subprocess.Popen(route, stdout=subprocess.PIPE, stderr=subprocess.DEVNULL) as lines:
-        process = subprocess.Popen([job.program, "replay", *job.words], cwd=job.folder, stdin=lines.stdout, stdout=subprocess.PIPE, stderr=message)
-        lines.stdout.close()
+    with open(job.events, "rb") as events, open(target / "message", "w+b") as message:
+        process = subprocess.Popen([job.program, "replay", *job.words], cwd=job.folder, stdin=events, stdout=subprocess.PIPE, stderr=message)
         memory = split_sections(process, target)
         _, code, usage = os.wait4(process.pid, 0)
         process.returncode = status = os.waitstatus_to_exitcode(code)
         if status < 0:
             raise RuntimeError(f"its process was killed by signal {-status}")
-        if lines.wait() != 0 and status == 0:
-            raise RuntimeError(f"jq ended with status {lines.returncode}")
         message.seek(0)
         return Outcome(status, message.read().decode(errors="replace").strip(), str(target), usage.ru_utime + usage.ru_stime, memory)
 
@@ -223,9 +236,9 @@ def replay(arguments):
     with tempfile.TemporaryDirectory() as temporary:
         work = os.path.abspath(arguments.work or temporary)
         os.makedirs(work, exist_ok=True)
-        events = os.path.abspath(arguments.events)
-        jobs = [Job(part, arguments.parts, events, program, arguments.words, os.getcwd(), work) for part in range(arguments.parts)]
         with open_client(arguments) as client:
+            routed = route(arguments.events, arguments.parts, work)
+            jobs = [Job(part, events, program, arguments.words, os.getcwd(), work) for part, events in enumerate(routed)]
             folders = run_parts(client, jobs, arguments.figures)
         print_together(folders, pathlib.Path(work) / "merged", sys.stdout.buffer)
 

@@ -31,8 +31,9 @@ awk -v size=6070 -v pages="$work/pages" -f stream.awk > "$work/events.jsonl" || 
 echo "one replay of $(grep -c '"kind"' "$work/events.jsonl") events: $(grep '^# export' "$work/whole.txt")"
 
 # By hand: three parts one after the other, and their exports merged.
+jq -R -r --argjson parts 3 -f route.jq < "$work/events.jsonl" |
+  awk -F '\t' -v work="$work" '{ print substr($0, length($1) + 2) > (work "/part-" $1 ".jsonl") }'
 for part in 0 1 2; do
-  jq -R -r --argjson parts 3 --argjson part $part -f route.jq < "$work/events.jsonl" > "$work/part-$part.jsonl"
   "$wdq" replay --from "$work/pages" --export < "$work/part-$part.jsonl" | sed '1,/^# export/d' > "$work/export-$part.txt"
 done
 sort -m -u "$work"/export-?.txt > "$work/merged.txt"
@@ -59,7 +60,7 @@ WDQ=$wdq ./replay.py --parts 3 --program "$work/killed.sh" "$work/events.jsonl" 
 told "a part whose process is killed is run again" $?
 
 # The events of part 1 alone, and fewer bytes allowed than they have.
-grep '"kind"' "$work/events.jsonl" | jq -R -r --argjson parts 3 --argjson part 1 -f route.jq > "$work/one.jsonl"
+grep '"kind"' "$work/part-1.jsonl" > "$work/one.jsonl"
 ./replay.py --parts 3 --program "$wdq" "$work/one.jsonl" -- $words --max-bytes 500 > "$work/none.txt" 2> "$work/said.txt"
 [ $? -eq 5 ] && [ ! -s "$work/none.txt" ] && grep -q 'part 1 of 3: wdq ended with status 5: wdq: input too long' "$work/said.txt"
 told "a status other than 0 ends the whole, and the part is named" $?
