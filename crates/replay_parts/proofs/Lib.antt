@@ -1,0 +1,12 @@
+pub mod Examples
+pub mod GoingOn
+pub mod Numbered
+pub mod PartAnswers
+pub mod PartCounts
+pub mod PartFetches
+pub mod PartRecords
+pub mod PlayedParts
+pub mod Routed
+pub mod Together
+pub mod TwoRuns
+pub mod UnionParts
