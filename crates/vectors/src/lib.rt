@@ -27,6 +27,8 @@ mod ranks;
 #[cfg(test)]
 mod regions;
 #[cfg(test)]
+mod snapshots;
+#[cfg(test)]
 mod stores;
 #[cfg(test)]
 mod streams;

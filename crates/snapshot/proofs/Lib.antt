@@ -1,0 +1,14 @@
+mod LineBack
+mod LineShape
+mod TextBack
+mod LineWritable
+mod LineTextBack
+mod WholeBack
+mod ReplayFits
+mod FileBack
+mod FileCut
+mod TakenBack
+mod ReplaySaved
+mod Partly
+mod PageUtf8
+mod PageText

@@ -1,0 +1,40 @@
+-- Which lines the types of the code hold, and ids of entities with numbers from 1.
+use Rattle.std.specs.Prelude.{◌<◌, ◌^◌, IfSome, FitsSigned}
+use Rattle.std.specs.Int.{w64}
+use Rattle.entity_model.specs.declared.event.Event.{Event}
+use Rattle.entity_model.specs.EntityId.{IsId}
+use Rattle.entity_state.specs.declared.record.Record.{Record}
+use Rattle.side_output.specs.declared.entry.Entry.{Entry}
+use Rattle.side_output.specs.declared.entry.Entry.TheVariants.{Late, Revision}
+use Rattle.replay_model.specs.Records.{Bytes}
+use Rattle.snapshot.specs.declared.line.Head.{Head}
+use Rattle.snapshot.specs.declared.line.Line.{Line}
+use Rattle.snapshot.specs.declared.line.Line.TheVariants.{Head as Begins, Remembered, Entity, Side, End}
+
+-- the event's entity is one, its time has 64 bits with a sign, and its revision 64 bits
+pub record IsFitEvent (e : Event) : Type 0 where
+  pub id : IsId e.entity
+  pub time : FitsSigned w64 e.time
+  pub rev : e.rev < 2 ^ 64
+
+pub record IsFitHead (h : Head) : Type 0 where
+  pub mark : IfSome h.mark (FitsSigned w64)
+  pub horizon : IfSome h.horizon (λ n. n < 2 ^ 64)
+  pub asks : h.asks < 2 ^ 64
+  pub patches : h.patches < 2 ^ 64
+
+pub record IsFitRecord (r : Record Bytes) : Type 0 where
+  pub rev : r.state.rev < 2 ^ 64
+  pub held : IfSome r.held (λ h. h.revision < 2 ^ 64)
+  pub reconciled : IfSome r.reconciled IsFitEvent
+
+abbrev pub IsFitEntry : Entry → Type 0
+IsFitEntry (Late e) = IsFitEvent e
+IsFitEntry (Revision e r cause) = IsFitEvent e × (r < 2 ^ 64)
+
+abbrev pub IsFit : Line → Type 0
+IsFit (Begins h) = IsFitHead h
+IsFit (Remembered e) = IsFitEvent e
+IsFit (Entity x r) = IsId x × IsFitRecord r
+IsFit (Side entry) = IsFitEntry entry
+IsFit (End n) = n < 2 ^ 64

@@ -1,0 +1,74 @@
+-- The JSON value of each line of a snapshot. The members of an object stand in the order of their keys.
+use Rattle.std.specs.Prelude.{ℕ, ℤ, codes, Option, Some, None}
+use Rattle.serde_json.specs.Data.{Data, null, number, string, object, Members, no_members, member, unsigned}
+use Rattle.serde_json.specs.Find.{of_integer}
+use Rattle.entity_model.specs.declared.id.EntityId.{EntityId}
+use Rattle.entity_model.specs.declared.event.Event.{Event}
+use Rattle.entity_model.specs.EntityId.{id_text}
+use Rattle.entity_state.specs.declared.record.Held.{Held}
+use Rattle.entity_state.specs.declared.record.Record.{Record}
+use Rattle.side_output.specs.declared.entry.Entry.{Entry}
+use Rattle.side_output.specs.declared.entry.Entry.TheVariants.{Late, Revision}
+use Rattle.replay_model.specs.Records.{Bytes}
+use Rattle.replay_model.specs.Transcript.{kind_word, cause_word}
+use Rattle.snapshot.specs.declared.line.Head.{Head}
+use Rattle.snapshot.specs.declared.line.Line.{Line}
+use Rattle.snapshot.specs.declared.line.Line.TheVariants.{Head as Begins, Remembered, Entity, Side, End}
+use Rattle.snapshot.specs.Words.{mode_word, version_number}
+
+-- the value, and null where there is none
+abbrev pub if_some : {A : Type 0} → (A → Data) → Option A → Data
+if_some f None = null
+if_some f (Some a) = f a
+
+abbrev pub nat_data : ℕ → Data
+nat_data n = number (unsigned n)
+
+abbrev pub int_data : ℤ → Data
+int_data z = number (of_integer z)
+
+-- the members of an event
+abbrev pub event_members : Event → Members
+event_members e =
+    member (codes "entity") (string (id_text e.entity))
+    (member (codes "kind") (string (kind_word e.kind))
+    (member (codes "micros") (int_data e.time)
+    (member (codes "rev") (nat_data e.rev) no_members)))
+
+abbrev pub event_data : Event → Data
+event_data e = object (event_members e)
+
+abbrev pub held_data : Held Bytes → Data
+held_data h = object (member (codes "page") (string h.content) (member (codes "rev") (nat_data h.revision) no_members))
+
+abbrev pub head_data : Head → Data
+head_data h = object (
+    member (codes "asks") (nat_data h.asks)
+    (member (codes "horizon") (if_some nat_data h.horizon)
+    (member (codes "mapping") (nat_data (version_number h.mapping))
+    (member (codes "mark") (if_some int_data h.mark)
+    (member (codes "patches") (nat_data h.patches)
+    (member (codes "snapshot") (nat_data 1) no_members))))))
+
+abbrev pub record_data : EntityId → Record Bytes → Data
+record_data x r = object (
+    member (codes "entity") (string (id_text x))
+    (member (codes "held") (if_some held_data r.held)
+    (member (codes "reconciled") (if_some event_data r.reconciled)
+    (member (codes "rev") (nat_data r.state.rev)
+    (member (codes "state") (string (mode_word r.state.mode)) no_members)))))
+
+abbrev pub entry_data : Entry → Data
+entry_data (Late e) = object (member (codes "entry") (string (codes "late")) (member (codes "event") (event_data e) no_members))
+entry_data (Revision e r cause) = object (
+    member (codes "entry") (string (cause_word cause))
+    (member (codes "event") (event_data e)
+    (member (codes "rev") (nat_data r) no_members)))
+
+-- the value of a line
+abbrev pub line_data : Line → Data
+line_data (Begins h) = head_data h
+line_data (Remembered e) = event_data e
+line_data (Entity x r) = record_data x r
+line_data (Side entry) = entry_data entry
+line_data (End n) = object (member (codes "end") (nat_data n) no_members)

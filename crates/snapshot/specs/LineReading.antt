@@ -1,0 +1,122 @@
+-- Which line of a snapshot a JSON value is. Other keys are passed over, and of a key that is repeated the last value counts.
+use Rattle.std.specs.Prelude.{ℕ, ℤ, List, codes, Option, Some, None, option_map, option_and_then, is_some, nat_eq, if◌then◌else◌}
+use Rattle.std.specs.Str.{bytes_eq}
+use Rattle.serde_json.specs.Data.{Data}
+use Rattle.serde_json.specs.Find.{get, as_null, as_number, as_str, as_u64, as_i64}
+use Rattle.entity_model.specs.declared.id.EntityId.{EntityId}
+use Rattle.entity_model.specs.declared.event.Event.{Event}
+use Rattle.entity_model.specs.IdOf.{id_of}
+use Rattle.entity_state.specs.declared.record.Held.{Held}
+use Rattle.entity_state.specs.declared.record.Record.{Record}
+use Rattle.entity_state.specs.declared.state.State.{State}
+use Rattle.side_output.specs.declared.entry.Entry.{Entry}
+use Rattle.side_output.specs.declared.entry.Entry.TheVariants.{Late, Revision}
+use Rattle.replay_model.specs.Records.{Bytes}
+use Rattle.snapshot.specs.declared.line.Head.{Head}
+use Rattle.snapshot.specs.declared.line.Line.{Line}
+use Rattle.snapshot.specs.declared.line.Line.TheVariants.{Head as Begins, Remembered, Entity, Side, End}
+use Rattle.snapshot.specs.Words.{kind_named, cause_named, mode_named, version_numbered}
+
+abbrev pub nat_in : Data → Option ℕ
+nat_in d = option_and_then as_u64 (as_number d)
+
+abbrev pub int_in : Data → Option ℤ
+int_in d = option_and_then as_i64 (as_number d)
+
+-- none for null, and else what f reads
+abbrev pub if_there : {A : Type 0} → (Data → Option A) → Data → Option (Option A)
+if_there f d = if is_some (as_null d) then Some None else option_map Some (f d)
+
+-- what f reads at a key
+abbrev pub at_key : {A : Type 0} → (Data → Option A) → List ℕ → Data → Option A
+at_key f key d = option_and_then f (get key d)
+
+abbrev pub id_in : Data → Option EntityId
+id_in d = option_and_then id_of (as_str d)
+
+-- the event that an object is
+abbrev pub event_in : Data → Option Event
+event_in d =
+    option_and_then (λ entity.
+    option_and_then (λ kind.
+    option_and_then (λ time.
+    option_map (λ rev. record { entity = entity; time = time; rev = rev; kind = kind })
+    (at_key nat_in (codes "rev") d))
+    (at_key int_in (codes "micros") d))
+    (option_and_then kind_named (at_key as_str (codes "kind") d)))
+    (at_key id_in (codes "entity") d)
+
+abbrev pub held_in : Data → Option (Held Bytes)
+held_in d =
+    option_and_then (λ revision.
+    option_map (λ page. record { revision = revision; content = page })
+    (at_key as_str (codes "page") d))
+    (at_key nat_in (codes "rev") d)
+
+-- the head of an object, whose number of the format is 1
+abbrev pub head_in : Data → Data → Option Head
+head_in d format =
+    option_and_then (λ number. if nat_eq number 1 then
+    option_and_then (λ mark.
+    option_and_then (λ horizon.
+    option_and_then (λ mapping.
+    option_and_then (λ asks.
+    option_map (λ patches. record { mark = mark; horizon = horizon; mapping = mapping; asks = asks; patches = patches })
+    (at_key nat_in (codes "patches") d))
+    (at_key nat_in (codes "asks") d))
+    (option_and_then version_numbered (at_key nat_in (codes "mapping") d)))
+    (at_key (if_there nat_in) (codes "horizon") d))
+    (at_key (if_there int_in) (codes "mark") d)
+    else None)
+    (nat_in format)
+
+abbrev pub state_in : Data → Data → Option State
+state_in d word =
+    option_and_then (λ mode.
+    option_map (λ rev. record { mode = mode; rev = rev })
+    (at_key nat_in (codes "rev") d))
+    (option_and_then mode_named (as_str word))
+
+abbrev pub record_in : Data → Data → Option (Record Bytes)
+record_in d word =
+    option_and_then (λ state.
+    option_and_then (λ reconciled.
+    option_map (λ held. record { state = state; held = held; reconciled = reconciled })
+    (at_key (if_there held_in) (codes "held") d))
+    (at_key (if_there event_in) (codes "reconciled") d))
+    (state_in d word)
+
+-- the entry of a revision with that word
+abbrev pub revision_in : Data → List ℕ → Option Entry
+revision_in d word =
+    option_and_then (λ cause.
+    option_and_then (λ event.
+    option_map (λ rev. Revision event rev cause)
+    (at_key nat_in (codes "rev") d))
+    (at_key event_in (codes "event") d))
+    (cause_named word)
+
+abbrev pub entry_in : Data → List ℕ → Option Entry
+entry_in d word =
+    if bytes_eq word (codes "late") then option_map Late (at_key event_in (codes "event") d)
+    else revision_in d word
+
+abbrev pub entity_in : Data → Data → Option Line
+entity_in d word = option_and_then (λ x. option_map (λ r. Entity x r) (record_in d word)) (at_key id_in (codes "entity") d)
+
+abbrev pub side_in : Data → Data → Option Line
+side_in d word = option_map Side (option_and_then (entry_in d) (as_str word))
+
+-- the line of an object by the values of its keys `snapshot`, `kind`, `state`, `entry` and `end`, of which it has exactly one
+abbrev pub by_form : Data → Option Data → Option Data → Option Data → Option Data → Option Data → Option Line
+by_form d (Some format) None None None None = option_map Begins (head_in d format)
+by_form d None (Some kind) None None None = option_map Remembered (event_in d)
+by_form d None None (Some word) None None = entity_in d word
+by_form d None None None (Some word) None = side_in d word
+by_form d None None None None (Some lines) = option_map End (nat_in lines)
+by_form d _ _ _ _ _ = None
+
+-- the line that a JSON value is
+abbrev pub line_in : Data → Option Line
+line_in d =
+    by_form d (get (codes "snapshot") d) (get (codes "kind") d) (get (codes "state") d) (get (codes "entry") d) (get (codes "end") d)

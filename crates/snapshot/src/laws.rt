@@ -1,0 +1,64 @@
+// Laws of the lines of a snapshot.
+
+ghost use Rattle.std.specs.Prelude.{◌≡◌, ◌<◌, ◌^◌, IfSome, ℕ, ℤ, List, [], ◌++◌, Option, Some, None, filter, fold, length, take};
+ghost use Rattle.wq_io.specs.Lines.{IsOneLine};
+ghost use Rattle.rising.specs.Rising.{Each};
+ghost use Rattle.std.specs.Str.{IsUtf8};
+ghost use Rattle.entity_json.specs.Document.{unfit_of};
+ghost use Rattle.entity_model.specs.declared.id.EntityId.{EntityId};
+ghost use Rattle.entity_model.specs.declared.delivery.Delivery.{Delivery};
+ghost use Rattle.reorder_buffer.specs.Buffered.{Buffered, after_raising, after_taking, nothing_taken_within};
+ghost use Rattle.replay_model.specs.Acceptance.{mark};
+ghost use Rattle.std.specs.FinMap as finite;
+ghost use Rattle.entity_model.specs.EntityId.{entity_cmp};
+ghost use Rattle.entity_state.specs.declared.record.Record.{Record};
+ghost use Rattle.replay_model.specs.Records.{Bytes};
+ghost use Rattle.replay_model.specs.Entries.{HoldsUnlessOpen};
+ghost use Rattle.replay_model.specs.Play.{Played, Replies};
+ghost use Rattle.replay_model.specs.ReplayState.{following};
+ghost use Rattle.snapshot.specs.declared.line.Line.{Line};
+ghost use Rattle.snapshot.specs.Fit.{IsFit};
+ghost use Rattle.snapshot.specs.LineText.{line_text, line_of};
+ghost use Rattle.snapshot.specs.Whole.{Saved, lines_before_end, lines_of, saved_in};
+ghost use Rattle.snapshot.specs.Deliveries.{IsFitDelivery};
+ghost use Rattle.snapshot.specs.File.{IsFitSaved, file_text, saved_in_bytes};
+ghost use Rattle.snapshot.specs.Waiting.{IsAtRest, at_mark, not_reached};
+
+/// The text of a line is one line, and is read as that line.
+pub fn lines_read_back()
+    ensures one_line { (line : Line) → IsOneLine (line_text line) }
+    ensures reads_back { (line : Line) → IsFit line → line_of (line_text line) ≡ Some line }
+{}
+
+/// The lines of a snapshot, and their bytes, are read as what was saved. No shorter front of the lines or of the bytes is read as anything.
+pub fn snapshots_read_back()
+    ensures lines { (s : Saved) → IsAtRest s.state.buffer → saved_in (lines_of s) ≡ Some s }
+    ensures bytes { (s : Saved) → IsAtRest s.state.buffer → IsFitSaved s → saved_in_bytes (file_text s) ≡ Some s }
+    ensures lines_cut { (s : Saved) (n : ℕ) → n < length (lines_of s) → saved_in (take n (lines_of s)) ≡ None }
+    ensures bytes_cut { (s : Saved) (k : ℕ) → IsFitSaved s → k < length (file_text s) → saved_in_bytes (take k (file_text s)) ≡ None }
+{}
+
+/// The state after any deliveries can be saved; and of the events that it remembers those wait that the mark hasn't reached, so that
+/// taking them again makes its buffer.
+pub fn replays_can_be_saved()
+    ensures fits { (s : Saved) (h : Option ℕ) (replies : Replies) (ds : List Delivery) → s.state ≡ following h replies ds → s.asks < 2 ^ 64 → s.patches < 2 ^ 64 →
+        IfSome h (λ n. n < 2 ^ 64) → Each IsFitDelivery ds → length (lines_before_end s) < 2 ^ 64 → IsFitSaved s }
+    ensures waiting { (h : Option ℕ) (replies : Replies) (ds : List Delivery) →
+        (following h replies ds).buffer.waiting ≡ filter (not_reached (mark ds)) (following h replies ds).buffer.kept }
+    ensures at_rest { (h : Option ℕ) (replies : Replies) (ds : List Delivery) → IsAtRest (following h replies ds).buffer }
+    ensures unmarked { (h : Option ℕ) → nothing_taken_within h ≡ at_mark h None [] }
+    ensures marked { (h : Option ℕ) (m : ℤ) → after_raising (nothing_taken_within h) m ≡ at_mark h (Some m) [] }
+    ensures taken_again { (b : Buffered) → IsAtRest b → fold after_taking (at_mark b.horizon b.mark []) b.kept ≡ b }
+{}
+
+/// While the records of a replay go in one after the other, behind its whole side output, each entity holds what its state wants exactly
+/// where no open entry tells of it.
+pub fn records_go_in_behind_entries()
+    ensures { (p : Played) (done todo : List (EntityId × Record Bytes)) → HoldsUnlessOpen p → finite.entries p.records ≡ done ++ todo →
+        HoldsUnlessOpen (record { records = finite.from_entries {R = entity_cmp} done; side = p.side }) }
+{}
+
+/// A page that is a document of an entity is UTF-8, so that a JSON string holds it.
+pub fn documents_are_text()
+    ensures { (x : EntityId) (bytes : List ℕ) → unfit_of x bytes ≡ None → IsUtf8 bytes }
+{}

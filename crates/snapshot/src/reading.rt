@@ -1,0 +1,299 @@
+// Which line of a snapshot a JSON value is.
+
+ghost use Rattle.std.specs.Prelude.{◌≡◌, IfOk, codes, option_map};
+ghost use Rattle.serde_json.specs.View.{view};
+ghost use Rattle.serde_json.specs.Find.{as_str};
+ghost use Rattle.snapshot.specs.Words.{kind_named, cause_named, mode_named, version_numbered};
+ghost use Rattle.snapshot.specs.LineReading.{nat_in, int_in, id_in, if_there, at_key, event_in, held_in, head_in, state_in, record_in, revision_in, entry_in, entity_in, side_in, line_in};
+
+use crate::line::{Head, Line};
+use entity_model::{EntityId, Event, Kind, MappingVersion, Unfit};
+use entity_state::{Held, Mode, Record, State};
+use rdf_term::{OutOfMemory, Text};
+use serde_json::Value;
+use side_output::{Cause, Entry};
+use std::alloc::Global;
+
+/// The line that a value is.
+pub(crate) fn line_in(alloc: Global, value: &Value) -> Result<Option<Line>, OutOfMemory>
+    ensures { IfOk result (λ line. line ≡ line_in (view value.now)) }
+{
+    match (
+        value.get("snapshot"),
+        value.get("kind"),
+        value.get("state"),
+        value.get("entry"),
+        value.get("end"),
+    ) {
+        (Some(format), None, None, None, None) => Ok(head(value, format).map(Line::Head)),
+        (None, Some(_), None, None, None) => Ok(event(value).map(Line::Remembered)),
+        (None, None, Some(word), None, None) => entity(alloc, value, word),
+        (None, None, None, Some(word), None) => Ok(side(value, word)),
+        (None, None, None, None, Some(lines)) => Ok(lines.as_u64().map(Line::End)),
+        _ => Ok(None),
+    }
+}
+
+// The head that an object says; its format has the number 1.
+fn head(object: &Value, format: &Value) -> Option<Head>
+    ensures { result ≡ head_in (view object.now) (view format.now) }
+{
+    if format.as_u64()? != 1 {
+        return None;
+    }
+    let mark = int_or_null(object.get("mark")?)?;
+    let horizon = nat_or_null(object.get("horizon")?)?;
+    let mapping = version_numbered(object.get("mapping")?.as_u64()?)?;
+    let asks = object.get("asks")?.as_u64()?;
+    let patches = object.get("patches")?.as_u64()?;
+    Some(Head {
+        mark,
+        horizon,
+        mapping,
+        asks,
+        patches,
+    })
+}
+
+// A number of 64 bits, or null.
+fn nat_or_null(value: &Value) -> Option<Option<u64>>
+    ensures { result ≡ if_there nat_in (view value.now) }
+{
+    if value.is_null() {
+        Some(None)
+    } else {
+        Some(Some(value.as_u64()?))
+    }
+}
+
+// A number of 64 bits with a sign, or null.
+fn int_or_null(value: &Value) -> Option<Option<i64>>
+    ensures { result ≡ if_there int_in (view value.now) }
+{
+    if value.is_null() {
+        Some(None)
+    } else {
+        Some(Some(value.as_i64()?))
+    }
+}
+
+// An event, or null.
+fn event_or_null(value: &Value) -> Option<Option<Event>>
+    ensures { result ≡ if_there event_in (view value.now) }
+{
+    if value.is_null() {
+        Some(None)
+    } else {
+        Some(Some(event(value)?))
+    }
+}
+
+// The version of the mapping with that number.
+fn version_numbered(number: u64) -> Option<MappingVersion>
+    ensures { result ≡ version_numbered number }
+{
+    match number {
+        1 => Some(MappingVersion::One),
+        2 => Some(MappingVersion::Two),
+        _ => None,
+    }
+}
+
+// The event that an object is.
+fn event(object: &Value) -> Option<Event>
+    ensures { result ≡ event_in (view object.now) }
+{
+    let entity = id(object.get("entity")?)?;
+    let kind = kind_named(object.get("kind")?.as_str()?)?;
+    let time = object.get("micros")?.as_i64()?;
+    let rev = object.get("rev")?.as_u64()?;
+    Some(Event {
+        entity,
+        time,
+        rev,
+        kind,
+    })
+}
+
+// The id of an entity, by its text.
+fn id(value: &Value) -> Option<EntityId>
+    ensures { result ≡ id_in (view value.now) }
+{
+    EntityId::read(value.as_str()?)
+}
+
+// The line of a record: the entity and what is kept of it.
+fn entity(alloc: Global, object: &Value, word: &Value) -> Result<Option<Line>, OutOfMemory>
+    ensures { IfOk result (λ line. line ≡ entity_in (view object.now) (view word.now)) }
+{
+    let Some(id) = entity_id(object) else {
+        return Ok(None);
+    };
+    match record(alloc, object, word)? {
+        Some(record) => Ok(Some(Line::Entity(id, record))),
+        None => Ok(None),
+    }
+}
+
+// The id at the key `entity`.
+fn entity_id(object: &Value) -> Option<EntityId>
+    ensures { result ≡ at_key id_in (codes "entity") (view object.now) }
+{
+    id(object.get("entity")?)
+}
+
+// What is kept of an entity, whose state has that word.
+fn record(alloc: Global, object: &Value, word: &Value) -> Result<Option<Record<Text>>, OutOfMemory>
+    ensures { IfOk result (λ r. r ≡ record_in (view object.now) (view word.now)) }
+{
+    let Some(state) = state(object, word) else {
+        return Ok(None);
+    };
+    let Some(reconciled) = reconciled(object) else {
+        return Ok(None);
+    };
+    match held_at(alloc, object)? {
+        Some(held) => Ok(Some(Record {
+            state,
+            held,
+            reconciled,
+        })),
+        None => Ok(None),
+    }
+}
+
+// The state with that word, and its revision.
+fn state(object: &Value, word: &Value) -> Option<State>
+    ensures { result ≡ state_in (view object.now) (view word.now) }
+{
+    let mode = mode_named(word.as_str()?)?;
+    let rev = object.get("rev")?.as_u64()?;
+    Some(State { mode, rev })
+}
+
+// The last reconciliation, or none where it is null.
+fn reconciled(object: &Value) -> Option<Option<Event>>
+    ensures { result ≡ at_key (if_there event_in) (codes "reconciled") (view object.now) }
+{
+    event_or_null(object.get("reconciled")?)
+}
+
+// The page at the key `held`, or none where it is null.
+fn held_at(alloc: Global, object: &Value) -> Result<Option<Option<Held<Text>>>, OutOfMemory>
+    ensures { IfOk result (λ held. held ≡ at_key (if_there held_in) (codes "held") (view object.now)) }
+{
+    match object.get("held") {
+        Some(value) => held_or_null(alloc, value),
+        None => Ok(None),
+    }
+}
+
+// The page that an entity holds, or null.
+fn held_or_null(alloc: Global, value: &Value) -> Result<Option<Option<Held<Text>>>, OutOfMemory>
+    ensures { IfOk result (λ held. held ≡ if_there held_in (view value.now)) }
+{
+    if value.is_null() {
+        return Ok(Some(None));
+    }
+    match held(alloc, value)? {
+        Some(held) => Ok(Some(Some(held))),
+        None => Ok(None),
+    }
+}
+
+// The page that an object is, with its revision.
+fn held(alloc: Global, object: &Value) -> Result<Option<Held<Text>>, OutOfMemory>
+    ensures { IfOk result (λ held. held ≡ held_in (view object.now)) }
+{
+    match (revision(object), page(object)) {
+        (Some(revision), Some(page)) => Ok(Some(Held {
+            revision,
+            content: Text::new(alloc, page)?,
+        })),
+        _ => Ok(None),
+    }
+}
+
+// The revision of a page.
+fn revision(object: &Value) -> Option<u64>
+    ensures { result ≡ at_key nat_in (codes "rev") (view object.now) }
+{
+    object.get("rev")?.as_u64()
+}
+
+// The text of a page.
+fn page(object: &Value) -> Option<&str>
+    ensures { option_map (λ s. s.now) result ≡ at_key as_str (codes "page") (view object.now) }
+{
+    object.get("page")?.as_str()
+}
+
+// The line of an entry of the side output.
+fn side(object: &Value, word: &Value) -> Option<Line>
+    ensures { result ≡ side_in (view object.now) (view word.now) }
+{
+    let entry = entry(object, word.as_str()?)?;
+    Some(Line::Side(entry))
+}
+
+// The entry with that word.
+fn entry(object: &Value, word: &str) -> Option<Entry>
+    ensures { result ≡ entry_in (view object.now) word.now }
+{
+    match word {
+        "late" => Some(Entry::Late(event(object.get("event")?)?)),
+        _ => revision_entry(object, word),
+    }
+}
+
+// The entry of a revision that was fetched in vain, by the word of its cause.
+fn revision_entry(object: &Value, word: &str) -> Option<Entry>
+    ensures { result ≡ revision_in (view object.now) word.now }
+{
+    let cause = cause_named(word)?;
+    let event = event(object.get("event")?)?;
+    let rev = object.get("rev")?.as_u64()?;
+    Some(Entry::Revision(event, rev, cause))
+}
+
+// The kind of event with that word.
+fn kind_named(text: &str) -> Option<Kind>
+    ensures { result ≡ kind_named text.now }
+{
+    match text {
+        "edit" => Some(Kind::Edit),
+        "delete" => Some(Kind::Delete),
+        "undelete" => Some(Kind::Undelete),
+        "reconcile-deleted" => Some(Kind::ReconcileDeleted),
+        "reconcile-kept" => Some(Kind::ReconcileKept),
+        _ => None,
+    }
+}
+
+// The cause with that word.
+fn cause_named(text: &str) -> Option<Cause>
+    ensures { result ≡ cause_named text.now }
+{
+    match text {
+        "missing" => Some(Cause::Missing),
+        "failed" => Some(Cause::Failed),
+        "unfit-large" => Some(Cause::Unfit(Unfit::Large)),
+        "unfit-deep" => Some(Cause::Unfit(Unfit::Deep)),
+        "unfit-notjson" => Some(Cause::Unfit(Unfit::NotJson)),
+        "unfit-shape" => Some(Cause::Unfit(Unfit::Shape)),
+        "unfit-foreign" => Some(Cause::Unfit(Unfit::Foreign)),
+        _ => None,
+    }
+}
+
+// The mode with that word.
+fn mode_named(text: &str) -> Option<Mode>
+    ensures { result ≡ mode_named text.now }
+{
+    match text {
+        "unknown" => Some(Mode::Unknown),
+        "kept" => Some(Mode::Kept),
+        "deleted" => Some(Mode::Deleted),
+        _ => None,
+    }
+}

@@ -1,0 +1,57 @@
+// Lines of a snapshot as they stand in a file, and lines that are none.
+
+use snapshot::{read, write};
+use std::test::Fail;
+
+// One line of each kind, with the greatest and the least numbers, a word for each cause and mode, and a page with a line feed.
+const LINES: &str =
+    r#"{"asks":0,"horizon":null,"mapping":1,"mark":null,"patches":18446744073709551615,"snapshot":1}
+{"asks":3,"horizon":18446744073709551615,"mapping":2,"mark":-9223372036854775808,"patches":7,"snapshot":1}
+{"entity":"Q42","kind":"edit","micros":9223372036854775807,"rev":18446744073709551615}
+{"entity":"P1","kind":"delete","micros":-5,"rev":1}
+{"entity":"P1","kind":"undelete","micros":0,"rev":1}
+{"entry":"late","event":{"entity":"Q1","kind":"reconcile-kept","micros":5,"rev":2}}
+{"entry":"missing","event":{"entity":"Q1","kind":"reconcile-deleted","micros":5,"rev":2},"rev":3}
+{"entry":"failed","event":{"entity":"Q1","kind":"edit","micros":5,"rev":3},"rev":3}
+{"entry":"unfit-large","event":{"entity":"Q1","kind":"edit","micros":5,"rev":3},"rev":3}
+{"entry":"unfit-deep","event":{"entity":"Q1","kind":"edit","micros":5,"rev":3},"rev":3}
+{"entry":"unfit-notjson","event":{"entity":"Q1","kind":"edit","micros":5,"rev":3},"rev":3}
+{"entry":"unfit-shape","event":{"entity":"Q1","kind":"edit","micros":5,"rev":3},"rev":3}
+{"entry":"unfit-foreign","event":{"entity":"Q1","kind":"edit","micros":5,"rev":3},"rev":3}
+{"entity":"P31","held":{"page":"{\"id\":\"P31\"}\n","rev":7},"reconciled":{"entity":"P31","kind":"reconcile-kept","micros":5,"rev":7},"rev":7,"state":"kept"}
+{"entity":"Q7","held":null,"reconciled":null,"rev":9,"state":"deleted"}
+{"entity":"Q8","held":null,"reconciled":null,"rev":0,"state":"unknown"}
+{"end":16}"#;
+
+// A float, two kinds of line at once, a line that was cut off, another format, a version that isn't there, an id that is none, a
+// number with a minus, a state without its page, and no object.
+const OTHERS: &str = r#"{"end":4.0}
+{"end":4,"kind":null}
+{"end":4
+{"asks":0,"horizon":null,"mapping":1,"mark":null,"patches":0,"snapshot":2}
+{"asks":0,"horizon":null,"mapping":3,"mark":null,"patches":0,"snapshot":1}
+{"horizon":null,"mapping":1,"mark":null,"patches":0,"snapshot":1}
+{"entity":"Q042","kind":"edit","micros":5,"rev":1}
+{"entity":"Q42","kind":"edit","micros":5,"rev":-1}
+{"entity":"Q42","reconciled":null,"rev":7,"state":"kept"}
+4"#;
+
+#[test]
+fn each_line_is_written_as_it_was_read(rt: HostRuntime) -> Result<(), Fail> {
+    for line in LINES.lines() {
+        let found = read(rt.alloc(), line)?;
+        let found = found.ok_or("no line")?;
+        let text = write(rt.alloc(), &found)?;
+        assert_eq!(rt; text.as_str(), line);
+    }
+    Ok(())
+}
+
+#[test]
+fn other_texts_are_no_line(rt: HostRuntime) -> Result<(), Fail> {
+    for line in OTHERS.lines() {
+        let found = read(rt.alloc(), line)?;
+        assert!(rt; found.is_none(), "{line}");
+    }
+    Ok(())
+}
