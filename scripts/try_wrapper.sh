@@ -110,6 +110,24 @@ in_terminal() {
   status=$?
 }
 
+# Waits until a stand-in has written a file, and a moment more.
+wait_for() {
+  until [ -e "$1" ]; do
+    sleep 0.1
+  done
+  sleep 0.5
+}
+
+# Runs a line of shell in a terminal, types Ctrl-C there once the file is written, and keeps what it shows, with the status at its end.
+in_interrupted_terminal() {
+  rm -f "$1"
+  shown=$({
+    wait_for "$1"
+    printf '\003'
+    sleep 2
+  } | script -qec "trap : INT; $2; echo status \$?" /dev/null | tr -d '\r')
+}
+
 # --- Files and pipes: exactly what the program writes ---
 
 put_program
@@ -210,8 +228,8 @@ for number in 2 3 4 5 6 7; do
 done
 in_terminal "STAND_IN_SLEEP=60 '$checkout/wdq' drill --size 1 < /dev/null & child=\$!; sleep 1; kill \$child; wait \$child; echo \$?; pgrep -f '^sleep 60\$' -s 0"
 wants 'a signal goes on to the program' 143 "${shown##*$'\n'}"
-shown=$({ sleep 1 && printf '\003'; } | script -qec "STAND_IN_SLEEP=60 '$checkout/wdq' drill --size 1" /dev/null)
-wants 'Ctrl-C ends the program' 130 "$?"
+in_interrupted_terminal "$room/words" "STAND_IN_SLEEP=60 '$checkout/wdq' drill --size 1"
+wants 'Ctrl-C ends the program' 130 "${shown##*status }"
 
 # --- The build ---
 
@@ -240,12 +258,12 @@ RT_FAILS=memory WDQ_JOBS=2 "$checkout/wdq" replay </dev/null >out 2>err
 wants 'memory ran out' $'0 all check --jobs 2\nall check --jobs 1\nrun -- replay' "$? $(cat "$room/calls")"
 drop_program
 RT_FAILS='sleep' "$checkout/wdq" replay </dev/null >out 2>err &
-sleep 2
+wait_for "$room/calls"
 kill $!
 wait $!
 wants 'a build is stopped' '143 wdq: the build was interrupted; the next one goes on where it stopped' "$? $(tail -n 1 err)"
-shown=$({ sleep 2 && printf '\003'; } | RT_FAILS='sleep' script -qec "'$checkout/wdq' replay" /dev/null)
-wants 'Ctrl-C stops a build' 130 "$?"
+in_interrupted_terminal "$room/calls" "RT_FAILS=sleep '$checkout/wdq' replay"
+wants 'Ctrl-C stops a build' 130 "${shown##*status }"
 shows 'Ctrl-C in a build' 'the build was interrupted'
 PATH=/usr/bin:/bin "$checkout/wdq" replay </dev/null >out 2>err
 wants 'there is no rt' '70 1' "$? $(grep -c "command 'rt' is not on PATH" err)"
