@@ -31,7 +31,8 @@ is_built() {
 # Prints how much memory is available, in bytes: that of the machine, or less where a control group has a limit.
 available_memory() {
   local group=/sys/fs/cgroup free limit used
-  free=$(awk '/^MemAvailable:/ { printf "%d\n", $2 * 1024 }' /proc/meminfo)
+  free=$(awk '/^MemAvailable:/ { print $2 }' /proc/meminfo)
+  free=$((free * 1024))
   if { read -r limit <"$group/memory.max" && read -r used <"$group/memory.current"; } 2>/dev/null && [ "$limit" != max ]; then
     ((limit - used < free)) && free=$((limit - used))
   fi
@@ -54,9 +55,10 @@ count_jobs() {
 
 # Says how far the build is: at a terminal on one line that is written over, elsewhere on a line each minute.
 tell_progress() {
-  local minutes=$((SECONDS / 60)) proved text
+  local minutes=$((SECONDS / 60)) unit=minutes proved text
+  [ "$minutes" != 1 ] || unit=minute
   proved=$(awk '$1 == "==" && $2 != "summary" && NF == 2 { n++ } END { print n + 0 }' "$log")
-  text="wdq: $proved of ${#order[@]} crates, $minutes minutes"
+  text="wdq: $proved of ${#order[@]} crates, $minutes $unit"
   if [ -t 2 ]; then
     printf '\r%s' "$text" >&2
   elif [ "$minutes" != "$told" ]; then

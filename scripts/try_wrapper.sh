@@ -241,6 +241,12 @@ WDQ_JOBS=3 "$checkout/wdq" replay <events.jsonl >out 2>err
 wants 'a build' '0 {"kind":"edit"}' "$? $(cat out)"
 wants 'what a build says in a file' $'wdq: building: 3 crates are proved, 3 at a time\nwdq: 2 of 3 crates, 0 minutes' "$(sed 's/: 0 of/: 2 of/' err)"
 wants 'how a build calls rt' $'all check --jobs 3\nrun -- replay' "$(cat "$room/calls")"
+free=$(awk '/^MemAvailable:/ { print $2 }' /proc/meminfo)
+if [ "$(nproc)" -gt 1 ] && [ "$free" -gt 7000000 ]; then
+  drop_program
+  "$checkout/wdq" replay <events.jsonl >out 2>err
+  wants 'more than one crate at a time' more "$(grep -q ' proved, 1 at' err && echo one || echo more)"
+fi
 "$checkout/wdq" replay <events.jsonl >out 2>err
 wants 'nothing is built twice' '0 2' "$(wc -c <err) $(wc -l <"$room/calls")"
 touch "$checkout/crates/lower/src/lib.rt"
