@@ -226,6 +226,8 @@ for number in 2 3 4 5 6 7; do
   in_terminal "STAND_IN_STATUS=$number '$checkout/wdq' replay < events.jsonl"
   wants "status $number at a terminal" "$number wdq: status $number" "$status $shown"
 done
+in_terminal "'$checkout/wdq' replay --export <&-"
+wants 'a closed input' 'cat: -: Bad file descriptor' "${shown%%$'\n'*}"
 in_terminal "STAND_IN_SLEEP=60 '$checkout/wdq' drill --size 1 < /dev/null & child=\$!; sleep 1; kill \$child; wait \$child; echo \$?; pgrep -f '^sleep 60\$' -s 0"
 wants 'a signal goes on to the program' 143 "${shown##*$'\n'}"
 in_interrupted_terminal "$room/words" "STAND_IN_SLEEP=60 '$checkout/wdq' drill --size 1"
