@@ -53,11 +53,12 @@ count_jobs() {
   echo $((jobs < 1 ? 1 : jobs))
 }
 
-# Says how far the build is: at a terminal on one line that is written over, elsewhere on a line each minute.
+# Counts in `proved` the crates that are proved by the log, and says how far the build is: at a terminal on one line that is written over,
+# elsewhere on a line each minute.
 tell_progress() {
-  local minutes=$((SECONDS / 60)) unit=minutes proved text
+  local minutes=$((SECONDS / 60)) unit=minutes text
   [ "$minutes" != 1 ] || unit=minute
-  proved=$(awk '$1 == "==" && $2 != "summary" && NF == 2 { n++ } END { print n + 0 }' "$log")
+  proved=$(awk '$1 == "==" && $2 != "summary" && NF == 2 && !($2 in seen) { seen[$2]; n++ } END { print n + 0 }' "$log")
   text="wdq: $proved of ${#order[@]} crates, $minutes $unit"
   if [ -t 2 ]; then
     printf '\r%s' "$text" >&2
@@ -83,7 +84,8 @@ interrupt_build() {
   kill -s "$1" $$
 }
 
-# Runs rt with these words in the program's crate, with its output in the log, and says how far it is.
+# Runs rt with these words in the program's crate, with its output in the log, and says how far it is. A check of all crates ends
+# where the program alone is left, since `rt run` proves and links it at once.
 run_rt() {
   (cd "$here/crates/wdq" && exec rt "$@") </dev/null >>"$log" 2>&1 &
   builder=$!
@@ -92,13 +94,18 @@ run_rt() {
   trap 'interrupt_build HUP' HUP
   while kill -0 "$builder" 2>/dev/null; do
     tell_progress
+    if [ "$1 $proved" = "all $((${#order[@]} - 1))" ]; then
+      kill "$builder" 2>/dev/null
+      wait "$builder" 2>/dev/null
+      return 0
+    fi
     sleep 1
   done
   trap - INT TERM HUP
   wait "$builder"
 }
 
-# Proves the program and all crates below it, so many side by side. Where a check was killed for memory, it goes on one by one.
+# Proves the crates below the program, so many side by side. Where a check was killed for memory, it goes on one by one.
 prove() {
   run_rt all check --jobs "$1" && return
   { [ "$1" -gt 1 ] && grep -q '^[a-z0-9_]*: failed (-9)$' "$log"; } || return
@@ -122,7 +129,7 @@ give_up_build() {
 }
 
 build() {
-  local begun jobs told=none
+  local begun jobs proved told=none
   begun=$(date +%s.%N)
   command -v rt >/dev/null 2>&1 || give_up "the Rattle toolchain's command 'rt' is not on PATH; README.md names the kit"
   jobs=$(count_jobs) || give_up "WDQ_JOBS is a number from 1 to 9999, and not '$WDQ_JOBS'"
@@ -130,6 +137,8 @@ build() {
   say "building: ${#order[@]} crates are proved, $jobs at a time"
   SECONDS=0
   { prove "$jobs" && run_rt run -- replay; } || give_up_build
+  echo '== wdq' >>"$log"
+  tell_progress
   end_progress
   # What was edited while it was built is newer than the program.
   touch -d "@$begun" "$program"
