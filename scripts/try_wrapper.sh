@@ -174,6 +174,7 @@ replay --size 5|--size is an option of drill
 drill --size 5 --state|--state is an option of replay
 replay events.jsonl|'events.jsonl' is a file; did you mean < events.jsonl?
 replay 'two words.jsonl'|'two words.jsonl' is a file; did you mean < two\ words.jsonl?
+replay lost.jsonl|'lost.jsonl' is no option of replay; did you mean < lost.jsonl?
 replay pages --export|'pages' is a folder; did you mean --from pages?
 replay --from|--from lacks its value, a folder
 replay --from --export|--from lacks its value, a folder
