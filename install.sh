@@ -1,0 +1,35 @@
+#!/usr/bin/env bash
+# Installs wdq, and takes it away again:
+#   ./install.sh [PREFIX]            puts bin/wdq, libexec/wdq/wdq and share/man/man1/wdq.1 below PREFIX, /usr/local without one;
+#                                    builds the program first where it isn't built
+#   ./install.sh --remove [PREFIX]   takes these three files away
+here=$(cd "$(dirname "$(readlink -f "${BASH_SOURCE[0]}")")" && pwd) || exit 2
+files=(bin/wdq libexec/wdq/wdq share/man/man1/wdq.1)
+
+refuse() {
+  echo "install.sh: $1" >&2
+  exit "$2"
+}
+
+install_files() {
+  # The smallest drill builds the program where it isn't built, and shows that it runs.
+  "$here/wdq" drill --size 1 >/dev/null || refuse 'wdq was not built, or does not run' 1
+  {
+    install -D -m 755 "$here/wdq" "$prefix/bin/wdq" &&
+      install -D -m 755 "$here/crates/wdq/out/wdq" "$prefix/libexec/wdq/wdq" &&
+      install -D -m 644 "$here/docs/wdq.1" "$prefix/share/man/man1/wdq.1"
+  } || refuse "$prefix can't be written; perhaps: sudo ./install.sh $prefix" 1
+  echo "installed ${files[*]} below $prefix"
+}
+
+remove_files() {
+  (cd "$prefix" && rm -f "${files[@]}") || refuse "the files below $prefix can't be removed; perhaps: sudo ./install.sh --remove $prefix" 1
+  [ ! -d "$prefix/libexec/wdq" ] || rmdir "$prefix/libexec/wdq" || exit 1
+  echo "removed ${files[*]} below $prefix"
+}
+
+action=install_files
+[ "${1-}" != --remove ] || { action=remove_files && shift; }
+prefix=${1-/usr/local}
+[[ $# -le 1 && -n $prefix && $prefix != -* ]] || refuse 'the words are [--remove] [PREFIX]' 2
+"$action"

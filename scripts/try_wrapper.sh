@@ -1,0 +1,314 @@
+#!/usr/bin/env bash
+# Tries ./wdq and ./install.sh over stand-ins for the program and for the toolchain's rt, in files and in terminals, which `script`
+# (util-linux) makes. It proves and builds nothing, and takes some twenty seconds. Its last line counts what passed.
+top=$(cd "$(dirname "$(readlink -f "${BASH_SOURCE[0]}")")/.." && pwd) || exit 2
+room=$(mktemp -d) || exit 2
+trap 'rm -rf "$room"' EXIT
+passed=0
+failed=0
+shown=
+status=0
+
+# --- The stand-ins ---
+
+# A checkout with three crates below the program's, one that it doesn't stand on, and no program yet.
+checkout=$room/checkout
+mkdir -p "$room/bin" "$room/run/pages" "$checkout/scripts" "$checkout/docs" "$checkout/crates/"{lower,upper,wdq}/src
+cp "$top/wdq" "$top/install.sh" "$checkout/"
+cp "$top/scripts/build.sh" "$checkout/scripts/"
+cp "$top/docs/wdq.1" "$checkout/docs/"
+printf '# layers\nlower:\nupper: lower thiserror\nwdq: upper\ncases: lower\n' >"$checkout/crates.txt"
+
+# The program writes its words down and ends with STAND_IN_STATUS.
+cat >"$room/program" <<'END'
+#!/usr/bin/env bash
+printf '%s\n' "$@" >"${ROOM:?}/words"
+[ -z "${STAND_IN_SLEEP-}" ] || exec sleep "$STAND_IN_SLEEP"
+case ${STAND_IN_STATUS:=0} in
+  0) cat ;;
+  1) echo 'wdq: words not understood' >&2 ;;
+  *) echo "wdq: status $STAND_IN_STATUS" >&2 ;;
+esac
+exit "$STAND_IN_STATUS"
+END
+
+# rt writes its words down. As RT_FAILS says, a crate isn't proved, a check is killed for memory, or the build sleeps.
+cat >"$room/bin/rt" <<'END'
+#!/usr/bin/env bash
+echo "$*" >>"${ROOM:?}/calls"
+[ "${PWD##*/}" = wdq ] || exit 2
+case "$1 ${RT_FAILS-}" in
+  'run '*)
+    mkdir -p out
+    cp "$ROOM/program" out/wdq
+    exit
+    ;;
+  'all crate')
+    printf '== lower\nfine\n== upper\nlost at this line\n== wdq\n== summary\nlower: ok\nupper: failed (1)\nwdq: not run, since upper failed\n'
+    exit 1
+    ;;
+  'all memory')
+    if [ "$4" != 1 ]; then
+      printf '== lower\n== summary\nupper: failed (-9)\n'
+      exit 1
+    fi
+    ;;
+  'all sleep')
+    echo '== lower'
+    exec sleep 60
+    ;;
+esac
+printf '== lower\n== upper\n'
+sleep 1.5
+printf '== wdq\n== summary\n3 of 3 crates ok\n'
+END
+chmod +x "$room/program" "$room/bin/rt"
+export ROOM=$room PATH="$room/bin:$PATH"
+unset WDQ_JOBS
+cd "$room/run" || exit 2
+printf '{"kind":"edit"}\n' >events.jsonl
+printf '{"ask":["?","?","?"]}\n' >asks.jsonl
+touch -- 'two words.jsonl'
+
+put_program() {
+  mkdir -p "$checkout/crates/wdq/out"
+  cp "$room/program" "$checkout/crates/wdq/out/wdq"
+}
+
+drop_program() {
+  rm -rf "$checkout/crates/wdq/out" "$checkout/build.log" "$room/calls"
+}
+
+# --- How a try is judged ---
+
+# Judges whether what was found is what is wanted.
+wants() {
+  if [ "$2" = "$3" ]; then
+    passed=$((passed + 1))
+  else
+    failed=$((failed + 1))
+    printf 'FAILED: %s\n  wanted: %q\n  found:  %q\n' "$1" "$2" "$3"
+  fi
+}
+
+# Judges whether what a terminal shows has a text.
+shows() {
+  if [[ $shown == *"$2"* ]]; then
+    passed=$((passed + 1))
+  else
+    failed=$((failed + 1))
+    printf 'FAILED: %s\n  wanted: .. %s ..\n  found:  %s\n' "$1" "$2" "$shown"
+  fi
+}
+
+# Runs a line of shell in a terminal, and keeps what it shows and its status.
+in_terminal() {
+  shown=$(
+    set -o pipefail
+    script -qec "$1" /dev/null </dev/null | tr -d '\r'
+  )
+  status=$?
+}
+
+# Waits until a stand-in has written a file, and a moment more.
+wait_for() {
+  until [ -e "$1" ]; do
+    sleep 0.1
+  done
+  sleep 0.5
+}
+
+# Runs a line of shell in a terminal, types Ctrl-C there once the file is written, and keeps what it shows, with the status at its end.
+in_interrupted_terminal() {
+  rm -f "$1"
+  shown=$({
+    wait_for "$1"
+    printf '\003'
+    sleep 2
+  } | script -qec "trap : INT; $2; echo status \$?" /dev/null | tr -d '\r')
+}
+
+# --- Files and pipes: exactly what the program writes ---
+
+put_program
+for number in 0 1 2 3 4 5 6 7; do
+  STAND_IN_STATUS=$number "$room/program" replay -x '' 'a b' <events.jsonl >wanted_out 2>wanted_err
+  STAND_IN_STATUS=$number "$checkout/wdq" replay -x '' 'a b' <events.jsonl >out 2>err
+  wants "status $number in files" "$number" "$?"
+  wants "output of status $number in files" "$(cat wanted_out wanted_err)" "$(cat out err)"
+  wants "words of status $number" $'replay\n-x\n\na b' "$(cat "$room/words")"
+done
+for words in '' --help --version 'replay --exprt' 'replay --from nowhere'; do
+  # shellcheck disable=SC2086
+  STAND_IN_STATUS=1 "$checkout/wdq" $words </dev/null >out 2>err
+  wants "words '$words' in files" 'wdq: words not understood' "$(cat out err)"
+done
+in_terminal "'$checkout/wdq' replay < events.jsonl 2> err"
+wants 'standard error in a file' '{"kind":"edit"}' "$shown$(cat err)"
+
+# --- At a terminal: words that aren't understood ---
+
+export STAND_IN_STATUS=1
+while IFS='|' read -r words text; do
+  in_terminal "'$checkout/wdq' $words < /dev/null"
+  wants "status of '$words'" 1 "$status"
+  shows "first line of '$words'" $'wdq: words not understood\nwdq: '"$text"
+  shows "usage of '$words'" "wdq replay [--from DIR]"
+done <<'END'
+reply|'reply' is no command; did you mean replay?
+REPLAY|'REPLAY' is no command; did you mean replay?
+export|'export' is no command
+''|'' is no command
+'replay drill'|'replay drill' is no command
+events.jsonl|'events.jsonl' is a file; did you mean replay < events.jsonl?
+--export|the command comes first, replay drill
+replay --exprt|'--exprt' is no option of replay; did you mean --export?
+replay --exp|'--exp' is no option of replay; did you mean --export?
+replay -export|'-export' is no option of replay; did you mean --export?
+replay export|'export' is no option of replay; did you mean --export?
+replay --form pages|'--form' is no option of replay; did you mean --from?
+replay --max_bytes=5|'--max_bytes=5' is no option of replay; did you mean --max-bytes?
+replay --limit 5|'--limit' is no option of replay
+replay --|'--' is no option of replay
+replay --size 5|--size is an option of drill
+drill --size 5 --state|--state is an option of replay
+replay events.jsonl|'events.jsonl' is a file; did you mean < events.jsonl?
+replay 'two words.jsonl'|'two words.jsonl' is a file; did you mean < two\ words.jsonl?
+replay lost.jsonl|'lost.jsonl' is no option of replay; did you mean < lost.jsonl?
+replay pages --export|'pages' is a folder; did you mean --from pages?
+replay --from|--from lacks its value, a folder
+replay --from --export|--from lacks its value, a folder
+replay --from=|--from lacks its value, a folder
+replay --from ''|--from lacks its value, a folder
+replay --from -x|the folder '-x' is named './-x' here
+replay --max-terms|--max-terms lacks its value, a number from 1 to 4294967295
+replay --max-terms 0|--max-terms takes a number from 1 to 4294967295, in digits without a leading zero, and not '0'
+replay --max-terms 4294967296|--max-terms takes a number from 1 to 4294967295
+replay --max-bytes 1099511627777|--max-bytes takes a number from 0 to 1099511627776
+replay --max-bytes 007|--max-bytes takes a number from 0 to 1099511627776
+replay --max-bytes -1|--max-bytes takes a number from 0 to 1099511627776
+replay --max-bytes 1e6|--max-bytes takes a number from 0 to 1099511627776
+replay --horizon 9223372036854775808|--horizon takes a number from 0 to 9223372036854775807
+replay --export=yes|--export takes no value
+replay --export --export|--export stands there twice
+replay --from a --from=b|--from stands there twice
+drill|drill lacks --size N
+drill 10|'10' is no option of drill; did you mean --size 10?
+drill --size 0|--size takes a number from 1 to 200000
+drill --size 200001|--size takes a number from 1 to 200000
+END
+for words in '' -h --help --version help 'replay --help'; do
+  in_terminal "'$checkout/wdq' $words < /dev/null"
+  wants "status of '$words'" 1 "$status"
+  shows "usage of '$words'" $'wdq: words not understood\n\nwdq '
+  shows "a manual of '$words'" "man $checkout/docs/wdq.1"
+done
+in_terminal "'$checkout/wdq' replay --max-bytes 1099511627776 --max-terms 4294967295 --horizon 0 --from x=y < /dev/null"
+shows 'words without a fault' $'wdq: words not understood\n\nwdq '
+unset STAND_IN_STATUS
+
+# --- At a terminal: warnings, a run that prints nothing, and statuses ---
+
+in_terminal "'$checkout/wdq' replay --export --from page < events.jsonl"
+shows 'no folder' $'wdq: there is no folder \'page\', so each revision will be missing\n{"kind"'
+in_terminal "'$checkout/wdq' replay --export --from=pages < events.jsonl"
+wants 'a folder' '{"kind":"edit"}' "$shown"
+in_terminal "'$checkout/wdq' replay --export"
+shows 'the terminal as input' 'wdq: standard input is the terminal'
+in_terminal "STAND_IN_STATUS=0 '$checkout/wdq' drill --size 1 < /dev/null"
+wants 'a drill reads no input' '' "$shown"
+in_terminal "'$checkout/wdq' replay < events.jsonl"
+wants 'neither section nor question' $'{"kind":"edit"}\nwdq: neither a section (--export, --state, --side) nor a question was asked for, so nothing is printed' "$shown"
+in_terminal "'$checkout/wdq' replay < asks.jsonl"
+wants 'a question' '{"ask":["?","?","?"]}' "$shown"
+in_terminal "cat asks.jsonl | '$checkout/wdq' replay"
+shows 'a pipe' 'wdq: no section was asked for (--export, --state, --side), so only answers to questions are printed'
+for number in 2 3 4 5 6 7; do
+  in_terminal "STAND_IN_STATUS=$number '$checkout/wdq' replay < events.jsonl"
+  wants "status $number at a terminal" "$number wdq: status $number" "$status $shown"
+done
+in_terminal "'$checkout/wdq' replay --export <&-"
+wants 'a closed input' 'cat: -: Bad file descriptor' "${shown%%$'\n'*}"
+in_terminal "STAND_IN_SLEEP=60 '$checkout/wdq' drill --size 1 < /dev/null & child=\$!; sleep 1; kill \$child; wait \$child; echo \$?; pgrep -f '^sleep 60\$' -s 0"
+wants 'a signal goes on to the program' 143 "${shown##*$'\n'}"
+in_interrupted_terminal "$room/words" "STAND_IN_SLEEP=60 '$checkout/wdq' drill --size 1"
+wants 'Ctrl-C ends the program' 130 "${shown##*status }"
+
+# --- The build ---
+
+drop_program
+in_terminal "'$checkout/wdq' --help"
+wants 'help needs no build' '1 no log' "$status $(ls "$checkout/build.log" 2>/dev/null || echo no log)"
+shows 'help before the build' $'wdq: words not understood\n\nwdq '
+WDQ_JOBS=3 "$checkout/wdq" replay <events.jsonl >out 2>err
+wants 'a build' '0 {"kind":"edit"}' "$? $(cat out)"
+wants 'what a build says in a file' $'wdq: building: 3 crates are proved, 3 at a time\nwdq: 2 of 3 crates, 0 minutes' "$(sed 's/: 0 of/: 2 of/' err)"
+wants 'how a build calls rt' $'all check --jobs 3\nrun -- replay' "$(cat "$room/calls")"
+free=$(awk '/^MemAvailable:/ { print $2 }' /proc/meminfo)
+if [ "$(nproc)" -gt 1 ] && [ "$free" -gt 7000000 ]; then
+  drop_program
+  "$checkout/wdq" replay <events.jsonl >out 2>err
+  wants 'more than one crate at a time' more "$(grep -q ' proved, 1 at' err && echo one || echo more)"
+fi
+"$checkout/wdq" replay <events.jsonl >out 2>err
+wants 'nothing is built twice' '0 2' "$(wc -c <err) $(wc -l <"$room/calls")"
+touch "$checkout/crates/lower/src/lib.rt"
+in_terminal "'$checkout/wdq' replay --export < events.jsonl"
+shows 'a newer source' 'wdq: building: 3 crates are proved, '
+shows 'the progress at a terminal' 'wdq: 3 of 3 crates, 0 minutes'
+wants 'a build at a terminal' 0 "$status"
+drop_program
+WDQ_JOBS=none "$checkout/wdq" replay </dev/null >out 2>err
+wants 'WDQ_JOBS is no number' "70 wdq: WDQ_JOBS is a number from 1 to 9999, and not 'none'" "$? $(cat err)"
+RT_FAILS=crate "$checkout/wdq" replay </dev/null >out 2>err
+wants 'a crate is not proved' $'70 == upper\nlost at this line\nwdq: upper could not be built; the whole log is build.log' "$? $(tail -n 3 err)"
+drop_program
+RT_FAILS=memory WDQ_JOBS=2 "$checkout/wdq" replay </dev/null >out 2>err
+wants 'memory ran out' $'0 all check --jobs 2\nall check --jobs 1\nrun -- replay' "$? $(cat "$room/calls")"
+drop_program
+RT_FAILS='sleep' "$checkout/wdq" replay </dev/null >out 2>err &
+wait_for "$room/calls"
+kill $!
+wait $!
+wants 'a build is stopped' '143 wdq: the build was interrupted; the next one goes on where it stopped' "$? $(tail -n 1 err)"
+in_interrupted_terminal "$room/calls" "RT_FAILS=sleep '$checkout/wdq' replay"
+wants 'Ctrl-C stops a build' 130 "${shown##*status }"
+shows 'Ctrl-C in a build' 'the build was interrupted'
+PATH=/usr/bin:/bin "$checkout/wdq" replay </dev/null >out 2>err
+wants 'there is no rt' '70 1' "$? $(grep -c "command 'rt' is not on PATH" err)"
+
+# --- The installed program ---
+
+drop_program
+"$checkout/install.sh" "$room/prefix" >out 2>err
+wants 'an installation' "0 installed bin/wdq libexec/wdq/wdq share/man/man1/wdq.1 below $room/prefix" "$? $(cat out)"
+wants 'installed files' $'bin/wdq\nlibexec/wdq/wdq\nshare/man/man1/wdq.1' "$(cd "$room/prefix" && find . -type f | sed 's,^\./,,' | sort)"
+rm -rf "$room/calls" && touch "$checkout/crates/lower/src/lib.rt"
+"$room/prefix/bin/wdq" replay --export <events.jsonl >out 2>err
+wants 'an installed program' '0 {"kind":"edit"}' "$? $(cat out err)"
+ln -s "$room/prefix/bin/wdq" "$room/bin/wdq"
+in_terminal "STAND_IN_STATUS=1 wdq replay events.jsonl < /dev/null"
+shows 'an installed program through a link' "'events.jsonl' is a file; did you mean < events.jsonl?"
+shows 'the manual of an installed program' 'The manual: man wdq'
+wants 'an installed program builds nothing' no "$([ -e "$room/calls" ] && echo yes || echo no)"
+rm "$room/prefix/libexec/wdq/wdq"
+"$room/prefix/bin/wdq" replay </dev/null 2>err
+wants 'a program that is gone' 70 "$?"
+"$checkout/install.sh" --remove "$room/prefix" >out 2>err
+wants 'a removal' "0 " "$? $(cd "$room/prefix" && find . -type f)"
+for words in --prefix '--remove --remove' 'a b' "''"; do
+  eval "'$checkout/install.sh' $words" >out 2>err
+  wants "install.sh $words" '2 install.sh: the words are [--remove] [PREFIX]' "$? $(cat err)"
+done
+
+# --- What has to agree ---
+
+wants 'the options of the script are those of the crate words' \
+  "$(grep -oh 'codes "--[a-z-]*"' "$top"/crates/words/specs/*.antt | grep -o -e '--[a-z-]*' | sort -u)" \
+  "$(sed -n '/^options=(/,/^)/p' "$top/wdq" | grep -o -e '--[a-z-]*' | sort)"
+version=$(sed -n 's/^version=//p' "$top/wdq")
+wants 'the version of the changes' "$version" "$(sed -n 's/^## \([0-9.]*\).*/\1/p' "$top/CHANGELOG.md" | head -n 1)"
+wants 'the version of the man page' "wdq $version" "$(sed -n '1s/.*"\(wdq [0-9.]*\)".*/\1/p' "$top/docs/wdq.1")"
+
+echo "$passed passed, $failed failed"
+[ "$failed" -eq 0 ]
