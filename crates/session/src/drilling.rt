@@ -13,7 +13,6 @@ use crate::remapping::begin_by_first;
 use drill_replay::{run_drill, summary_lines};
 use std::alloc::Global;
 use transcript::{Unwritten, print_lines};
-use words::take_size;
 use world::World;
 use wq_io::Sink;
 
@@ -39,7 +38,6 @@ pub fn drill<K: Sink>(
     ensures err { IfErr result (λ why. DrillStopped why size (output K.Sink out.old) (output K.Sink out.new) world.new.replay) }
 {
     begin_by_first(world);
-    let size = take_size(alloc, size)?;
     world.set_room(ROOM);
     let summary = run_drill(alloc, size, world)?;
     let lines = summary_lines(alloc, &summary)?;

@@ -20,11 +20,11 @@ use crate::taking::take_lines;
 use revisions::Revisions;
 use std::alloc::Global;
 use transcript::{Sections, print_closing};
-use words::{Arguments, ReplayOptions, take_arguments};
+use words::ReplayOptions;
 use world::World;
 use wq_io::{Sink, Source};
 
-// Begins by the first version of the mapping, sets the horizon, takes the values of the options, the lines and the end, and prints.
+// Begins by the first version of the mapping, sets the horizon and the room, takes the lines and the end, and prints.
 pub fn replay<S: Source, R: Revisions, K: Sink>(
     alloc: Global,
     options: &ReplayOptions<'_>,
@@ -65,7 +65,7 @@ fn set_horizon(options: &ReplayOptions<'_>, world: &mut World)
     }
 }
 
-// Takes the values of the options, the lines and the end, and prints.
+// Sets the room, takes the lines and the end, and prints.
 fn replay_within<S: Source, R: Revisions, K: Sink>(
     alloc: Global,
     options: &ReplayOptions<'_>,
@@ -90,27 +90,26 @@ fn replay_within<S: Source, R: Revisions, K: Sink>(
     ensures held { HoldsWithin (terms_of options.now) world.new }
     ensures source { HasGoneOn R.Revisions revisions.old revisions.new }
 {
-    let arguments = take_arguments(alloc, options)?;
-    world.set_room(arguments.terms());
-    take_all(alloc, &arguments, events, revisions, out, world)?;
-    Ok(print_closing(alloc, sections(&arguments), world, out)?)
+    world.set_room(options.terms());
+    take_all(alloc, options, events, revisions, out, world)?;
+    Ok(print_closing(alloc, sections(options), world, out)?)
 }
 
 // Which sections are asked for.
-fn sections(arguments: &Arguments) -> Sections
-    ensures { chosen result ≡ sections_of arguments.now }
+fn sections(options: &ReplayOptions<'_>) -> Sections
+    ensures { chosen result ≡ sections_of options.now }
 {
     Sections {
-        export: arguments.export(),
-        state: arguments.state(),
-        side: arguments.side(),
+        export: options.export(),
+        state: options.state(),
+        side: options.side(),
     }
 }
 
 // Takes the lines, with the answers to their questions, and the end.
 fn take_all<S: Source, R: Revisions, K: Sink>(
     alloc: Global,
-    plan: &Arguments,
+    plan: &ReplayOptions<'_>,
     events: &mut S,
     revisions: &mut R,
     out: &mut K,
