@@ -1,6 +1,6 @@
 // A replay: the lines of the input, the end, and the sections that are asked for.
 
-ghost use Rattle.std.specs.Prelude.{◌≡◌, ◌⊎◌, ◌≤◌, IfErr, IfSome, OnOk};
+ghost use Rattle.std.specs.Prelude.{◌≡◌, ◌≤◌, IfErr, IfSome, OnOk};
 ghost use Rattle.drill_replay.specs.Playing.{IsByFirst};
 ghost use Rattle.replay_model.specs.ReplayState.{nothing_delivered, nothing_delivered_within};
 ghost use Rattle.transcript.specs.Sections.{chosen};
@@ -10,7 +10,6 @@ ghost use Rattle.session.specs.Moment.{moment, run_of, world_at_start};
 ghost use Rattle.session.specs.Reading.{TakesByNeed};
 ghost use Rattle.session.specs.Remapping.{HoldsWithin};
 ghost use Rattle.session.specs.Sections.{sections_of};
-ghost use Rattle.session.specs.declared.stop.Stop.TheVariants.{OutOfMemory as Refused};
 ghost use Rattle.words.specs.Options.{limit_of, terms_of};
 
 use crate::delivering::take_end;
@@ -43,8 +42,7 @@ pub fn replay<S: Source, R: Revisions, K: Sink>(
     ensures err { IfErr result (λ stop. Stopped stop (run_of (R.contents revisions.old) options.now)
         (moment S.Source R.Revisions K.Sink events.old revisions.old out.old (world_at_start options.now))
         (moment S.Source R.Revisions K.Sink events.new revisions.new out.new world.new)) }
-    ensures room { OnOk result (world.new.room ≡ terms_of options.now) }
-    ensures room_kept { IfErr result (λ stop. (stop ≡ Refused) ⊎ (world.new.room ≡ terms_of options.now)) }
+    ensures room { world.new.room ≡ terms_of options.now }
     ensures held { HoldsWithin (terms_of options.now) world.new }
     ensures source { HasGoneOn R.Revisions revisions.old revisions.new }
 {
@@ -85,8 +83,7 @@ fn replay_within<S: Source, R: Revisions, K: Sink>(
     ensures err { IfErr result (λ stop. Stopped stop (run_of (R.contents revisions.old) options.now)
         (moment S.Source R.Revisions K.Sink events.old revisions.old out.old world.old)
         (moment S.Source R.Revisions K.Sink events.new revisions.new out.new world.new)) }
-    ensures room { OnOk result (world.new.room ≡ terms_of options.now) }
-    ensures room_kept { IfErr result (λ stop. (stop ≡ Refused) ⊎ (world.new.room ≡ terms_of options.now)) }
+    ensures room { world.new.room ≡ terms_of options.now }
     ensures held { HoldsWithin (terms_of options.now) world.new }
     ensures source { HasGoneOn R.Revisions revisions.old revisions.new }
 {

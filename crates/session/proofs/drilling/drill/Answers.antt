@@ -1,9 +1,9 @@
--- Want of memory before the drill, in it and after it; and the summary, printed or not wholly.
-use Rattle.std.proofs.Common.{◌≡◌, ◌∙◌, ap, inl, refl, map, string_bytes}
+-- Want of memory in the drill and after it; and the summary, printed or not wholly.
+use Rattle.std.proofs.Common.{◌≡◌, ◌∙◌, ap, map, string_bytes}
 use Rattle.std.specs.FinMap.{len-empty}
 use Rattle.std.proofs.lemmas.Result.{err_from_is_err_and}
 use Rattle.drill_replay.specs.Summary.{drilled, lines_of, summary_of}
-use Rattle.session.proofs.Drills.{all_printed, not_begun, printed_in_part, room_kept, room_left, roomy}
+use Rattle.session.proofs.Drills.{all_printed, not_begun, printed_in_part, roomy}
 use Rattle.session.proofs.drilling.drill.Goals as goal
 
 pub returns-in_err-summary-clause-err : goal.returns-in_err-summary-clause-err
@@ -42,18 +42,11 @@ returns-in_err-lines-clause-held g c = (c.run_drill.ensures.within 20000000 (roo
 pub returns-clause-held : goal.returns-clause-held
 returns-clause-held g c = (c.run_drill.ensures.within 20000000 (roomy 20000000 c.begin_by_first.new.world c.set_room.new.self c.begin_by_first.ensures.replay c.set_room.ensures)).within
 
-pub returns-in_err-summary-clause-room_kept : goal.returns-in_err-summary-clause-room_kept
-returns-in_err-summary-clause-room_kept g c =
-    let p = err_from_is_err_and c.from_residual.result c.from_residual.ensures.1 in
-    rw (p.1, p.2) (inl refl)
+pub returns-in_err-summary-clause-room : goal.returns-in_err-summary-clause-room
+returns-in_err-summary-clause-room g c = (c.run_drill.ensures.within 20000000 (roomy 20000000 c.begin_by_first.new.world c.set_room.new.self c.begin_by_first.ensures.replay c.set_room.ensures)).room_is
 
-pub returns-in_err-lines-clause-room_kept : goal.returns-in_err-lines-clause-room_kept
-returns-in_err-lines-clause-room_kept g c =
-    let p = err_from_is_err_and c.from_residual-in_err-lines.result c.from_residual-in_err-lines.ensures.1 in
-    rw (p.1, p.2) (inl refl)
+pub returns-in_err-lines-clause-room : goal.returns-in_err-lines-clause-room
+returns-in_err-lines-clause-room g c = (c.run_drill.ensures.within 20000000 (roomy 20000000 c.begin_by_first.new.world c.set_room.new.self c.begin_by_first.ensures.replay c.set_room.ensures)).room_is
 
 pub returns-clause-room : goal.returns-clause-room
-returns-clause-room g c = room_left c.print_lines.result (c.run_drill.ensures.within 20000000 (roomy 20000000 c.begin_by_first.new.world c.set_room.new.self c.begin_by_first.ensures.replay c.set_room.ensures)).room_is
-
-pub returns-clause-room_kept : goal.returns-clause-room_kept
-returns-clause-room_kept g c = room_kept c.print_lines.result (c.run_drill.ensures.within 20000000 (roomy 20000000 c.begin_by_first.new.world c.set_room.new.self c.begin_by_first.ensures.replay c.set_room.ensures)).room_is
+returns-clause-room g c = (c.run_drill.ensures.within 20000000 (roomy 20000000 c.begin_by_first.new.world c.set_room.new.self c.begin_by_first.ensures.replay c.set_room.ensures)).room_is

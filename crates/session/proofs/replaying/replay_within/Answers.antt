@@ -1,5 +1,5 @@
--- Values that are not taken, a stop of the taking, a fault of the sink, and the end.
-use Rattle.std.proofs.Common.{inr, ◌∙◌}
+-- A stop of the taking, a fault of the sink, and the end.
+use Rattle.std.proofs.Common.{◌∙◌}
 use Rattle.std.specs.FinMap.{len-empty}
 use Rattle.std.proofs.lemmas.Result.{err_from_is_err_and}
 use Rattle.session.specs.Moment.{Moment, Run, moment, run_of}
@@ -64,12 +64,8 @@ take_all-requires-clause-held g c = rw (c.set_room.ensures, c.requires.world) (n
 pub returns-clause-room : goal.returns-clause-room
 returns-clause-room g c = rw (c.set_room.ensures, c.terms.ensures) at c.take_all.ensures.room
 
-pub returns-in_err-take_all-clause-room_kept : goal.returns-in_err-take_all-clause-room_kept
-returns-in_err-take_all-clause-room_kept g c =
-    let p = err_from_is_err_and c.from_residual.result c.from_residual.ensures.1 in
-    rw p.1 (inr (rw (c.set_room.ensures, c.terms.ensures) at c.take_all.ensures.room))
+pub returns-in_err-take_all-clause-room : goal.returns-in_err-take_all-clause-room
+returns-in_err-take_all-clause-room g c = rw (c.set_room.ensures, c.terms.ensures) at c.take_all.ensures.room
 
-pub returns-in_err-print_closing-clause-room_kept : goal.returns-in_err-print_closing-clause-room_kept
-returns-in_err-print_closing-clause-room_kept g c =
-    let p = err_from_is_err_and c.from_residual-in_err-print_closing.result c.from_residual-in_err-print_closing.ensures.1 in
-    rw p.1 (inr (rw (c.set_room.ensures, c.terms.ensures) at c.take_all.ensures.room))
+pub returns-in_err-print_closing-clause-room : goal.returns-in_err-print_closing-clause-room
+returns-in_err-print_closing-clause-room g c = rw (c.set_room.ensures, c.terms.ensures) at c.take_all.ensures.room
