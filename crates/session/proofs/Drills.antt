@@ -1,5 +1,5 @@
 -- What the summary of a drill leaves that was printed, or was not printed wholly.
-use Rattle.std.proofs.Common.{◌≡◌, ◌⊎◌, ◌∙◌, inr, refl, ap, subst, ℕ, List, [], ◌∷◌, ◌++◌, map, Result, Ok, Err, OnOk, IfErr, Some}
+use Rattle.std.proofs.Common.{◌≡◌, ◌∙◌, refl, ap, subst, ℕ, List, [], ◌∷◌, ◌++◌, map, Result, Ok, Err, OnOk, IfErr, Some}
 use Rattle.std.specs.List.{flat_map}
 use Rattle.std.specs.FinMap.{len-empty}
 use Rattle.replay_model.specs.Play.{nothing_played}
@@ -53,12 +53,3 @@ roomy room old new nothing is = record {
   room_is = ap (λ (w : WorldState). w.room) is;
   within = rw (is, nothing) (nothing_held (meaning_by meaning old.second) nothing_played.records room (len-empty _ _));
 }
-
--- however the printing ended, the room is what it was
-pub room_left : {P : Type 0} (result : Result (Unit {0}) Unwritten) → P → OnOk result P
-room_left (Ok done) is = is
-room_left (Err why) is = tt
-
-pub room_kept : {P : Type 0} (result : Result (Unit {0}) Unwritten) → P → IfErr result (λ why. (why ≡ Refused) ⊎ P)
-room_kept (Ok done) is = tt
-room_kept (Err why) is = inr is

@@ -1,6 +1,6 @@
 // A replay: the lines of the input, the end, and the sections that are asked for.
 
-ghost use Rattle.std.specs.Prelude.{◌≡◌, ◌⊎◌, ◌≤◌, IfErr, IfSome, OnOk};
+ghost use Rattle.std.specs.Prelude.{◌≡◌, ◌≤◌, IfErr, IfSome, OnOk};
 ghost use Rattle.drill_replay.specs.Playing.{IsByFirst};
 ghost use Rattle.replay_model.specs.ReplayState.{nothing_delivered, nothing_delivered_within};
 ghost use Rattle.transcript.specs.Sections.{chosen};
@@ -10,7 +10,6 @@ ghost use Rattle.session.specs.Moment.{moment, run_of, world_at_start};
 ghost use Rattle.session.specs.Reading.{TakesByNeed};
 ghost use Rattle.session.specs.Remapping.{HoldsWithin};
 ghost use Rattle.session.specs.Sections.{sections_of};
-ghost use Rattle.session.specs.declared.stop.Stop.TheVariants.{OutOfMemory as Refused};
 ghost use Rattle.words.specs.Options.{limit_of, terms_of};
 
 use crate::delivering::take_end;
@@ -20,11 +19,11 @@ use crate::taking::take_lines;
 use revisions::Revisions;
 use std::alloc::Global;
 use transcript::{Sections, print_closing};
-use words::{Arguments, ReplayOptions, take_arguments};
+use words::ReplayOptions;
 use world::World;
 use wq_io::{Sink, Source};
 
-// Begins by the first version of the mapping, sets the horizon, takes the values of the options, the lines and the end, and prints.
+// Begins by the first version of the mapping, sets the horizon and the room, takes the lines and the end, and prints.
 pub fn replay<S: Source, R: Revisions, K: Sink>(
     alloc: Global,
     options: &ReplayOptions<'_>,
@@ -43,8 +42,7 @@ pub fn replay<S: Source, R: Revisions, K: Sink>(
     ensures err { IfErr result (λ stop. Stopped stop (run_of (R.contents revisions.old) options.now)
         (moment S.Source R.Revisions K.Sink events.old revisions.old out.old (world_at_start options.now))
         (moment S.Source R.Revisions K.Sink events.new revisions.new out.new world.new)) }
-    ensures room { OnOk result (world.new.room ≡ terms_of options.now) }
-    ensures room_kept { IfErr result (λ stop. (stop ≡ Refused) ⊎ (world.new.room ≡ terms_of options.now)) }
+    ensures room { world.new.room ≡ terms_of options.now }
     ensures held { HoldsWithin (terms_of options.now) world.new }
     ensures source { HasGoneOn R.Revisions revisions.old revisions.new }
 {
@@ -65,7 +63,7 @@ fn set_horizon(options: &ReplayOptions<'_>, world: &mut World)
     }
 }
 
-// Takes the values of the options, the lines and the end, and prints.
+// Sets the room, takes the lines and the end, and prints.
 fn replay_within<S: Source, R: Revisions, K: Sink>(
     alloc: Global,
     options: &ReplayOptions<'_>,
@@ -85,32 +83,30 @@ fn replay_within<S: Source, R: Revisions, K: Sink>(
     ensures err { IfErr result (λ stop. Stopped stop (run_of (R.contents revisions.old) options.now)
         (moment S.Source R.Revisions K.Sink events.old revisions.old out.old world.old)
         (moment S.Source R.Revisions K.Sink events.new revisions.new out.new world.new)) }
-    ensures room { OnOk result (world.new.room ≡ terms_of options.now) }
-    ensures room_kept { IfErr result (λ stop. (stop ≡ Refused) ⊎ (world.new.room ≡ terms_of options.now)) }
+    ensures room { world.new.room ≡ terms_of options.now }
     ensures held { HoldsWithin (terms_of options.now) world.new }
     ensures source { HasGoneOn R.Revisions revisions.old revisions.new }
 {
-    let arguments = take_arguments(alloc, options)?;
-    world.set_room(arguments.terms());
-    take_all(alloc, &arguments, events, revisions, out, world)?;
-    Ok(print_closing(alloc, sections(&arguments), world, out)?)
+    world.set_room(options.terms());
+    take_all(alloc, options, events, revisions, out, world)?;
+    Ok(print_closing(alloc, sections(options), world, out)?)
 }
 
 // Which sections are asked for.
-fn sections(arguments: &Arguments) -> Sections
-    ensures { chosen result ≡ sections_of arguments.now }
+fn sections(options: &ReplayOptions<'_>) -> Sections
+    ensures { chosen result ≡ sections_of options.now }
 {
     Sections {
-        export: arguments.export(),
-        state: arguments.state(),
-        side: arguments.side(),
+        export: options.export(),
+        state: options.state(),
+        side: options.side(),
     }
 }
 
 // Takes the lines, with the answers to their questions, and the end.
 fn take_all<S: Source, R: Revisions, K: Sink>(
     alloc: Global,
-    plan: &Arguments,
+    plan: &ReplayOptions<'_>,
     events: &mut S,
     revisions: &mut R,
     out: &mut K,

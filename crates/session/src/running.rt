@@ -64,9 +64,8 @@ pub fn run<S: Source, R: Revisions, K: Sink>(
     ensures held { (choices : Choices) → plan_of (map (λ w. string_bytes w) words.now) ≡ Some (Replay choices) →
         HoldsWithin (terms_of choices) world.new }
 
-    // Where memory sufficed, the world is left with the room that the words say.
-    ensures room { (choices : Choices) → plan_of (map (λ w. string_bytes w) words.now) ≡ Some (Replay choices) →
-        (result ≡ Status.OutOfMemory) ⊎ (world.new.room ≡ terms_of choices) }
+    // However a replay ends, the world is left with the room that the words say.
+    ensures room { (choices : Choices) → plan_of (map (λ w. string_bytes w) words.now) ≡ Some (Replay choices) → world.new.room ≡ terms_of choices }
 
     // A drill ends well, or while it printed, or for want of memory.
     ensures drilled { (size : ℕ) → plan_of (map (λ w. string_bytes w) words.now) ≡ Some (Drill size) →
@@ -80,9 +79,8 @@ pub fn run<S: Source, R: Revisions, K: Sink>(
     // However a drill ends, what is held has no more different terms than its world has room for.
     ensures drilled_within { (size : ℕ) → plan_of (map (λ w. string_bytes w) words.now) ≡ Some (Drill size) → HoldsWithin 20000000 world.new }
 
-    // Where memory sufficed, a drill leaves the world with its room.
-    ensures drilled_room { (size : ℕ) → plan_of (map (λ w. string_bytes w) words.now) ≡ Some (Drill size) →
-        (result ≡ Status.OutOfMemory) ⊎ (world.new.room ≡ 20000000) }
+    // However a drill ends, the world is left with its room.
+    ensures drilled_room { (size : ℕ) → plan_of (map (λ w. string_bytes w) words.now) ≡ Some (Drill size) → world.new.room ≡ 20000000 }
 
     ensures drilled_alone { (size : ℕ) → plan_of (map (λ w. string_bytes w) words.now) ≡ Some (Drill size) →
         (events.new ≡ events.old) × (revisions.new ≡ revisions.old) }

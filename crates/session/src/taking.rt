@@ -20,7 +20,7 @@ use entity_model::Delivery;
 use event_line::{DeliveryFault, delivery};
 use revisions::Revisions;
 use std::alloc::Global;
-use words::Arguments;
+use words::ReplayOptions;
 use world::World;
 use wq_io::{Lines, Sink, Source};
 
@@ -28,7 +28,7 @@ use wq_io::{Lines, Sink, Source};
 // question is answered at once; at a change of the mapping all that is held is mapped anew before the next line is taken.
 pub fn take_lines<S: Source, R: Revisions, K: Sink>(
     alloc: Global,
-    plan: &Arguments,
+    plan: &ReplayOptions<'_>,
     events: &mut S,
     revisions: &mut R,
     out: &mut K,

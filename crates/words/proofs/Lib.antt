@@ -1,6 +1,3 @@
-mod Choosing
-mod Following
-mod Matched
-mod Slots
+mod Naming
 mod Spelling
 mod Written

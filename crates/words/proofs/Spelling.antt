@@ -1,83 +1,60 @@
--- The words of items are read as these items, and all words are those of the items that are read.
-use Rattle.std.proofs.Common.{◌≡◌, refl, sym, subst, ◌∙◌, ap, ℕ, ◌<◌, Bool, true, false, cond, nat_lt, List, [], ◌∷◌, ◌++◌, length, get_or, map, Option, None, Some, option_map, codes, append-nil, arith, eqb-true}
+-- Written items are read as these items, and all words are those of the items that are read.
+use Rattle.std.proofs.Common.{◌≡◌, refl, sym, subst, ◌∙◌, ap, ℕ, ◌<◌, Bool, true, false, cond, not, ◌&&◌, nat_lt, List, [], ◌∷◌, ◌++◌, length, find, get_or, Option, None, Some, is_some, eqb-true}
 use Rattle.std.specs.List.{AllByRecursion as Each, position_or_len, before_first, after_first}
 use Rattle.std.specs.Option.{option_and_then}
 use Rattle.std.specs.Str.{bytes_eq}
-use Rattle.std.proofs.lemmas.Bool.{and_parts, lt-ltb, ltb-true}
+use Rattle.std.proofs.lemmas.Bool.{and_parts, ltb-true}
 use Rattle.std.proofs.lemmas.List.Sums.{passes_at_first, split_at_first}
-use Rattle.words.specs.Items.{Item, is_equals_sign, is_value, item, item_of_word, items_of, takes_value}
-use Rattle.words.specs.Options.{Choices, nothing_chosen, with_items}
-use Rattle.words.specs.Plan.{plan_of, size_in, size_of}
-use Rattle.words.specs.Grammar.{IsDrill, IsReplay, Written, has_value, is_flag, is_item, words_of_item, words_written}
-use Rattle.words.specs.declared.plan.Plan.TheVariants.{Replay, Drill}
-use Rattle.words.proofs.Choosing.{made_as_said, one_of_four, one_of_three, said_as_made, same_name}
-use Rattle.words.proofs.Following.{items_apart, items_whole}
+use Rattle.words.specs.declared.table.ValueKind.{ValueKind}
+use Rattle.words.specs.declared.table.ValueKind.TheVariants.{Flag, Text, Number}
+use Rattle.words.specs.Table.{Entry, command_named, commands, name_of, table_of, fits, has_value, kind_in}
+use Rattle.words.specs.Items.{Item, are_items, is_equals_sign, item, item_named, item_of_word, items_of}
+use Rattle.words.specs.Plan.{asked, plan_of, understood}
+use Rattle.words.specs.Grammar.{AreDistinct, IsPlan, Spell, Written, items_in, words_of_item, words_written}
+use Rattle.words.specs.declared.plan.Plan.{Plan}
+use Rattle.words.specs.declared.table.Command.{Command}
+use Rattle.words.specs.declared.table.Command.TheVariants.{Replay as ToReplay, Drill as ToDrill}
+use Rattle.words.proofs.Naming.{are_plain, is_plain, item_alone, item_joined, items_apart, items_whole, joined_untold, kind_plain, same_name}
+
+abbrev IsFit : List Entry → Item → Type 0
+IsFit table i = fits (kind_in table i.name) i.value ≡ true
 
 -- ---- one item
 
-abbrev is_read : List ℕ → Option (List ℕ) → Bool → List (List ℕ) → Type 0
-is_read name value joined others = items_of (words_of_item name value joined ++ others) ≡ item name value ∷ items_of others
+abbrev is_read : List Entry → List ℕ → Option (List ℕ) → Bool → List (List ℕ) → Type 0
+is_read table name value joined others = items_of table (words_of_item name value joined ++ others) ≡ item name value ∷ items_of table others
 
-from_read : (value : List ℕ) (joined : Bool) (others : List (List ℕ)) → is_read (codes "--from") (Some value) joined others
-from_read value false others = items_apart (codes "--from") value others refl
-from_read value true others =
-    items_whole (codes "--from" ++ 61 ∷ value) others refl
-    ∙ ap (λ b. cond b (item (codes "--from") (Some value)) (item (codes "--from" ++ 61 ∷ value) None) ∷ items_of others) (lt-ltb 6 (length (codes "--from" ++ 61 ∷ value)) (omega arith))
+module _ (table : List Entry) (plain : are_plain table ≡ true) where
+  flag_read : (name : List ℕ) (joined : Bool) (others : List (List ℕ)) → is_plain name ≡ true → has_value (kind_in table name) ≡ false → is_read table name None joined others
+  flag_read name joined others alone none =
+      items_whole table name others none ∙ ap (λ i. i ∷ items_of table others) (item_alone name alone)
 
-bytes_read : (value : List ℕ) (joined : Bool) (others : List (List ℕ)) → is_read (codes "--max-bytes") (Some value) joined others
-bytes_read value false others = items_apart (codes "--max-bytes") value others refl
-bytes_read value true others =
-    items_whole (codes "--max-bytes" ++ 61 ∷ value) others refl
-    ∙ ap (λ b. cond b (item (codes "--max-bytes") (Some value)) (item (codes "--max-bytes" ++ 61 ∷ value) None) ∷ items_of others) (lt-ltb 11 (length (codes "--max-bytes" ++ 61 ∷ value)) (omega arith))
+  value_read : (name value : List ℕ) (joined : Bool) (others : List (List ℕ)) → is_plain name ≡ true → has_value (kind_in table name) ≡ true
+      → is_read table name (Some value) joined others
+  value_read name value false others alone takes = items_apart table name value others takes
+  value_read name value true others alone takes =
+      items_whole table (name ++ 61 ∷ value) others (ap has_value (joined_untold table name value plain alone))
+      ∙ ap (λ i. i ∷ items_of table others) (item_joined name value alone)
 
-terms_read : (value : List ℕ) (joined : Bool) (others : List (List ℕ)) → is_read (codes "--max-terms") (Some value) joined others
-terms_read value false others = items_apart (codes "--max-terms") value others refl
-terms_read value true others =
-    items_whole (codes "--max-terms" ++ 61 ∷ value) others refl
-    ∙ ap (λ b. cond b (item (codes "--max-terms") (Some value)) (item (codes "--max-terms" ++ 61 ∷ value) None) ∷ items_of others) (lt-ltb 11 (length (codes "--max-terms" ++ 61 ∷ value)) (omega arith))
+  one_read : (name : List ℕ) (value : Option (List ℕ)) (joined : Bool) (others : List (List ℕ)) → fits (kind_in table name) value ≡ true → is_read table name value joined others
+  one_read name value joined others fit = by (kind_in table name) refl value fit
+    where
+      by : (kind : Option ValueKind) → kind_in table name ≡ kind → (value : Option (List ℕ)) → fits kind value ≡ true → is_read table name value joined others
+      by None is value fit = cc
+      by (Some Flag) is None fit = flag_read name joined others (kind_plain table name Flag plain is) (ap has_value is)
+      by (Some Flag) is (Some text) fit = cc
+      by (Some Text) is None fit = cc
+      by (Some Text) is (Some text) fit = value_read name text joined others (kind_plain table name Text plain is) (ap has_value is)
+      by (Some (Number least greatest)) is None fit = cc
+      by (Some (Number least greatest)) is (Some text) fit =
+          value_read name text joined others (kind_plain table name (Number least greatest) plain is) (ap has_value is)
 
-horizon_read : (value : List ℕ) (joined : Bool) (others : List (List ℕ)) → is_read (codes "--horizon") (Some value) joined others
-horizon_read value false others = items_apart (codes "--horizon") value others refl
-horizon_read value true others =
-    items_whole (codes "--horizon" ++ 61 ∷ value) others refl
-    ∙ ap (λ b. cond b (item (codes "--horizon") (Some value)) (item (codes "--horizon" ++ 61 ∷ value) None) ∷ items_of others) (lt-ltb 9 (length (codes "--horizon" ++ 61 ∷ value)) (omega arith))
+  -- ---- all items
 
-size_read : (value : List ℕ) (joined : Bool) (others : List (List ℕ)) → is_read (codes "--size") (Some value) joined others
-size_read value false others = items_apart (codes "--size") value others refl
-size_read value true others =
-    items_whole (codes "--size" ++ 61 ∷ value) others refl
-    ∙ ap (λ b. cond b (item (codes "--size") (Some value)) (item (codes "--size" ++ 61 ∷ value) None) ∷ items_of others) (lt-ltb 6 (length (codes "--size" ++ 61 ∷ value)) (omega arith))
-
-value_read : (name value : List ℕ) (joined : Bool) (others : List (List ℕ)) → has_value name ≡ true → is_read name (Some value) joined others
-value_read name value joined others known = by (bytes_eq name (codes "--from")) refl (bytes_eq name (codes "--max-bytes")) refl (bytes_eq name (codes "--max-terms")) refl
-  where
-    by : (p : Bool) → bytes_eq name (codes "--from") ≡ p → (q : Bool) → bytes_eq name (codes "--max-bytes") ≡ q → (r : Bool) → bytes_eq name (codes "--max-terms") ≡ r → is_read name (Some value) joined others
-    by true ps q qs r rs = subst (λ n. is_read n (Some value) joined others) (sym (same_name name (codes "--from") ps)) (from_read value joined others)
-    by false ps true qs r rs = subst (λ n. is_read n (Some value) joined others) (sym (same_name name (codes "--max-bytes") qs)) (bytes_read value joined others)
-    by false ps false qs true rs = subst (λ n. is_read n (Some value) joined others) (sym (same_name name (codes "--max-terms") rs)) (terms_read value joined others)
-    by false ps false qs false rs = subst (λ n. is_read n (Some value) joined others) (sym (same_name name (codes "--horizon") (one_of_four _ _ _ _ known ps qs rs))) (horizon_read value joined others)
-
-flag_read : (name : List ℕ) (joined : Bool) (others : List (List ℕ)) → is_flag name ≡ true → is_read name None joined others
-flag_read name joined others known = by (bytes_eq name (codes "--export")) refl (bytes_eq name (codes "--state")) refl
-  where
-    by : (p : Bool) → bytes_eq name (codes "--export") ≡ p → (q : Bool) → bytes_eq name (codes "--state") ≡ q → is_read name None joined others
-    by true ps q qs = subst (λ n. is_read n None joined others) (sym (same_name name (codes "--export") ps)) (items_whole (codes "--export") others refl)
-    by false ps true qs = subst (λ n. is_read n None joined others) (sym (same_name name (codes "--state") qs)) (items_whole (codes "--state") others refl)
-    by false ps false qs = subst (λ n. is_read n None joined others) (sym (same_name name (codes "--side") (one_of_three _ _ _ known ps qs))) (items_whole (codes "--side") others refl)
-
-one_read : (name : List ℕ) (value : Option (List ℕ)) (joined : Bool) (others : List (List ℕ)) → is_item name value ≡ true → is_read name value joined others
-one_read name None joined others known = flag_read name joined others known
-one_read name (Some value) joined others known = value_read name value joined others (and_parts (has_value name) (is_value value) known).0
-
--- ---- all items
-
-abbrev items_in : List Written → List Item
-items_in written = map (λ (w : Written). w.item) written
-
-all_read : (written : List Written) → Each (λ (i : Item). is_item i.name i.value ≡ true) (items_in written) → items_of (words_written written) ≡ items_in written
-all_read [] known = refl
-all_read (w ∷ written) known =
-    one_read w.item.name w.item.value w.joined (words_written written) known.0 ∙ ap (λ is. w.item ∷ is) (all_read written known.1)
+  all_read : (written : List Written) → Each (IsFit table) (items_in written) → items_of table (words_written written) ≡ items_in written
+  all_read [] fit = refl
+  all_read (w ∷ written) fit =
+      one_read w.item.name w.item.value w.joined (words_written written) fit.0 ∙ ap (λ is. w.item ∷ is) (all_read written fit.1)
 
 -- a word is that of the item that it is read as
 word_written : (word : List ℕ) → words_of_item (item_of_word word).name (item_of_word word).value true ≡ word ∷ []
@@ -94,104 +71,133 @@ word_written word = by (nat_lt (position_or_len is_equals_sign word) (length wor
         ap (λ w. w ∷ []) (sym parts)
 
 -- the items that words are read as, as they are written
-record Spells (words : List (List ℕ)) : Type 0 where
+record Writes (table : List Entry) (words : List (List ℕ)) : Type 0 where
   written : List Written
   are : words ≡ words_written written
-  items : items_in written ≡ items_of words
+  items : items_in written ≡ items_of table words
 
-spell_word : (word : List ℕ) (words : List (List ℕ)) → items_of (word ∷ words) ≡ item_of_word word ∷ items_of words → Spells words → Spells (word ∷ words)
-spell_word word words reads others = record {
+write_word : (table : List Entry) (word : List ℕ) (words : List (List ℕ)) → items_of table (word ∷ words) ≡ item_of_word word ∷ items_of table words → Writes table words → Writes table (word ∷ words)
+write_word table word words reads others = record {
   written = record { item = item_of_word word; joined = true } ∷ others.written;
   are = ap (λ ws. word ∷ ws) others.are ∙ ap (λ ws. ws ++ words_written others.written) (sym (word_written word));
   items = ap (λ is. item_of_word word ∷ is) others.items ∙ sym reads;
 }
 
-spell : (words : List (List ℕ)) → Spells words
-spell [] = record { written = []; are = refl; items = refl }
-spell (word ∷ []) = spell_word word [] refl (record { written = []; are = refl; items = refl })
-spell (word ∷ next ∷ others) = by (takes_value word) refl (spell others) (spell (next ∷ others))
+write : (table : List Entry) (words : List (List ℕ)) → Writes table words
+write table [] = record { written = []; are = refl; items = refl }
+write table (word ∷ []) = write_word table word [] refl (record { written = []; are = refl; items = refl })
+write table (word ∷ next ∷ others) = by (has_value (kind_in table word)) refl (write table others) (write table (next ∷ others))
   where
-    by : (b : Bool) → takes_value word ≡ b → Spells others → Spells (next ∷ others) → Spells (word ∷ next ∷ others)
+    by : (b : Bool) → has_value (kind_in table word) ≡ b → Writes table others → Writes table (next ∷ others) → Writes table (word ∷ next ∷ others)
     by true takes behind after = record {
       written = record { item = item word (Some next); joined = false } ∷ behind.written;
       are = ap (λ ws. word ∷ next ∷ ws) behind.are;
-      items = ap (λ is. item word (Some next) ∷ is) behind.items ∙ sym (items_apart word next others takes);
+      items = ap (λ is. item word (Some next) ∷ is) behind.items ∙ sym (items_apart table word next others takes);
     }
-    by false takes behind after = spell_word word (next ∷ others) (items_whole word (next ∷ others) takes) after
+    by false takes behind after = write_word table word (next ∷ others) (items_whole table word (next ∷ others) takes) after
+
+-- ---- each fits, and no name comes twice
+
+named_apart : (name : List ℕ) (items : List Item) → is_some (item_named name items) ≡ false → Each (λ (other : Item). bytes_eq other.name name ≡ false) items
+named_apart name [] none = tt
+named_apart name (i ∷ items) none = by (bytes_eq i.name name) refl (λ later. named_apart name items later) none
+  where
+    by : (b : Bool) → bytes_eq i.name name ≡ b → (is_some (item_named name items) ≡ false → Each (λ (other : Item). bytes_eq other.name name ≡ false) items)
+        → is_some (cond b (Some i) (item_named name items)) ≡ false → Each (λ (other : Item). bytes_eq other.name name ≡ false) (i ∷ items)
+    by true same rest none = cc
+    by false other rest none = (other, rest none)
+
+apart_unnamed : (name : List ℕ) (items : List Item) → Each (λ (other : Item). bytes_eq other.name name ≡ false) items → is_some (item_named name items) ≡ false
+apart_unnamed name [] apart = refl
+apart_unnamed name (i ∷ items) apart = ap (λ b. is_some (cond b (Some i) (item_named name items))) apart.0 ∙ apart_unnamed name items apart.1
+
+negated : (b : Bool) → not b ≡ true → b ≡ false
+negated true is = cc
+negated false is = refl
+
+items_are : (table : List Entry) (items : List Item) → are_items table items ≡ true → Each (IsFit table) items × AreDistinct items
+items_are table [] is = (tt, tt)
+items_are table (i ∷ items) is =
+    let here = and_parts (fits (kind_in table i.name) i.value) _ is in
+    let later = and_parts (not (is_some (item_named i.name items))) (are_items table items) here.1 in
+    let rest = items_are table items later.1 in
+    ((here.0, rest.0), (named_apart i.name items (negated _ later.0), rest.1))
+
+are_these : (table : List Entry) (items : List Item) → Each (IsFit table) items → AreDistinct items → are_items table items ≡ true
+are_these table [] fit distinct = refl
+are_these table (i ∷ items) fit distinct =
+    ap (λ b. b && (not (is_some (item_named i.name items)) && are_items table items)) fit.0
+    ∙ ap (λ b. not b && are_items table items) (apart_unnamed i.name items distinct.0)
+    ∙ are_these table items fit.1 distinct.1
+
+-- ---- the words that are understood
+
+spelled : (table : List Entry) (words : List (List ℕ)) (items : List Item) → understood table words ≡ Some items → Spell table words items
+spelled table words items is = by (are_items table (items_of table words)) refl is
+  where
+    by : (b : Bool) → are_items table (items_of table words) ≡ b → cond b (Some (items_of table words)) None ≡ Some items → Spell table words items
+    by false none is = cc
+    by true all is =
+        let writes : Writes table words = write table words in
+        let same : items_of table words ≡ items = cc in
+        let parts = items_are table items (ap (are_items table) (sym same) ∙ all) in
+        record { written = writes.written; are = writes.are; items_are = sym (writes.items ∙ same); fit = parts.0; distinct = parts.1 }
+
+understood_so : (table : List Entry) → are_plain table ≡ true → (words : List (List ℕ)) (items : List Item) → Spell table words items → understood table words ≡ Some items
+understood_so table plain words items spell =
+    let fit : Each (IsFit table) (items_in spell.written) = subst (λ is. Each (IsFit table) is) spell.items_are spell.fit in
+    let read : items_of table words ≡ items = ap (items_of table) spell.are ∙ all_read table plain spell.written fit ∙ sym spell.items_are in
+    let all : are_items table (items_of table words) ≡ true = ap (are_items table) read ∙ are_these table items spell.fit spell.distinct in
+    ap (λ b. cond b (Some (items_of table words)) None) all ∙ ap (λ is. Some is) read
 
 -- ---- the plan
 
-mapped : (o : Option Choices) (c : Choices) → option_map Replay o ≡ Some (Replay c) → o ≡ Some c
-mapped None c is = cc
-mapped (Some d) c is = cc
+record Chained {A B : Type 0} (f : A → Option B) (o : Option A) (y : B) : Type 0 where
+  x : A
+  there : o ≡ Some x
+  is : f x ≡ Some y
 
-mapped_size : (o : Option ℕ) (n : ℕ) → option_map Drill o ≡ Some (Drill n) → o ≡ Some n
-mapped_size None n is = cc
-mapped_size (Some m) n is = cc
+chained : {A B : Type 0} (f : A → Option B) (o : Option A) (y : B) → option_and_then f o ≡ Some y → Chained f o y
+chained f None y is = cc
+chained f (Some x) y is = record { x = x; there = refl; is = is }
 
-never_replay : {G : Type 0} (o : Option ℕ) (c : Choices) → option_map Drill o ≡ Some (Replay c) → G
-never_replay None c is = cc
-never_replay (Some m) c is = cc
-
-never_drill : {G : Type 0} (o : Option Choices) (n : ℕ) → option_map Replay o ≡ Some (Drill n) → G
-never_drill None n is = cc
-never_drill (Some d) n is = cc
-
-pub replay_spelled : (words : List (List ℕ)) (c : Choices) → plan_of words ≡ Some (Replay c) → IsReplay words c
-replay_spelled [] c is = cc
-replay_spelled (command ∷ words) c is = by (bytes_eq command (codes "replay")) refl (bytes_eq command (codes "drill")) is
+-- the word that names a command is its name
+name_is : (word : List ℕ) (list : List Command) (command : Command) → find (λ c. bytes_eq word (name_of c)) list ≡ Some command → word ≡ name_of command
+name_is word [] command is = cc
+name_is word (first ∷ list) command is = by (bytes_eq word (name_of first)) refl (λ later. name_is word list command later) is
   where
-    by : (p : Bool) → bytes_eq command (codes "replay") ≡ p → (q : Bool) →
-        cond p (option_map Replay (with_items nothing_chosen (items_of words))) (cond q (option_map Drill (size_of (items_of words))) None) ≡ Some (Replay c) → IsReplay (command ∷ words) c
-    by true ps q is =
-        let spelled : Spells words = spell words in
-        record {
-          written = spelled.written;
-          are = ap (λ w. w ∷ words) (same_name command (codes "replay") ps) ∙ ap (λ ws. codes "replay" ∷ ws) spelled.are;
-          say = made_as_said (items_in spelled.written) c (ap (with_items nothing_chosen) spelled.items ∙ mapped (with_items nothing_chosen (items_of words)) c is);
-        }
-    by false ps true is = never_replay (size_of (items_of words)) c is
-    by false ps false is = cc
+    by : (b : Bool) → bytes_eq word (name_of first) ≡ b → (find (λ c. bytes_eq word (name_of c)) list ≡ Some command → word ≡ name_of command)
+        → cond b (Some first) (find (λ c. bytes_eq word (name_of c)) list) ≡ Some command → word ≡ name_of command
+    by true same rest is = let it : first ≡ command = cc in same_name word (name_of first) same ∙ ap name_of it
+    by false other rest is = rest is
 
-pub replay_planned : (words : List (List ℕ)) (c : Choices) → IsReplay words c → plan_of words ≡ Some (Replay c)
-replay_planned words c is =
-    ap plan_of is.are
-    ∙ ap (λ items. option_map Replay (with_items nothing_chosen items)) (all_read is.written is.say.known)
-    ∙ ap (option_map Replay) (said_as_made (items_in is.written) c is.say)
+named : (command : Command) → command_named (name_of command) ≡ Some command
+named ToReplay = refl
+named ToDrill = refl
 
--- one item that says a size
-one_size : (written : List Written) (n : ℕ) → size_of (items_in written) ≡ Some n → IsDrill (codes "drill" ∷ words_written written) n
-one_size [] n is = cc
-one_size (w ∷ []) n is = by w.item.value (bytes_eq w.item.name (codes "--size")) refl is
-  where
-    by : (value : Option (List ℕ)) (b : Bool) → bytes_eq w.item.name (codes "--size") ≡ b → cond b (option_and_then size_in value) None ≡ Some n → IsDrill (codes "drill" ∷ (words_of_item w.item.name value w.joined ++ [])) n
-    by None true same is = cc
-    by (Some text) true same is = record {
-      text = text;
-      joined = w.joined;
-      are = ap (λ ws. codes "drill" ∷ ws) (append-nil (words_of_item w.item.name (Some text) w.joined) ∙ ap (λ name. words_of_item name (Some text) w.joined) (same_name w.item.name (codes "--size") same));
-      says = is;
+-- no table has a name with `=`
+plain_tables : (command : Command) → are_plain (table_of command) ≡ true
+plain_tables ToReplay = refl
+plain_tables ToDrill = refl
+
+pub plan_spelled : (words : List (List ℕ)) (plan : Plan) → plan_of words ≡ Some plan → IsPlan words plan
+plan_spelled [] plan is = cc
+plan_spelled (word ∷ words) plan is =
+    let names = chained (λ command. option_and_then (asked command) (understood (table_of command) words)) (command_named word) plan is in
+    let command : Command = names.x in
+    let asks = chained (asked command) (understood (table_of command) words) plan names.is in
+    record {
+      command = command;
+      after = words;
+      are = ap (λ w. w ∷ words) (name_is word commands command names.there);
+      items = asks.x;
+      spelled = spelled (table_of command) words asks.x asks.there;
+      asks = asks.is;
     }
-    by value false same is = cc
-one_size (w ∷ v ∷ others) n is = cc
 
-pub drill_spelled : (words : List (List ℕ)) (n : ℕ) → plan_of words ≡ Some (Drill n) → IsDrill words n
-drill_spelled [] n is = cc
-drill_spelled (command ∷ words) n is = by (bytes_eq command (codes "replay")) (bytes_eq command (codes "drill")) refl is
-  where
-    by : (p q : Bool) → bytes_eq command (codes "drill") ≡ q →
-        cond p (option_map Replay (with_items nothing_chosen (items_of words))) (cond q (option_map Drill (size_of (items_of words))) None) ≡ Some (Drill n) → IsDrill (command ∷ words) n
-    by true q qs is = never_drill (with_items nothing_chosen (items_of words)) n is
-    by false true qs is =
-        let spelled : Spells words = spell words in
-        let whole : codes "drill" ∷ words_written spelled.written ≡ command ∷ words = sym (ap (λ w. w ∷ words) (same_name command (codes "drill") qs) ∙ ap (λ ws. codes "drill" ∷ ws) spelled.are) in
-        subst (λ ws. IsDrill ws n) whole (one_size spelled.written n (ap size_of spelled.items ∙ mapped_size (size_of (items_of words)) n is))
-    by false false qs is = cc
-
-pub drill_planned : (words : List (List ℕ)) (n : ℕ) → IsDrill words n → plan_of words ≡ Some (Drill n)
-drill_planned words n is =
-    let words_are : words_of_item (codes "--size") (Some is.text) is.joined ≡ words_of_item (codes "--size") (Some is.text) is.joined ++ [] = sym (append-nil (words_of_item (codes "--size") (Some is.text) is.joined)) in
+pub planned : (words : List (List ℕ)) (plan : Plan) → IsPlan words plan → plan_of words ≡ Some plan
+planned words plan is =
     ap plan_of is.are
-    ∙ ap (λ ws. option_map Drill (size_of (items_of ws))) words_are
-    ∙ ap (λ items. option_map Drill (size_of items)) (size_read is.text is.joined [])
-    ∙ ap (option_map Drill) is.says
+    ∙ ap (option_and_then (λ command. option_and_then (asked command) (understood (table_of command) is.after))) (named is.command)
+    ∙ ap (option_and_then (asked is.command)) (understood_so (table_of is.command) (plain_tables is.command) is.after is.items is.spelled)
+    ∙ is.asks

@@ -1,7 +1,10 @@
 -- The items that the words after a command are.
-use Rattle.std.specs.Prelude.{ℕ, ◌||◌, ◌==◌, not, nat_lt, false, Bool, cond, List, [], ◌∷◌, length, Option, None, Some, codes}
+use Rattle.std.specs.Prelude.{ℕ, ◌&&◌, ◌==◌, not, nat_lt, true, Bool, cond, List, [], ◌∷◌, length, find, Option, None, Some, is_some}
+use Rattle.std.specs.Option.{option_and_then}
 use Rattle.std.specs.List.{after_first, before_first, position_or_len}
 use Rattle.std.specs.Str.{bytes_eq}
+use Rattle.words.specs.Table.{Entry, fits, has_value, kind_in, number_of}
+use Rattle.words.specs.declared.table.Command.{Command}
 
 -- an item: its name, perhaps with a value
 pub record Item : Type 0 where
@@ -23,20 +26,35 @@ item_of_word word =
     (record { name = before_first is_equals_sign word; value = Some (after_first is_equals_sign word) })
     (record { name = word; value = None })
 
--- whether the word is a name whose value may be the next word
-abbrev pub takes_value : List ℕ → Bool
-takes_value word =
-    bytes_eq word (codes "--from") || bytes_eq word (codes "--max-bytes") || bytes_eq word (codes "--max-terms")
-    || bytes_eq word (codes "--horizon") || bytes_eq word (codes "--size")
+-- the items that the words are: where a word is a name in the table that has a value, the next word is this value
+abbrev pub items_of : List Entry → List (List ℕ) → List Item
+items_of table [] = []
+items_of table (word ∷ []) = item_of_word word ∷ []
+items_of table (word ∷ next ∷ others) =
+    cond (has_value (kind_in table word)) (item word (Some next) ∷ items_of table others) (item_of_word word ∷ items_of table (next ∷ others))
 
--- the items that the words after the command are
-abbrev pub items_of : List (List ℕ) → List Item
-items_of [] = []
-items_of (word ∷ []) = item_of_word word ∷ []
-items_of (word ∷ next ∷ others) =
-    cond (takes_value word) (item word (Some next) ∷ items_of others) (item_of_word word ∷ items_of (next ∷ others))
+-- the first item with this name
+abbrev pub item_named : List ℕ → List Item → Option Item
+item_named name items = find (λ (i : Item). bytes_eq i.name name) items
 
--- whether a text may be a value: it isn't empty and doesn't begin with `-`
-abbrev pub is_value : List ℕ → Bool
-is_value [] = false
-is_value (b ∷ bs) = not (b == 45)
+-- whether each item is in the table and fits it, and no name comes twice
+abbrev pub are_items : List Entry → List Item → Bool
+are_items table [] = true
+are_items table (i ∷ items) = fits (kind_in table i.name) i.value && (not (is_some (item_named i.name items)) && are_items table items)
+
+-- a command, and the items after it
+pub record Request : Type 0 where
+  pub command : Command
+  pub items : List Item
+
+-- the value of the item with this name
+abbrev pub value_in : List ℕ → List Item → Option (List ℕ)
+value_in name items = option_and_then (λ (i : Item). i.value) (item_named name items)
+
+-- the number that the item with this name has, by the range in the table
+abbrev pub number_in : List Entry → List ℕ → List Item → Option ℕ
+number_in table name items = option_and_then (number_of (kind_in table name)) (value_in name items)
+
+-- whether there is an item with this name
+abbrev pub is_there : List ℕ → List Item → Bool
+is_there name items = is_some (item_named name items)

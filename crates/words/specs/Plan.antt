@@ -1,10 +1,11 @@
 -- What the words after the program's name ask for.
-use Rattle.std.specs.Prelude.{ℕ, ◌≤◌, cond, List, [], ◌∷◌, Option, None, codes, option_map}
+use Rattle.std.specs.Prelude.{ℕ, ◌≤◌, cond, List, [], ◌∷◌, Option, None, Some, codes, option_map}
 use Rattle.std.specs.Option.{option_and_then}
-use Rattle.std.specs.Str.{bytes_eq}
-use Rattle.words.specs.Items.{Item, items_of}
-use Rattle.words.specs.Numbers.{number_between}
-use Rattle.words.specs.Options.{nothing_chosen, with_items}
+use Rattle.words.specs.declared.table.Command.{Command}
+use Rattle.words.specs.declared.table.Command.TheVariants.{Replay as ToReplay, Drill as ToDrill}
+use Rattle.words.specs.Table.{Entry, command_named, drill_table, table_of}
+use Rattle.words.specs.Items.{Item, are_items, items_of, number_in}
+use Rattle.words.specs.Options.{IsAllowed, choices_of}
 use Rattle.words.specs.declared.plan.Plan.{Plan}
 use Rattle.words.specs.declared.plan.Plan.TheVariants.{Replay, Drill}
 
@@ -12,28 +13,21 @@ use Rattle.words.specs.declared.plan.Plan.TheVariants.{Replay, Drill}
 abbrev pub greatest_size : ℕ
 greatest_size = 200000
 
--- the size of a drill that the text says
-abbrev pub size_in : List ℕ → Option ℕ
-size_in = number_between 1 greatest_size
+-- the items that the words are, where all are items of the table
+abbrev pub understood : List Entry → List (List ℕ) → Option (List Item)
+understood table words = cond (are_items table (items_of table words)) (Some (items_of table words)) None
 
--- the size that the one item of a drill says
-abbrev pub size_of : List Item → Option ℕ
-size_of [] = None
-size_of (item ∷ []) = cond (bytes_eq item.name (codes "--size")) (option_and_then size_in item.value) None
-size_of (item ∷ next ∷ others) = None
+-- what a command and its items ask for; the size of a drill has to be there
+abbrev pub asked : Command → List Item → Option Plan
+asked ToReplay items = Some (Replay (choices_of items))
+asked ToDrill items = option_map Drill (number_in drill_table (codes "--size") items)
 
--- the plan that a command and its items are
-abbrev pub plan_from : List ℕ → List Item → Option Plan
-plan_from command items =
-    cond (bytes_eq command (codes "replay")) (option_map Replay (with_items nothing_chosen items))
-    (cond (bytes_eq command (codes "drill")) (option_map Drill (size_of items)) None)
-
--- the plan that the words are: `replay`, and then items in any order, each at most once; or `drill` and its size
+-- the plan that the words are: a command, and then items of its table in any order, each at most once
 abbrev pub plan_of : List (List ℕ) → Option Plan
 plan_of [] = None
-plan_of (command ∷ words) = plan_from command (items_of words)
+plan_of (word ∷ words) = option_and_then (λ command. option_and_then (asked command) (understood (table_of command) words)) (command_named word)
 
--- a drill's size lies from 1 to the greatest
+-- what a plan asks for lies in its range
 abbrev pub IsSized : Plan → Type 0
-IsSized (Replay choices) = Unit {0}
+IsSized (Replay choices) = IsAllowed choices
 IsSized (Drill size) = (1 ≤ size) × (size ≤ greatest_size)

@@ -1,18 +1,17 @@
 //! The words after the program's name: which of them are understood, and what they ask for.
 //!
-//! `plan` reads a whole command; `items` cuts its words into names with their values; `options` gathers the items of a
-//! replay, each at most once; `numbers` reads a number in its range. All words are judged so first. `arguments` hands what
-//! was judged to `clap`, each item as one word, and takes the values from its matches. `grammar` says which words are a plan.
+//! `table` has the items of each command, with the kinds of their values; `items` reads the words by a table; `options` has what a
+//! replay is asked for; `plan` reads a whole command; `numbers` reads a number in its range. `grammar` says which words are a plan.
+//! Nothing here takes memory, so words that aren't understood are refused whatever memory there is.
 #![tactic(auto)]
 
-mod arguments;
 mod grammar;
 mod items;
 mod numbers;
 mod options;
 mod plan;
+mod table;
 
-pub use arguments::{Arguments, take_arguments, take_size};
 pub use grammar::plans_are_spelled;
 pub use options::ReplayOptions;
 pub use plan::{Plan, read_plan};

@@ -1,23 +1,22 @@
-// What a replay is asked for, item by item.
+// What a replay is asked for.
 
-ghost use Rattle.std.specs.Prelude.{◌≡◌, ◌≤◌, not, true, IfSome};
-ghost use Rattle.std.specs.Option.{option_map};
-ghost use Rattle.words.specs.Items.{is_value};
-ghost use Rattle.words.specs.Options.{IsAdded, IsAllowed, greatest_horizon, greatest_limit, greatest_terms, horizon_in, limit_in, nothing_chosen, terms_in, with_flag, with_horizon, with_item, with_limit, with_place, with_terms, with_value};
+ghost use Rattle.std.specs.Prelude.{◌≡◌, ◌≤◌, ◌^◌, codes, option_map};
+ghost use Rattle.words.specs.Items.{number_in};
+ghost use Rattle.words.specs.Table.{replay_table};
+ghost use Rattle.words.specs.Options.{IsAllowed, IsWithin, choices_of, limit_of, place_of, terms_of};
+ghost use Rattle.words.specs.declared.table.Command.TheVariants.{Replay};
 
-use crate::items::is_value;
-use crate::numbers::read_number;
+use crate::items::Request;
 use std::marker::Model;
-use std::mem;
 
-/// The most bytes that the words may allow.
-const GREATEST_LIMIT: u64 = 1_099_511_627_776;
+/// The place of the revisions where the words don't say one.
+const PLACE: &str = ".";
 
-/// The most terms that the words may allow.
-const GREATEST_TERMS: u64 = 4_294_967_295;
+/// The most bytes of the input where the words don't say how many.
+const LIMIT: u64 = 1_073_741_824;
 
-/// The greatest horizon that the words may say, in microseconds.
-const GREATEST_HORIZON: u64 = 9_223_372_036_854_775_807;
+/// For how many terms there is room where the words don't say how many.
+const TERMS: u32 = 20_000_000;
 
 /// What a replay is asked for, as the words say it.
 #[derive(Debug, Drop)]
@@ -32,9 +31,9 @@ pub struct ReplayOptions<'a> {
 }
 
 impl<'a> Model for ReplayOptions<'a> {
-    ghost use Rattle.std.specs.Prelude.{unwrap_or, ◌≤◌};
+    ghost use Rattle.std.specs.Prelude.{codes};
     ghost use Rattle.std.specs.Option.{option_map};
-    ghost use Rattle.words.specs.Options.{Choices, greatest_horizon, greatest_limit, greatest_terms};
+    ghost use Rattle.words.specs.Options.{Choices, IsWithin};
 
     ghost Value = { Choices };
 
@@ -48,49 +47,53 @@ impl<'a> Model for ReplayOptions<'a> {
       side = a.side;
     } };
 
-    ghost invariant = { λ a. (unwrap_or a.limit 0 ≤ greatest_limit) × (1 ≤ unwrap_or a.terms 1) × (unwrap_or a.terms 1 ≤ greatest_terms)
-        × (unwrap_or a.horizon 0 ≤ greatest_horizon) };
+    ghost invariant = { λ a. IsWithin (codes "--max-bytes") a.limit × IsWithin (codes "--max-terms") a.terms × IsWithin (codes "--horizon") a.horizon };
 }
 
 impl<'a> ReplayOptions<'a> {
-    /// Nothing is asked for yet.
-    pub fn new() -> ReplayOptions<'a>
-        ensures { result ≡ nothing_chosen }
+    /// What the items after `replay` ask for.
+    pub fn of_items(items: &Request<'a>) -> ReplayOptions<'a>
+        requires { items.now.command ≡ Replay }
+        ensures { result ≡ choices_of items.now.items }
     {
         ReplayOptions {
-            place: None,
-            limit: None,
-            terms: None,
-            horizon: None,
-            export: false,
-            state: false,
-            side: false,
+            place: items.text("--from"),
+            limit: items.number("--max-bytes"),
+            terms: terms_in(items),
+            horizon: items.number("--horizon"),
+            export: items.has("--export"),
+            state: items.has("--state"),
+            side: items.has("--side"),
         }
     }
 
-    /// The place of the revisions, if the words say one.
-    pub fn place(&self) -> Option<&'a str>
-        ensures { option_map (λ p. p.now) result ≡ self.now.place }
+    /// The place of the revisions.
+    pub fn place(&self) -> &str
+        ensures { result.now ≡ place_of self.now }
     {
-        self.place
+        match self.place {
+            Some(place) => place,
+            None => PLACE,
+        }
     }
 
-    /// The most bytes of the input, if the words say how many.
-    pub fn limit(&self) -> Option<u64>
-        ensures value { result ≡ self.now.limit }
+    /// The most bytes of the input.
+    pub fn limit(&self) -> u64
+        ensures value { result ≡ limit_of self.now }
+        ensures bounded { result ≤ 2 ^ 40 }
         ensures within { IsAllowed self.now }
     {
-        self.limit
+        self.limit.unwrap_or(LIMIT)
     }
 
-    /// The most terms, if the words say how many.
-    pub fn terms(&self) -> Option<u32>
-        ensures { result ≡ self.now.terms }
+    /// For how many terms there is room.
+    pub fn terms(&self) -> u32
+        ensures { result ≡ terms_of self.now }
     {
-        self.terms
+        self.terms.unwrap_or(TERMS)
     }
 
-    /// The horizon in microseconds, if the words say one.
+    /// The horizon in microseconds, if there is one.
     pub fn horizon(&self) -> Option<u64>
         ensures { result ≡ self.now.horizon }
     {
@@ -117,130 +120,14 @@ impl<'a> ReplayOptions<'a> {
     {
         self.side
     }
-
-    /// Adds an item, and says whether it could be added: it is in the table, isn't there yet and has a fit value.
-    pub fn add(&mut self, name: &str, value: Option<&'a str>) -> bool
-        ensures { IsAdded result (with_item self.old name.now (option_map (λ v. v.now) value.entry)) self.new }
-    {
-        match value {
-            None => self.add_flag(name),
-            Some(value) => is_value(value) && self.add_value(name, value),
-        }
-    }
-
-    // Adds an item without value.
-    fn add_flag(&mut self, name: &str) -> bool
-        ensures { IsAdded result (with_flag self.old name.now) self.new }
-    {
-        if name == "--export" {
-            return set_once(&mut self.export);
-        }
-        if name == "--state" {
-            return set_once(&mut self.state);
-        }
-        name == "--side" && set_once(&mut self.side)
-    }
-
-    // Adds an item with a value.
-    fn add_value(&mut self, name: &str, value: &'a str) -> bool
-        requires { is_value value.now ≡ true }
-        ensures { IsAdded result (with_value self.old name.now value.now) self.new }
-    {
-        if name == "--from" {
-            return self.add_place(value);
-        }
-        if name == "--max-bytes" {
-            return self.add_limit(value);
-        }
-        if name == "--max-terms" {
-            return self.add_terms(value);
-        }
-        name == "--horizon" && self.add_horizon(value)
-    }
-
-    // Adds the place of the revisions.
-    fn add_place(&mut self, place: &'a str) -> bool
-        ensures { IsAdded result (with_place self.old place.now) self.new }
-    {
-        if self.place.is_some() {
-            return false;
-        }
-        self.place = Some(place);
-        true
-    }
-
-    // Adds the most bytes of the input.
-    fn add_limit(&mut self, digits: &str) -> bool
-        ensures { IsAdded result (with_limit self.old (limit_in digits.now)) self.new }
-    {
-        let Some(limit) = read_limit(digits) else {
-            return false;
-        };
-        if self.limit.is_some() {
-            return false;
-        }
-        self.limit = Some(limit);
-        true
-    }
-
-    // Adds the most terms.
-    fn add_terms(&mut self, digits: &str) -> bool
-        ensures { IsAdded result (with_terms self.old (terms_in digits.now)) self.new }
-    {
-        let Some(terms) = read_terms(digits) else {
-            return false;
-        };
-        if self.terms.is_some() {
-            return false;
-        }
-        self.terms = Some(terms);
-        true
-    }
-
-    // Adds the horizon.
-    fn add_horizon(&mut self, digits: &str) -> bool
-        ensures { IsAdded result (with_horizon self.old (horizon_in digits.now)) self.new }
-    {
-        let Some(horizon) = read_horizon(digits) else {
-            return false;
-        };
-        if self.horizon.is_some() {
-            return false;
-        }
-        self.horizon = Some(horizon);
-        true
-    }
 }
 
-// Sets what isn't set yet, and says whether it wasn't.
-fn set_once(flag: &mut bool) -> bool
-    ensures answer { result ≡ not flag.old }
-    ensures set { flag.new ≡ true }
+// The most terms that the items say.
+fn terms_in(items: &Request<'_>) -> Option<u32>
+    requires { items.now.command ≡ Replay }
+    ensures value { result ≡ number_in replay_table (codes "--max-terms") items.now.items }
+    ensures within { IsWithin (codes "--max-terms") result }
 {
-    !mem::replace(flag, true)
-}
-
-/// The most bytes of the input that the text says.
-pub fn read_limit(digits: &str) -> Option<u64>
-    ensures value { result ≡ limit_in digits.now }
-    ensures within { IfSome result (λ n. n ≤ greatest_limit) }
-{
-    read_number(digits, 0, GREATEST_LIMIT)
-}
-
-/// The horizon that the text says, in microseconds.
-pub fn read_horizon(digits: &str) -> Option<u64>
-    ensures value { result ≡ horizon_in digits.now }
-    ensures within { IfSome result (λ n. n ≤ greatest_horizon) }
-{
-    read_number(digits, 0, GREATEST_HORIZON)
-}
-
-/// The most terms that the text says.
-pub fn read_terms(digits: &str) -> Option<u32>
-    ensures value { result ≡ terms_in digits.now }
-    ensures within { IfSome result (λ n. (1 ≤ n) × (n ≤ greatest_terms)) }
-{
-    let terms = read_number(digits, 1, GREATEST_TERMS)?;
+    let terms = items.number("--max-terms")?;
     Some(terms as u32)
 }
