@@ -6,7 +6,7 @@ ghost use Rattle.block_index.specs.Blocks.{AreFilled};
 ghost use Rattle.block_index.specs.Edit.{Edits};
 
 use crate::block::{Block, Halves, MOST};
-use rdf_term::OutOfMemory;
+use base::OutOfMemory;
 use std::alloc::Global;
 
 /// Puts a key into a block at a place; a full block becomes two. Where there are no blocks it becomes the

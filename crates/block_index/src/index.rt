@@ -15,7 +15,7 @@ use crate::ranked::Ranked;
 use crate::search::locate;
 use crate::steps::Steps;
 use crate::taking::{take_blocks, take_keys};
-use rdf_term::{List, OutOfMemory};
+use base::{List, OutOfMemory};
 use std::alloc::Global;
 use std::marker::Model;
 use std::sync::ledger::Ledger;

@@ -7,7 +7,7 @@ ghost use Rattle.block_index.specs.Taking.{Takes};
 use crate::block::Block;
 use crate::ranked::Ranked;
 use crate::steps::Steps;
-use rdf_term::OutOfMemory;
+use base::OutOfMemory;
 use std::sync::ledger::Ledger;
 
 /// Copies keys until the first above `to`; whether there was none.
