@@ -1,5 +1,6 @@
 -- A binary search over n places takes no more steps than n has binary digits.
-use Rattle.std.proofs.Common.{◌≡◌, ℕ, zero, suc, ◌+◌, ◌-◌, ◌*◌, ◌^◌, ◌<◌, ◌≤◌, sym, subst, arith}
+use Rattle.std.proofs.Common.{◌≡◌, ℕ, zero, suc, ◌+◌, ◌-◌, ◌*◌, ◌^◌, ◌<◌, ◌≤◌, sym, subst, arith, ⊎_elim}
+use Rattle.std.proofs.lemmas.Bool.{cases_lt}
 use Rattle.std.proofs.Math.Nat.{pow-suc}
 use Rattle.block_index.specs.Steps.{Within, Left}
 
@@ -52,3 +53,48 @@ both blocks keys all before between after few small first second = (
 
 pub one : (blocks all before after : ℕ) → blocks ≤ all → Within blocks 0 before after → Within all 8 before after
 one blocks all before after few first = (first.0, λ d below. let a = first.1 d (omega arith) in omega arith)
+
+-- a search of a group's blocks from the second on, and one of a block's keys from the second on after it
+pub in_group : (blocks keys before between after : ℕ) → keys ≤ 128 → Within (blocks - 1) 0 before between → Within (keys - 1) 0 between after → Within (blocks - 1) 7 before after
+in_group blocks keys before between after small first second = (
+  let a = first.0 in let b = second.0 in omega arith,
+  λ d below.
+      let a = first.1 d below in
+      let b = second.1 7 (omega arith) in
+      omega arith,
+)
+
+pub in_block : (blocks before after : ℕ) → Within (blocks - 1) 0 before after → Within (blocks - 1) 7 before after
+in_block blocks before after first = (first.0, λ d below. let a = first.1 d below in omega arith)
+
+-- 64 times a number below 2 ^ d is below 2 ^ (d - 6)
+sixth : (d g : ℕ) → 0 < g → 64 * g < 2 ^ d → (6 ≤ d) × (g < 2 ^ (d - 6))
+sixth d g some below =
+    let a = halved d (64 * g) (32 * g) (omega arith) (omega arith) below in
+    let b = halved (d - 1) (32 * g) (16 * g) (omega arith) (omega arith) a.1 in
+    let c = halved (d - 1 - 1) (16 * g) (8 * g) (omega arith) (omega arith) b.1 in
+    let e = halved (d - 1 - 1 - 1) (8 * g) (4 * g) (omega arith) (omega arith) c.1 in
+    let f = halved (d - 1 - 1 - 1 - 1) (4 * g) (2 * g) (omega arith) (omega arith) e.1 in
+    let h = halved (d - 1 - 1 - 1 - 1 - 1) (2 * g) g (omega arith) (omega arith) f.1 in
+    let a0 = a.0 in let b0 = b.0 in let c0 = c.0 in let e0 = e.0 in let f0 = f.0 in let h0 = h.0 in
+    let same : d - 1 - 1 - 1 - 1 - 1 - 1 ≡ d - 6 = omega arith in
+    (omega arith, subst (λ n. g < 2 ^ n) same h.1)
+
+-- a search of the groups, and one in a group after it
+pub by_groups : (groups blocks all before between after : ℕ) → (1 < groups → 64 * groups ≤ all) → blocks ≤ all → blocks ≤ 128 → Within groups 0 before between → Within (blocks - 1) 7 between after → Within all 8 before after
+by_groups groups blocks all before between after many few small first second = (
+  let a = first.0 in let b = second.0 in omega arith,
+  λ d below. ⊎_elim
+      (λ several.
+      let full = many several in
+      let six = sixth d groups (omega arith) (omega arith) in
+      let least = six.0 in
+      let a = first.1 (d - 6) six.1 in
+      let b = second.1 7 (omega arith) in
+      omega arith)
+      (λ lone.
+      let a = first.1 1 (omega arith) in
+      let b = second.1 d (omega arith) in
+      omega arith)
+      (cases_lt 1 groups),
+)

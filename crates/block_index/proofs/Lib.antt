@@ -1,8 +1,11 @@
 pub mod Costs
 pub mod Edited
+pub mod Grouped
 pub mod Halves
+pub mod Located
 pub mod Parts
 pub mod Ranges
+pub mod Regrouped
 pub mod Removed
 pub mod Searching
 pub mod Standing

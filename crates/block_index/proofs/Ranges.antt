@@ -1,5 +1,5 @@
 -- The keys from one to another are those from the first's position on, up to the other.
-use Rattle.std.proofs.Common.{◌≡◌, ℕ, Bool, true, false, cond, ◌&&◌, List, [], ◌∷◌, ◌++◌, Ordering, Less, Equal, Greater, refl, sym, ◌∙◌, ap, subst, append-nil}
+use Rattle.std.proofs.Common.{◌≡◌, ℕ, Bool, true, false, cond, ◌&&◌, List, [], ◌∷◌, ◌++◌, Ordering, Less, Equal, Greater, refl, sym, ◌∙◌, ap, subst, append-nil, append_assoc}
 use Rattle.std.specs.Cmp.{IsTotalOrder}
 use Rattle.std.specs.Ordering.{is_le}
 use Rattle.std.proofs.lemmas.List.Elements.{filter-append}
@@ -61,25 +61,28 @@ module _ {K : Type 0} {R : K → K → Ordering} (o : IsTotalOrder R) (from to :
       ∙ from_position found (keys_from bs i at) s.begins (tail_rising o (keys_before bs i at) (keys_from bs i at) (subst (IsRising R) split rising))
 
 module _ {K : Type 0} (R : K → K → Ordering) (to : K) where
-  -- the keys of a part were taken, and then nothing more
-  pub taken_part : (keys part rest before found : List K) (more : Bool) → part ≡ keys → before ≡ [] → more ≡ false → Takes R to part before found more → found ≡ up_to R to (keys ++ rest)
-  taken_part keys part rest before found more is start stop h =
-      sym (ap (λ l. up_to R to (l ++ rest)) (sym is)
-      ∙ ap (λ l. l ++ up_to R to (part ++ rest)) (sym start)
-      ∙ h rest
-      ∙ ap (λ b. found ++ cond b (up_to R to rest) []) stop
-      ∙ append-nil found)
+  -- what was taken of two lists one after the other
+  pub takes_then : (xs ys before some found : List K) (one more : Bool) → one ≡ true → Takes R to xs before some one → Takes R to ys some found more → Takes R to (xs ++ ys) before found more
+  takes_then xs ys before some found one more goes h g rest =
+      ap (λ l. before ++ up_to R to l) (append_assoc xs ys rest)
+      ∙ h (ys ++ rest)
+      ∙ ap (λ b. some ++ cond b (up_to R to (ys ++ rest)) []) goes
+      ∙ g rest
 
-  -- the keys of a part, and then those of the others
-  pub taken_all : (keys part rest others before some found : List K) (one more : Bool) → part ≡ keys → others ≡ rest → before ≡ [] → one ≡ true → Takes R to part before some one → Takes R to others some found more → found ≡ up_to R to (keys ++ rest)
-  taken_all keys part rest others before some found one more is are start goes h g =
-      sym (ap (λ l. up_to R to (l ++ rest)) (sym is)
-      ∙ ap (λ l. up_to R to (part ++ l)) (sym are)
-      ∙ ap (λ l. l ++ up_to R to (part ++ others)) (sym start)
-      ∙ h others
-      ∙ ap (λ b. some ++ cond b (up_to R to others) []) goes
-      ∙ ap (λ l. some ++ up_to R to l) (sym (append-nil others))
-      ∙ g []
+  pub takes_stop : (xs ys before found : List K) (more : Bool) → more ≡ false → Takes R to xs before found more → Takes R to (xs ++ ys) before found false
+  takes_stop xs ys before found more stop h rest =
+      ap (λ l. before ++ up_to R to l) (append_assoc xs ys rest)
+      ∙ h (ys ++ rest)
+      ∙ ap (λ b. found ++ cond b (up_to R to (ys ++ rest)) []) stop
+
+  pub takes_same : (xs ys before found : List K) (more : Bool) → xs ≡ ys → Takes R to xs before found more → Takes R to ys before found more
+  takes_same xs ys before found more e h rest = ap (λ l. before ++ up_to R to (l ++ rest)) (sym e) ∙ h rest
+
+  pub taken_whole : (keys before found : List K) (more : Bool) → before ≡ [] → Takes R to keys before found more → found ≡ up_to R to keys
+  taken_whole keys before found more start h =
+      sym (ap (up_to R to) (sym (append-nil keys))
+      ∙ ap (λ l. l ++ up_to R to (keys ++ [])) (sym start)
+      ∙ h []
       ∙ ap (λ l. found ++ l) (none more) ∙ append-nil found)
     where
       none : (b : Bool) → cond b (up_to R to []) [] ≡ []

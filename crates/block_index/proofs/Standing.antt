@@ -20,7 +20,7 @@ module _ {K : Type 0} {R : K → K → Ordering} (o : IsTotalOrder R) where
   above_mid x (z ∷ xs) y rest h = above_mid x xs y rest h.1
 
   -- before a key that is below k all are
-  below_less : (k y : K) (xs rest : List K) → IsRising R (xs ++ y ∷ rest) → R y k ≡ Less → Below R k xs
+  pub below_less : (k y : K) (xs rest : List K) → IsRising R (xs ++ y ∷ rest) → R y k ≡ Less → Below R k xs
   below_less k y [] rest h e = tt
   below_less k y (x ∷ xs) rest h e = (o.trans x y k (above_mid x xs y rest h.0) e, below_less k y xs rest h.1 e)
 
@@ -33,7 +33,7 @@ module _ {K : Type 0} {R : K → K → Ordering} (o : IsTotalOrder R) where
   tail_rising [] ys h = h
   tail_rising (x ∷ xs) ys h = tail_rising xs ys h.1
 
-  Below-append : (k : K) (xs ys : List K) → Below R k xs → Below R k ys → Below R k (xs ++ ys)
+  pub Below-append : (k : K) (xs ys : List K) → Below R k xs → Below R k ys → Below R k (xs ++ ys)
   Below-append k [] ys hx hy = hy
   Below-append k (x ∷ xs) ys hx hy = (hx.0, Below-append k xs ys hx.1 hy)
 
@@ -42,7 +42,7 @@ module _ {K : Type 0} {R : K → K → Ordering} (o : IsTotalOrder R) where
   above_first k z zs h e = (e, Above-weaken o k z zs e h.0)
 
   -- blocks whose first key is above k are above it
-  above_blocks : (k : K) (bs : List (List K)) → AreFilled bs → IsRising R (keys_of bs) → (0 < length bs → R k (first_at bs 0 k) ≡ Less) → Above R k (keys_of bs)
+  pub above_blocks : (k : K) (bs : List (List K)) → AreFilled bs → IsRising R (keys_of bs) → (0 < length bs → R k (first_at bs 0 k) ≡ Less) → Above R k (keys_of bs)
   above_blocks k [] f h e = tt
   above_blocks k ([] ∷ bs) f h e = let some : 0 < length {A = K} [] = f.0.0 in absurd (omega arith)
   above_blocks k ((z ∷ zs) ∷ bs) f h e = above_first k z (zs ++ keys_of bs) h (e (omega arith))

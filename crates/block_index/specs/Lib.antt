@@ -1,5 +1,6 @@
 pub mod Blocks
 pub mod Edit
+pub mod Groups
 pub mod Search
 pub mod Steps
 pub mod Taking

@@ -48,9 +48,9 @@ module _ {K : Type 0} (R : K → K → Ordering) (k : K) where
   abbrev pub IsBeforeBlock : List (List K) → ℕ → Type 0
   IsBeforeBlock bs high = (d : K) → high < length bs → R k (first_at bs high d) ≡ Less
 
-  abbrev pub EndsAtBlock : List (List K) → Result ℕ ℕ → Type 0
-  EndsAtBlock bs (Ok i) = (i < length bs) × ((d : K) → R k (first_at bs i d) ≡ Equal)
-  EndsAtBlock bs (Err i) = (i ≤ length bs) × IsAfterBlock bs i × IsBeforeBlock bs i
+  abbrev pub EndsAtBlock : List (List K) → ℕ → Result ℕ ℕ → Type 0
+  EndsAtBlock bs low (Ok i) = (i < length bs) × ((d : K) → R k (first_at bs i d) ≡ Equal)
+  EndsAtBlock bs low (Err i) = (low ≤ i) × (i ≤ length bs) × IsAfterBlock bs i × IsBeforeBlock bs i
 
   -- k's position in the blocks: before it all keys are below k, and from it on they begin with k or are above it
   pub record Stands (bs : List (List K)) (i at : ℕ) (found : Bool) : Type 0 where

@@ -9,36 +9,38 @@ ghost use Rattle.rising.specs.Rising.{IsRising, has};
 ghost use Rattle.block_index.specs.Steps.{Within};
 ghost use Rattle.block_index.specs.Blocks.{AreFilled, ChangesTwo, keys_between, keys_of};
 
-use crate::block::Block;
 use crate::edit::{put_in, take_out};
+use crate::group::{Group, block_at, count_blocks};
 use crate::ranked::Ranked;
 use crate::search::locate;
 use crate::steps::Steps;
-use crate::taking::{take_blocks, take_keys};
-use rdf_term::{List, OutOfMemory};
+use crate::taking::take_from;
+use base::{List, OutOfMemory};
 use std::alloc::Global;
 use std::marker::Model;
 use std::sync::ledger::Ledger;
 
 /// A set of keys in rising order, in blocks of 1 to 128 keys. Contracts see the list of its blocks, and by
-/// `keys_of` the list of its keys. Steps are stated with the number of binary digits of the number of keys
+/// `keys_of` the list of its keys. The blocks stand in groups of 64 to 128, so that a block that comes or goes
+/// moves few others. Steps are stated with the number of binary digits of the number of keys
 /// at entry: each d with fewer than 2^d keys bounds it.
 #[derive(Drop)]
 pub struct BlockIndex<K: Ranked> {
     alloc: Global,
-    blocks: Vec<Block<K>>,
+    groups: Vec<Group<K>>,
     count: usize,
 }
 
 impl<K: Ranked> Model for BlockIndex<K> {
     ghost use Rattle.std.specs.Prelude.{List};
-    ghost use Rattle.block_index.specs.Blocks.{IsIndex};
+    ghost use Rattle.block_index.specs.Blocks.{keys_of};
+    ghost use Rattle.block_index.specs.Groups.{IsGroupedIndex};
 
     ghost Value = { List (List K) };
 
-    ghost view = { λ s. s.blocks.items };
+    ghost view = { λ s. keys_of s.groups.items };
 
-    ghost invariant = { λ s. IsIndex K.cmp s.blocks.items s.count };
+    ghost invariant = { λ s. IsGroupedIndex K.cmp s.groups.items s.count };
 }
 
 impl<K: Ranked> BlockIndex<K> {
@@ -48,7 +50,7 @@ impl<K: Ranked> BlockIndex<K> {
     {
         BlockIndex {
             alloc,
-            blocks: Vec::new(alloc),
+            groups: Vec::new(alloc),
             count: 0,
         }
     }
@@ -66,15 +68,17 @@ impl<K: Ranked> BlockIndex<K> {
         ensures filled { AreFilled self.now }
         ensures rising { IsRising K.cmp (keys_of self.now) }
     {
-        self.blocks.len()
+        // There are no more blocks than keys, whose number fits.
+        let _keys = self.count;
+        count_blocks(&self.groups)
     }
 
-    /// The keys of the block at a place from 0.
-    pub fn block(&self, place: usize) -> &[K]
-        requires { place < length self.now }
-        ensures { result.now ≡ slice_index_or self.now place [] }
+    /// The keys of the block at an index from 0.
+    pub fn block(&self, index: usize) -> &[K]
+        requires { index < length self.now }
+        ensures { result.now ≡ slice_index_or self.now index [] }
     {
-        self.blocks[place].keys()
+        block_at(&self.groups, index).keys()
     }
 
     /// Whether the key is there, which takes no memory. It takes at most as many steps as the number of keys
@@ -83,7 +87,7 @@ impl<K: Ranked> BlockIndex<K> {
         ensures answer { result ≡ has K.cmp key (keys_of self.now) }
         ensures cost { Within (length (keys_of self.now)) 8 steps.old steps.new }
     {
-        locate(&self.blocks, &key, steps).found
+        locate(&self.groups, &key, steps).found
     }
 
     /// Puts a key in; false where it was there. After `OutOfMemory`, and where it was there, nothing has
@@ -97,20 +101,14 @@ impl<K: Ranked> BlockIndex<K> {
         ensures err { OnErr result (self.new ≡ self.old) }
         ensures cost { Within (length (keys_of self.old)) 8 steps.old steps.new }
     {
-        let position = locate(&self.blocks, &key, steps);
+        let position = locate(&self.groups, &key, steps);
         if position.found {
             return Ok(false);
         }
         let Some(count) = self.count.checked_add(1) else {
             return Err(OutOfMemory);
         };
-        put_in(
-            self.alloc,
-            &mut self.blocks,
-            position.block,
-            position.at,
-            key,
-        )?;
+        put_in(self.alloc, &mut self.groups, position, key)?;
         self.count = count;
         Ok(true)
     }
@@ -124,11 +122,11 @@ impl<K: Ranked> BlockIndex<K> {
         ensures blocks { ChangesTwo self.old self.new }
         ensures cost { Within (length (keys_of self.old)) 8 steps.old steps.new }
     {
-        let position = locate(&self.blocks, &key, steps);
+        let position = locate(&self.groups, &key, steps);
         if !position.found {
             return false;
         }
-        take_out(&mut self.blocks, position.block, position.at);
+        take_out(&mut self.groups, position);
         self.count -= 1;
         true
     }
@@ -145,16 +143,13 @@ impl<K: Ranked> BlockIndex<K> {
         ensures cost { IfOk result (λ keys. Within (length (keys_of self.now)) (9 + length keys) steps.old steps.new) }
         ensures forward { steps.old ≤ steps.new }
     {
-        let position = locate(&self.blocks, &from, steps);
+        let groups = self.groups.as_slice();
+        let position = locate(groups, &from, steps);
         let mut keys = Vec::new(self.alloc);
-        if position.block == self.blocks.len() {
+        if groups.is_empty() {
             return Ok(List::from_vec(keys));
         }
-        let first = self.blocks[position.block].keys();
-        if !take_keys(&first[position.at..], &to, &mut keys, steps)? {
-            return Ok(List::from_vec(keys));
-        }
-        take_blocks(&self.blocks[position.block + 1..], &to, &mut keys, steps)?;
+        take_from(groups, position, &to, &mut keys, steps)?;
         Ok(List::from_vec(keys))
     }
 }

@@ -1,13 +1,15 @@
 //! A sorted set of keys in small blocks, whose calls count their comparisons.
 //!
 //! `ranked` has what a key must be able to do, and `steps` the counter of comparisons. `index` has the set:
-//! its keys stand in rising order in blocks of 1 to 128, so a change moves few keys and touches at most two
-//! neighbouring blocks. Below it, `block` has one block, `search` finds a key's position by two binary
-//! searches, `edit` puts a key in or takes it out at a position, and `taking` copies the keys of a range.
+//! its keys stand in rising order in blocks of 1 to 128, and the blocks in groups of 64 to 128, so a change moves few
+//! keys and few blocks, and touches at most two neighbouring blocks. Below it, `block` has one block and `group` one
+//! group, `search` finds a key's position by three binary searches, `edit` puts a key in or takes it out at a
+//! position, and `taking` copies the keys of a range.
 #![tactic(auto)]
 
 mod block;
 mod edit;
+mod group;
 mod index;
 mod ranked;
 mod search;

@@ -1,26 +1,37 @@
-// Where a key stands among the blocks, or would stand.
+// Where a key stands among the groups of blocks, or would stand.
 
-ghost use Rattle.std.specs.Prelude.{◌≤◌, length};
+ghost use Rattle.std.specs.Prelude.{◌-◌, ◌<◌, ◌≤◌, length, map};
 ghost use Rattle.rising.specs.Rising.{IsRising};
 ghost use Rattle.block_index.specs.Steps.{Within};
 ghost use Rattle.block_index.specs.Blocks.{AreFilled, keys_of};
-ghost use Rattle.block_index.specs.Search.{EndsAt, EndsAtBlock, IsAfter, Stands};
+ghost use Rattle.block_index.specs.Groups.{AreGroups, IsInside, index_of};
+ghost use Rattle.block_index.specs.Search.{EndsAt, EndsAtBlock, IsAfter, IsAfterBlock, Stands};
 
 use crate::block::Block;
+use crate::group::Group;
 use crate::ranked::Ranked;
 use crate::steps::Steps;
 use std::cmp::Ordering;
 use std::sync::ledger::Ledger;
 
-/// A place in a block: the key's own where it is found, and else the one where it would be put in.
+/// A group, a block in it and an index in that: the key's own where it is found, and else the one where it would be put in.
 #[derive(Clone, Copy)]
 pub struct Position {
+    pub group: usize,
     pub block: usize,
     pub at: usize,
     pub found: bool,
 }
 
-// Finds a key among the keys from a place on, as std's `binary_search` answers. The key before that place, if
+// A block and an index in it, in one group.
+#[derive(Clone, Copy)]
+struct GroupPosition {
+    block: usize,
+    at: usize,
+    found: bool,
+}
+
+// Finds a key among the keys from an index on, as std's `binary_search` answers. The key before that index, if
 // any, is below it.
 fn search<K: Ranked, L: Ledger>(
     keys: &[K],
@@ -31,7 +42,7 @@ fn search<K: Ranked, L: Ledger>(
     requires within { start ≤ length keys.now }
     requires above { IsAfter K.cmp key.now keys.now start }
     ensures ends { EndsAt K.cmp key.now keys.now start result }
-    ensures cost { Within (length keys.now) 0 steps.old steps.new }
+    ensures cost { Within (length keys.now - start) 0 steps.old steps.new }
 {
     let mut low = start;
     let mut high = keys.len();
@@ -46,17 +57,20 @@ fn search<K: Ranked, L: Ledger>(
     Err(low)
 }
 
-// Finds a key among the blocks' first keys.
+// Finds a key among the first keys of the blocks from an index on. The first key of the block before that index, if any, is below it.
 fn search_blocks<K: Ranked, L: Ledger>(
     blocks: &[Block<K>],
+    start: usize,
     key: &K,
     steps: &mut Steps<L>,
 ) -> Result<usize, usize>
-    requires { AreFilled blocks.now }
-    ensures ends { EndsAtBlock K.cmp key.now blocks.now result }
-    ensures cost { Within (length blocks.now) 0 steps.old steps.new }
+    requires filled { AreFilled blocks.now }
+    requires within { start ≤ length blocks.now }
+    requires above { IsAfterBlock K.cmp key.now blocks.now start }
+    ensures ends { EndsAtBlock K.cmp key.now blocks.now start result }
+    ensures cost { Within (length blocks.now - start) 0 steps.old steps.new }
 {
-    let mut low = 0;
+    let mut low = start;
     let mut high = blocks.len();
     while low < high {
         let middle = low + (high - low) / 2;
@@ -69,17 +83,82 @@ fn search_blocks<K: Ranked, L: Ledger>(
     Err(low)
 }
 
-/// The position of a key.
-pub fn locate<K: Ranked, L: Ledger>(blocks: &[Block<K>], key: &K, steps: &mut Steps<L>) -> Position
+// Finds a key among the groups' first keys.
+fn search_groups<K: Ranked, L: Ledger>(
+    groups: &[Group<K>],
+    key: &K,
+    steps: &mut Steps<L>,
+) -> Result<usize, usize>
+    requires some { AreFilled groups.now }
+    requires filled { AreFilled (keys_of groups.now) }
+    ensures ends { EndsAtBlock K.cmp key.now (map keys_of groups.now) 0 result }
+    ensures cost { Within (length groups.now) 0 steps.old steps.new }
+{
+    let mut low = 0;
+    let mut high = groups.len();
+    while low < high {
+        let middle = low + (high - low) / 2;
+        match key.rank(groups[middle].first(), steps) {
+            Ordering::Less => high = middle,
+            Ordering::Equal => return Ok(middle),
+            Ordering::Greater => low = middle + 1,
+        }
+    }
+    Err(low)
+}
+
+// The position of a key in a group whose first key is below it.
+fn locate_in<K: Ranked, L: Ledger>(
+    blocks: &[Block<K>],
+    key: &K,
+    steps: &mut Steps<L>,
+) -> GroupPosition
+    requires some { 0 < length blocks.now }
     requires filled { AreFilled blocks.now }
     requires rising { IsRising K.cmp (keys_of blocks.now) }
+    requires above { IsAfterBlock K.cmp key.now blocks.now 1 }
     ensures stands { Stands K.cmp key.now blocks.now result.block result.at result.found }
-    ensures cost { Within (length (keys_of blocks.now)) 8 steps.old steps.new }
+    ensures cost { Within (length blocks.now - 1) 7 steps.old steps.new }
 {
-    let next = match search_blocks(blocks, key, steps) {
+    let next = match search_blocks(blocks, 1, key, steps) {
         Ok(block) => {
-            return Position {
+            return GroupPosition {
                 block,
+                at: 0,
+                found: true,
+            };
+        }
+        Err(next) => next,
+    };
+    let block = next - 1;
+    match search(blocks[block].keys(), 1, key, steps) {
+        Ok(at) => GroupPosition {
+            block,
+            at,
+            found: true,
+        },
+        Err(at) => GroupPosition {
+            block,
+            at,
+            found: false,
+        },
+    }
+}
+
+/// The position of a key.
+pub fn locate<K: Ranked, L: Ledger>(groups: &[Group<K>], key: &K, steps: &mut Steps<L>) -> Position
+    requires groups { AreGroups groups.now }
+    requires filled { AreFilled (keys_of groups.now) }
+    requires rising { IsRising K.cmp (keys_of (keys_of groups.now)) }
+    ensures stands { Stands K.cmp key.now (keys_of groups.now) (index_of groups.now result.group result.block) result.at result.found }
+    ensures inside { 0 < length groups.now → IsInside groups.now result.group result.block }
+    ensures cost { Within (length (keys_of (keys_of groups.now))) 8 steps.old steps.new }
+{
+    let next = match search_groups(groups, key, steps) {
+        Ok(group) => {
+            return Position {
+                group,
+                block: 0,
                 at: 0,
                 found: true,
             };
@@ -88,22 +167,18 @@ pub fn locate<K: Ranked, L: Ledger>(blocks: &[Block<K>], key: &K, steps: &mut St
     };
     if next == 0 {
         return Position {
+            group: 0,
             block: 0,
             at: 0,
             found: false,
         };
     }
-    let block = next - 1;
-    match search(blocks[block].keys(), 1, key, steps) {
-        Ok(at) => Position {
-            block,
-            at,
-            found: true,
-        },
-        Err(at) => Position {
-            block,
-            at,
-            found: false,
-        },
+    let group = next - 1;
+    let GroupPosition { block, at, found } = locate_in(groups[group].blocks(), key, steps);
+    Position {
+        group,
+        block,
+        at,
+        found,
     }
 }

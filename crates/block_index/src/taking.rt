@@ -1,17 +1,66 @@
 // The keys of a range, copied block by block.
 
-ghost use Rattle.std.specs.Prelude.{◌≡◌, ◌+◌, ◌≤◌, length, cond, IfOk};
+ghost use Rattle.std.specs.Prelude.{◌≡◌, ◌+◌, ◌≤◌, [], ◌<◌, length, map, cond, slice_index_or, IfOk};
 ghost use Rattle.block_index.specs.Blocks.{keys_of};
+ghost use Rattle.block_index.specs.Groups.{IsInside, index_of};
+ghost use Rattle.block_index.specs.Search.{keys_from};
 ghost use Rattle.block_index.specs.Taking.{Takes};
 
 use crate::block::Block;
+use crate::group::Group;
 use crate::ranked::Ranked;
+use crate::search::Position;
 use crate::steps::Steps;
-use rdf_term::OutOfMemory;
+use base::OutOfMemory;
 use std::sync::ledger::Ledger;
 
-/// Copies keys until the first above `to`; whether there was none.
-pub fn take_keys<K: Ranked, L: Ledger>(
+/// Copies the keys from a position on until the first above `to`; whether there was none.
+pub fn take_from<K: Ranked, L: Ledger>(
+    groups: &[Group<K>],
+    position: Position,
+    to: &K,
+    taken: &mut Vec<K>,
+    steps: &mut Steps<L>,
+) -> Result<bool, OutOfMemory>
+    requires inside { IsInside groups.now position.group position.block }
+    requires within { position.at ≤ length (slice_index_or (keys_of groups.now) (index_of groups.now position.group position.block) []) }
+    ensures takes { IfOk result
+        (λ more. Takes K.cmp to.now (keys_from (keys_of groups.now) (index_of groups.now position.group position.block) position.at) taken.old.items taken.new.items more) }
+    ensures cost { IfOk result (λ more. steps.new + length taken.old.items ≡ steps.old + length taken.new.items + cond more 0 1) }
+    ensures forward { steps.old ≤ steps.new }
+{
+    let blocks = groups[position.group].blocks();
+    if !take_within(blocks, position, to, taken, steps)? {
+        return Ok(false);
+    }
+    let more = take_groups(&groups[position.group + 1..], to, taken, steps)?;
+    Ok(more)
+}
+
+// Copies the keys from a position in a group's blocks on until the first above `to`; whether there was none.
+fn take_within<K: Ranked, L: Ledger>(
+    blocks: &[Block<K>],
+    position: Position,
+    to: &K,
+    taken: &mut Vec<K>,
+    steps: &mut Steps<L>,
+) -> Result<bool, OutOfMemory>
+    requires inside { position.block < length blocks.now }
+    requires within { position.at ≤ length (slice_index_or blocks.now position.block []) }
+    ensures takes { IfOk result (λ more. Takes K.cmp to.now (keys_from blocks.now position.block position.at) taken.old.items taken.new.items more) }
+    ensures cost { IfOk result (λ more. steps.new + length taken.old.items ≡ steps.old + length taken.new.items + cond more 0 1) }
+    ensures forward { steps.old ≤ steps.new }
+{
+    let first = blocks[position.block].keys();
+    if !take_keys(&first[position.at..], to, taken, steps)? {
+        return Ok(false);
+    }
+    let more = take_blocks(&blocks[position.block + 1..], to, taken, steps)?;
+    Ok(more)
+}
+
+// Copies keys until the first above `to`; whether there was none.
+fn take_keys<K: Ranked, L: Ledger>(
     keys: &[K],
     to: &K,
     taken: &mut Vec<K>,
@@ -30,8 +79,8 @@ pub fn take_keys<K: Ranked, L: Ledger>(
     Ok(true)
 }
 
-/// Copies the blocks' keys until the first above `to`; whether there was none.
-pub fn take_blocks<K: Ranked, L: Ledger>(
+// Copies the blocks' keys until the first above `to`; whether there was none.
+fn take_blocks<K: Ranked, L: Ledger>(
     blocks: &[Block<K>],
     to: &K,
     taken: &mut Vec<K>,
@@ -43,6 +92,25 @@ pub fn take_blocks<K: Ranked, L: Ledger>(
 {
     for block in blocks {
         if !take_keys(block.keys(), to, taken, steps)? {
+            return Ok(false);
+        }
+    }
+    Ok(true)
+}
+
+// Copies the groups' keys until the first above `to`; whether there was none.
+fn take_groups<K: Ranked, L: Ledger>(
+    groups: &[Group<K>],
+    to: &K,
+    taken: &mut Vec<K>,
+    steps: &mut Steps<L>,
+) -> Result<bool, OutOfMemory>
+    ensures takes { IfOk result (λ more. Takes K.cmp to.now (keys_of (map keys_of groups.now)) taken.old.items taken.new.items more) }
+    ensures cost { IfOk result (λ more. steps.new + length taken.old.items ≡ steps.old + length taken.new.items + cond more 0 1) }
+    ensures forward { steps.old ≤ steps.new }
+{
+    for group in groups {
+        if !take_blocks(group.blocks(), to, taken, steps)? {
             return Ok(false);
         }
     }

@@ -3,7 +3,7 @@
 ghost use Rattle.std.specs.Prelude.{◌≡◌, IfOk, string_bytes};
 ghost use Rattle.drill.specs.Drill.{claims, earlier_page, later_page, page_front, page_of};
 
-use rdf_term::OutOfMemory;
+use base::OutOfMemory;
 use std::alloc::Global;
 
 /// The page at a revision: of the item's two the odd one is its label alone, and the even one has a statement too.

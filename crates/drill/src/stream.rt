@@ -3,8 +3,8 @@
 ghost use Rattle.std.specs.Prelude.{◌≡◌, ◌++◌, IfOk, OnOk};
 ghost use Rattle.drill.specs.Drill.{IsSize, deletion, deliveries_of, edits, event, late_edit, time_at};
 
+use base::{List, OutOfMemory};
 use entity_model::{Delivery, EntityId, Event, IdKind, Kind};
-use rdf_term::{List, OutOfMemory};
 use std::alloc::Global;
 
 /// What is delivered of the item with this number, in order: its later edit, its earlier edit, and the later

@@ -11,8 +11,8 @@ ghost use Rattle.entity_json.specs.Reading.Steps.{steps};
 
 use crate::map::{has_key, last_flags};
 use crate::part::PartFault;
+use base::List;
 use json_spell::{Json, Member};
-use rdf_term::List;
 use std::alloc::Global;
 
 // How many members a map may have for each key to be looked for in the members that follow. With more of them that

@@ -10,9 +10,9 @@ use crate::links::links_at;
 use crate::part::PartFault;
 use crate::statements::statements_at;
 use crate::terms::{aliases_at, labels_at};
+use base::{List, Piece};
 use entity_model::{Entity, IdKind, Link};
 use json_spell::Json;
-use rdf_term::{List, Piece};
 use std::alloc::Global;
 
 // The kind of the entities whose pages have the type.

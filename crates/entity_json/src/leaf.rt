@@ -8,9 +8,9 @@ ghost use Rattle.entity_json.specs.Finds.{Finds, FindsBy};
 ghost use Rattle.entity_json.specs.Leaves.{text_of, number_of, list_of, text_at, number_at, id_at, optional_text_at, nullable_number_at, optional_list_at, id_of_kind, id_of_kind_at};
 
 use crate::part::PartFault;
+use base::{Piece, Text};
 use entity_model::{EntityId, IdKind};
 use json_spell::Json;
-use rdf_term::{Piece, Text};
 use std::alloc::Global;
 
 // The member with the name.

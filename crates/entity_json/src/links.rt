@@ -8,9 +8,9 @@ use crate::each::{EntryReader, ItemReader, each_found_entry, each_found_item};
 use crate::leaf::{copy_text_at, id_of_kind, optional_list_at, text_of};
 use crate::map::map_at;
 use crate::part::PartFault;
+use base::List;
 use entity_model::{EntityId, IdKind, Link};
 use json_spell::{Json, Member};
-use rdf_term::List;
 use std::alloc::Global;
 
 // A badge: the id of an item.

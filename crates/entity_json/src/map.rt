@@ -7,8 +7,8 @@ ghost use Rattle.entity_json.specs.Finds.{FindsBy};
 ghost use Rattle.entity_json.specs.Maps.{has_key, has_other_key, lasts, map_of, map_at, only_of};
 
 use crate::part::PartFault;
+use base::OutOfMemory;
 use json_spell::{Json, Member};
-use rdf_term::OutOfMemory;
 use std::alloc::Global;
 use std::collections::BTreeSet;
 

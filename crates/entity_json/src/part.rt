@@ -3,7 +3,7 @@
 ghost use Rattle.std.specs.Prelude.{◌≡◌};
 ghost use Rattle.entity_json.specs.declared.part.PartFault.TheVariants.{OutOfMemory as Refused};
 
-use rdf_term::OutOfMemory;
+use base::OutOfMemory;
 use std::alloc::{AllocError, AllocFailed};
 
 // Why a part of a page isn't read.

@@ -13,9 +13,9 @@ use crate::leaf::{copy_text, id_of_kind, list_of, member_at, text_at};
 use crate::map::map_at;
 use crate::part::PartFault;
 use crate::values::value_of;
+use base::{List, Piece, Text};
 use entity_model::{Content, EntityId, IdKind, Snak};
 use json_spell::{Json, Member};
-use rdf_term::{List, Piece, Text};
 use std::alloc::Global;
 
 // The text that a value is, or the empty one.

@@ -11,9 +11,9 @@ use crate::leaf::{copy_text_at, id_of_kind, list_of, member_at, optional_list_at
 use crate::map::map_at;
 use crate::part::PartFault;
 use crate::snaks::{snak_of, snaks_at};
+use base::{List, Piece, are_alphanumeric};
 use entity_model::{EntityId, IdKind, Rank, Reference, Snak, Statement};
 use json_spell::{Json, Member};
-use rdf_term::{List, Piece, are_alphanumeric};
 use std::alloc::Global;
 
 // The rank with the name.

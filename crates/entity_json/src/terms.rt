@@ -8,9 +8,9 @@ use crate::each::{EntryReader, ItemReader, each_found_entry, each_item};
 use crate::leaf::{copy_text_at, list_of};
 use crate::map::map_at;
 use crate::part::PartFault;
+use base::List;
 use entity_model::Tagged;
 use json_spell::{Json, Member};
-use rdf_term::List;
 use std::alloc::Global;
 
 // A text and its language, with the text under the name.

@@ -15,9 +15,9 @@ use crate::leaf::{
 use crate::number::{is_whole, small_of};
 use crate::part::PartFault;
 use crate::terms::tagged_under;
+use base::{Piece, Text};
 use entity_model::{EntityId, GlobeParts, QuantityParts, TimeParts, Value};
 use json_spell::Json;
-use rdf_term::{Piece, Text};
 use std::alloc::Global;
 
 // A type of entities that a value may name by number.

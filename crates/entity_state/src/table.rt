@@ -13,9 +13,9 @@ ghost use Rattle.entity_state.specs.Table.{no_records, is_there, has_room, with_
 
 use crate::record::Record;
 use crate::state::State;
+use base::{List, OutOfMemory};
 use entity_model::{EntityId, Event};
 use indexmap::IndexMap;
-use rdf_term::{List, OutOfMemory};
 use std::alloc::Global;
 use std::collections::BTreeSet;
 use std::hash::RandomState;

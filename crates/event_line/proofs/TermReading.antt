@@ -1,6 +1,6 @@
 -- What `read_term` finds in a text is what is read from it.
 use Rattle.std.proofs.Common.{◌≡◌, ◌↔◌, ℕ, List, Option, Some, None, Result, Ok, Err, IfOk, refl, sym}
-use Rattle.rdf_term.specs.declared.memory.OutOfMemory.{OutOfMemory}
+use Rattle.base.specs.declared.memory.OutOfMemory.{OutOfMemory}
 use Rattle.rdf_term.specs.declared.term.Term.{Term}
 use Rattle.rdf_term.specs.Reader.{read}
 use Rattle.rdf_term.specs.Written.{IsWritten}

@@ -3,7 +3,7 @@
 ghost use Rattle.std.specs.Prelude.{◌≡◌};
 ghost use Rattle.json_spell.specs.declared.fault.JsonFault.TheVariants.{OutOfMemory as Refused};
 
-use rdf_term::OutOfMemory;
+use base::OutOfMemory;
 use std::alloc::{AllocError, AllocFailed};
 use thiserror::Error;
 

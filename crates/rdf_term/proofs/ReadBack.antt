@@ -5,7 +5,7 @@ use Rattle.std.proofs.lemmas.Bool.{cases_Bool, cases_lt, ne_eqb, and_parts, and_
 use Rattle.std.proofs.lemmas.Str.{encode_ascii}
 use Rattle.rising.specs.Rising.{Each}
 use Rattle.rdf_term.specs.declared.content.Enclosure.TheVariants.{Brackets, Quotes}
-use Rattle.rdf_term.specs.declared.memory.OutOfMemory.{OutOfMemory}
+use Rattle.base.specs.declared.memory.OutOfMemory.{OutOfMemory}
 use Rattle.rdf_term.specs.declared.term.Term.{Term}
 use Rattle.rdf_term.specs.declared.term.Term.TheVariants.{Iri, Blank, Plain, Lang, Typed}
 use Rattle.rdf_term.specs.Fit.{is_fit, xsd_string}

@@ -4,7 +4,7 @@ use Rattle.std.specs.Option.{option_map, option_and_then}
 use Rattle.std.proofs.lemmas.Bool.{cases_Bool, eqb-true}
 use Rattle.rdf_term.specs.declared.content.Enclosure.TheVariants.{Brackets, Quotes}
 use Rattle.rdf_term.specs.declared.content.State.TheVariants.{Between}
-use Rattle.rdf_term.specs.declared.memory.OutOfMemory.{OutOfMemory}
+use Rattle.base.specs.declared.memory.OutOfMemory.{OutOfMemory}
 use Rattle.rdf_term.specs.declared.term.Term.{Term}
 use Rattle.rdf_term.specs.declared.term.Term.TheVariants.{Iri, Blank, Plain, Lang}
 use Rattle.rdf_term.specs.Grammar.{is_label, is_tag}

@@ -1,9 +1,8 @@
-pub mod Append
+pub use Rattle.base.specs.Append
 pub mod Fit
 pub mod Grammar
 pub mod Order
 pub mod Pattern
-pub mod Piece
 pub mod Reader
 pub mod TagReader
 pub mod Text

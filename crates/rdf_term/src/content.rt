@@ -5,9 +5,8 @@ ghost use Rattle.std.specs.Option.{option_map};
 ghost use Rattle.rdf_term.specs.Reader.{after_digit, content_of, put_or_refuse, step, step_backslash, step_between, step_digits};
 ghost use Rattle.rdf_term.specs.Written.{closing, escaped_char, letter_char, stands};
 
-use crate::memory::OutOfMemory;
 use crate::percent::is_iri_char;
-use crate::text::Text;
+use base::{OutOfMemory, Text};
 use std::alloc::Global;
 
 /// What encloses a content.

@@ -7,8 +7,8 @@ ghost use Rattle.rdf_term.specs.Text.{escaped, escaped_byte};
 
 use crate::escape::escape_of;
 use crate::term::Term;
-use crate::text::Text;
 use crate::triple::Triple;
+use base::Text;
 use std::cmp::Ordering;
 
 /// The order of triples: by the bytes of the canonical texts of the subjects, then of the predicates, then

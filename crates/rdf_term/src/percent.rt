@@ -4,9 +4,8 @@ ghost use Rattle.std.specs.Prelude.{◌≡◌, ◌<◌, ◌++◌, IfOk, OnOk, tr
 ghost use Rattle.rdf_term.specs.Fit.{is_fit};
 ghost use Rattle.rdf_term.specs.Grammar.{hex_digit, iri_of, is_iri, is_iri_char, percent_encoded};
 
-use crate::memory::OutOfMemory;
 use crate::term::Term;
-use crate::text::Text;
+use base::{OutOfMemory, Text};
 use std::alloc::Global;
 
 /// The IRI of a text: each character that may not stand in an IRI is percent-encoded, with upper-case

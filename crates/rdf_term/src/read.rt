@@ -10,10 +10,9 @@ ghost use Rattle.rdf_term.specs.Written.{IsWritten, literal_of_type};
 
 use crate::content::{Enclosure, content};
 use crate::label::is_label;
-use crate::memory::OutOfMemory;
 use crate::tag::is_tag;
 use crate::term::Term;
-use crate::text::Text;
+use base::{OutOfMemory, Text};
 use std::alloc::Global;
 
 // The datatype of plain literals.

@@ -5,9 +5,8 @@ ghost use Rattle.rdf_term.specs.Fit.{is_fit};
 ghost use Rattle.rdf_term.specs.Grammar.{is_tag, tagged_of};
 ghost use Rattle.rdf_term.specs.TagReader.{is_end, place_after};
 
-use crate::memory::OutOfMemory;
 use crate::term::Term;
-use crate::text::Text;
+use base::{OutOfMemory, Text};
 use std::alloc::Global;
 
 /// The literal of a text in a language: `Lang` where the tag is in the grammar of N-Triples,

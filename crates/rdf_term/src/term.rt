@@ -2,8 +2,7 @@
 
 ghost use Rattle.std.specs.Prelude.{◌≡◌, IfOk};
 
-use crate::memory::OutOfMemory;
-use crate::text::Text;
+use base::{OutOfMemory, Text};
 use std::alloc::Global;
 
 /// A term of RDF 1.1: an IRI, a blank node or a literal.

@@ -5,9 +5,9 @@ ghost use Rattle.std.specs.Cmp.{partial_equiv_from_equiv, eq_by_cmp_equiv, parti
 ghost use Rattle.std.specs.Ordering.{as_partial_cmp, eq_by_cmp};
 ghost use Rattle.rdf_term.specs.Order.{triple_cmp, triple_cmp-total};
 
-use crate::memory::OutOfMemory;
 use crate::order::compare;
 use crate::term::Term;
+use base::OutOfMemory;
 use std::alloc::Global;
 use std::cmp::Ordering;
 

@@ -3,9 +3,8 @@
 ghost use Rattle.std.specs.Prelude.{◌≡◌, IsOkAnd};
 ghost use Rattle.rising.specs.Rising.{IsRising, has, sorted};
 
-use crate::list::List;
-use crate::memory::OutOfMemory;
 use crate::triple::Triple;
+use base::{List, OutOfMemory};
 use std::marker::Model;
 
 /// A set of triples. Contracts see the list of its triples, which rises strictly.

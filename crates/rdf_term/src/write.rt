@@ -3,13 +3,13 @@
 ghost use Rattle.std.specs.Prelude.{◌≡◌, ◌++◌, ◌∷◌, [], OnOk, OnErr};
 ghost use Rattle.std.specs.Str.{IsUtf8};
 ghost use Rattle.rdf_term.specs.declared.term.Term.{Term};
-ghost use Rattle.rdf_term.specs.Append.{Appends};
+ghost use Rattle.base.specs.Append.{Appends};
 ghost use Rattle.rdf_term.specs.Text.{escaped, escaped_byte, in_brackets, quoted, spaced, term_text, triple_text};
 
 use crate::escape::{escape_of, has_escape};
-use crate::memory::OutOfMemory;
 use crate::term::Term;
 use crate::triple::Triple;
+use base::OutOfMemory;
 
 /// Appends the canonical text of the term, as N-Triples writes it: the escapes `\"`, `\\`, `\n` and `\r`
 /// and no other.
@@ -48,7 +48,7 @@ pub fn write_triple(triple: &Triple, out: &mut Vec<u8>) -> Result<(), OutOfMemor
 }
 
 // Appends the triple's line; after `OutOfMemory` a part of it may stand there.
-#[tactic(auto, using(crate::proofs::Appending::still_front, std::proofs::lemmas::List::append_assoc, crate::proofs::Utf8Texts::line_utf8))]
+#[tactic(auto, using(base::proofs::Appending::still_front, std::proofs::lemmas::List::append_assoc, crate::proofs::Utf8Texts::line_utf8))]
 fn append_triple(triple: &Triple, out: &mut Vec<u8>) -> Result<(), OutOfMemory>
     ensures text { Appends out.old.items out.new.items (triple_text triple.now) result }
     ensures utf8 { OnOk result (IsUtf8 (triple_text triple.now)) }
@@ -60,7 +60,7 @@ fn append_triple(triple: &Triple, out: &mut Vec<u8>) -> Result<(), OutOfMemory>
 }
 
 // Appends the term's text and a space.
-#[tactic(auto, using(crate::proofs::Appending::still_front, std::proofs::lemmas::List::append_assoc))]
+#[tactic(auto, using(base::proofs::Appending::still_front, std::proofs::lemmas::List::append_assoc))]
 fn append_spaced(term: &Term, out: &mut Vec<u8>) -> Result<(), OutOfMemory>
     ensures text { Appends out.old.items out.new.items (spaced term.now) result }
     ensures utf8 { IsUtf8 (term_text term.now) }
@@ -150,7 +150,7 @@ fn append_escaped(text: &[u8], out: &mut Vec<u8>) -> Result<(), OutOfMemory>
 }
 
 // Appends each byte of a text as it stands between the quotes.
-#[tactic(auto, using(crate::proofs::Appending::still_front))]
+#[tactic(auto, using(base::proofs::Appending::still_front))]
 fn append_each(text: &[u8], out: &mut Vec<u8>) -> Result<(), OutOfMemory>
     ensures { Appends out.old.items out.new.items (escaped text.now) result }
 {

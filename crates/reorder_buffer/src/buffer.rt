@@ -10,8 +10,8 @@ ghost use Rattle.reorder_buffer.specs.Buffered.{nothing_taken, nothing_taken_wit
 
 use crate::taken::Taken;
 use crate::watermarks;
+use base::OutOfMemory;
 use entity_model::Event;
-use rdf_term::OutOfMemory;
 use std::alloc::Global;
 use std::collections::BTreeSet;
 use std::marker::Model;

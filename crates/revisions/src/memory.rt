@@ -8,7 +8,7 @@ ghost use Rattle.revisions.specs.Memory.{bytes_at, entry_at};
 ghost use Rattle.revisions.specs.Revisions.{AgreesWith, HasCause, IsOtherwiseStill, counted};
 
 use crate::revisions::{NoRevision, Revisions};
-use rdf_term::{List, Text};
+use base::{List, Text};
 use std::alloc::Global;
 use std::marker::Model;
 use wq_io::FailingCalls;

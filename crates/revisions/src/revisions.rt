@@ -4,7 +4,7 @@ ghost use Rattle.std.specs.Prelude.{◌≡◌, ℕ, ◌≤◌, Option, Some, IfS
 ghost use Rattle.revisions.specs.Revisions.{Contents, AgreesWith, HasCause, counted};
 ghost use Rattle.revisions.specs.declared.revisions.NoRevision.TheVariants.{OutOfMemory as Refused};
 
-use rdf_term::OutOfMemory;
+use base::OutOfMemory;
 use std::alloc::Global;
 use thiserror::Error;
 

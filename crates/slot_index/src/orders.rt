@@ -15,8 +15,8 @@ ghost use Rattle.slot_index.specs.Patterns.{agrees, leads};
 
 use crate::key::Key;
 use crate::pattern::SlotPattern;
+use base::{List, OutOfMemory};
 use block_index::{BlockIndex, Steps};
-use rdf_term::{List, OutOfMemory};
 use std::alloc::Global;
 use std::marker::Model;
 use std::sync::ledger::Ledger;

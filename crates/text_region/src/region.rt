@@ -8,7 +8,7 @@ ghost use Rattle.text_region.specs.Peak.{IsNew};
 use crate::class::class_of;
 use crate::piece::Piece;
 use crate::shelf::Shelf;
-use rdf_term::OutOfMemory;
+use base::OutOfMemory;
 use std::alloc::Global;
 use std::marker::Model;
 

@@ -4,7 +4,7 @@ ghost use Rattle.std.specs.Prelude.{◌≡◌, ◌+◌, ◌<◌, ◌≤◌, ◌+
 ghost use Rattle.text_region.specs.Blocks.{block_at, HasFreed, HasPut};
 
 use crate::length::Length;
-use rdf_term::OutOfMemory;
+use base::OutOfMemory;
 use std::alloc::Global;
 use std::marker::Model;
 

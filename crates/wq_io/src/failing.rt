@@ -4,7 +4,7 @@ ghost use Rattle.std.specs.Prelude.{◌≡◌, ◌+◌, ◌≤◌};
 ghost use Rattle.std.specs.Bool.{OnTrue, OnFalse};
 ghost use Rattle.wq_io.specs.Failing.{after_call, fails_next, failures};
 
-use rdf_term::List;
+use base::List;
 use std::marker::Model;
 
 /// Counts calls from 1, and names those that are to fail.

@@ -7,7 +7,7 @@ ghost use Rattle.wq_io.specs.Taking.{EndsAt, HasByte, IsEnded, IsRefusedLine, Is
 ghost use Rattle.wq_io.specs.declared.lines.LineFault.TheVariants.{ReadFault as NotRead, LineLong as OverLong, OutOfMemory as Refused};
 
 use crate::source::Source;
-use rdf_term::OutOfMemory;
+use base::OutOfMemory;
 use std::marker::Model;
 use thiserror::Error;
 

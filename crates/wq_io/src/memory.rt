@@ -8,7 +8,7 @@ ghost use Rattle.wq_io.specs.Streams.{ReadTakes, Rose, WritePuts, after_read, gi
 use crate::failing::FailingCalls;
 use crate::sink::{NoWrite, Sink};
 use crate::source::{Failed, Source};
-use rdf_term::{List, OutOfMemory};
+use base::{List, OutOfMemory};
 use std::alloc::Global;
 use std::marker::Model;
 

@@ -4,7 +4,7 @@ ghost use Rattle.std.specs.Prelude.{◌≡◌, ℕ, ◌<◌, ◌≤◌, List, Op
 ghost use Rattle.wq_io.specs.Streams.{WritePuts, Rose};
 ghost use Rattle.wq_io.specs.declared.sink.NoWrite.TheVariants.{Failed as CallFailed, OutOfMemory as Refused};
 
-use rdf_term::OutOfMemory;
+use base::OutOfMemory;
 use thiserror::Error;
 
 /// Why a write took nothing.

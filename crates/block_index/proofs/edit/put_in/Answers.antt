@@ -1,39 +1,28 @@
--- The block grows, or two come in its place.
-use Rattle.std.proofs.Common.{◌<◌, [], length, ap, arith}
-use Rattle.std.proofs.lemmas.List.{get_or_read}
-use Rattle.block_index.proofs.Halves.{edits_grown, edits_split}
-use Rattle.block_index.proofs.Parts.{filled_at}
+-- The key comes to a group with room, and so to all blocks.
+use Rattle.std.proofs.Common.{sym, subst}
+use Rattle.std.proofs.lemmas.Result.{on_ok_weaker}
+use Rattle.block_index.specs.Blocks.{AreFilled, keys_of}
+use Rattle.block_index.specs.Groups.{index_of}
+use Rattle.block_index.proofs.Grouped.{filled_group, groups_put, inside_read, put_lifted, room_read}
 use Rattle.block_index.proofs.edit.put_in.Goals as goal
 
-pub returns-then-len-lt-MOST-clause-ok : goal.returns-then-len-lt-MOST-clause-ok
-returns-then-len-lt-MOST-clause-ok g c =
-    let li : c.args.block < length c.args.blocks.now.items = omega (arith, c.args.blocks.now.ok) in
-    let same = ap length (get_or_read c.args.blocks.now.items c.args.block c.index.result.now li c.index.ensures []) in
-    edits_grown c.args.blocks.now.items c.args.block c.args.at c.args.key c.index_mut.result.now c.insert.new.self li c.index_mut.ensures.value (omega arith) c.requires.within c.in_ok-insert.ensures.ok
+pub put_in-requires-clause-filled : goal.put_in-requires-clause-filled
+put_in-requires-clause-filled g c =
+    let gs = c.make_room.new.groups.items in
+    let room = c.in_ok-room.room in
+    let is = (inside_read gs room.group room.block (index_of c.args.groups.now.items c.args.position.group c.args.position.block) c.index_mut.result.now c.in_ok-room.ensures.room c.index_mut.ensures.value).0 in
+    subst AreFilled (sym is) (filled_group gs room.group (subst AreFilled (sym c.in_ok-room.ensures.blocks) c.requires.filled))
 
-pub insert-requires-clause-some : goal.insert-requires-clause-some
-insert-requires-clause-some g c =
-    let li : c.args.block < length c.args.blocks.now.items = omega (arith, c.args.blocks.now.ok) in
-    let same = ap length (get_or_read c.args.blocks.now.items c.args.block c.index_mut.result.now li c.index_mut.ensures.value []) in
-    let some = (filled_at c.args.blocks.now.items c.args.block li c.requires.filled).0 in
-    omega arith
-
-pub halves-requires-clause-full : goal.halves-requires-clause-full
-halves-requires-clause-full g c =
-    let li : c.args.block < length c.args.blocks.now.items = omega (arith, c.args.blocks.now.ok) in
-    let one = ap length (get_or_read c.args.blocks.now.items c.args.block c.index.result.now li c.index.ensures []) in
-    let two = ap length (get_or_read c.args.blocks.now.items c.args.block c.index-2.result.now li c.index-2.ensures []) in
-    let most = (filled_at c.args.blocks.now.items c.args.block li c.requires.filled).1 in
-    omega arith
-
-pub halves-requires-clause-within : goal.halves-requires-clause-within
-halves-requires-clause-within g c =
-    let li : c.args.block < length c.args.blocks.now.items = omega (arith, c.args.blocks.now.ok) in
-    let most = (filled_at c.args.blocks.now.items c.args.block li c.requires.filled).1 in
-    let within = c.requires.within in
-    omega arith
+pub put_in-requires-clause-within : goal.put_in-requires-clause-within
+put_in-requires-clause-within g c =
+    room_read (keys_of c.args.groups.now.items) c.make_room.new.groups.items c.in_ok-room.room.group c.in_ok-room.room.block (index_of c.args.groups.now.items c.args.position.group c.args.position.block) c.args.position.at c.index_mut.result.now c.in_ok-room.ensures.blocks c.in_ok-room.ensures.room c.index_mut.ensures.value c.requires.within
 
 pub returns-clause-ok : goal.returns-clause-ok
 returns-clause-ok g c =
-    let li : c.args.block < length c.args.blocks.now.items = omega (arith, c.args.blocks.now.ok) in
-    edits_split c.args.blocks.now.items c.insert-2.new.self.items c.args.block c.args.at c.args.key c.index-2.result.now c.in_ok-low.field-0.low c.in_ok-low.field-0.high li c.index-2.ensures c.in_ok-low.ensures.low c.in_ok-low.ensures.high c.in_ok-low.ensures.keys c.in_ok-insert-2.ensures.items
+    on_ok_weaker c.put_in.result
+    (put_lifted (keys_of c.args.groups.now.items) c.make_room.new.groups.items c.in_ok-room.room.group c.in_ok-room.room.block (index_of c.args.groups.now.items c.args.position.group c.args.position.block) c.args.position.at c.args.key c.index_mut.result.now c.put_in.new.self c.in_ok-room.ensures.blocks c.in_ok-room.ensures.room c.index_mut.ensures.value)
+    c.put_in.ensures.ok
+
+pub returns-clause-groups : goal.returns-clause-groups
+returns-clause-groups g c =
+    groups_put c.make_room.new.groups.items c.in_ok-room.room.group c.in_ok-room.room.block (index_of c.args.groups.now.items c.args.position.group c.args.position.block) c.index_mut.result.now c.put_in.new.self c.in_ok-room.ensures.groups c.in_ok-room.ensures.room c.index_mut.ensures.value c.put_in.ensures.grown.0 c.put_in.ensures.grown.1

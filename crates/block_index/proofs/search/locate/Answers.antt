@@ -1,66 +1,101 @@
--- A key that is found stands there, and else one block's keys end before the next block's first.
-use Rattle.std.proofs.Common.{◌≡◌, ◌∙◌, Less, ◌-◌, ◌<◌, [], length, ap, subst, arith}
+-- The groups' search says in which group to look, and that its place is the key's among all blocks.
+use Rattle.std.proofs.Common.{◌∙◌, ◌-◌, ◌<◌, [], length, ap, sym, subst, arith}
 use Rattle.std.proofs.lemmas.List.{get_or_read}
-use Rattle.block_index.specs.Search.{first_at}
-use Rattle.block_index.proofs.Costs.{one, both}
-use Rattle.block_index.proofs.Parts.{filled_at, blocks_few}
-use Rattle.block_index.proofs.Standing.{found_at, before_all, between_at, tied_at}
+use Rattle.block_index.specs.Blocks.{AreFilled, keys_of}
+use Rattle.block_index.proofs.Costs.{one, by_groups}
+use Rattle.block_index.proofs.Grouped.{groups_filled, filled_group, several_sized}
+use Rattle.block_index.proofs.Located.{above_first_key, at_group, before_groups, group_rising, group_within, half_full, in_group, long_map}
+use Rattle.block_index.proofs.Parts.{blocks_few, filled_at}
 use Rattle.block_index.proofs.search.locate.Goals as goal
+
+pub search_groups-requires-clause-some : goal.search_groups-requires-clause-some
+search_groups-requires-clause-some g c = groups_filled c.args.groups.now c.requires.groups
 
 pub returns-in-Ok-clause-stands : goal.returns-in-Ok-clause-stands
 returns-in-Ok-clause-stands g c =
     let ends = c.in-Ok.ensures.ends in
-    found_at g.met.K.Ranked.total c.args.key.now c.args.blocks.now c.in-Ok.block 0 c.requires.rising ends.0 (filled_at c.args.blocks.now c.in-Ok.block ends.0 c.requires.filled).0 (ends.1 c.args.key.now)
+    at_group g.met.K.Ranked.total c.args.key.now c.args.groups.now c.in-Ok.group (groups_filled c.args.groups.now c.requires.groups) c.requires.filled c.requires.rising ends.0 ends.1
+
+pub returns-in-Ok-clause-inside : goal.returns-in-Ok-clause-inside
+returns-in-Ok-clause-inside g c =
+    let ends = c.in-Ok.ensures.ends.0 in
+    let l : c.in-Ok.group < length c.args.groups.now = omega (arith, long_map c.args.groups.now) in
+    λ some. (l, (filled_at c.args.groups.now c.in-Ok.group l (groups_filled c.args.groups.now c.requires.groups)).0)
 
 pub returns-in-Ok-clause-cost : goal.returns-in-Ok-clause-cost
-returns-in-Ok-clause-cost g c = one (length c.args.blocks.now) _ _ _ (blocks_few c.args.blocks.now c.requires.filled) c.in-Ok.ensures.cost
+returns-in-Ok-clause-cost g c =
+    let gs = c.args.groups.now in
+    let few = blocks_few gs (groups_filled gs c.requires.groups) in
+    let fewer = blocks_few (keys_of gs) c.requires.filled in
+    one (length gs) (length (keys_of (keys_of gs))) _ _ (omega arith) c.in-Ok.ensures.cost
 
 pub returns-then-next-eq0-clause-stands : goal.returns-then-next-eq0-clause-stands
 returns-then-next-eq0-clause-stands g c =
-    let ends = c.in-Err.ensures.ends in
-    before_all g.met.K.Ranked.total c.args.key.now c.args.blocks.now c.requires.filled c.requires.rising
-    (subst (λ i. i < length c.args.blocks.now → g.K.Ranked.cmp c.args.key.now (first_at c.args.blocks.now i c.args.key.now) ≡ Less) c.if-next-eq0.true (ends.2 c.args.key.now))
+    before_groups g.met.K.Ranked.total c.args.key.now c.args.groups.now c.in-Err.next (groups_filled c.args.groups.now c.requires.groups) c.requires.filled c.requires.rising c.if-next-eq0.true c.in-Err.ensures.ends.3
 
 pub returns-then-next-eq0-clause-cost : goal.returns-then-next-eq0-clause-cost
-returns-then-next-eq0-clause-cost g c = one (length c.args.blocks.now) _ _ _ (blocks_few c.args.blocks.now c.requires.filled) c.in-Err.ensures.cost
+returns-then-next-eq0-clause-cost g c =
+    let gs = c.args.groups.now in
+    let few = blocks_few gs (groups_filled gs c.requires.groups) in
+    let fewer = blocks_few (keys_of gs) c.requires.filled in
+    one (length gs) (length (keys_of (keys_of gs))) _ _ (omega arith) c.in-Err.ensures.cost
 
-pub search-requires-clause-within : goal.search-requires-clause-within
-search-requires-clause-within g c =
-    let few = c.in-Err.ensures.ends.0 in
-    let li : c.in-Err.next - 1 < length c.args.blocks.now = omega arith in
-    let is = c.keys.ensures ∙ get_or_read c.args.blocks.now (c.in-Err.next - 1) c.index-blocks-block.result li c.index-blocks-block.is [] in
-    let same = ap length is in
-    let some = (filled_at c.args.blocks.now (c.in-Err.next - 1) li c.requires.filled).0 in
-    omega arith
+pub locate_in-block-requires-clause-some : goal.locate_in-block-requires-clause-some
+locate_in-block-requires-clause-some g c =
+    let few = c.in-Err.ensures.ends.1 in
+    let l : c.in-Err.next - 1 < length c.args.groups.now = omega (arith, long_map c.args.groups.now) in
+    let is = c.blocks-2.ensures ∙ get_or_read c.args.groups.now (c.in-Err.next - 1) c.index-groups-group.result l c.index-groups-group.is [] in
+    subst (λ bs. 0 < length bs) (sym is) (filled_at c.args.groups.now (c.in-Err.next - 1) l (groups_filled c.args.groups.now c.requires.groups)).0
 
-pub returns-in-Ok-search-clause-stands : goal.returns-in-Ok-search-clause-stands
-returns-in-Ok-search-clause-stands g c =
-    let few = c.in-Err.ensures.ends.0 in
-    let li : c.in-Err.next - 1 < length c.args.blocks.now = omega arith in
-    let is = c.keys.ensures ∙ get_or_read c.args.blocks.now (c.in-Err.next - 1) c.index-blocks-block.result li c.index-blocks-block.is [] in
-    let ends = c.in-Ok-search.ensures.ends in
-    tied_at g.met.K.Ranked.total c.args.key.now c.args.blocks.now (c.in-Err.next - 1) c.in-Ok-search.at c.keys.result.now c.requires.rising li is ends.0 ends.1
+pub locate_in-block-requires-clause-filled : goal.locate_in-block-requires-clause-filled
+locate_in-block-requires-clause-filled g c =
+    let few = c.in-Err.ensures.ends.1 in
+    let l : c.in-Err.next - 1 < length c.args.groups.now = omega (arith, long_map c.args.groups.now) in
+    let is = c.blocks-2.ensures ∙ get_or_read c.args.groups.now (c.in-Err.next - 1) c.index-groups-group.result l c.index-groups-group.is [] in
+    subst AreFilled (sym is) (filled_group c.args.groups.now (c.in-Err.next - 1) c.requires.filled)
 
-pub returns-in-Ok-search-clause-cost : goal.returns-in-Ok-search-clause-cost
-returns-in-Ok-search-clause-cost g c =
-    let few = c.in-Err.ensures.ends.0 in
-    let li : c.in-Err.next - 1 < length c.args.blocks.now = omega arith in
-    let same = ap length (c.keys.ensures ∙ get_or_read c.args.blocks.now (c.in-Err.next - 1) c.index-blocks-block.result li c.index-blocks-block.is []) in
-    let most = (filled_at c.args.blocks.now (c.in-Err.next - 1) li c.requires.filled).1 in
-    both (length c.args.blocks.now) (length c.keys.result.now) _ _ _ _ (blocks_few c.args.blocks.now c.requires.filled) (omega arith) c.in-Err.ensures.cost c.in-Ok-search.ensures.cost
+pub locate_in-block-requires-clause-rising : goal.locate_in-block-requires-clause-rising
+locate_in-block-requires-clause-rising g c =
+    let few = c.in-Err.ensures.ends.1 in
+    let l : c.in-Err.next - 1 < length c.args.groups.now = omega (arith, long_map c.args.groups.now) in
+    let is = c.blocks-2.ensures ∙ get_or_read c.args.groups.now (c.in-Err.next - 1) c.index-groups-group.result l c.index-groups-group.is [] in
+    group_rising g.met.K.Ranked.total c.args.key.now c.args.groups.now (c.in-Err.next - 1) c.blocks-2.result.now l is c.requires.rising
 
-pub returns-in-Err-search-clause-stands : goal.returns-in-Err-search-clause-stands
-returns-in-Err-search-clause-stands g c =
-    let few = c.in-Err.ensures.ends.0 in
-    let li : c.in-Err.next - 1 < length c.args.blocks.now = omega arith in
-    let is = c.keys.ensures ∙ get_or_read c.args.blocks.now (c.in-Err.next - 1) c.index-blocks-block.result li c.index-blocks-block.is [] in
-    let ends = c.in-Err-search.ensures.ends in
-    between_at g.met.K.Ranked.total c.args.key.now c.args.blocks.now (c.in-Err.next - 1) c.in-Err-search.at c.in-Err.next c.keys.result.now c.requires.filled c.requires.rising li (omega arith) is ends.0 ends.1 ends.2 ends.3 c.in-Err.ensures.ends.2
+pub locate_in-block-requires-clause-above : goal.locate_in-block-requires-clause-above
+locate_in-block-requires-clause-above g c =
+    let few = c.in-Err.ensures.ends.1 in
+    let l : c.in-Err.next - 1 < length c.args.groups.now = omega (arith, long_map c.args.groups.now) in
+    let is = c.blocks-2.ensures ∙ get_or_read c.args.groups.now (c.in-Err.next - 1) c.index-groups-group.result l c.index-groups-group.is [] in
+    above_first_key g.K.Ranked.cmp c.args.key.now c.args.groups.now (c.in-Err.next - 1) c.in-Err.next c.blocks-2.result.now l (omega arith) (groups_filled c.args.groups.now c.requires.groups) c.requires.filled is c.in-Err.ensures.ends.2
 
-pub returns-in-Err-search-clause-cost : goal.returns-in-Err-search-clause-cost
-returns-in-Err-search-clause-cost g c =
-    let few = c.in-Err.ensures.ends.0 in
-    let li : c.in-Err.next - 1 < length c.args.blocks.now = omega arith in
-    let same = ap length (c.keys.ensures ∙ get_or_read c.args.blocks.now (c.in-Err.next - 1) c.index-blocks-block.result li c.index-blocks-block.is []) in
-    let most = (filled_at c.args.blocks.now (c.in-Err.next - 1) li c.requires.filled).1 in
-    both (length c.args.blocks.now) (length c.keys.result.now) _ _ _ _ (blocks_few c.args.blocks.now c.requires.filled) (omega arith) c.in-Err.ensures.cost c.in-Err-search.ensures.cost
+pub returns-clause-stands : goal.returns-clause-stands
+returns-clause-stands g c =
+    let few = c.in-Err.ensures.ends.1 in
+    let l : c.in-Err.next - 1 < length c.args.groups.now = omega (arith, long_map c.args.groups.now) in
+    let is = c.blocks-2.ensures ∙ get_or_read c.args.groups.now (c.in-Err.next - 1) c.index-groups-group.result l c.index-groups-group.is [] in
+    let some = groups_filled c.args.groups.now c.requires.groups in
+    in_group g.met.K.Ranked.total c.args.key.now c.args.groups.now (c.in-Err.next - 1) c.locate_in-block.result.block c.locate_in-block.result.at c.in-Err.next c.locate_in-block.result.found c.blocks-2.result.now some c.requires.filled c.requires.rising l (omega arith) is
+    (above_first_key g.K.Ranked.cmp c.args.key.now c.args.groups.now (c.in-Err.next - 1) c.in-Err.next c.blocks-2.result.now l (omega arith) some c.requires.filled is c.in-Err.ensures.ends.2)
+    c.in-Err.ensures.ends.3 c.locate_in-block.ensures.stands
+
+pub returns-clause-inside : goal.returns-clause-inside
+returns-clause-inside g c =
+    let few = c.in-Err.ensures.ends.1 in
+    let l : c.in-Err.next - 1 < length c.args.groups.now = omega (arith, long_map c.args.groups.now) in
+    let is = c.blocks-2.ensures ∙ get_or_read c.args.groups.now (c.in-Err.next - 1) c.index-groups-group.result l c.index-groups-group.is [] in
+    let some = (filled_at c.args.groups.now (c.in-Err.next - 1) l (groups_filled c.args.groups.now c.requires.groups)).0 in
+    λ _. (l, subst (λ bs. c.locate_in-block.result.block < length bs) is (c.locate_in-block.ensures.stands.inside (subst (λ bs. 0 < length bs) (sym is) some)))
+
+pub returns-clause-cost : goal.returns-clause-cost
+returns-clause-cost g c =
+    let gs = c.args.groups.now in
+    let next = c.in-Err.ensures.ends.1 in
+    let l : c.in-Err.next - 1 < length gs = omega (arith, long_map gs) in
+    let same = ap length (c.blocks-2.ensures ∙ get_or_read gs (c.in-Err.next - 1) c.index-groups-group.result l c.index-groups-group.is []) in
+    let some = groups_filled gs c.requires.groups in
+    let most = (filled_at gs (c.in-Err.next - 1) l some).1 in
+    let fewer = blocks_few (keys_of gs) c.requires.filled in
+    let few = group_within gs (c.in-Err.next - 1) l in
+    by_groups (length gs) (length c.blocks-2.result.now) (length (keys_of (keys_of gs))) _ _ _
+    (λ several. let half = half_full gs (several_sized gs several c.requires.groups) in omega arith)
+    (omega arith) (omega arith) c.in-Err.ensures.cost c.locate_in-block.ensures.cost

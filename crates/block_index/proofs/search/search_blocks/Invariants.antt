@@ -5,10 +5,10 @@ use Rattle.block_index.proofs.search.search_blocks.Given as goal
 
 abbrev pub invariant-loop-low : goal.invariant-loop-low
 invariant-loop-low g l =
-    (l.low ≤ l.high) × (l.high ≤ length l.blocks)
+    (l.fn.start ≤ l.low) × (l.low ≤ l.high) × (l.high ≤ length l.blocks)
     × IsAfterBlock g.K.Ranked.cmp l.key l.blocks l.low
     × IsBeforeBlock g.K.Ranked.cmp l.key l.blocks l.high
-    × Left (length l.blocks) l.initial.steps l.steps (l.high - l.low)
+    × Left (length l.blocks - l.fn.start) l.initial.steps l.steps (l.high - l.low)
 
 abbrev pub decreases-loop-low : goal.decreases-loop-low
 decreases-loop-low g l = l.high - l.low

@@ -1,6 +1,6 @@
 -- What a step that appends bytes leaves.
 use Rattle.std.specs.Prelude.{◌≡◌, ℕ, List, ◌++◌, length, take, Result, MatchResult}
-use Rattle.rdf_term.specs.declared.memory.OutOfMemory.{OutOfMemory}
+use Rattle.base.specs.declared.memory.OutOfMemory.{OutOfMemory}
 
 -- on success the bytes stand behind the old ones; after a refusal the old ones are still in front
 abbrev pub Appends : List ℕ → List ℕ → List ℕ → Result (Unit {0}) OutOfMemory → Type 0

@@ -22,7 +22,7 @@ pub struct Piece<'a> {
 
 impl<'a> Model for Piece<'a> {
     ghost use Rattle.std.specs.Prelude.{List, ℕ};
-    ghost use Rattle.rdf_term.specs.Piece.{part_bytes};
+    ghost use Rattle.base.specs.Piece.{part_bytes};
 
     ghost Value = { List ℕ };
 
