@@ -23,7 +23,7 @@ use Rattle.term_pool.specs.Pool.{terms, text_at, text_of}
 use Rattle.term_pool.proofs.Lying.{if_other, used_at}
 use Rattle.slot_index.specs.declared.key.Key.{Key}
 use Rattle.slot_index.specs.Keys.{key_cmp, key_cmp-total, same_key}
-use Rattle.triple_store.specs.declared.store.Store.{Store}
+use Rattle.triple_store.specs.declared.catalog.Catalog.{Catalog}
 use Rattle.triple_store.specs.Holding.{HasTermsOf}
 use Rattle.triple_store.specs.Moves.{Takes}
 use Rattle.triple_store.specs.Room.{distinct, room_for, terms_of}
@@ -96,7 +96,7 @@ in_slot p r key t h x there =
     (one_of (eq_by_cmp term_cmp x t.subject) (eq_by_cmp term_cmp x t.predicate || (eq_by_cmp term_cmp x t.object || false)) there)
 
 -- where all that came is stored, there is room for it beside what was stored
-pub room_within : (st : Store) (r : Texts) (now : Store) (s : Texts) (had keys : List Key) (triples : List Triple) → IsStored st r → Takes st r now s had keys triples → room_for (counts_in st r) triples ≤ limit_of st
+pub room_within : (st : Catalog) (r : Texts) (now : Catalog) (s : Texts) (had keys : List Key) (triples : List Triple) → IsStored st r → Takes st r now s had keys triples → room_for (counts_in st r) triples ≤ limit_of st
 room_within st r now s had keys triples stored h =
     let before = map.keys (counts_in st r) in
     let each : (t : Term) → has term_cmp t (flat_map terms_of (before ++ triples)) ≡ true → (slot : ℕ) × (text_at now.pool s slot ≡ Some (term_text t)) = λ t there.
@@ -135,7 +135,7 @@ its_term p r key t slot text h some at =
     (cases_eq key.second slot))
     (cases_eq key.first slot)
 
-has_terms : (st : Store) (r : Texts) → IsStored st r → HasTermsOf st.pool r (flat_map terms_of (map.keys (counts_in st r) ++ []))
+has_terms : (st : Catalog) (r : Texts) → IsStored st r → HasTermsOf st.pool r (flat_map terms_of (map.keys (counts_in st r) ++ []))
 has_terms st r h = record {
   each = λ slot text at.
       let m = triple_at st.pool r in
@@ -147,7 +147,7 @@ has_terms st r h = record {
 }
 
 -- there are as many terms as the stored triples have
-pub terms_counted : (st : Store) (r : Texts) → IsStored st r → terms st.pool ≡ room_for (counts_in st r) []
+pub terms_counted : (st : Catalog) (r : Texts) → IsStored st r → terms st.pool ≡ room_for (counts_in st r) []
 terms_counted st r h =
     let all = map.keys (counts_in st r) ++ [] in
     let each : (t : Term) → has term_cmp t (flat_map terms_of all) ≡ true → (slot : ℕ) × (text_at st.pool r slot ≡ Some (term_text t)) = λ t there.
