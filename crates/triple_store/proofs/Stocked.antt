@@ -75,7 +75,7 @@ no_more p r ts each =
     omega (arith, fewer term_cmp-total term_cmp-IsAntisymmetric ts mine (λ t there. let one : (slot : ℕ) × (text_at p r slot ≡ Some (term_text t)) = each t there in slot_in r p.slots.slots one.0 t one.1), length-sorted term_cmp mine, length-in_slots r p.slots.slots)
 
 -- a term of a list of triples is one of a triple
-term_of : (ts : List Triple) (x : Term) → has term_cmp x (flat_map terms_of ts) ≡ true → (t : Triple) × (has triple_cmp t ts ≡ true) × (has term_cmp x (terms_of t) ≡ true)
+pub term_of : (ts : List Triple) (x : Term) → has term_cmp x (flat_map terms_of ts) ≡ true → (t : Triple) × (has triple_cmp t ts ≡ true) × (has term_cmp x (terms_of t) ≡ true)
 term_of [] x h = absurd (true≢false (sym h))
 term_of (t ∷ ts) x h =
     ⊎_elim
@@ -84,7 +84,7 @@ term_of (t ∷ ts) x h =
     (one_of (has term_cmp x (terms_of t)) (has term_cmp x (flat_map terms_of ts)) (sym (has-append term_cmp x (terms_of t) (flat_map terms_of ts)) ∙ h))
 
 -- the terms of a triple that slots stand for are in slots
-in_slot : (p : Pool) (r : Texts) (key : Key) (t : Triple) → HasTriple p r key t → (x : Term) → has term_cmp x (terms_of t) ≡ true → (slot : ℕ) × (text_at p r slot ≡ Some (term_text x))
+pub in_slot : (p : Pool) (r : Texts) (key : Key) (t : Triple) → HasTriple p r key t → (x : Term) → has term_cmp x (terms_of t) ≡ true → (slot : ℕ) × (text_at p r slot ≡ Some (term_text x))
 in_slot p r key t h x there =
     let is : (y : Term) → eq_by_cmp term_cmp x y ≡ true → y ≡ x = λ y e. sym (term_cmp-IsAntisymmetric x y (equal _ e)) in
     ⊎_elim

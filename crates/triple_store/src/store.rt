@@ -8,7 +8,7 @@ ghost use Rattle.text_region.specs.Class.{IsClassOf};
 ghost use Rattle.text_region.specs.Region.{live, made};
 ghost use Rattle.slot_index.specs.declared.key.Key.{Key};
 ghost use Rattle.triple_store.specs.Room.{room_for};
-ghost use Rattle.triple_store.specs.StoreState.{HasKey, IsSound, beside, counts_in, limit_of};
+ghost use Rattle.triple_store.specs.StoreState.{AreLaid, HasKey, IsSound, beside, counts_in, limit_of};
 ghost use Rattle.triple_store.specs.Stored.{Changes};
 
 use crate::catalog::Catalog;
@@ -102,7 +102,8 @@ impl Store {
 
     /// The region, which has the texts of the stored triples' terms and those beside them.
     pub fn region(&self) -> &Region
-        ensures { result.now ≡ self.now.texts }
+        ensures region { result.now ≡ self.now.texts }
+        ensures laid { AreLaid self.now }
     {
         &self.region
     }

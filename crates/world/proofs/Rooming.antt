@@ -10,7 +10,6 @@ use Rattle.rdf_term.specs.declared.term.Term.{Term}
 use Rattle.rdf_term.specs.declared.triple.Triple.{Triple}
 use Rattle.rdf_term.specs.Order.{term_cmp, term_cmp-total, triple_cmp, triple_cmp-total}
 use Rattle.rdf_term.proofs.Texts.{term_cmp-IsAntisymmetric, triple_cmp-IsAntisymmetric}
-use Rattle.term_pool.specs.Pool.{terms}
 use Rattle.triple_store.specs.Counts.{Counts, HaveOwners, count_of}
 use Rattle.triple_store.specs.Room.{distinct, room_for, terms_of}
 use Rattle.triple_store.specs.StoreState.{StoreState, beside, counts_in, limit_of}
@@ -22,8 +21,7 @@ use Rattle.entity_state.specs.declared.record.Record.{Record}
 use Rattle.entity_state.specs.Record.{blank, held_revision, wants}
 use Rattle.entity_state.specs.State.{is_deleted, state_after}
 use Rattle.side_output.specs.declared.entry.Cause.{Cause}
-use Rattle.triple_store.proofs.Standing.{owned}
-use Rattle.triple_store.proofs.Stocked.{terms_counted}
+use Rattle.triple_store.proofs.Laid.{sound_owned, sound_room}
 use Rattle.replay_model.specs.Records.{Bytes, Records, record_of}
 use Rattle.replay_model.specs.Play.{held_after_fetch, record_after, records_after}
 use Rattle.world.specs.declared.applied.Outcome.{Outcome}
@@ -56,7 +54,7 @@ counted_union m counts records owned h =
     (λ t. sym (map.contains_key-keys counts t) ∙ stored counts t owned ∙ ap (nat_lt 0) (h.owned t) ∙ sym (has-union triple_cmp-total m records t))
 
 pub stored_union : (m : Meaning Triple) (s : StoreState) (kept : KeptRecords) → IsKept m s kept → map.keys (counts_in s) ≡ union triple_cmp m (seen s kept)
-stored_union m s kept h = counted_union m (counts_in s) (seen s kept) (owned s.catalog s.texts h.sound) h.counted
+stored_union m s kept h = counted_union m (counts_in s) (seen s kept) (sound_owned s h.sound) h.counted
 
 pub has_term : (q : Term) (ts : List Triple) → has term_cmp q (flat_map terms_of ts) ≡ list_any (λ t. has term_cmp q (terms_of t)) ts
 has_term q [] = refl
@@ -86,8 +84,7 @@ room_is m s kept h c is ts us same =
 -- what is held has room
 pub room_held : (m : Meaning Triple) (s : StoreState) (kept : KeptRecords) → IsKept m s kept → room_with m (seen s kept) [] ≤ limit_of s
 room_held m s kept h =
-    let few : terms s.catalog.pool ≤ s.catalog.pool.limit = h.sound.lies.few in
-    let many : terms s.catalog.pool ≡ room_for (counts_in s) [] = terms_counted s.catalog s.texts h.sound in
+    let few : room_for (counts_in s) [] ≤ limit_of s = sound_room s h.sound in
     let room : room_for (counts_in s) [] ≡ room_with m (seen s kept) [] = room_is m s kept h (counts_in s) refl [] [] (λ _. refl) in
     omega arith
 
