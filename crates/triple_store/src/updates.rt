@@ -2,7 +2,6 @@
 
 ghost use Rattle.std.specs.Prelude.{◌≡◌, ◌+◌, ◌<◌, length};
 ghost use Rattle.std.specs.FinMap as map;
-ghost use Rattle.std.specs.List.{AllByRecursion};
 ghost use Rattle.triple_store.specs.Costs.{Costs};
 ghost use Rattle.triple_store.specs.StoreState.{counts_in};
 ghost use Rattle.triple_store.specs.Updates.{AreStored, IsExchange, IsPatched, IsRelease, KeepsRest, MayCome, MayGo};

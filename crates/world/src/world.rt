@@ -1,15 +1,10 @@
 // The state of a replay.
 
-ghost use Rattle.std.specs.Prelude.{◌≡◌, ◌≢◌, ◌↔◌, ◌⊎◌, ◌<◌, ◌≤◌, ◌+◌, ◌++◌, [], false, None, Some, length, slice_get, is_some, IfSome, MatchOption, if◌then◌else◌, IfOk, IfErr, OnErr, OnOk, IsErrOf};
-ghost use Rattle.std.specs.Option.{option_copied};
+ghost use Rattle.std.specs.Prelude.{◌≡◌, ◌≢◌, ◌↔◌, ◌⊎◌, ◌<◌, ◌≤◌, ◌+◌, ◌++◌, [], false, None, Some, length, is_some, IfSome, if◌then◌else◌, IfOk, IfErr, OnErr, OnOk, IsErrOf};
 ghost use Rattle.std.specs.FinMap as map;
-ghost use Rattle.entity_json.specs.Document.{unfit_of};
-ghost use Rattle.entity_model.specs.declared.id.EntityId.{EntityId as AnEntity};
 ghost use Rattle.revisions.specs.Revisions.{counted};
 ghost use Rattle.reorder_buffer.specs.Buffered.{after_taking, answer_to, first_due};
-ghost use Rattle.replay_model.specs.Entries.{HoldsUnlessOpen, is_open_in};
 ghost use Rattle.replay_model.specs.Records.{record_of};
-ghost use Rattle.replay_model.specs.Replies.{HoldsDocument};
 ghost use Rattle.replay_model.specs.ReplayState.{after_end, after_event, after_mark, nothing_delivered, nothing_delivered_within, taken_entries};
 ghost use Rattle.replay_model.specs.Union.{triples_held};
 ghost use Rattle.replay_model.specs.Versions.{meaning_by};
@@ -17,7 +12,6 @@ ghost use Rattle.world.specs.Applying.{Applies, IsReply, IsShown, calls_after, o
 ghost use Rattle.entity_state.specs.Standing.{standing_after, standing_of, standing_wants};
 ghost use Rattle.entity_state.specs.State.{state_after};
 ghost use Rattle.world.specs.Fetched.{AreMeant, reply_of, reply_or_any};
-ghost use Rattle.world.specs.Laid.{IsLaid};
 ghost use Rattle.world.specs.Meaning.{meaning};
 ghost use Rattle.world.specs.Roomed.{HasRoom, IsOverfull, room_with};
 ghost use Rattle.world.specs.WorldState.{AreHolders, second_after};
@@ -29,16 +23,14 @@ use crate::applied::{Applied, WorldFault};
 use crate::applying::apply;
 use crate::fetching::{Reply, Wanted, fetch};
 use crate::holdings::Holdings;
-use entity_model::{EntityId, Event, MappingVersion};
-use entity_state::State;
-use rdf_term::{List, OutOfMemory};
+use entity_model::{Event, MappingVersion};
+use rdf_term::OutOfMemory;
 use reorder_buffer::{Buffer, Taken};
 use revisions::Revisions;
-use side_output::{Entry, Side, is_open};
+use side_output::{Entry, Side};
 use std::alloc::Global;
 use std::hash::RandomState;
 use std::marker::Model;
-use text_region::Region;
 use triple_store::StoreFault;
 
 // For how many terms there is room, unless it is set otherwise.
