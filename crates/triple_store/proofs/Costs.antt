@@ -7,7 +7,7 @@ use Rattle.slot_index.specs.declared.key.Key.{Key}
 use Rattle.slot_index.specs.Keys.{key_cmp-total}
 use Rattle.slot_index.specs.Counts.{Counts as KeyCounts, count_of, lowered, raised, with_count}
 use Rattle.text_region.specs.Region.{Texts}
-use Rattle.triple_store.specs.declared.store.Store.{Store}
+use Rattle.triple_store.specs.declared.catalog.Catalog.{Catalog}
 use Rattle.triple_store.specs.Costs.{Costs}
 use Rattle.triple_store.specs.Stored.{IsStored, counts_in}
 use Rattle.triple_store.proofs.Unchanged.{len_image}
@@ -100,7 +100,7 @@ pub came_and_went : (n m k came gone old before mid after : ℕ) → Costs n m c
 came_and_went n m k came gone old before mid after f g few = at_most n k (came + 0) came (0 + gone) (came + old) before after (omega arith) (omega arith) (both n m k came 0 0 gone before mid after f g)
 
 -- the same of the stored triples, of which there are as many as keys
-pub counted : (st : Store) (r : Texts) (new : Store) (u : Texts) (a x before after : ℕ) → IsStored st r → IsStored new u → Costs (map.len st.index) (map.len new.index) a x before after → Costs (map.len (counts_in st r)) (map.len (counts_in new u)) a x before after
+pub counted : (st : Catalog) (r : Texts) (new : Catalog) (u : Texts) (a x before after : ℕ) → IsStored st r → IsStored new u → Costs (map.len st.index) (map.len new.index) a x before after → Costs (map.len (counts_in st r)) (map.len (counts_in new u)) a x before after
 counted st r new u a x before after h k costs =
     subst (λ n. Costs n (map.len (counts_in new u)) a x before after) (sym (len_image st r h)) (subst (λ m. Costs (map.len st.index) m a x before after) (sym (len_image new u k)) costs)
 

@@ -11,7 +11,7 @@ use Rattle.text_region.specs.Region.{Texts}
 use Rattle.term_pool.specs.Pool.{one_if}
 use Rattle.slot_index.specs.declared.key.Key.{Key}
 use Rattle.slot_index.specs.Keys.{key_cmp, key_cmp-total}
-use Rattle.triple_store.specs.declared.store.Store.{Store}
+use Rattle.triple_store.specs.declared.catalog.Catalog.{Catalog}
 use Rattle.triple_store.specs.Counts.{Exchanges, count_of}
 use Rattle.triple_store.specs.Slots.{triple_at}
 use Rattle.triple_store.specs.Stored.{AreKeysOf, HasKey, IsStored, KeepsKeys, counts_in, is_key}
@@ -36,7 +36,7 @@ both_pass : (a b : Bool) → a ≡ true → b ≡ true → (a && b) ≡ true
 both_pass true b e f = f
 both_pass false b e f = absurd (true≢false (sym e))
 
-module _ (st : Store) (r : Texts) where
+module _ (st : Catalog) (r : Texts) where
   -- the triples of which keys are those are the triples that they stand for
   pub same_gone : (old : List Key) (gone : List Triple) → AreKeysOf st r old gone → (t : Triple) → has triple_cmp t gone ≡ has triple_cmp t (meant st r old)
   same_gone old gone h t =
@@ -54,13 +54,13 @@ module _ (st : Store) (r : Texts) where
   all_gone old = filter_all (λ x. not (has key_cmp x [])) old (λ x. refl)
 
   -- where all keys of an owner went
-  pub released : (new : Store) (u : Texts) (old : List Key) → Removes st r new u (difference key_cmp old []) → (gone : List Triple) → AreKeysOf st r old gone → Exchanges (counts_in st r) (counts_in new u) gone []
+  pub released : (new : Catalog) (u : Texts) (old : List Key) → Removes st r new u (difference key_cmp old []) → (gone : List Triple) → AreKeysOf st r old gone → Exchanges (counts_in st r) (counts_in new u) gone []
   released new u old h gone keys = record {
     counts = λ t. omega (arith, h.counts t, ap one_if (same_gone old gone keys t ∙ ap (λ ks. has triple_cmp t (meant st r ks)) (sym (all_gone old))));
   }
 
 -- which triples keys stand for, of which those of others are left out
-module _ (st : Store) (r : Texts) (stored : IsStored st r) where
+module _ (st : Catalog) (r : Texts) (stored : IsStored st r) where
   pub meant-difference : (xs ys : List Key) → ((k : Key) → has key_cmp k xs ≡ true → is_key st k ≡ true) → ((k : Key) → has key_cmp k ys ≡ true → is_key st k ≡ true) → (t : Triple) → has triple_cmp t (meant st r (difference key_cmp xs ys)) ≡ (not (has triple_cmp t (meant st r ys)) && has triple_cmp t (meant st r xs))
   meant-difference xs ys there others t =
       let m = triple_at st.pool r in
@@ -102,7 +102,7 @@ lost_none now new true gone out is e f some = omega (arith, f, ap one_if is, som
 lost_none now new false gone out is e f some = absurd (true≢false (sym e))
 
 -- after triples came, and before others go
-module _ (st : Store) (r : Texts) (now : Store) (s : Texts) (had keys : List Key) (done : List Triple) (stored : IsStored st r) (all : (key : Key) → has key_cmp key had ≡ true → is_key st key ≡ true) (h : Takes st r now s had keys done) where
+module _ (st : Catalog) (r : Texts) (now : Catalog) (s : Texts) (had keys : List Key) (done : List Triple) (stored : IsStored st r) (all : (key : Key) → has key_cmp key had ≡ true → is_key st key ≡ true) (h : Takes st r now s had keys done) where
   abbrev pub in_order : List Key
   in_order = sorted key_cmp keys
 
@@ -132,7 +132,7 @@ module _ (st : Store) (r : Texts) (now : Store) (s : Texts) (had keys : List Key
       let one : (key : Key) × HasKey now s key t × (has key_cmp key keys ≡ true) = h.all t there in
       subst (λ (u : Triple). has triple_cmp u (meant now s in_order) ≡ true) (tells now.pool s one.0 t one.1.has) (has-meant m in_order one.0 (has-sorted key_cmp-total one.0 keys ∙ one.2)))
 
-  module _ (new : Store) (u : Texts) where
+  module _ (new : Catalog) (u : Texts) where
     -- what keeps its owners keeps its key
     pub keeps : (gone : List Key) → Removes now s new u gone → KeepsKeys st r new u
     keeps gone less = record { kept = λ key t was some. less.keeps.kept key t (h.kept key t was) some }

@@ -5,6 +5,7 @@ pub mod Exchanged
 pub mod Held
 pub mod Imaged
 pub mod Keyed
+pub mod Laid
 pub mod Lines
 pub mod Listed
 pub mod Live

@@ -30,7 +30,7 @@ use Rattle.slot_index.specs.Keys.{key_cmp, key_cmp-total, key_cmp-IsAntisymmetri
 use Rattle.slot_index.specs.Patterns.{agrees as slots_agree}
 use Rattle.slot_index.proofs.Passing.{count-map, count_by-cons, has_counted, one_if}
 use Rattle.triple_texts.specs.declared.triple_text.TripleText.{TripleText}
-use Rattle.triple_store.specs.declared.store.Store.{Store}
+use Rattle.triple_store.specs.declared.catalog.Catalog.{Catalog}
 use Rattle.triple_store.specs.Rows.{line_of, text_cmp}
 use Rattle.triple_store.specs.Slots.{HasCanonicalTexts, HasTexts, HasTriple, term_in, triple_at, triple_of}
 use Rattle.triple_store.specs.Stored.{IsStored, image}
@@ -148,7 +148,7 @@ module _ {K : Type 0} {R : K → K → Ordering} (o : IsTotalOrder R) (same : Is
 -- ---- the triples of a range
 
 -- what is found is there once
-found_once : (st : Store) (r : Texts) (w : SlotPattern) (found : List Key) → IsStored st r
+found_once : (st : Catalog) (r : Texts) (w : SlotPattern) (found : List Key) → IsStored st r
     → ((f : Key → Bool) → count_by f found ≡ count_by (λ k. slots_agree w k && f k) (map.keys st.index))
     → AreDistinct triple_cmp-total triple_cmp-IsAntisymmetric (mapped (triple_at st.pool r) found)
 found_once st r w found h is =
@@ -166,7 +166,7 @@ found_once st r w found h is =
       counted_once triple_cmp-total triple_cmp-IsAntisymmetric (mapped m (map.keys st.index)) t apart,
     ))
 
-module _ (st : Store) (r : Texts) (w : SlotPattern) (found : List Key) (before after : List TripleText) (h : IsStored st r)
+module _ (st : Catalog) (r : Texts) (w : SlotPattern) (found : List Key) (before after : List TripleText) (h : IsStored st r)
     (is : (f : Key → Bool) → count_by f found ≡ count_by (λ k. slots_agree w k && f k) (map.keys st.index))
     (means : mapped triple_of before ≡ mapped (triple_at st.pool r) found) (canonical : All HasCanonicalTexts before) (p : IsPermutation before after) (s : IsSorted text_cmp after) where
   in_order : mapped triple_of after ≡ sorted triple_cmp (mapped (triple_at st.pool r) found)
@@ -181,12 +181,12 @@ module _ (st : Store) (r : Texts) (w : SlotPattern) (found : List Key) (before a
   rows_rising = subst (IsRising triple_cmp) (sym in_order) (IsRising-sorted triple_cmp-total (mapped (triple_at st.pool r) found))
 
 -- and are as many as the keys
-pub rows_long : (st : Store) (r : Texts) (found : List Key) (before after : List TripleText) → mapped triple_of before ≡ mapped (triple_at st.pool r) found → IsPermutation before after → length found ≡ length (mapped triple_of after)
+pub rows_long : (st : Catalog) (r : Texts) (found : List Key) (before after : List TripleText) → mapped triple_of before ≡ mapped (triple_at st.pool r) found → IsPermutation before after → length found ≡ length (mapped triple_of after)
 rows_long st r found before after means p =
     sym (length-map found (triple_at st.pool r)) ∙ ap length (sym means) ∙ length-map before triple_of ∙ sym (length_permutation before after p) ∙ sym (length-map after triple_of)
 
 -- and are the stored triples that agree with the pattern
-pub rows_matched : (st : Store) (r : Texts) (pattern : Pattern) (w : SlotPattern) (found : List Key) (before after : List TripleText) → IsStored st r
+pub rows_matched : (st : Catalog) (r : Texts) (pattern : Pattern) (w : SlotPattern) (found : List Key) (before after : List TripleText) → IsStored st r
     → ((k : Key) → map.contains_key st.index k ≡ true → agrees pattern (triple_at st.pool r k) ≡ slots_agree w k)
     → ((f : Key → Bool) → count_by f found ≡ count_by (λ k. slots_agree w k && f k) (map.keys st.index))
     → mapped triple_of before ≡ mapped (triple_at st.pool r) found → All HasCanonicalTexts before → IsPermutation before after → IsSorted text_cmp after

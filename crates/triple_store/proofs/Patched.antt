@@ -12,7 +12,7 @@ use Rattle.text_region.specs.declared.piece.Piece.{Piece}
 use Rattle.text_region.specs.Region.{Texts}
 use Rattle.term_pool.specs.Pool.{one_if}
 use Rattle.slot_index.specs.declared.key.Key.{Key}
-use Rattle.triple_store.specs.declared.store.Store.{Store}
+use Rattle.triple_store.specs.declared.catalog.Catalog.{Catalog}
 use Rattle.triple_store.specs.Counts.{Exchanges, count_of, lowered}
 use Rattle.triple_store.specs.Moves.{Loses}
 use Rattle.triple_store.specs.Slots.{HasTriple, triple_at}
@@ -28,26 +28,26 @@ each_itself [] = refl
 each_itself (t ∷ ts) = ap (λ l. t ∷ l) (each_itself ts)
 
 -- no triple has an owner less yet
-pub none_lost : (st : Store) (r : Texts) → IsStored st r → Loses st r st r []
+pub none_lost : (st : Catalog) (r : Texts) → IsStored st r → Loses st r st r []
 none_lost st r stored = record { stored = stored; counts = λ t. omega arith; keeps = record { kept = λ key t was some. was }; beside = λ piece. refl; limit = refl }
 
 -- no keys are those of no triples
-pub no_keys : (st : Store) (r : Texts) → AreKeysOf st r [] []
+pub no_keys : (st : Catalog) (r : Texts) → AreKeysOf st r [] []
 no_keys st r = record { rising = tt; each = λ key h. cc; all = λ t h. cc }
 
 -- a triple that has an owner is stored under its key
-pub key_of_stored : (st : Store) (r : Texts) (key : Key) (t : Triple) → IsStored st r → 0 < count_of (counts_in st r) t → HasTriple st.pool r key t → is_key st key ≡ true
+pub key_of_stored : (st : Catalog) (r : Texts) (key : Key) (t : Triple) → IsStored st r → 0 < count_of (counts_in st r) t → HasTriple st.pool r key t → is_key st key ≡ true
 key_of_stored st r key t stored some h =
     let one : (k : Key) × HasKey st r k t = key_stored st r stored t (stored_if (counts_in st r) t some) in
     subst (λ (k : Key). is_key st k ≡ true) (key_same st.pool r one.0 key t stored.lies one.1.has h) one.1.stored
 
 -- and has one
-pub some_key : (st : Store) (r : Texts) (t : Triple) → IsStored st r → 0 < count_of (counts_in st r) t → (key : Key) × HasTriple st.pool r key t
+pub some_key : (st : Catalog) (r : Texts) (t : Triple) → IsStored st r → 0 < count_of (counts_in st r) t → (key : Key) × HasTriple st.pool r key t
 some_key st r t stored some =
     let one : (k : Key) × HasKey st r k t = key_stored st r stored t (stored_if (counts_in st r) t some) in
     (one.0, one.1.has)
 
-module _ (st : Store) (r : Texts) (triples : List Triple) (rises : IsRising triple_cmp triples) (owned : (t : Triple) → has triple_cmp t triples ≡ true → 0 < count_of (counts_in st r) t) (i : ℕ) (d : Triple) (low : i < length triples) (now : Store) (s : Texts) (h : Loses st r now s (take i triples)) where
+module _ (st : Catalog) (r : Texts) (triples : List Triple) (rises : IsRising triple_cmp triples) (owned : (t : Triple) → has triple_cmp t triples ≡ true → 0 < count_of (counts_in st r) t) (i : ℕ) (d : Triple) (low : i < length triples) (now : Catalog) (s : Texts) (h : Loses st r now s (take i triples)) where
   -- the next one still has an owner
   pub next_owned : 0 < count_of (counts_in now s) (get_or triples i d)
   next_owned =
@@ -61,7 +61,7 @@ module _ (st : Store) (r : Texts) (triples : List Triple) (rises : IsRising trip
       ∙ ap (λ b. has triple_cmp q (take i triples) || b) (or_none (same_triple q (get_or triples i d)))
 
   -- then it has one less
-  pub next_lost : (key : Key) (new : Store) (u : Texts) → HasTriple now.pool s key (get_or triples i d) → IsStored new u → counts_in new u ≡ lowered (counts_in now s) (triple_at now.pool s key)
+  pub next_lost : (key : Key) (new : Catalog) (u : Texts) → HasTriple now.pool s key (get_or triples i d) → IsStored new u → counts_in new u ≡ lowered (counts_in now s) (triple_at now.pool s key)
       → KeepsKeys now s new u → ((piece : Piece) → beside new u piece ≡ beside now s piece) → limit_of new ≡ limit_of now → Loses st r new u (take (i + 1) triples)
   next_lost key new u has_it after less keeps others limit =
       let t = get_or triples i d in
@@ -79,13 +79,13 @@ module _ (st : Store) (r : Texts) (triples : List Triple) (rises : IsRising trip
       }
 
 -- what came has one owner more, and then what goes one less
-pub applied : (st : Store) (r : Texts) (mid : Store) (s : Texts) (new : Store) (u : Texts) (adds removes : List Triple) → Exchanges (counts_in st r) (counts_in mid s) [] adds → Loses mid s new u removes
+pub applied : (st : Catalog) (r : Texts) (mid : Catalog) (s : Texts) (new : Catalog) (u : Texts) (adds removes : List Triple) → Exchanges (counts_in st r) (counts_in mid s) [] adds → Loses mid s new u removes
     → Exchanges (counts_in st r) (counts_in new u) removes adds
 applied st r mid s new u adds removes a b = record { counts = λ t. omega (arith, a.counts t, b.counts t) }
 
 -- a triple that has owners behind both keeps its key
-pub both_keep : (st : Store) (r : Texts) (mid : Store) (s : Texts) (new : Store) (u : Texts) (removes : List Triple) → KeepsKeys st r mid s → Loses mid s new u removes → KeepsKeys st r new u
+pub both_keep : (st : Catalog) (r : Texts) (mid : Catalog) (s : Texts) (new : Catalog) (u : Texts) (removes : List Triple) → KeepsKeys st r mid s → Loses mid s new u removes → KeepsKeys st r new u
 both_keep st r mid s new u removes a b = record { kept = λ key t was some. b.keeps.kept key t (a.kept key t was (omega (arith, b.counts t, some))) some }
 
-pub still_owned : (st : Store) (r : Texts) (mid : Store) (s : Texts) (adds : List Triple) (t : Triple) → Exchanges (counts_in st r) (counts_in mid s) [] adds → 0 < count_of (counts_in st r) t → 0 < count_of (counts_in mid s) t
+pub still_owned : (st : Catalog) (r : Texts) (mid : Catalog) (s : Texts) (adds : List Triple) (t : Triple) → Exchanges (counts_in st r) (counts_in mid s) [] adds → 0 < count_of (counts_in st r) t → 0 < count_of (counts_in mid s) t
 still_owned st r mid s adds t a some = omega (arith, a.counts t, some)

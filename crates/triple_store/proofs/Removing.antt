@@ -17,7 +17,7 @@ use Rattle.text_region.specs.Region.{Texts}
 use Rattle.term_pool.specs.Pool.{one_if}
 use Rattle.slot_index.specs.declared.key.Key.{Key}
 use Rattle.slot_index.specs.Keys.{key_cmp, key_cmp-total}
-use Rattle.triple_store.specs.declared.store.Store.{Store}
+use Rattle.triple_store.specs.declared.catalog.Catalog.{Catalog}
 use Rattle.triple_store.specs.Counts.{count_of, lowered}
 use Rattle.triple_store.specs.Slots.{triple_at}
 use Rattle.triple_store.specs.Stored.{HasKey, IsStored, KeepsKeys, beside, counts_in, is_key, limit_of}
@@ -66,7 +66,7 @@ module _ {K : Type 0} {R : K → K → Ordering} (o : IsTotalOrder R) where
       ] h
 
 -- nothing is gone yet
-pub none_removed : (st : Store) (r : Texts) → IsStored st r → Removes st r st r []
+pub none_removed : (st : Catalog) (r : Texts) → IsStored st r → Removes st r st r []
 none_removed st r stored = record {
   stored = stored;
   counts = λ t. omega arith;
@@ -76,12 +76,12 @@ none_removed st r stored = record {
 }
 
 -- what one more key finds, which isn't among those that are gone
-record IsNext (st : Store) (r : Texts) (now : Store) (s : Texts) (keys : List Key) (key : Key) (t : Triple) : Type 0 where
+record IsNext (st : Catalog) (r : Texts) (now : Catalog) (s : Texts) (keys : List Key) (key : Key) (t : Triple) : Type 0 where
   pub out : has triple_cmp t (meant st r keys) ≡ false
   pub there : HasKey now s key t
 
 -- a key that isn't among others stands for a triple that theirs don't
-pub apart : (st : Store) (r : Texts) → IsStored st r → (keys : List Key) (key : Key) → is_key st key ≡ true → ((k : Key) → has key_cmp k keys ≡ true → is_key st k ≡ true) → has key_cmp key keys ≡ false → has triple_cmp (triple_at st.pool r key) (meant st r keys) ≡ false
+pub apart : (st : Catalog) (r : Texts) → IsStored st r → (keys : List Key) (key : Key) → is_key st key ≡ true → ((k : Key) → has key_cmp k keys ≡ true → is_key st k ≡ true) → has key_cmp key keys ≡ false → has triple_cmp (triple_at st.pool r key) (meant st r keys) ≡ false
 apart st r stored keys key is all new =
     let m = triple_at st.pool r in
     elim (has triple_cmp (m key) (meant st r keys)) as (λ b. has triple_cmp (m key) (meant st r keys) ≡ b → b ≡ false) [
@@ -93,14 +93,14 @@ apart st r stored keys key is all new =
       | false ↦ λ _. refl
     ] refl
 
-next : (st : Store) (r : Texts) (now : Store) (s : Texts) (keys : List Key) (key : Key) → IsStored st r → Removes st r now s keys → is_key st key ≡ true → ((k : Key) → has key_cmp k keys ≡ true → is_key st k ≡ true) → has key_cmp key keys ≡ false → IsNext st r now s keys key (triple_at st.pool r key)
+next : (st : Catalog) (r : Texts) (now : Catalog) (s : Texts) (keys : List Key) (key : Key) → IsStored st r → Removes st r now s keys → is_key st key ≡ true → ((k : Key) → has key_cmp k keys ≡ true → is_key st k ≡ true) → has key_cmp key keys ≡ false → IsNext st r now s keys key (triple_at st.pool r key)
 next st r now s keys key stored h is all new =
     let was = stored_key st r stored key is in
     let out = apart st r stored keys key is all new in
     record { out = out; there = h.keeps.kept key (triple_at st.pool r key) was (omega (arith, h.counts (triple_at st.pool r key), ap one_if out, counted_key st r stored key (triple_at st.pool r key) was)) }
 
 -- it is still stored
-pub still : (st : Store) (r : Texts) (now : Store) (s : Texts) (keys : List Key) (key : Key) → IsStored st r → Removes st r now s keys → is_key st key ≡ true → ((k : Key) → has key_cmp k keys ≡ true → is_key st k ≡ true) → has key_cmp key keys ≡ false → is_key now key ≡ true
+pub still : (st : Catalog) (r : Texts) (now : Catalog) (s : Texts) (keys : List Key) (key : Key) → IsStored st r → Removes st r now s keys → is_key st key ≡ true → ((k : Key) → has key_cmp k keys ≡ true → is_key st k ≡ true) → has key_cmp key keys ≡ false → is_key now key ≡ true
 still st r now s keys key stored h is all new = (next st r now s keys key stored h is all new).there.stored
 
 has-meant_more : (m : Key → Triple) (keys : List Key) (key : Key) (q : Triple) → has triple_cmp q (mapped m (keys ++ key ∷ [])) ≡ (has triple_cmp q (mapped m keys) || same_triple q (m key))
@@ -113,7 +113,7 @@ one_less now before after gone true h e f = let k : (gone ≡ false) × (0 < now
 one_less now before after true false h e f = omega (arith, e, f)
 one_less now before after false false h e f = omega (arith, e, f)
 
-pub one_removed : (st : Store) (r : Texts) (now : Store) (s : Texts) (new : Store) (u : Texts) (keys : List Key) (key : Key) → IsStored st r → Removes st r now s keys → is_key st key ≡ true → ((k : Key) → has key_cmp k keys ≡ true → is_key st k ≡ true) → has key_cmp key keys ≡ false → IsStored new u → counts_in new u ≡ lowered (counts_in now s) (triple_at now.pool s key) → KeepsKeys now s new u → ((piece : Piece) → beside new u piece ≡ beside now s piece) → limit_of new ≡ limit_of now → Removes st r new u (keys ++ key ∷ [])
+pub one_removed : (st : Catalog) (r : Texts) (now : Catalog) (s : Texts) (new : Catalog) (u : Texts) (keys : List Key) (key : Key) → IsStored st r → Removes st r now s keys → is_key st key ≡ true → ((k : Key) → has key_cmp k keys ≡ true → is_key st k ≡ true) → has key_cmp key keys ≡ false → IsStored new u → counts_in new u ≡ lowered (counts_in now s) (triple_at now.pool s key) → KeepsKeys now s new u → ((piece : Piece) → beside new u piece ≡ beside now s piece) → limit_of new ≡ limit_of now → Removes st r new u (keys ++ key ∷ [])
 one_removed st r now s new u keys key stored h is all fresh after low keeps others limit =
     let m = triple_at st.pool r in
     let t = m key in
@@ -133,7 +133,7 @@ one_removed st r now s new u keys key stored h is all fresh after low keeps othe
     }
 
 -- the next key of a list, after those before it went, but for those of another list
-module _ (st : Store) (r : Texts) (stored : IsStored st r) (keys others : List Key) (rises : IsRising key_cmp keys) (all : (k : Key) → has key_cmp k keys ≡ true → is_key st k ≡ true) (i : ℕ) (d : Key) (low : i < length keys) where
+module _ (st : Catalog) (r : Texts) (stored : IsStored st r) (keys others : List Key) (rises : IsRising key_cmp keys) (all : (k : Key) → has key_cmp k keys ≡ true → is_key st k ≡ true) (i : ℕ) (d : Key) (low : i < length keys) where
   abbrev before : List Key
   before = difference key_cmp (take i keys) others
 
@@ -143,13 +143,13 @@ module _ (st : Store) (r : Texts) (stored : IsStored st r) (keys others : List K
   not_yet : has key_cmp (get_or keys i d) before ≡ false
   not_yet = has-difference key_cmp-total (get_or keys i d) (take i keys) others ∙ ap (λ b. not (has key_cmp (get_or keys i d) others) && b) (fresh key_cmp-total keys i d low rises) ∙ and_none _
 
-  pub next_there : (now : Store) (s : Texts) → Removes st r now s before → is_key now (get_or keys i d) ≡ true
+  pub next_there : (now : Catalog) (s : Texts) → Removes st r now s before → is_key now (get_or keys i d) ≡ true
   next_there now s h = still st r now s before (get_or keys i d) stored h (all (get_or keys i d) (has_at key_cmp-total keys i d low)) of_them not_yet
 
-  pub next_removed : (now : Store) (s : Texts) (new : Store) (u : Texts) → Removes st r now s before → has key_cmp (get_or keys i d) others ≡ false → IsStored new u → counts_in new u ≡ lowered (counts_in now s) (triple_at now.pool s (get_or keys i d)) → KeepsKeys now s new u → ((piece : Piece) → beside new u piece ≡ beside now s piece) → limit_of new ≡ limit_of now → Removes st r new u (difference key_cmp (take (i + 1) keys) others)
+  pub next_removed : (now : Catalog) (s : Texts) (new : Catalog) (u : Texts) → Removes st r now s before → has key_cmp (get_or keys i d) others ≡ false → IsStored new u → counts_in new u ≡ lowered (counts_in now s) (triple_at now.pool s (get_or keys i d)) → KeepsKeys now s new u → ((piece : Piece) → beside new u piece ≡ beside now s piece) → limit_of new ≡ limit_of now → Removes st r new u (difference key_cmp (take (i + 1) keys) others)
   next_removed now s new u h out after low_ keeps rest limit =
       subst (Removes st r new u) (sym (difference_more key_cmp-total keys others i d low out))
       (one_removed st r now s new u before (get_or keys i d) stored h (all (get_or keys i d) (has_at key_cmp-total keys i d low)) of_them not_yet after low_ keeps rest limit)
 
-  pub next_stays : (now : Store) (s : Texts) → Removes st r now s before → has key_cmp (get_or keys i d) others ≡ true → Removes st r now s (difference key_cmp (take (i + 1) keys) others)
+  pub next_stays : (now : Catalog) (s : Texts) → Removes st r now s before → has key_cmp (get_or keys i d) others ≡ true → Removes st r now s (difference key_cmp (take (i + 1) keys) others)
   next_stays now s h there = subst (Removes st r now s) (sym (difference_same key_cmp-total keys others i d low there)) h

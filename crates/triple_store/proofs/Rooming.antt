@@ -12,9 +12,9 @@ use Rattle.rdf_term.proofs.Texts.{triple_cmp-IsAntisymmetric}
 use Rattle.text_region.specs.Region.{Texts}
 use Rattle.term_pool.specs.Pool.{one_if}
 use Rattle.slot_index.specs.declared.key.Key.{Key}
-use Rattle.triple_store.specs.declared.store.Store.{Store}
-use Rattle.triple_store.specs.declared.fault.StoreFault.{StoreFault}
-use Rattle.triple_store.specs.declared.fault.StoreFault.TheVariants.{Full}
+use Rattle.triple_store.specs.declared.catalog.Catalog.{Catalog}
+use Rattle.term_pool.specs.declared.fault.PoolFault.{PoolFault}
+use Rattle.term_pool.specs.declared.fault.PoolFault.TheVariants.{Full}
 use Rattle.triple_store.specs.Counts.{count_of}
 use Rattle.triple_store.specs.Room.{distinct, room_for, terms_of}
 use Rattle.triple_store.specs.Slots.{HasTermsIn, IsAllOf}
@@ -43,7 +43,7 @@ is_one true b h = refl
 is_one false b h = absurd (omega (arith, h))
 
 -- what is stored while triples come was stored, or is one of those
-pub stored_then : (st : Store) (r : Texts) (now : Store) (s : Texts) (had keys : List Key) (done : List Triple) → Takes st r now s had keys done → (t : Triple) → map.contains_key (counts_in now s) t ≡ true → has triple_cmp t (map.keys (counts_in st r) ++ done) ≡ true
+pub stored_then : (st : Catalog) (r : Texts) (now : Catalog) (s : Texts) (had keys : List Key) (done : List Triple) → Takes st r now s had keys done → (t : Triple) → map.contains_key (counts_in now s) t ≡ true → has triple_cmp t (map.keys (counts_in st r) ++ done) ≡ true
 stored_then st r now s had keys done h t there =
     let some = owned now s h.stored t there in
     let all = map.keys (counts_in st r) in
@@ -53,7 +53,7 @@ stored_then st r now s had keys done h t there =
     (positive_sum (count_of (counts_in st r) t) (one_if (has triple_cmp t done && not (has triple_cmp t (meant st r had)))) (omega (arith, some, h.counts t)))
 
 -- where one triple of them found no room there is none for all
-pub no_room : (st : Store) (r : Texts) (now : Store) (s : Texts) (had keys : List Key) (new : List Triple) (i : ℕ) (t : Triple) → Takes st r now s had keys (take i new) → has triple_cmp t new ≡ true → ((terms : List Term) → HasTermsIn (counts_in now s) terms → IsAllOf (terms_of t) terms → limit_of now < distinct terms) → limit_of st < room_for (counts_in st r) new
+pub no_room : (st : Catalog) (r : Texts) (now : Catalog) (s : Texts) (had keys : List Key) (new : List Triple) (i : ℕ) (t : Triple) → Takes st r now s had keys (take i new) → has triple_cmp t new ≡ true → ((terms : List Term) → HasTermsIn (counts_in now s) terms → IsAllOf (terms_of t) terms → limit_of now < distinct terms) → limit_of st < room_for (counts_in st r) new
 no_room st r now s had keys new i t h among full =
     let all = map.keys (counts_in st r) ++ new in
     let within : (u : Triple) → has triple_cmp u (map.keys (counts_in st r) ++ take i new) ≡ true → has triple_cmp u all ≡ true = λ u e.
@@ -62,8 +62,8 @@ no_room st r now s had keys new i t h among full =
     subst (λ n. n < room_for (counts_in st r) new) h.limit f
 
 -- a fault is the same in another result
-abbrev failed : (A : Type 0) → StoreFault → Result A StoreFault
+abbrev failed : (A : Type 0) → PoolFault → Result A PoolFault
 failed A fault = Err fault
 
-pub same_fault : {A B : Type 0} (fault : StoreFault) → failed A fault ≡ failed A Full → failed B fault ≡ failed B Full
+pub same_fault : {A B : Type 0} (fault : PoolFault) → failed A fault ≡ failed A Full → failed B fault ≡ failed B Full
 same_fault {A} {B} fault e = let is : fault ≡ Full = cc in ap (failed B) is

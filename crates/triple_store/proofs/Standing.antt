@@ -20,7 +20,7 @@ use Rattle.slot_index.specs.Keys.{key_cmp, key_cmp-total, key_cmp-IsAntisymmetri
 use Rattle.slot_index.specs.Counts.{Counts as KeyCounts}
 use Rattle.triple_texts.specs.declared.triple_text.TripleText.{TripleText}
 use Rattle.triple_texts.specs.Texts.{IsTextOf}
-use Rattle.triple_store.specs.declared.store.Store.{Store}
+use Rattle.triple_store.specs.declared.catalog.Catalog.{Catalog}
 use Rattle.triple_store.specs.Counts.{Counts, HaveOwners, count_of}
 use Rattle.triple_store.specs.Slots.{HasTexts, HasTriple, triple_at, triple_of}
 use Rattle.triple_store.specs.Stored.{HasKey, IsStored, counts_in, image, is_key}
@@ -59,10 +59,10 @@ triple_texts pool region key texts triple is h = record {
 }
 
 -- a stored triple of slots has the triple that it stands for
-pub are_live : (store : Store) (texts : Texts) → IsStored store texts → AreLive store.pool texts store.index
+pub are_live : (store : Catalog) (texts : Texts) → IsStored store texts → AreLive store.pool texts store.index
 are_live store texts h = live_counted store.pool texts store.index h.lies (λ slot. omega (arith, h.counted slot))
 
-pub stored_key : (store : Store) (texts : Texts) → IsStored store texts → (key : Key) → is_key store key ≡ true → HasKey store texts key (triple_at store.pool texts key)
+pub stored_key : (store : Catalog) (texts : Texts) → IsStored store texts → (key : Key) → is_key store key ≡ true → HasKey store texts key (triple_at store.pool texts key)
 stored_key store texts h key is = record { stored = is; has = (are_live store texts h).live key is }
 
 -- what triples of slots stand for, by a meaning
@@ -102,7 +102,7 @@ owned_stored (Some n) h = refl
 pub stored_if : (counts : Counts) (t : Triple) → 0 < count_of counts t → map.contains_key counts t ≡ true
 stored_if counts t some = owned_stored (map.get counts t) some
 
-module _ (store : Store) (texts : Texts) (h : IsStored store texts) where
+module _ (store : Catalog) (texts : Texts) (h : IsStored store texts) where
   -- the triple that a stored triple of slots stands for has an owner
   pub counted_key : (key : Key) (t : Triple) → HasKey store texts key t → 0 < count_of (counts_in store texts) t
   counted_key key t k = omega (arith, h.owned key k.stored, count_image store.pool texts store.index key t h.lies (are_live store texts h) k.has)

@@ -23,7 +23,7 @@ use Rattle.term_pool.specs.Pool.{terms, text_at, text_of}
 use Rattle.term_pool.proofs.Lying.{if_other, used_at}
 use Rattle.slot_index.specs.declared.key.Key.{Key}
 use Rattle.slot_index.specs.Keys.{key_cmp, key_cmp-total, same_key}
-use Rattle.triple_store.specs.declared.store.Store.{Store}
+use Rattle.triple_store.specs.declared.catalog.Catalog.{Catalog}
 use Rattle.triple_store.specs.Holding.{HasTermsOf}
 use Rattle.triple_store.specs.Moves.{Takes}
 use Rattle.triple_store.specs.Room.{distinct, room_for, terms_of}
@@ -75,7 +75,7 @@ no_more p r ts each =
     omega (arith, fewer term_cmp-total term_cmp-IsAntisymmetric ts mine (λ t there. let one : (slot : ℕ) × (text_at p r slot ≡ Some (term_text t)) = each t there in slot_in r p.slots.slots one.0 t one.1), length-sorted term_cmp mine, length-in_slots r p.slots.slots)
 
 -- a term of a list of triples is one of a triple
-term_of : (ts : List Triple) (x : Term) → has term_cmp x (flat_map terms_of ts) ≡ true → (t : Triple) × (has triple_cmp t ts ≡ true) × (has term_cmp x (terms_of t) ≡ true)
+pub term_of : (ts : List Triple) (x : Term) → has term_cmp x (flat_map terms_of ts) ≡ true → (t : Triple) × (has triple_cmp t ts ≡ true) × (has term_cmp x (terms_of t) ≡ true)
 term_of [] x h = absurd (true≢false (sym h))
 term_of (t ∷ ts) x h =
     ⊎_elim
@@ -84,7 +84,7 @@ term_of (t ∷ ts) x h =
     (one_of (has term_cmp x (terms_of t)) (has term_cmp x (flat_map terms_of ts)) (sym (has-append term_cmp x (terms_of t) (flat_map terms_of ts)) ∙ h))
 
 -- the terms of a triple that slots stand for are in slots
-in_slot : (p : Pool) (r : Texts) (key : Key) (t : Triple) → HasTriple p r key t → (x : Term) → has term_cmp x (terms_of t) ≡ true → (slot : ℕ) × (text_at p r slot ≡ Some (term_text x))
+pub in_slot : (p : Pool) (r : Texts) (key : Key) (t : Triple) → HasTriple p r key t → (x : Term) → has term_cmp x (terms_of t) ≡ true → (slot : ℕ) × (text_at p r slot ≡ Some (term_text x))
 in_slot p r key t h x there =
     let is : (y : Term) → eq_by_cmp term_cmp x y ≡ true → y ≡ x = λ y e. sym (term_cmp-IsAntisymmetric x y (equal _ e)) in
     ⊎_elim
@@ -96,7 +96,7 @@ in_slot p r key t h x there =
     (one_of (eq_by_cmp term_cmp x t.subject) (eq_by_cmp term_cmp x t.predicate || (eq_by_cmp term_cmp x t.object || false)) there)
 
 -- where all that came is stored, there is room for it beside what was stored
-pub room_within : (st : Store) (r : Texts) (now : Store) (s : Texts) (had keys : List Key) (triples : List Triple) → IsStored st r → Takes st r now s had keys triples → room_for (counts_in st r) triples ≤ limit_of st
+pub room_within : (st : Catalog) (r : Texts) (now : Catalog) (s : Texts) (had keys : List Key) (triples : List Triple) → IsStored st r → Takes st r now s had keys triples → room_for (counts_in st r) triples ≤ limit_of st
 room_within st r now s had keys triples stored h =
     let before = map.keys (counts_in st r) in
     let each : (t : Term) → has term_cmp t (flat_map terms_of (before ++ triples)) ≡ true → (slot : ℕ) × (text_at now.pool s slot ≡ Some (term_text t)) = λ t there.
@@ -135,7 +135,7 @@ its_term p r key t slot text h some at =
     (cases_eq key.second slot))
     (cases_eq key.first slot)
 
-has_terms : (st : Store) (r : Texts) → IsStored st r → HasTermsOf st.pool r (flat_map terms_of (map.keys (counts_in st r) ++ []))
+has_terms : (st : Catalog) (r : Texts) → IsStored st r → HasTermsOf st.pool r (flat_map terms_of (map.keys (counts_in st r) ++ []))
 has_terms st r h = record {
   each = λ slot text at.
       let m = triple_at st.pool r in
@@ -147,7 +147,7 @@ has_terms st r h = record {
 }
 
 -- there are as many terms as the stored triples have
-pub terms_counted : (st : Store) (r : Texts) → IsStored st r → terms st.pool ≡ room_for (counts_in st r) []
+pub terms_counted : (st : Catalog) (r : Texts) → IsStored st r → terms st.pool ≡ room_for (counts_in st r) []
 terms_counted st r h =
     let all = map.keys (counts_in st r) ++ [] in
     let each : (t : Term) → has term_cmp t (flat_map terms_of all) ≡ true → (slot : ℕ) × (text_at st.pool r slot ≡ Some (term_text t)) = λ t there.

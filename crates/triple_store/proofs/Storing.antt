@@ -23,7 +23,7 @@ use Rattle.slot_index.specs.Counts.{Counts as KeyCounts}
 use Rattle.slot_index.specs.Counts as keyed
 use Rattle.slot_index.proofs.Owners as keyed_owners
 use Rattle.triple_texts.specs.declared.triple_text.TripleText.{TripleText}
-use Rattle.triple_store.specs.declared.store.Store.{Store}
+use Rattle.triple_store.specs.declared.catalog.Catalog.{Catalog}
 use Rattle.triple_store.specs.Counts.{count_of, lowered, raised}
 use Rattle.triple_store.specs.Holding.{HasTermsOf, Held, KeepsTexts, LetGo}
 use Rattle.triple_store.specs.Slots.{HasCanonicalTexts, HasTermsIn, HasTexts, HasTriple, term_in, triple_at, triple_of, uses}
@@ -81,7 +81,7 @@ module _ (c : KeyCounts) (k : Key) (slot : ℕ) where
 
 -- ---- the triples of keys
 
-pub live_stored : (st : Store) (r : Texts) → IsStored st r → AreLive st.pool r st.index
+pub live_stored : (st : Catalog) (r : Texts) → IsStored st r → AreLive st.pool r st.index
 live_stored st r h = live_counted st.pool r st.index h.lies (λ slot. omega (arith, h.counted slot))
 
 pub keeps_triple : (p q : Pool) (r s : Texts) (k : Key) (t : Triple) → KeepsTexts p r q s → HasTriple p r k t → HasTriple q s k t
@@ -149,7 +149,7 @@ user (k ∷ ks) slot some = ⊎_elim
     (cases_lt 0 (uses slot k))
 
 -- the terms of a pool are those of its stored triples
-pub terms_stored : (st : Store) (r : Texts) (ts : List Term) → IsStored st r → HasTermsIn (counts_in st r) ts → HasTermsOf st.pool r ts
+pub terms_stored : (st : Catalog) (r : Texts) (ts : List Term) → IsStored st r → HasTermsIn (counts_in st r) ts → HasTermsOf st.pool r ts
 unfolding triple_at
 terms_stored st r ts h all = record {
   each = λ slot text e.
@@ -171,7 +171,7 @@ terms_stored st r ts h all = record {
 
 -- ---- one owner more
 
-module _ (st new : Store) (r s : Texts) (h : IsStored st r) where
+module _ (st new : Catalog) (r s : Texts) (h : IsStored st r) where
   pub counts_unmoved : KeepsTexts st.pool r new.pool s → new.index ≡ st.index → counts_in new s ≡ counts_in st r
   counts_unmoved keeps e = ap (λ c. image (triple_at new.pool s) c) e ∙ counts_kept st.pool new.pool r s st.index keeps (live_stored st r h)
 
@@ -221,7 +221,7 @@ used_slots q c l counted there = (
 )
 
 -- a triple that was stored keeps its slots where the terms are held and let go of
-pub again : (st : Store) (q u : Pool) (r s v : Texts) (k : Key) (of : TripleText) → IsStored st r → HasCanonicalTexts of → 0 < keyed.count_of st.index k → Held st.pool r q s k of → LetGo q s u v k → HasTriple u v k (triple_of of)
+pub again : (st : Catalog) (q u : Pool) (r s v : Texts) (k : Key) (of : TripleText) → IsStored st r → HasCanonicalTexts of → 0 < keyed.count_of st.index k → Held st.pool r q s k of → LetGo q s u v k → HasTriple u v k (triple_of of)
 again st q u r s v k of h canonical some held gone =
     let counts = back st.pool q u r s v k of held gone in
     let used = used_slots u st.index k (λ slot. counts slot ∙ h.counted slot) (stored_counted st.index k some) in
@@ -229,7 +229,7 @@ again st q u r s v k of h canonical some held gone =
 
 -- ---- one owner less
 
-module _ (st : Store) (r : Texts) (k : Key) (h : IsStored st r) (there : map.contains_key st.index k ≡ true) where
+module _ (st : Catalog) (r : Texts) (k : Key) (h : IsStored st r) (there : map.contains_key st.index k ≡ true) where
   its_triple : HasTriple st.pool r k (triple_at st.pool r k)
   its_triple = (live_stored st r h).live k there
 
@@ -261,7 +261,7 @@ module _ (st : Store) (r : Texts) (k : Key) (h : IsStored st r) (there : map.con
       };
     }
 
-  module _ (new : Store) (s : Texts) (e : new.index ≡ keyed.lowered st.index k) (one : keyed.count_of st.index k ≡ 1) (gone_k : LetGo st.pool r new.pool s k) where
+  module _ (new : Catalog) (s : Texts) (e : new.index ≡ keyed.lowered st.index k) (one : keyed.count_of st.index k ≡ 1) (gone_k : LetGo st.pool r new.pool s k) where
     counted_gone : (slot : ℕ) → count_at new.pool slot ≡ slots.used (map.keys (keyed.lowered st.index k)) slot
     counted_gone slot = omega (arith, gone_k.counts slot, h.counted slot, used_gone st.index k slot one)
 

@@ -15,7 +15,7 @@ use Rattle.text_region.specs.Region.{Texts}
 use Rattle.term_pool.specs.Pool.{one_if}
 use Rattle.slot_index.specs.declared.key.Key.{Key}
 use Rattle.slot_index.specs.Keys.{key_cmp, key_cmp-total, key_cmp-IsAntisymmetric, same_key}
-use Rattle.triple_store.specs.declared.store.Store.{Store}
+use Rattle.triple_store.specs.declared.catalog.Catalog.{Catalog}
 use Rattle.triple_store.specs.Counts.{count_of, raised}
 use Rattle.triple_store.specs.Slots.{HasTriple, triple_at}
 use Rattle.triple_store.specs.Stored.{HasKey, IsStored, beside, counts_in, is_key, limit_of}
@@ -60,7 +60,7 @@ one_more old now new done gone true more is k e f =
 one_more old now new done gone false more is k e f = omega (arith, e, f, ap (λ b. one_if (b && not gone)) (is ∙ or_none done))
 
 -- no triple is taken yet
-pub none_taken : (st : Store) (r : Texts) (had : List Key) → IsStored st r → Takes st r st r had [] []
+pub none_taken : (st : Catalog) (r : Texts) (had : List Key) → IsStored st r → Takes st r st r had [] []
 none_taken st r had stored = record {
   stored = stored;
   each = λ key h. absurd (true≢false (sym h));
@@ -71,7 +71,7 @@ none_taken st r had stored = record {
   limit = refl;
 }
 
-module _ (st : Store) (r : Texts) (now : Store) (s : Texts) (had keys : List Key) (done : List Triple) (stored : IsStored st r) (all : (key : Key) → has key_cmp key had ≡ true → is_key st key ≡ true) (h : Takes st r now s had keys done) where
+module _ (st : Catalog) (r : Texts) (now : Catalog) (s : Texts) (had keys : List Key) (done : List Triple) (stored : IsStored st r) (all : (key : Key) → has key_cmp key had ≡ true → is_key st key ≡ true) (h : Takes st r now s had keys done) where
   -- a key of the owner stands for what it stood for
   pub had_key : (key : Key) → has key_cmp key had ≡ true → HasKey now s key (triple_at st.pool r key)
   had_key key there = h.kept key (triple_at st.pool r key) (stored_key st r stored key (all key there))
@@ -100,7 +100,7 @@ module _ (st : Store) (r : Texts) (now : Store) (s : Texts) (had keys : List Key
       (one_of (has key_cmp key had) (has key_cmp key keys) (sym (has-append key_cmp key had keys) ∙ there))
 
   -- with one key more, after which each key stands for what it stood for
-  module _ (new : Store) (u : Texts) (later : (k : Key) (t : Triple) → HasKey now s k t → HasKey new u k t) (key : Key) (t : Triple) (one : HasKey new u key t) where
+  module _ (new : Catalog) (u : Texts) (later : (k : Key) (t : Triple) → HasKey now s k t → HasKey new u k t) (key : Key) (t : Triple) (one : HasKey new u key t) where
     each_more : (k : Key) → has key_cmp k (keys ++ key ∷ []) ≡ true → (v : Triple) × HasKey new u k v × (has triple_cmp v (done ++ t ∷ []) ≡ true)
     each_more k there =
         ⊎_elim
@@ -150,7 +150,7 @@ module _ (st : Store) (r : Texts) (now : Store) (s : Texts) (had keys : List Key
   }
 
   -- one triple more that is counted once more
-  pub new_taken : (new : Store) (u : Texts) (key : Key) (t : Triple) → ((key : Key) → HasTriple now.pool s key t → has key_cmp key (had ++ keys) ≡ false) → IsStored new u → counts_in new u ≡ raised (counts_in now s) t → HasKey new u key t → ((k : Key) (t : Triple) → HasKey now s k t → HasKey new u k t) → ((piece : Piece) → beside new u piece ≡ beside now s piece) → limit_of new ≡ limit_of now → Takes st r new u had (keys ++ key ∷ []) (done ++ t ∷ [])
+  pub new_taken : (new : Catalog) (u : Texts) (key : Key) (t : Triple) → ((key : Key) → HasTriple now.pool s key t → has key_cmp key (had ++ keys) ≡ false) → IsStored new u → counts_in new u ≡ raised (counts_in now s) t → HasKey new u key t → ((k : Key) (t : Triple) → HasKey now s k t → HasKey new u k t) → ((piece : Piece) → beside new u piece ≡ beside now s piece) → limit_of new ≡ limit_of now → Takes st r new u had (keys ++ key ∷ []) (done ++ t ∷ [])
   new_taken new u key t none after more one later others limit =
       let n = is_new t none in
       record {
@@ -166,7 +166,7 @@ module _ (st : Store) (r : Texts) (now : Store) (s : Texts) (had keys : List Key
       }
 
   -- after a fault all is as it was
-  pub none_more : (new : Store) (u : Texts) → IsStored new u → counts_in new u ≡ counts_in now s → ((k : Key) (t : Triple) → HasKey now s k t → HasKey new u k t) → ((piece : Piece) → beside new u piece ≡ beside now s piece) → limit_of new ≡ limit_of now → Takes st r new u had keys done
+  pub none_more : (new : Catalog) (u : Texts) → IsStored new u → counts_in new u ≡ counts_in now s → ((k : Key) (t : Triple) → HasKey now s k t → HasKey new u k t) → ((piece : Piece) → beside new u piece ≡ beside now s piece) → limit_of new ≡ limit_of now → Takes st r new u had keys done
   none_more new u after same later others limit = record {
     stored = after;
     each = λ key there. let was : (t : Triple) × HasKey now s key t × (has triple_cmp t done ≡ true) = h.each key there in (was.0, later key was.0 was.1, was.2);
@@ -182,5 +182,5 @@ module _ (st : Store) (r : Texts) (now : Store) (s : Texts) (had keys : List Key
   as_many t none = let n = is_new t none in omega (arith, h.counts t, ap (λ b. one_if (b && not (has triple_cmp t (meant st r had)))) n.done_)
 
 -- where as many keys came as there are triples, all are done
-pub whole_taken : (st : Store) (r : Texts) (now : Store) (s : Texts) (had keys : List Key) (triples : List Triple) (n : ℕ) → n ≡ length triples → Takes st r now s had keys (take n triples) → Takes st r now s had keys triples
+pub whole_taken : (st : Catalog) (r : Texts) (now : Catalog) (s : Texts) (had keys : List Key) (triples : List Triple) (n : ℕ) → n ≡ length triples → Takes st r now s had keys (take n triples) → Takes st r now s had keys triples
 whole_taken st r now s had keys triples n e h = subst (Takes st r now s had keys) (ap (λ k. take k triples) e ∙ take-length triples) h

@@ -15,7 +15,9 @@ use Rattle.rdf_term.specs.declared.triple.Triple.{Triple}
 use Rattle.rdf_term.specs.Order.{triple_cmp, triple_cmp-total}
 use Rattle.rdf_term.proofs.Texts.{triple_cmp-IsAntisymmetric}
 use Rattle.text_region.specs.declared.piece.Piece.{Piece}
-use Rattle.text_region.specs.Region.{Texts, bytes_of}
+use Rattle.text_region.specs.Blocks.{Blocks, block_at}
+use Rattle.text_region.specs.Peak.{IsNew}
+use Rattle.text_region.specs.Region.{Texts, blocks_of, bytes_of}
 use Rattle.term_pool.specs.declared.slots.Entry.{Entry}
 use Rattle.term_pool.specs.declared.pool.Pool.{Pool}
 use Rattle.term_pool.specs.Pool.{LiesIn, count_at, foreign, has_piece, terms}
@@ -24,7 +26,7 @@ use Rattle.term_pool.proofs.Lying.{used_at}
 use Rattle.slot_index.specs.declared.key.Key.{Key}
 use Rattle.slot_index.specs.Keys.{key_cmp, key_cmp-total, key_cmp-IsAntisymmetric}
 use Rattle.slot_index.specs.Counts.{Counts as KeyCounts}
-use Rattle.triple_store.specs.declared.store.Store.{Store}
+use Rattle.triple_store.specs.declared.catalog.Catalog.{Catalog}
 use Rattle.triple_store.specs.Holding.{KeepsTexts}
 use Rattle.triple_store.specs.Slots.{HasTriple, triple_at}
 use Rattle.triple_store.specs.Slots as slots
@@ -64,12 +66,20 @@ pub all_beside : (p : Pool) (r : Texts) (piece : Piece) → terms p ≡ 0 → fo
 unfolding foreign
 all_beside p r piece e = ap (λ b. cond b None (bytes_of r piece)) (no_piece piece p.slots.slots e)
 
+no_blocks : (blocks : Blocks) (number : ℕ) → length blocks ≡ 0 → block_at blocks number ≡ None
+no_blocks [] number none = refl
+no_blocks (b ∷ blocks) number none = absurd (omega arith)
+
+-- a new region has no text
+pub vacant : (r : Texts) → IsNew r → (piece : Piece) → bytes_of r piece ≡ None
+vacant r new piece = no_blocks (blocks_of r piece.class) piece.number (new.none_made piece.class)
+
 -- ---- another limit
 
 no_terms : (p : Pool) (r : Texts) → LiesIn p r → ((slot : ℕ) → count_at p slot ≡ 0) → terms p ≡ 0
 no_terms p r lies none = omega (arith, as_many p r [] lies (record { each = λ x t e. absurd (omega (arith, none x, used_at p r lies x t e)) }))
 
-pub limited : (st : Store) (r : Texts) (limit : ℕ) → map.len st.index ≡ 0 → IsStored st r → IsStored (record { alloc = st.alloc; pool = record st.pool { limit = limit }; index = st.index }) r
+pub limited : (st : Catalog) (r : Texts) (limit : ℕ) → map.len st.index ≡ 0 → IsStored st r → IsStored (record { alloc = st.alloc; pool = record st.pool { limit = limit }; index = st.index }) r
 limited st r limit none h =
     let empty = no_terms st.pool r h.lies (λ slot. h.counted slot ∙ none_used st.index slot none) in
     record {
@@ -78,7 +88,7 @@ limited st r limit none h =
       owned = h.owned;
     }
 
-pub limited_counts : (st : Store) (r : Texts) (limit : ℕ) → counts_in (record { alloc = st.alloc; pool = record st.pool { limit = limit }; index = st.index }) r ≡ counts_in st r
+pub limited_counts : (st : Catalog) (r : Texts) (limit : ℕ) → counts_in (record { alloc = st.alloc; pool = record st.pool { limit = limit }; index = st.index }) r ≡ counts_in st r
 unfolding image triple_at
 limited_counts st r limit = refl
 
@@ -88,7 +98,7 @@ limited_beside p r limit piece = refl
 
 -- ---- texts beside the store's
 
-module _ (st : Store) (r s : Texts) (piece : Piece) (before after : Option (List ℕ)) (h : IsStored st r) (moves : MovesBeside st.pool r s piece before after) where
+module _ (st : Catalog) (r s : Texts) (piece : Piece) (before after : Option (List ℕ)) (h : IsStored st r) (moves : MovesBeside st.pool r s piece before after) where
   keeps : KeepsTexts st.pool r st.pool s
   keeps = record { kept = λ x t e. moves.texts x ∙ e }
 
@@ -136,7 +146,7 @@ module _ {K T : Type 0} {R : K → K → Ordering} {S : T → T → Ordering} (o
     mapped_distinct m xs rises.1 (λ a b ha hb e. one a b (or_true (eq_by_cmp R a x) _ ha) (or_true (eq_by_cmp R b x) _ hb) e),
   )
 
-pub len_image : (st : Store) (r : Texts) → IsStored st r → map.len (counts_in st r) ≡ map.len st.index
+pub len_image : (st : Catalog) (r : Texts) → IsStored st r → map.len (counts_in st r) ≡ map.len st.index
 len_image st r h =
     let m = triple_at st.pool r in
     let live = live_stored st r h in

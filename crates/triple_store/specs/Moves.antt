@@ -9,17 +9,17 @@ use Rattle.text_region.specs.Region.{Texts}
 use Rattle.term_pool.specs.Pool.{one_if}
 use Rattle.slot_index.specs.declared.key.Key.{Key}
 use Rattle.slot_index.specs.Keys.{key_cmp}
-use Rattle.triple_store.specs.declared.store.Store.{Store}
+use Rattle.triple_store.specs.declared.catalog.Catalog.{Catalog}
 use Rattle.triple_store.specs.Counts.{count_of}
 use Rattle.triple_store.specs.Slots.{triple_at}
 use Rattle.triple_store.specs.Stored.{HasKey, IsStored, KeepsKeys, beside, counts_in, limit_of}
 
 -- the triples that the keys stand for
-abbrev pub meant : Store → Texts → List Key → List Triple
+abbrev pub meant : Catalog → Texts → List Key → List Triple
 meant store texts keys = mapped (triple_at store.pool texts) keys
 
 -- the triples of the keys have one owner less
-pub record Removes (old : Store) (before : Texts) (new : Store) (after : Texts) (keys : List Key) : Type 0 where
+pub record Removes (old : Catalog) (before : Texts) (new : Catalog) (after : Texts) (keys : List Key) : Type 0 where
   pub stored : IsStored new after
   pub counts : (triple : Triple) → count_of (counts_in new after) triple + one_if (has triple_cmp triple (meant old before keys)) ≡ count_of (counts_in old before) triple
   pub keeps : KeepsKeys old before new after
@@ -27,7 +27,7 @@ pub record Removes (old : Store) (before : Texts) (new : Store) (after : Texts) 
   pub limit : limit_of new ≡ limit_of old
 
 -- the keys are those of the triples, which have one owner more but for those that the owner had
-pub record Takes (old : Store) (before : Texts) (new : Store) (after : Texts) (had keys : List Key) (triples : List Triple) : Type 0 where
+pub record Takes (old : Catalog) (before : Texts) (new : Catalog) (after : Texts) (had keys : List Key) (triples : List Triple) : Type 0 where
   pub stored : IsStored new after
   pub each : (key : Key) → has key_cmp key keys ≡ true → (triple : Triple) × HasKey new after key triple × (has triple_cmp triple triples ≡ true)
   pub all : (triple : Triple) → has triple_cmp triple triples ≡ true → (key : Key) × HasKey new after key triple × (has key_cmp key keys ≡ true)
@@ -37,7 +37,7 @@ pub record Takes (old : Store) (before : Texts) (new : Store) (after : Texts) (h
   pub limit : limit_of new ≡ limit_of old
 
 -- these triples have one owner less
-pub record Loses (old : Store) (before : Texts) (new : Store) (after : Texts) (triples : List Triple) : Type 0 where
+pub record Loses (old : Catalog) (before : Texts) (new : Catalog) (after : Texts) (triples : List Triple) : Type 0 where
   pub stored : IsStored new after
   pub counts : (triple : Triple) → count_of (counts_in new after) triple + one_if (has triple_cmp triple triples) ≡ count_of (counts_in old before) triple
   pub keeps : KeepsKeys old before new after

@@ -13,17 +13,17 @@ ghost use Rattle.triple_store.specs.Room.{distinct, terms_of};
 ghost use Rattle.triple_store.specs.Slots.{HasCanonicalTexts, HasTermsIn, HasTexts, IsAllOf, triple_at, triple_of};
 ghost use Rattle.triple_store.specs.Stored.{HasKey, IsStored, KeepsKeys, beside, counts_in, is_key, limit_of};
 
-use crate::fault::StoreFault;
+use crate::StoreFault;
+use crate::catalog::Catalog;
 use crate::holding::{hold, let_go};
-use crate::store::Store;
 use block_index::Steps;
 use slot_index::Key;
 use std::sync::ledger::Ledger;
-use term_pool::{Pool, PoolFault};
+use term_pool::Pool;
 use text_region::Region;
 use triple_texts::TripleText;
 
-impl Store {
+impl Catalog {
     // The triple of slots with these texts, where each of them is there; the triple need not be stored. Subject and
     // predicate are tried first in the slots that they have in a triple near by, since triples that follow each other mostly
     // share one of them. Takes no memory.
@@ -85,8 +85,7 @@ impl Store {
     {
         let key = match hold(&mut self.pool, region, texts) {
             Ok(key) => key,
-            Err(PoolFault::Full) => return Err(StoreFault::Full),
-            Err(PoolFault::OutOfMemory) => return Err(StoreFault::OutOfMemory),
+            Err(fault) => return Err(fault),
         };
         match self.index.raise(key, steps) {
             Ok(true) => Ok(key),

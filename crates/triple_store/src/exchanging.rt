@@ -17,11 +17,13 @@ ghost use Rattle.triple_store.specs.Room.{room_for};
 ghost use Rattle.triple_store.specs.Slots.{HasTexts};
 ghost use Rattle.triple_store.specs.Stored.{AreKeysOf, IsStored, KeepsKeys, beside, counts_in, is_key, limit_of};
 
-use crate::fault::StoreFault;
-use crate::keys::{Keys, NOWHERE, in_order, narrowed};
-use crate::store::Store;
+use crate::StoreFault;
+use crate::catalog::Catalog;
+use crate::keys::{KeySlices, Keys, NOWHERE, in_order, narrowed};
 use block_index::Steps;
+use rdf_term::OutOfMemory;
 use slot_index::Key;
+use std::alloc::Global;
 use std::collections::BTreeSet;
 use std::sync::ledger::Ledger;
 use text_region::Region;
@@ -33,11 +35,11 @@ const TRIED: usize = 3;
 // How far ahead in the walk a place is looked for, which was found by a search.
 const AHEAD: usize = 64;
 
-// Where a triple is looked for first: from a place of the old keys' walk on, and in the slots of the key before it.
+// Where a triple is looked for first: among the keys that the owner had, from a place of their walk on, and in the slots of the key before it.
 #[derive(Clone, Copy)]
 struct Near<'a> {
     last: Option<Key>,
-    walk: &'a [u32],
+    old: KeySlices<'a>,
     next: usize,
 }
 
@@ -49,27 +51,37 @@ struct Found {
     next: usize,
 }
 
-impl Store {
-    /// Puts the triples of one owner in the place of those that it had, which its keys tell; the walk beside these is a hint.
-    /// What is in both costs its comparisons alone where it comes in the order of the walk, and else its look-ups. After a fault
-    /// every triple has the count that it had. Without new triples it always succeeds. In the index it takes at most 8 (d + 8)
-    /// steps for each new triple and 3 (d + 8) for each old one, where d is the number of binary digits of the number of stored
-    /// and new triples together.
-    pub fn exchange<L: Ledger>(
+// The keys that the owner had, and its triples from now on.
+#[derive(Clone, Copy)]
+struct Swap<'a> {
+    old: KeySlices<'a>,
+    new: &'a TripleTexts,
+}
+
+// The keys of the triples that came, one by one, and the place of each among the keys that the owner had.
+#[derive(Drop)]
+struct Met {
+    keys: Vec<Key>,
+    places: Vec<u32>,
+}
+
+impl Catalog {
+    // Puts the triples of one owner in the place of those that it had. What is in both costs its comparisons alone where it comes in
+    // the order of the walk, and else its look-ups.
+    pub(crate) fn exchange<L: Ledger>(
         &mut self,
         region: &mut Region,
-        old: &[Key],
-        walk: &[u32],
+        old: KeySlices<'_>,
         new: &TripleTexts,
         steps: &mut Steps<L>,
     ) -> Result<Keys, StoreFault>
         requires stored { IsStored self.old region.old }
         requires fit { AllByRecursion HasFitAndShortTerms new.now }
-        requires rising { IsRising key_cmp old.now }
-        requires there { (key : TheKey) → has key_cmp key old.now ≡ true → is_key self.old key ≡ true }
+        requires rising { IsRising key_cmp old.rising.now }
+        requires there { (key : TheKey) → has key_cmp key old.rising.now ≡ true → is_key self.old key ≡ true }
         requires countable { (triple : Triple) → has triple_cmp triple new.now ≡ true → count_of (counts_in self.old region.old) triple < 18446744073709551615 }
         ensures stored { IsStored self.new region.new }
-        ensures ok { OnOk result ((gone : List Triple) → AreKeysOf self.old region.old old.now gone → Exchanges (counts_in self.old region.old) (counts_in self.new region.new) gone new.now) }
+        ensures ok { OnOk result ((gone : List Triple) → AreKeysOf self.old region.old old.entry.rising.now gone → Exchanges (counts_in self.old region.old) (counts_in self.new region.new) gone new.now) }
         ensures err { OnErr result (counts_in self.new region.new ≡ counts_in self.old region.old) }
         ensures keys { IfOk result (λ keys. AreKeysOf self.new region.new keys.rising.items new.now) }
         ensures full { result ≡ Err StoreFault.Full → limit_of self.old < room_for (counts_in self.old region.old) new.now }
@@ -78,23 +90,21 @@ impl Store {
         ensures keeps { KeepsKeys self.old region.old self.new region.new }
         ensures beside { (piece : ThePiece) → beside self.new region.new piece ≡ beside self.old region.old piece }
         ensures limit { limit_of self.new ≡ limit_of self.old }
-        ensures cost { Costs (map.len (counts_in self.old region.old)) (map.len (counts_in self.new region.new)) (length new.now) (length new.now + length old.now) steps.old steps.new }
+        ensures cost { Costs (map.len (counts_in self.old region.old)) (map.len (counts_in self.new region.new)) (length new.now) (length new.now + length old.entry.rising.now) steps.old steps.new }
     {
-        let Ok(mut keys) = Vec::with_capacity(self.alloc, new.len()) else {
+        let Ok(mut met) = no_keys_met(self.alloc, new.len()) else {
             return Err(StoreFault::OutOfMemory);
         };
-        let Ok(mut places) = Vec::with_capacity(self.alloc, new.len()) else {
-            return Err(StoreFault::OutOfMemory);
-        };
-        let taken = self.take_in(region, old, walk, new, &mut keys, &mut places, steps);
-        let keys = in_order(self.alloc, old, keys, places.as_slice());
+        let taken = self.take_in(region, Swap { old, new }, &mut met, steps);
+        let Met { keys, places } = met;
+        let keys = in_order(self.alloc, old.rising, keys, places.as_slice());
         match taken {
             Ok(()) => {
-                self.remove_beside(region, old, keys.slices().rising, steps);
+                self.remove_beside(region, old.rising, keys.slices().rising, steps);
                 Ok(keys)
             }
             Err(fault) => {
-                self.remove_beside(region, keys.slices().rising, old, steps);
+                self.remove_beside(region, keys.slices().rising, old.rising, steps);
                 Err(fault)
             }
         }
@@ -105,41 +115,38 @@ impl Store {
     fn take_in<L: Ledger>(
         &mut self,
         region: &mut Region,
-        old: &[Key],
-        walk: &[u32],
-        new: &TripleTexts,
-        keys: &mut Vec<Key>,
-        places: &mut Vec<u32>,
+        swap: Swap<'_>,
+        met: &mut Met,
         steps: &mut Steps<L>,
     ) -> Result<(), StoreFault>
         requires stored { IsStored self.old region.old }
-        requires fit { AllByRecursion HasFitAndShortTerms new.now }
-        requires rising { IsRising key_cmp old.now }
-        requires there { (key : TheKey) → has key_cmp key old.now ≡ true → is_key self.old key ≡ true }
-        requires countable { (triple : Triple) → has triple_cmp triple new.now ≡ true → count_of (counts_in self.old region.old) triple < 18446744073709551615 }
-        requires none { keys.old.items ≡ [] }
-        requires room { length new.now ≤ vec_capacity keys.old }
-        requires none_placed { vec_len places.old ≡ 0 }
-        requires room_placed { length new.now ≤ vec_capacity places.old }
-        ensures takes { Takes self.old region.old self.new region.new old.now keys.new.items (take (vec_len keys.new) new.now) }
-        ensures whole { OnOk result (vec_len keys.new ≡ length new.now) }
-        ensures full { result ≡ Err StoreFault.Full → limit_of self.old < room_for (counts_in self.old region.old) new.now }
-        ensures free { new.now ≡ [] → IsOk result }
-        ensures few { vec_len keys.new ≤ length new.now }
-        ensures cost { Costs (map.len self.old.index) (map.len self.new.index) (length new.now) 0 steps.old steps.new }
+        requires fit { AllByRecursion HasFitAndShortTerms swap.new.now }
+        requires rising { IsRising key_cmp swap.old.rising.now }
+        requires there { (key : TheKey) → has key_cmp key swap.old.rising.now ≡ true → is_key self.old key ≡ true }
+        requires countable { (triple : Triple) → has triple_cmp triple swap.new.now ≡ true → count_of (counts_in self.old region.old) triple < 18446744073709551615 }
+        requires none { met.old.keys.items ≡ [] }
+        requires room { length swap.new.now ≤ vec_capacity met.old.keys }
+        requires none_placed { vec_len met.old.places ≡ 0 }
+        requires room_placed { length swap.new.now ≤ vec_capacity met.old.places }
+        ensures takes { Takes self.old region.old self.new region.new swap.entry.old.rising.now met.new.keys.items (take (vec_len met.new.keys) swap.entry.new.now) }
+        ensures whole { OnOk result (vec_len met.new.keys ≡ length swap.entry.new.now) }
+        ensures full { result ≡ Err StoreFault.Full → limit_of self.old < room_for (counts_in self.old region.old) swap.entry.new.now }
+        ensures free { swap.entry.new.now ≡ [] → IsOk result }
+        ensures few { vec_len met.new.keys ≤ length swap.entry.new.now }
+        ensures cost { Costs (map.len self.old.index) (map.len self.new.index) (length swap.entry.new.now) 0 steps.old steps.new }
     {
         let mut added = BTreeSet::new(self.alloc);
         let mut next = 0;
-        for index in 0..new.len() {
-            let texts = new.get(index);
+        for index in 0..swap.new.len() {
+            let texts = swap.new.get(index);
             let near = Near {
-                last: keys.last().copied(),
-                walk,
+                last: met.keys.last().copied(),
+                old: swap.old,
                 next,
             };
-            if let Some(found) = self.find_held(region, &texts, near, old, &added) {
-                keys.push_reserved(found.key);
-                places.push_reserved(found.place);
+            if let Some(found) = self.find_held(region, &texts, near, &added) {
+                met.keys.push_reserved(found.key);
+                met.places.push_reserved(found.place);
                 next = found.next;
                 continue;
             }
@@ -147,8 +154,8 @@ impl Store {
                 Ok(key) => key,
                 Err(fault) => return Err(fault),
             };
-            keys.push_reserved(key);
-            places.push_reserved(NOWHERE);
+            met.keys.push_reserved(key);
+            met.places.push_reserved(NOWHERE);
             if added.insert(key).is_err() {
                 return Err(StoreFault::OutOfMemory);
             }
@@ -162,23 +169,22 @@ impl Store {
         region: &Region,
         texts: &TripleText<'_>,
         near: Near<'_>,
-        old: &[Key],
         added: &BTreeSet<Key>,
     ) -> Option<Found>
         requires stored { IsStored self.now region.now }
-        requires rising { IsRising key_cmp old.now }
+        requires rising { IsRising key_cmp near.old.rising.now }
         ensures texts { IfSome result (λ found. HasTexts self.now.pool region.now found.key texts.now) }
-        ensures held { IfSome result (λ found. has key_cmp found.key (old.now ++ added.now.keys) ≡ true) }
-        ensures none { IfNone result ((key : TheKey) → HasTexts self.now.pool region.now key texts.now → has key_cmp key (old.now ++ added.now.keys) ≡ false) }
+        ensures held { IfSome result (λ found. has key_cmp found.key (near.entry.old.rising.now ++ added.now.keys) ≡ true) }
+        ensures none { IfNone result ((key : TheKey) → HasTexts self.now.pool region.now key texts.now → has key_cmp key (near.entry.old.rising.now ++ added.now.keys) ≡ false) }
     {
-        if let Some(found) = self.find_again(region, texts, near, old) {
+        if let Some(found) = self.find_again(region, texts, near) {
             return Some(found);
         }
         let key = self.find_key(region, texts, near.last)?;
         let next = near.next;
-        if let Ok(place) = old.binary_search(&key) {
+        if let Ok(place) = near.old.rising.binary_search(&key) {
             let place = narrowed(place);
-            let next = behind(near.walk, next, place);
+            let next = behind(near.old.walk, next, place);
             return Some(Found { key, place, next });
         }
         if added.contains(&key) {
@@ -191,21 +197,15 @@ impl Store {
 
     // The key of the triple with these texts, where the walk that the old keys have comes to it next. What stays mostly comes
     // in the order in which it came before, so this saves most look-ups.
-    fn find_again(
-        &self,
-        region: &Region,
-        texts: &TripleText<'_>,
-        near: Near<'_>,
-        old: &[Key],
-    ) -> Option<Found>
+    fn find_again(&self, region: &Region, texts: &TripleText<'_>, near: Near<'_>) -> Option<Found>
         requires stored { IsStored self.now region.now }
         ensures texts { IfSome result (λ found. HasTexts self.now.pool region.now found.key texts.now) }
-        ensures there { IfSome result (λ found. has key_cmp found.key old.now ≡ true) }
+        ensures there { IfSome result (λ found. has key_cmp found.key near.entry.old.rising.now ≡ true) }
     {
         for past in 0..TRIED {
             let at = near.next.saturating_add(past);
-            let place = *near.walk.get(at)?;
-            let Some(key) = old.get(place as usize) else {
+            let place = *near.old.walk.get(at)?;
+            let Some(key) = near.old.rising.get(place as usize) else {
                 continue;
             };
             if self.has_texts(region, *key, texts) {
@@ -218,6 +218,20 @@ impl Store {
         }
         None
     }
+}
+
+// No keys, with room for so many.
+fn no_keys_met(alloc: Global, room: usize) -> Result<Met, OutOfMemory>
+    ensures none { IfOk result (λ met. met.keys.items ≡ []) }
+    ensures room { IfOk result (λ met. room ≤ vec_capacity met.keys) }
+    ensures none_placed { IfOk result (λ met. vec_len met.places ≡ 0) }
+    ensures room_placed { IfOk result (λ met. room ≤ vec_capacity met.places) }
+    ensures free { room ≡ 0 → IsOk result }
+{
+    Ok(Met {
+        keys: Vec::with_capacity(alloc, room)?,
+        places: Vec::with_capacity(alloc, room)?,
+    })
 }
 
 // Where the walk goes on behind a place that it comes to soon. A hint alone: where it doesn't, it goes on where it stood.

@@ -8,8 +8,9 @@ ghost use Rattle.triple_store.specs.Holding.{HasTermsOf, Held, LetGo};
 ghost use Rattle.triple_store.specs.Room.{distinct, terms_of};
 ghost use Rattle.triple_store.specs.Slots.{HasCanonicalTexts, IsAllOf, triple_of, uses};
 
+use crate::StoreFault;
 use slot_index::Key;
-use term_pool::{Pool, PoolFault, Slot};
+use term_pool::{Pool, Slot};
 use text_region::Region;
 use triple_texts::TripleText;
 
@@ -19,13 +20,13 @@ pub(crate) fn hold(
     pool: &mut Pool,
     region: &mut Region,
     texts: &TripleText<'_>,
-) -> Result<Key, PoolFault>
+) -> Result<Key, StoreFault>
     requires lies { LiesIn pool.old region.old }
     requires canonical { HasCanonicalTexts texts.now }
     ensures lies { LiesIn pool.new region.new }
     ensures ok { IfOk result (λ key. Held pool.old region.old pool.new region.new key texts.now) }
     ensures err { OnErr result (SameSlots pool.old region.old pool.new region.new) }
-    ensures full { result ≡ Err PoolFault.Full → (terms : List Term) → HasTermsOf pool.old region.old terms → IsAllOf (terms_of (triple_of texts.now)) terms → pool.old.limit < distinct terms }
+    ensures full { result ≡ Err StoreFault.Full → (terms : List Term) → HasTermsOf pool.old region.old terms → IsAllOf (terms_of (triple_of texts.now)) terms → pool.old.limit < distinct terms }
     ensures foreign { KeepsForeign pool.old region.old pool.new region.new }
     ensures limit { pool.new.limit ≡ pool.old.limit }
 {

@@ -1,28 +1,31 @@
 //! The triples of all entities, each with the number of its owners.
 //!
-//! `store` has the store, over a pool of terms and an index of triples of slots, and `fault` why it takes no triples.
-//! `holding` uses the terms of a triple once more, all or none, and once less. `keys` has the keys of one owner, in order
-//! and as its triples came. On these `changing` gives a triple one owner more or less; triple by triple `exchanging` puts
-//! the triples of one owner in the place of others, `releasing` takes them away, and `patching` applies a patch. `rows`
-//! finds the triples, or those that agree with a pattern, as slices of their texts; `reading` reads triples back from these,
-//! by which `matching` gives the same in memory of their own, and it counts the owners of a triple. `room` says how many
-//! terms there are.
+//! `store` has the store: a catalog of what is stored, and the region with the texts of the terms, each once, and with texts of the
+//! caller's own beside them. `updates` and `queries` have its other calls, each with its steps counted and without. What they call over
+//! the region stands below: `catalog` is a pool of terms and an index of triples of slots. `holding` uses the terms of a triple once
+//! more, all or none, and once less. `keys` has the keys of one owner, in order and as its triples came. On these `changing` gives a
+//! triple one owner more or less; triple by triple `exchanging` puts the triples of one owner in the place of others, `releasing` takes
+//! them away, and `patching` applies a patch. `rows` finds the triples that agree with a pattern, as slices of their texts; `reading`
+//! reads triples back from these. `matching` counts the owners of a triple, and `room` says how many terms there are.
 #![tactic(auto)]
 
+mod catalog;
 mod changing;
 mod exchanging;
-mod fault;
 mod holding;
 mod keys;
 mod matching;
 mod patching;
+mod queries;
 mod reading;
 mod releasing;
 mod room;
 mod rows;
 mod store;
+mod updates;
 
-pub use fault::StoreFault;
 pub use keys::{KeySlices, Keys};
 pub use rows::Rows;
 pub use store::Store;
+/// Why a store takes no triples: there are more terms than the limit says, or memory was refused.
+pub use term_pool::PoolFault as StoreFault;

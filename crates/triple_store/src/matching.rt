@@ -1,9 +1,9 @@
-// The stored triples that agree with a pattern.
+// The number of the owners of a triple, and the slots that a pattern wants.
 
-ghost use Rattle.std.specs.Prelude.{◌≡◌, ◌+◌, ◌<◌, ◌≤◌, ℕ, true, length, IfNone, IfOk, IfSome};
+ghost use Rattle.std.specs.Prelude.{◌≡◌, ◌<◌, ℕ, true, IfNone, IfSome};
 ghost use Rattle.std.specs.FinMap as map;
 ghost use Rattle.block_index.specs.Steps.{Within};
-ghost use Rattle.rdf_term.specs.Pattern.{agrees, agrees_at, rows};
+ghost use Rattle.rdf_term.specs.Pattern.{agrees, agrees_at};
 ghost use Rattle.term_pool.specs.Pool.{LiesIn, count_at, text_at};
 ghost use Rattle.slot_index.specs.declared.key.Key.{Key as TheKey};
 ghost use Rattle.triple_store.specs.Counts.{count_of};
@@ -11,42 +11,22 @@ ghost use Rattle.triple_store.specs.Matching.{key_agrees, slot_agrees};
 ghost use Rattle.triple_store.specs.Slots.{HasTriple, term_in, triple_at};
 ghost use Rattle.triple_store.specs.Stored.{IsStored, counts_in, is_key};
 
-use crate::store::Store;
+use crate::catalog::Catalog;
 use block_index::Steps;
-use rdf_term::{OutOfMemory, Pattern, Term, Triple, TripleSet};
+use rdf_term::{Pattern, Term, Triple};
 use slot_index::{Key, SlotPattern};
 use std::sync::ledger::Ledger;
 use term_pool::Pool;
 use text_region::Region;
 
-impl Store {
-    /// The stored triples, in memory of their own: each is read from its texts.
-    pub fn all(&self, region: &Region) -> Result<TripleSet, OutOfMemory>
-        requires { IsStored self.now region.now }
-        ensures rows { IfOk result (λ set. set ≡ map.keys (counts_in self.now region.now)) }
-    {
-        self.rows(region)?.triples(self.alloc)
-    }
-
-    /// The stored triples that agree with the pattern, in memory of their own: those of `matching`, each read from its texts,
-    /// in as many steps.
-    pub fn matches<L: Ledger>(
+impl Catalog {
+    // How many entities own the triple: three look-ups and one search in one index.
+    pub(crate) fn count<L: Ledger>(
         &self,
         region: &Region,
-        pattern: &Pattern,
+        triple: &Triple,
         steps: &mut Steps<L>,
-    ) -> Result<TripleSet, OutOfMemory>
-        requires { IsStored self.now region.now }
-        ensures rows { IfOk result (λ set. set ≡ rows (map.keys (counts_in self.now region.now)) pattern.now) }
-        ensures cost { IfOk result (λ set. Within (map.len (counts_in self.now region.now)) (9 + length set) steps.old steps.new) }
-        ensures forward { steps.old ≤ steps.new }
-    {
-        self.matching(region, pattern, steps)?.triples(self.alloc)
-    }
-
-    /// How many entities own the triple, which takes no memory: three look-ups and one search in one index,
-    /// of at most eight steps more than the number of stored triples has binary digits.
-    pub fn count<L: Ledger>(&self, region: &Region, triple: &Triple, steps: &mut Steps<L>) -> u64
+    ) -> u64
         requires { IsStored self.now region.now }
         ensures count { result ≡ count_of (counts_in self.now region.now) triple.now }
         ensures cost { Within (map.len (counts_in self.now region.now)) 8 steps.old steps.new }

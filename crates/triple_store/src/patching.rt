@@ -14,8 +14,9 @@ ghost use Rattle.triple_store.specs.Moves.{Loses};
 ghost use Rattle.triple_store.specs.Room.{room_for};
 ghost use Rattle.triple_store.specs.Stored.{IsStored, KeepsKeys, beside, counts_in, limit_of};
 
-use crate::fault::StoreFault;
-use crate::store::Store;
+use crate::StoreFault;
+use crate::catalog::Catalog;
+use crate::keys::KeySlices;
 use block_index::Steps;
 use rdf_term::{OutOfMemory, Triple};
 use std::alloc::Global;
@@ -25,12 +26,9 @@ use triple_patch::Patch;
 use triple_sink::emit_all;
 use triple_texts::TripleTexts;
 
-impl Store {
-    /// Counts one owner more of each triple that comes and one less of each that goes; what has no owner left is no longer
-    /// stored. After a fault every triple has the count that it had. Where none comes it takes no memory and always succeeds.
-    /// In the index it takes at most 8 (d + 8) steps for each triple that comes and 3 (d + 8) for each that goes, where d is the
-    /// number of binary digits of the number of stored triples and those that come together.
-    pub fn apply<L: Ledger>(
+impl Catalog {
+    // Counts one owner more of each triple that comes and one less of each that goes.
+    pub(crate) fn apply<L: Ledger>(
         &mut self,
         region: &mut Region,
         patch: &Patch,
@@ -54,7 +52,7 @@ impl Store {
         let Ok(texts) = texts_of(self.alloc, patch.adds.items()) else {
             return Err(StoreFault::OutOfMemory);
         };
-        match self.exchange(region, &[], &[], &texts, steps) {
+        match self.exchange(region, KeySlices::none(), &texts, steps) {
             Ok(_keys) => {
                 self.remove_all(region, patch.removes.items(), steps);
                 Ok(())

@@ -13,16 +13,20 @@ ghost use Rattle.triple_store.specs.Counts.{Exchanges};
 ghost use Rattle.triple_store.specs.Moves.{Removes};
 ghost use Rattle.triple_store.specs.Stored.{AreKeysOf, IsStored, KeepsKeys, beside, counts_in, is_key, limit_of};
 
-use crate::store::Store;
+use crate::catalog::Catalog;
 use block_index::Steps;
 use slot_index::Key;
 use std::sync::ledger::Ledger;
 use text_region::Region;
 
-impl Store {
-    /// Takes one owner away from the triples of these keys. It takes no memory, and at most 3 (d + 8) steps in the index for
-    /// each key, where d is the number of binary digits of the number of stored triples.
-    pub fn release<L: Ledger>(&mut self, region: &mut Region, old: &[Key], steps: &mut Steps<L>)
+impl Catalog {
+    // Takes one owner away from the triples of these keys. It takes no memory.
+    pub(crate) fn release<L: Ledger>(
+        &mut self,
+        region: &mut Region,
+        old: &[Key],
+        steps: &mut Steps<L>,
+    )
         requires stored { IsStored self.old region.old }
         requires rising { IsRising key_cmp old.now }
         requires there { (key : TheKey) → has key_cmp key old.now ≡ true → is_key self.old key ≡ true }

@@ -5,11 +5,11 @@ ghost use Rattle.text_region.specs.Region.{Texts};
 ghost use Rattle.triple_store.specs.Room.{room_for};
 ghost use Rattle.triple_store.specs.Stored.{IsStored, counts_in};
 
-use crate::store::Store;
+use crate::catalog::Catalog;
 
-impl Store {
-    /// The number of different terms of the stored triples.
-    pub fn terms(&self) -> u32
+impl Catalog {
+    // The number of different terms of the stored triples.
+    pub(crate) fn terms(&self) -> u32
         ensures { (region : Texts) → IsStored self.now region → result ≡ room_for (counts_in self.now region) [] }
     {
         self.pool.len()

@@ -17,15 +17,15 @@ ghost use Rattle.triple_store.specs.Rows.{line_of, text_cmp};
 ghost use Rattle.triple_store.specs.Slots.{HasCanonicalTexts, HasTexts, triple_at, triple_of};
 ghost use Rattle.triple_store.specs.Stored.{IsStored, counts_in, is_key};
 
+use crate::catalog::Catalog;
 use crate::reading::read_rows;
-use crate::store::Store;
 use block_index::Steps;
 use rdf_term::{OutOfMemory, Pattern, TripleSet};
 use slot_index::Key;
 use std::alloc::Global;
 use std::cmp::Ordering;
-use std::marker::{Brand, Model};
-use std::sync::ledger::{Blank, Ledger};
+use std::marker::Model;
+use std::sync::ledger::Ledger;
 use term_pool::Slot;
 use text_region::Region;
 use triple_texts::TripleText;
@@ -75,19 +75,10 @@ impl<'a> Rows<'a> {
     }
 }
 
-impl Store {
-    /// The stored triples: three slices each, which are sorted.
-    pub fn rows<'a>(&self, region: &'a Region) -> Result<Rows<'a>, OutOfMemory>
-        requires { IsStored self.now region.now }
-        ensures rows { IfOk result (λ found. found ≡ map.keys (counts_in self.now region.now)) }
-    {
-        rows_by::<Brand>(self, region, Blank::new(1))
-    }
-
-    /// The stored triples that agree with the pattern. A wanted term costs one look-up; then it is one range of one index, and
-    /// the triples of that range, three slices each, are sorted. It takes at most nine steps in the index more than the triples
-    /// that it gives and the binary digits of the number of stored triples together.
-    pub fn matching<'a, L: Ledger>(
+impl Catalog {
+    // The stored triples that agree with the pattern. A wanted term costs one look-up; then it is one range of one index, and the
+    // triples of that range, three slices each, are sorted.
+    pub(crate) fn matching<'a, L: Ledger>(
         &self,
         region: &'a Region,
         pattern: &Pattern,
@@ -139,27 +130,6 @@ impl Store {
             object: self.pool.text(region, Slot { number: key.third }),
         }
     }
-}
-
-// All stored triples, which agree with the pattern that is free at each place. Nobody counts the steps.
-fn rows_by<'a, L: Ledger>(
-    store: &Store,
-    region: &'a Region,
-    blank: Blank,
-) -> Result<Rows<'a>, OutOfMemory>
-    requires stored { IsStored store.now region.now }
-    requires name { blank.name ≡ L.name }
-    requires parts { blank.parts ≡ L.parts }
-    requires some { 0 < blank.parts }
-    ensures rows { IfOk result (λ found. found ≡ map.keys (counts_in store.now region.now)) }
-{
-    let mut steps = Steps::<L>::new(blank);
-    let free = Pattern {
-        subject: None,
-        predicate: None,
-        object: None,
-    };
-    store.matching(region, &free, &mut steps)
 }
 
 // Sorts triples by the texts of their terms. It takes no memory.

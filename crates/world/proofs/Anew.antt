@@ -15,12 +15,10 @@ use Rattle.entity_state.specs.Record.{blank}
 use Rattle.entity_state.specs.Table.{after_putting, has_room}
 use Rattle.entity_state.specs.Tabled.{Tabled}
 use Rattle.text_region.specs.declared.piece.Piece.{Piece}
-use Rattle.text_region.specs.Region.{Texts}
 use Rattle.slot_index.specs.declared.key.Key.{Key}
 use Rattle.triple_store.specs.declared.keys.Keys.{Keys}
-use Rattle.triple_store.specs.declared.store.Store.{Store}
 use Rattle.triple_store.specs.Counts.{Exchanges}
-use Rattle.triple_store.specs.Stored.{AreKeysOf, IsStored, KeepsKeys, beside, counts_in}
+use Rattle.triple_store.specs.StoreState.{AreKeysOf, IsSound, KeepsKeys, StoreState, beside, counts_in}
 use Rattle.replay_model.specs.Records.{Bytes, Records, record_of}
 use Rattle.replay_model.specs.Union.{Meaning, triples_held}
 use Rattle.world.specs.declared.kept.Kept.{Kept}
@@ -85,9 +83,9 @@ room_after t t2 id r is =
     (map.get-insert entity_cmp_total t.records id r id ∙ ap (λ b. cond b (Some r) (map.get t.records id)) ((eq_by_cmp_equiv entity_cmp_total).refl id))
 
 module _ (m m2 : Meaning Triple) (x : EntityId) (agree : (y : EntityId) → y ≢ x → (rev : ℕ) (bytes : Bytes) → m2 y rev bytes ≡ m y rev bytes)
-    (st : Store) (r : Texts) (st2 : Store) (r2 : Texts) (kept : KeptRecords) (keys : Keys) (h : IsKept m st r kept)
+    (s s2 : StoreState) (kept : KeptRecords) (keys : Keys) (h : IsKept m s kept)
     (there : is_some (kept_of kept x).held ≡ true)
-    (texts : (p : Piece) → beside st2 r2 p ≡ beside st r p) where
+    (texts : (p : Piece) → beside s2 p ≡ beside s p) where
   abbrev anew : Record Kept
   anew = with_keys (kept_of kept x) keys
 
@@ -99,41 +97,41 @@ module _ (m m2 : Meaning Triple) (x : EntityId) (agree : (y : EntityId) → y �
       (λ other. ap (λ (was : Record Kept). piece_held was.held) (kept_other kept x anew y other.1))
       (id_tells y x)
 
-  held_there : held_with (beside st2 r2) anew.held ≡ held_with (beside st r) (kept_of kept x).held
-  held_there = text_same (beside st r) (beside st2 r2) (kept_of kept x).held keys texts
+  held_there : held_with (beside s2) anew.held ≡ held_with (beside s) (kept_of kept x).held
+  held_there = text_same (beside s) (beside s2) (kept_of kept x).held keys texts
 
-  seen_there : (held : Option (Held Kept)) → is_some held ≡ true → is_some (held_with (beside st r) held) ≡ true
+  seen_there : (held : Option (Held Kept)) → is_some held ≡ true → is_some (held_with (beside s) held) ≡ true
   seen_there None is = is
   seen_there (Some held) is = refl
 
   -- what is seen is as it was
-  pub anew_seen : seen st2 r2 (map.insert kept x anew) ≡ seen st r kept
+  pub anew_seen : seen s2 (map.insert kept x anew) ≡ seen s kept
   anew_seen =
-      let same : record_with (beside st2 r2) anew ≡ record_of (seen st r kept) x =
+      let same : record_with (beside s2) anew ≡ record_of (seen s kept) x =
       ap (λ (held : Option (Held Bytes)). record { state = (kept_of kept x).state; held = held; reconciled = (kept_of kept x).reconciled }) held_there
-      ∙ sym (seen_of (beside st r) kept x) in
-      seen_put m m2 x agree st r st2 r2 kept anew h (λ _ p _ _. texts p)
-      ∙ ap (map.insert (seen st r kept) x) same
-      ∙ put_same (seen st r kept) x (ap (λ (was : Record Bytes). is_some was.held) (seen_of (beside st r) kept x) ∙ seen_there (kept_of kept x).held there)
+      ∙ sym (seen_of (beside s) kept x) in
+      seen_put m m2 x agree s s2 kept anew h (λ _ p _ _. texts p)
+      ∙ ap (map.insert (seen s kept) x) same
+      ∙ put_same (seen s kept) x (ap (λ (was : Record Bytes). is_some was.held) (seen_of (beside s) kept x) ∙ seen_there (kept_of kept x).held there)
 
   -- and all is in step
   pub anew_kept : (old : List Key) (ts : List Triple)
-      → IsStored st2 r2
+      → IsSound s2
       → old ≡ keys_held (kept_of kept x).held
-      → ((gone : List Triple) → AreKeysOf st r old gone → Exchanges (counts_in st r) (counts_in st2 r2) gone ts)
-      → KeepsKeys st r st2 r2
-      → AreKeysOf st2 r2 keys.rising.items ts
-      → ((t : Triple) → has triple_cmp t ts ≡ has triple_cmp t (triples_held m2 x (held_with (beside st r) (kept_of kept x).held)))
-      → IsKept m2 st2 r2 (map.insert kept x anew)
-  anew_kept old ts stored were exchanges keeps keyed meant =
-      let gone : AreKeysOf st r old (triples_kept m (beside st r) kept x) =
-      subst (λ (ks : List Key). AreKeysOf st r ks (triples_kept m (beside st r) kept x)) (sym were) (h.keyed x) in
-      let same : (t : Triple) → has triple_cmp t ts ≡ has triple_cmp t (triples_held m2 x (held_with (beside st2 r2) anew.held)) =
+      → ((gone : List Triple) → AreKeysOf s old gone → Exchanges (counts_in s) (counts_in s2) gone ts)
+      → KeepsKeys s s2
+      → AreKeysOf s2 keys.rising.items ts
+      → ((t : Triple) → has triple_cmp t ts ≡ has triple_cmp t (triples_held m2 x (held_with (beside s) (kept_of kept x).held)))
+      → IsKept m2 s2 (map.insert kept x anew)
+  anew_kept old ts sound were exchanges keeps keyed meant =
+      let gone : AreKeysOf s old (triples_kept m (beside s) kept x) =
+      subst (λ (ks : List Key). AreKeysOf s ks (triples_kept m (beside s) kept x)) (sym were) (h.keyed x) in
+      let same : (t : Triple) → has triple_cmp t ts ≡ has triple_cmp t (triples_held m2 x (held_with (beside s2) anew.held)) =
       λ t. meant t ∙ ap (λ (held : Option (Held Bytes)). has triple_cmp t (triples_held m2 x held)) (sym held_there) in
-      kept_put m m2 x agree st r st2 r2 kept anew h (λ _ p _ _. texts p) stored
-      (held_again (beside st r) (beside st2 r2) (piece_at kept) (piece_at (map.insert kept x anew)) h.held texts pieces_same)
-      (exchanged_same (counts_in st r) (counts_in st2 r2) (triples_kept m (beside st r) kept x) ts (triples_held m2 x (held_with (beside st2 r2) anew.held)) same
-      (exchanges (triples_kept m (beside st r) kept x) gone))
+      kept_put m m2 x agree s s2 kept anew h (λ _ p _ _. texts p) sound
+      (held_again (beside s) (beside s2) (piece_at kept) (piece_at (map.insert kept x anew)) h.held texts pieces_same)
+      (exchanged_same (counts_in s) (counts_in s2) (triples_kept m (beside s) kept x) ts (triples_held m2 x (held_with (beside s2) anew.held)) same
+      (exchanges (triples_kept m (beside s) kept x) gone))
       keeps
-      (subst (λ (ks : List Key). AreKeysOf st2 r2 ks (triples_held m2 x (held_with (beside st2 r2) anew.held))) (sym (keys_are (kept_of kept x).held keys there))
-      (keys_same st2 r2 keys.rising.items ts (triples_held m2 x (held_with (beside st2 r2) anew.held)) same keyed))
+      (subst (λ (ks : List Key). AreKeysOf s2 ks (triples_held m2 x (held_with (beside s2) anew.held))) (sym (keys_are (kept_of kept x).held keys there))
+      (keys_same s2 keys.rising.items ts (triples_held m2 x (held_with (beside s2) anew.held)) same keyed))

@@ -278,6 +278,10 @@ module _ (ids : ByVersion) (kept : KeptRecords) (records : Records) (h : AreBy i
       by One is = ap (λ b. b || has entity_cmp x ids.second) is
       by Two is = or_true (has entity_cmp x ids.first) (has entity_cmp x ids.second) is
 
+  pub first_is_holder : (v : MappingVersion) (first : Option EntityId) → first ≡ first_of (held_by ids v) → IfSome first (λ x. is_holder records x ≡ true)
+  first_is_holder v None is = tt
+  first_is_holder v (Some x) is = link x ∙ first_holds v x (sym is)
+
 -- each entity that is mapped anew leaves one stale entity fewer
 pub fewer : (v : MappingVersion) (second second2 : List EntityId) (records : Records) (entity : Option EntityId) → IsRising entity_cmp second
     → entity ≡ first_of (stale_by v second records) → second2 ≡ with_version_of v entity second

@@ -9,7 +9,6 @@ pub mod OneVersion
 pub mod Owning
 pub mod Pieced
 pub mod Replacing
-mod Room
 pub mod Rooming
 pub mod Starting
 pub mod Stepping

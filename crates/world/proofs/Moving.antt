@@ -14,13 +14,12 @@ use Rattle.entity_state.specs.Record.{blank, held_revision}
 use Rattle.entity_state.specs.declared.standing.Standing.{Standing}
 use Rattle.entity_state.specs.Standing.{standing_of}
 use Rattle.text_region.specs.declared.piece.Piece.{Piece}
-use Rattle.text_region.specs.Region.{Texts}
 use Rattle.slot_index.specs.declared.key.Key.{Key}
 use Rattle.slot_index.specs.Keys.{key_cmp}
 use Rattle.term_pool.specs.Pool.{one_if}
-use Rattle.triple_store.specs.declared.store.Store.{Store}
 use Rattle.triple_store.specs.Counts.{Counts, Exchanges, count_of}
-use Rattle.triple_store.specs.Stored.{AreKeysOf, HasKey, IsStored, KeepsKeys, beside, counts_in}
+use Rattle.triple_store.specs.StoreState.{AreKeysOf, HasKey, IsSound, KeepsKeys, StoreState, beside, counts_in}
+use Rattle.triple_store.specs.Updates.{AreStored}
 use Rattle.replay_model.specs.Records.{Bytes, Records, record_of}
 use Rattle.replay_model.specs.Union.{Meaning, owners, triples_held}
 use Rattle.world.specs.declared.kept.Kept.{Kept}
@@ -43,16 +42,16 @@ revision_same f None = refl
 revision_same f (Some h) = refl
 
 -- what stands of a record doesn't need the texts
-pub standing_is : (st : Store) (r : Texts) (kept : KeptRecords) (x : EntityId) → standing_of (record_of (seen st r kept) x) ≡ standing_of (kept_of kept x)
-standing_is st r kept x =
-    ap (λ (was : Record Bytes). standing_of was) (seen_of (beside st r) kept x)
-    ∙ ap standing (revision_same (beside st r) (kept_of kept x).held)
+pub standing_is : (s : StoreState) (kept : KeptRecords) (x : EntityId) → standing_of (record_of (seen s kept) x) ≡ standing_of (kept_of kept x)
+standing_is s kept x =
+    ap (λ (was : Record Bytes). standing_of was) (seen_of (beside s) kept x)
+    ∙ ap standing (revision_same (beside s) (kept_of kept x).held)
   where
     standing : Option ℕ → Standing
     standing held = record { state = (kept_of kept x).state; held = held; reconciled = (kept_of kept x).reconciled }
 
-pub held_is : (st : Store) (r : Texts) (kept : KeptRecords) (x : EntityId) → (record_of (seen st r kept) x).held ≡ held_with (beside st r) (kept_of kept x).held
-held_is st r kept x = ap (λ (was : Record Bytes). was.held) (seen_of (beside st r) kept x)
+pub held_is : (s : StoreState) (kept : KeptRecords) (x : EntityId) → (record_of (seen s kept) x).held ≡ held_with (beside s) (kept_of kept x).held
+held_is s kept x = ap (λ (was : Record Bytes). was.held) (seen_of (beside s) kept x)
 
 -- the record of the entity after a record is put in
 pub kept_here : (kept : KeptRecords) (x : EntityId) (n : Record Kept) → kept_of (map.insert kept x n) x ≡ n
@@ -101,40 +100,50 @@ module _ (f k : PieceTexts) where
       get-values (record_with k) kept y ∙ changed_same (map.get kept y) (λ p _. texts p) ∙ sym (get-values (record_with f) kept y))
 
 -- keys go on being those of their triples where these go on being stored
-pub keys_stay : (st : Store) (r : Texts) (st2 : Store) (r2 : Texts) (keys : List Key) (ts : List Triple)
-    → AreKeysOf st r keys ts → KeepsKeys st r st2 r2 → ((t : Triple) → has triple_cmp t ts ≡ true → 0 < count_of (counts_in st2 r2) t) → AreKeysOf st2 r2 keys ts
-keys_stay st r st2 r2 keys ts h keeps owned = record {
+pub keys_stay : (s s2 : StoreState) (keys : List Key) (ts : List Triple)
+    → AreKeysOf s keys ts → KeepsKeys s s2 → ((t : Triple) → has triple_cmp t ts ≡ true → 0 < count_of (counts_in s2) t) → AreKeysOf s2 keys ts
+keys_stay s s2 keys ts h keeps owned = record {
   rising = h.rising;
   each = λ key there.
-      let is : (t : Triple) × HasKey st r key t × (has triple_cmp t ts ≡ true) = h.each key there in
+      let is : (t : Triple) × HasKey s key t × (has triple_cmp t ts ≡ true) = h.each key there in
       (is.0, keeps.kept key is.0 is.1 (owned is.0 is.2), is.2);
   all = λ t there.
-      let is : (key : Key) × HasKey st r key t × (has key_cmp key keys ≡ true) = h.all t there in
+      let is : (key : Key) × HasKey s key t × (has key_cmp key keys ≡ true) = h.all t there in
       (is.0, keeps.kept is.0 t is.1 (owned t there), is.2);
 }
 
 -- keys are those of the same triples in another order
-pub keys_same : (st : Store) (r : Texts) (keys : List Key) (ts us : List Triple) → ((t : Triple) → has triple_cmp t ts ≡ has triple_cmp t us) → AreKeysOf st r keys ts → AreKeysOf st r keys us
-keys_same st r keys ts us same h = record {
+pub keys_same : (s : StoreState) (keys : List Key) (ts us : List Triple) → ((t : Triple) → has triple_cmp t ts ≡ has triple_cmp t us) → AreKeysOf s keys ts → AreKeysOf s keys us
+keys_same s keys ts us same h = record {
   rising = h.rising;
   each = λ key there.
-      let is : (t : Triple) × HasKey st r key t × (has triple_cmp t ts ≡ true) = h.each key there in
+      let is : (t : Triple) × HasKey s key t × (has triple_cmp t ts ≡ true) = h.each key there in
       (is.0, is.1, sym (same is.0) ∙ is.2);
   all = λ t there. h.all t (same t ∙ there);
 }
 
 -- keys of the same triples in another region
-pub keys_moved : (st : Store) (r : Texts) (st2 : Store) (r2 : Texts) (keys : List Key) (ts : List Triple)
-    → ((key : Key) (t : Triple) → HasKey st r key t → HasKey st2 r2 key t) → AreKeysOf st r keys ts → AreKeysOf st2 r2 keys ts
-keys_moved st r st2 r2 keys ts moves h = record {
+pub keys_moved : (s s2 : StoreState) (keys : List Key) (ts : List Triple)
+    → ((key : Key) (t : Triple) → HasKey s key t → HasKey s2 key t) → AreKeysOf s keys ts → AreKeysOf s2 keys ts
+keys_moved s s2 keys ts moves h = record {
   rising = h.rising;
   each = λ key there.
-      let is : (t : Triple) × HasKey st r key t × (has triple_cmp t ts ≡ true) = h.each key there in
+      let is : (t : Triple) × HasKey s key t × (has triple_cmp t ts ≡ true) = h.each key there in
       (is.0, moves key is.0 is.1, is.2);
   all = λ t there.
-      let is : (key : Key) × HasKey st r key t × (has key_cmp key keys ≡ true) = h.all t there in
+      let is : (key : Key) × HasKey s key t × (has key_cmp key keys ≡ true) = h.all t there in
       (is.0, moves is.0 t is.1, is.2);
 }
+
+-- the keys of what an entity holds are those of stored triples
+pub are_stored : (m : Meaning Triple) (s s2 : StoreState) (kept : KeptRecords) (x : EntityId) (keys : List Key) → IsKept m s kept
+    → ((key : Key) (t : Triple) → HasKey s key t → HasKey s2 key t) → keys ≡ keys_held (kept_of kept x).held → AreStored s2 keys
+are_stored m s s2 kept x keys h moves is = subst (AreStored s2) (sym is) (record {
+  rising = (h.keyed x).rising;
+  there = λ key there.
+      let one : (t : Triple) × HasKey s key t × (has triple_cmp t (triples_kept m (beside s) kept x) ≡ true) = (h.keyed x).each key there in
+      (moves key one.0 one.1).stored;
+})
 
 pub exchanged_same : (c d : Counts) (gone came other : List Triple) → ((t : Triple) → has triple_cmp t came ≡ has triple_cmp t other) → Exchanges c d gone came → Exchanges c d gone other
 exchanged_same c d gone came other same h = record {
@@ -142,50 +151,50 @@ exchanged_same c d gone came other same h = record {
 }
 
 module _ (m m2 : Meaning Triple) (x : EntityId) (agree : (y : EntityId) → y ≢ x → (rev : ℕ) (bytes : Bytes) → m2 y rev bytes ≡ m y rev bytes)
-    (st : Store) (r : Texts) (st2 : Store) (r2 : Texts) (kept : KeptRecords) (n : Record Kept) (h : IsKept m st r kept)
-    (texts : (y : EntityId) (p : Piece) → y ≢ x → piece_at kept y ≡ Some p → beside st2 r2 p ≡ beside st r p) where
+    (s s2 : StoreState) (kept : KeptRecords) (n : Record Kept) (h : IsKept m s kept)
+    (texts : (y : EntityId) (p : Piece) → y ≢ x → piece_at kept y ≡ Some p → beside s2 p ≡ beside s p) where
   -- what is seen after the record is put in
-  pub seen_put : seen st2 r2 (map.insert kept x n) ≡ map.insert (seen st r kept) x (record_with (beside st2 r2) n)
-  seen_put = seen_moved (beside st r) (beside st2 r2) kept x n texts
+  pub seen_put : seen s2 (map.insert kept x n) ≡ map.insert (seen s kept) x (record_with (beside s2) n)
+  seen_put = seen_moved (beside s) (beside s2) kept x n texts
 
-  put_counted : Exchanges (counts_in st r) (counts_in st2 r2) (triples_kept m (beside st r) kept x) (triples_held m2 x (held_with (beside st2 r2) n.held))
-      → IsCounted m2 (counts_in st2 r2) (seen st2 r2 (map.insert kept x n))
+  put_counted : Exchanges (counts_in s) (counts_in s2) (triples_kept m (beside s) kept x) (triples_held m2 x (held_with (beside s2) n.held))
+      → IsCounted m2 (counts_in s2) (seen s2 (map.insert kept x n))
   put_counted moves =
-      subst (λ (records : Records). IsCounted m2 (counts_in st2 r2) records) (sym seen_put)
-      (counted_moved m m2 x agree (counts_in st r) (counts_in st2 r2) (seen st r kept) (record_with (beside st2 r2) n) h.counted
-      (subst (λ (was : Record Bytes). Exchanges (counts_in st r) (counts_in st2 r2) (triples_held m x was.held) (triples_held m2 x (held_with (beside st2 r2) n.held)))
-      (sym (seen_of (beside st r) kept x)) moves))
+      subst (λ (records : Records). IsCounted m2 (counts_in s2) records) (sym seen_put)
+      (counted_moved m m2 x agree (counts_in s) (counts_in s2) (seen s kept) (record_with (beside s2) n) h.counted
+      (subst (λ (was : Record Bytes). Exchanges (counts_in s) (counts_in s2) (triples_held m x was.held) (triples_held m2 x (held_with (beside s2) n.held)))
+      (sym (seen_of (beside s) kept x)) moves))
 
-  others_keyed : IsCounted m2 (counts_in st2 r2) (seen st2 r2 (map.insert kept x n)) → KeepsKeys st r st2 r2 → (y : EntityId) → y ≢ x
-      → AreKeysOf st2 r2 (keys_held (kept_of (map.insert kept x n) y).held) (triples_kept m2 (beside st2 r2) (map.insert kept x n) y)
+  others_keyed : IsCounted m2 (counts_in s2) (seen s2 (map.insert kept x n)) → KeepsKeys s s2 → (y : EntityId) → y ≢ x
+      → AreKeysOf s2 (keys_held (kept_of (map.insert kept x n) y).held) (triples_kept m2 (beside s2) (map.insert kept x n) y)
   others_keyed counted keeps y other =
-      let same : triples_kept m2 (beside st2 r2) (map.insert kept x n) y ≡ triples_kept m (beside st r) kept y =
-      ap (λ (was : Record Kept). triples_held m2 y (held_with (beside st2 r2) was.held)) (kept_other kept x n y other)
-      ∙ ap (triples_held m2 y) (held_same (beside st r) (beside st2 r2) (kept_of kept y).held (λ p. texts y p other))
-      ∙ held_agrees m m2 x agree y other (held_with (beside st r) (kept_of kept y).held) in
-      let owned : (t : Triple) → has triple_cmp t (triples_kept m (beside st r) kept y) ≡ true → 0 < count_of (counts_in st2 r2) t = λ t there.
-      let held : triples_held m2 y (record_of (seen st2 r2 (map.insert kept x n)) y).held ≡ triples_kept m (beside st r) kept y =
-      ap (λ (was : Record Bytes). triples_held m2 y was.held) (seen_of (beside st2 r2) (map.insert kept x n) y) ∙ same in
-      let some : 0 < owners triple_cmp m2 (seen st2 r2 (map.insert kept x n)) t = has_owner m2 (seen st2 r2 (map.insert kept x n)) y t (ap (has triple_cmp t) held ∙ there) in
-      let count : count_of (counts_in st2 r2) t ≡ owners triple_cmp m2 (seen st2 r2 (map.insert kept x n)) t = counted.owned t in
+      let same : triples_kept m2 (beside s2) (map.insert kept x n) y ≡ triples_kept m (beside s) kept y =
+      ap (λ (was : Record Kept). triples_held m2 y (held_with (beside s2) was.held)) (kept_other kept x n y other)
+      ∙ ap (triples_held m2 y) (held_same (beside s) (beside s2) (kept_of kept y).held (λ p. texts y p other))
+      ∙ held_agrees m m2 x agree y other (held_with (beside s) (kept_of kept y).held) in
+      let owned : (t : Triple) → has triple_cmp t (triples_kept m (beside s) kept y) ≡ true → 0 < count_of (counts_in s2) t = λ t there.
+      let held : triples_held m2 y (record_of (seen s2 (map.insert kept x n)) y).held ≡ triples_kept m (beside s) kept y =
+      ap (λ (was : Record Bytes). triples_held m2 y was.held) (seen_of (beside s2) (map.insert kept x n) y) ∙ same in
+      let some : 0 < owners triple_cmp m2 (seen s2 (map.insert kept x n)) t = has_owner m2 (seen s2 (map.insert kept x n)) y t (ap (has triple_cmp t) held ∙ there) in
+      let count : count_of (counts_in s2) t ≡ owners triple_cmp m2 (seen s2 (map.insert kept x n)) t = counted.owned t in
       omega arith in
-      subst (λ (ts : List Triple). AreKeysOf st2 r2 (keys_held (kept_of (map.insert kept x n) y).held) ts) (sym same)
-      (subst (λ (was : Record Kept). AreKeysOf st2 r2 (keys_held was.held) (triples_kept m (beside st r) kept y)) (sym (kept_other kept x n y other))
-      (keys_stay st r st2 r2 (keys_held (kept_of kept y).held) (triples_kept m (beside st r) kept y) (h.keyed y) keeps owned))
+      subst (λ (ts : List Triple). AreKeysOf s2 (keys_held (kept_of (map.insert kept x n) y).held) ts) (sym same)
+      (subst (λ (was : Record Kept). AreKeysOf s2 (keys_held was.held) (triples_kept m (beside s) kept y)) (sym (kept_other kept x n y other))
+      (keys_stay s s2 (keys_held (kept_of kept y).held) (triples_kept m (beside s) kept y) (h.keyed y) keeps owned))
 
   -- a record is put in: what it holds is stored, and what was held there before is not
-  pub kept_put : IsStored st2 r2 → IsHeld (beside st2 r2) (piece_at (map.insert kept x n))
-      → Exchanges (counts_in st r) (counts_in st2 r2) (triples_kept m (beside st r) kept x) (triples_held m2 x (held_with (beside st2 r2) n.held))
-      → KeepsKeys st r st2 r2
-      → AreKeysOf st2 r2 (keys_held n.held) (triples_held m2 x (held_with (beside st2 r2) n.held))
-      → IsKept m2 st2 r2 (map.insert kept x n)
-  kept_put stored held moves keeps keyed = record {
-    stored = stored;
+  pub kept_put : IsSound s2 → IsHeld (beside s2) (piece_at (map.insert kept x n))
+      → Exchanges (counts_in s) (counts_in s2) (triples_kept m (beside s) kept x) (triples_held m2 x (held_with (beside s2) n.held))
+      → KeepsKeys s s2
+      → AreKeysOf s2 (keys_held n.held) (triples_held m2 x (held_with (beside s2) n.held))
+      → IsKept m2 s2 (map.insert kept x n)
+  kept_put sound held moves keeps keyed = record {
+    sound = sound;
     counted = put_counted moves;
     held = held;
     keyed = λ y. ⊎_elim
-        (λ own. subst (λ (z : EntityId). AreKeysOf st2 r2 (keys_held (kept_of (map.insert kept x n) z).held) (triples_kept m2 (beside st2 r2) (map.insert kept x n) z)) (sym own.1)
-        (subst (λ (was : Record Kept). AreKeysOf st2 r2 (keys_held was.held) (triples_held m2 x (held_with (beside st2 r2) was.held))) (sym (kept_here kept x n)) keyed))
+        (λ own. subst (λ (z : EntityId). AreKeysOf s2 (keys_held (kept_of (map.insert kept x n) z).held) (triples_kept m2 (beside s2) (map.insert kept x n) z)) (sym own.1)
+        (subst (λ (was : Record Kept). AreKeysOf s2 (keys_held was.held) (triples_held m2 x (held_with (beside s2) was.held))) (sym (kept_here kept x n)) keyed))
         (λ other. others_keyed (put_counted moves) keeps y other.1)
         (id_tells y x);
   }

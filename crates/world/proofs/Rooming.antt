@@ -10,12 +10,9 @@ use Rattle.rdf_term.specs.declared.term.Term.{Term}
 use Rattle.rdf_term.specs.declared.triple.Triple.{Triple}
 use Rattle.rdf_term.specs.Order.{term_cmp, term_cmp-total, triple_cmp, triple_cmp-total}
 use Rattle.rdf_term.proofs.Texts.{term_cmp-IsAntisymmetric, triple_cmp-IsAntisymmetric}
-use Rattle.text_region.specs.Region.{Texts}
-use Rattle.term_pool.specs.Pool.{terms}
-use Rattle.triple_store.specs.declared.store.Store.{Store}
 use Rattle.triple_store.specs.Counts.{Counts, HaveOwners, count_of}
 use Rattle.triple_store.specs.Room.{distinct, room_for, terms_of}
-use Rattle.triple_store.specs.Stored.{beside, counts_in, limit_of}
+use Rattle.triple_store.specs.StoreState.{StoreState, beside, counts_in, limit_of}
 use Rattle.std.specs.Cmp.{eq_by_cmp_equiv}
 use Rattle.entity_model.specs.declared.event.Event.{Event}
 use Rattle.entity_model.specs.EntityId.{entity_cmp_total}
@@ -24,9 +21,7 @@ use Rattle.entity_state.specs.declared.record.Record.{Record}
 use Rattle.entity_state.specs.Record.{blank, held_revision, wants}
 use Rattle.entity_state.specs.State.{is_deleted, state_after}
 use Rattle.side_output.specs.declared.entry.Cause.{Cause}
-use Rattle.triple_store.proofs.Standing.{owned}
-use Rattle.triple_store.proofs.Stocked.{terms_counted}
-use Rattle.triple_store.proofs.Unchanged.{len_image}
+use Rattle.triple_store.proofs.Laid.{sound_owned, sound_room}
 use Rattle.replay_model.specs.Records.{Bytes, Records, record_of}
 use Rattle.replay_model.specs.Play.{held_after_fetch, record_after, records_after}
 use Rattle.world.specs.declared.applied.Outcome.{Outcome}
@@ -58,8 +53,8 @@ counted_union m counts records owned h =
     (union-rises triple_cmp-total m records)
     (λ t. sym (map.contains_key-keys counts t) ∙ stored counts t owned ∙ ap (nat_lt 0) (h.owned t) ∙ sym (has-union triple_cmp-total m records t))
 
-pub stored_union : (m : Meaning Triple) (st : Store) (r : Texts) (kept : KeptRecords) → IsKept m st r kept → map.keys (counts_in st r) ≡ union triple_cmp m (seen st r kept)
-stored_union m st r kept h = counted_union m (counts_in st r) (seen st r kept) (owned st r h.stored) h.counted
+pub stored_union : (m : Meaning Triple) (s : StoreState) (kept : KeptRecords) → IsKept m s kept → map.keys (counts_in s) ≡ union triple_cmp m (seen s kept)
+stored_union m s kept h = counted_union m (counts_in s) (seen s kept) (sound_owned s h.sound) h.counted
 
 pub has_term : (q : Term) (ts : List Triple) → has term_cmp q (flat_map terms_of ts) ≡ list_any (λ t. has term_cmp q (terms_of t)) ts
 has_term q [] = refl
@@ -77,30 +72,29 @@ distinct_same ts us same =
     ∙ sym (has_term q us)))
 
 -- the room that triples need beside the stored ones
-pub room_is : (m : Meaning Triple) (st : Store) (r : Texts) (kept : KeptRecords) → IsKept m st r kept → (c : Counts) → c ≡ counts_in st r → (ts us : List Triple)
-    → ((t : Triple) → has triple_cmp t ts ≡ has triple_cmp t us) → room_for c ts ≡ room_with m (seen st r kept) us
-room_is m st r kept h c is ts us same =
-    ap (λ (xs : List Triple). distinct (flat_map terms_of (xs ++ ts))) (ap (λ (counts : Counts). map.keys counts) is ∙ stored_union m st r kept h)
-    ∙ distinct_same (union triple_cmp m (seen st r kept) ++ ts) (union triple_cmp m (seen st r kept) ++ us)
-    (λ t. has-append triple_cmp t (union triple_cmp m (seen st r kept)) ts
-    ∙ ap (λ b. has triple_cmp t (union triple_cmp m (seen st r kept)) || b) (same t)
-    ∙ sym (has-append triple_cmp t (union triple_cmp m (seen st r kept)) us))
+pub room_is : (m : Meaning Triple) (s : StoreState) (kept : KeptRecords) → IsKept m s kept → (c : Counts) → c ≡ counts_in s → (ts us : List Triple)
+    → ((t : Triple) → has triple_cmp t ts ≡ has triple_cmp t us) → room_for c ts ≡ room_with m (seen s kept) us
+room_is m s kept h c is ts us same =
+    ap (λ (xs : List Triple). distinct (flat_map terms_of (xs ++ ts))) (ap (λ (counts : Counts). map.keys counts) is ∙ stored_union m s kept h)
+    ∙ distinct_same (union triple_cmp m (seen s kept) ++ ts) (union triple_cmp m (seen s kept) ++ us)
+    (λ t. has-append triple_cmp t (union triple_cmp m (seen s kept)) ts
+    ∙ ap (λ b. has triple_cmp t (union triple_cmp m (seen s kept)) || b) (same t)
+    ∙ sym (has-append triple_cmp t (union triple_cmp m (seen s kept)) us))
 
 -- what is held has room
-pub room_held : (m : Meaning Triple) (st : Store) (r : Texts) (kept : KeptRecords) → IsKept m st r kept → room_with m (seen st r kept) [] ≤ limit_of st
-room_held m st r kept h =
-    let few : terms st.pool ≤ st.pool.limit = h.stored.lies.few in
-    let many : terms st.pool ≡ room_for (counts_in st r) [] = terms_counted st r h.stored in
-    let room : room_for (counts_in st r) [] ≡ room_with m (seen st r kept) [] = room_is m st r kept h (counts_in st r) refl [] [] (λ _. refl) in
+pub room_held : (m : Meaning Triple) (s : StoreState) (kept : KeptRecords) → IsKept m s kept → room_with m (seen s kept) [] ≤ limit_of s
+room_held m s kept h =
+    let few : room_for (counts_in s) [] ≤ limit_of s = sound_room s h.sound in
+    let room : room_for (counts_in s) [] ≡ room_with m (seen s kept) [] = room_is m s kept h (counts_in s) refl [] [] (λ _. refl) in
     omega arith
 
 -- no count is at its last value
-pub countable_kept : (m : Meaning Triple) (st : Store) (r : Texts) (kept : KeptRecords) → IsKept m st r kept → (c : Counts) → c ≡ counts_in st r → (n : ℕ) → map.len kept < n → (t : Triple) → count_of c t < n
-countable_kept m st r kept h c is n few t =
-    let records : map.len (seen st r kept) ≡ map.len kept = values_len (record_with (beside st r)) kept in
-    let same : count_of c t ≡ count_of (counts_in st r) t = ap (λ (counts : Counts). count_of counts t) is in
-    let fewer : map.len (seen st r kept) < n = omega arith in
-    let counts : count_of (counts_in st r) t < n = countable m (counts_in st r) (seen st r kept) n h.counted fewer t in
+pub countable_kept : (m : Meaning Triple) (s : StoreState) (kept : KeptRecords) → IsKept m s kept → (c : Counts) → c ≡ counts_in s → (n : ℕ) → map.len kept < n → (t : Triple) → count_of c t < n
+countable_kept m s kept h c is n few t =
+    let records : map.len (seen s kept) ≡ map.len kept = values_len (record_with (beside s)) kept in
+    let same : count_of c t ≡ count_of (counts_in s) t = ap (λ (counts : Counts). count_of counts t) is in
+    let fewer : map.len (seen s kept) < n = omega arith in
+    let counts : count_of (counts_in s) t < n = countable m (counts_in s) (seen s kept) n h.counted fewer t in
     omega arith
 
 no_entries : {A : Type 0} (es : List A) → length es ≡ 0 → es ≡ []
@@ -108,11 +102,11 @@ no_entries [] e = refl
 no_entries (x ∷ es) e = absurd (omega arith)
 
 -- without records nothing is stored
-pub no_keys : (m : Meaning Triple) (st : Store) (r : Texts) (kept : KeptRecords) → IsKept m st r kept → map.len (seen st r kept) ≡ 0 → map.len st.index ≡ 0
-no_keys m st r kept h none =
-    let entries : map.entries (seen st r kept) ≡ [] = no_entries (map.entries (seen st r kept)) (sym (map.len-entries (seen st r kept)) ∙ none) in
-    let keys : map.keys (counts_in st r) ≡ [] = stored_union m st r kept h ∙ ap (λ es. sorted triple_cmp (flat_map (triples_at m) es)) entries in
-    sym (len_image st r h.stored) ∙ map.len-entries (counts_in st r) ∙ sym (length-map (map.entries (counts_in st r)) (λ e. e.0)) ∙ ap length keys
+pub no_triples : (m : Meaning Triple) (s : StoreState) (kept : KeptRecords) → IsKept m s kept → map.len (seen s kept) ≡ 0 → map.len (counts_in s) ≡ 0
+no_triples m s kept h none =
+    let entries : map.entries (seen s kept) ≡ [] = no_entries (map.entries (seen s kept)) (sym (map.len-entries (seen s kept)) ∙ none) in
+    let keys : map.keys (counts_in s) ≡ [] = stored_union m s kept h ∙ ap (λ es. sorted triple_cmp (flat_map (triples_at m) es)) entries in
+    map.len-entries (counts_in s) ∙ sym (length-map (map.entries (counts_in s)) (λ e. e.0)) ∙ ap length keys
 
 -- without records nothing needs room
 pub nothing_held : (m : Meaning Triple) (records : Records) (room : ℕ) → map.len records ≡ 0 → HasRoom m room records

@@ -12,12 +12,11 @@ use Rattle.entity_state.specs.declared.state.State.{State}
 use Rattle.entity_state.specs.declared.record.Held.{Held}
 use Rattle.entity_state.specs.declared.record.Record.{Record}
 use Rattle.text_region.specs.declared.piece.Piece.{Piece}
-use Rattle.text_region.specs.Region.{Texts}
 use Rattle.slot_index.specs.declared.key.Key.{Key}
 use Rattle.triple_store.specs.declared.keys.Keys.{Keys}
-use Rattle.triple_store.specs.declared.store.Store.{Store}
 use Rattle.triple_store.specs.Counts.{Exchanges}
-use Rattle.triple_store.specs.Stored.{AreKeysOf, Changes, HasKey, IsStored, KeepsKeys, beside, counts_in}
+use Rattle.triple_store.specs.StoreState.{AreKeysOf, HasKey, IsSound, KeepsKeys, StoreState, beside, counts_in, limit_of}
+use Rattle.triple_store.specs.Stored.{Changes}
 use Rattle.replay_model.specs.Records.{Bytes}
 use Rattle.replay_model.specs.Union.{Meaning, triples_held}
 use Rattle.replay_model.specs.Versions.{is_holder, meaning_by, version_at, with_version}
@@ -27,15 +26,18 @@ use Rattle.world.specs.InStep.{AreInStep, IsKept}
 use Rattle.world.specs.Keeping.{Frees, KeptRecords, held_keys, held_with, kept_of, keys_held, piece_at, seen, with_keys}
 use Rattle.world.specs.Meaning.{meaning}
 use Rattle.world.proofs.Anew.{anew_kept, anew_seen}
-use Rattle.world.proofs.ByVersion.{by_drop, by_keep, by_put, meaning_other, moved_out, moved_second, moved_to, version_own}
+use Rattle.world.specs.Roomed.{HasRoom}
+use Rattle.world.specs.WorldState.{AreHolders}
+use Rattle.world.proofs.ByVersion.{by_drop, by_keep, by_put, meaning_other, moved_out, moved_second, moved_to, second_holds, version_own}
 use Rattle.world.proofs.Moving.{seen_of}
+use Rattle.world.proofs.Rooming.{room_held}
 use Rattle.world.proofs.Replacing.{came, came_seen, stayed, went, went_seen, with_bytes, with_page}
 
 some_keys : (h : Option (Held Kept)) (keys : Keys) → is_some h ≡ true → is_some (held_keys h keys) ≡ true
 some_keys None keys is = is
 some_keys (Some h) keys is = refl
 
-module _ (st : Store) (r : Texts) (ids : ByVersion) (kept : KeptRecords) (x : EntityId) (h : AreInStep st r ids kept) where
+module _ (s : StoreState) (ids : ByVersion) (kept : KeptRecords) (x : EntityId) (h : AreInStep s ids kept) where
   abbrev before : Meaning Triple
   before = meaning_by meaning ids.second
 
@@ -53,99 +55,107 @@ module _ (st : Store) (r : Texts) (ids : ByVersion) (kept : KeptRecords) (x : En
   own_held v None = refl
   own_held v (Some held) = ap (λ w. meaning w x held.revision held.content) (own v)
 
-  stepped : (ids2 : ByVersion) (v : MappingVersion) (st2 : Store) (r2 : Texts) (all : KeptRecords) → ids2 ≡ moved_to ids x v → IsKept (after v) st2 r2 all → AreBy (moved_to ids x v) all → AreInStep st2 r2 ids2 all
-  stepped ids2 v st2 r2 all is now by =
-      subst (λ i. AreInStep st2 r2 i all) (sym is) (record {
-        kept = subst (λ (s : List EntityId). IsKept (meaning_by meaning s) st2 r2 all) (sym (moved_second ids x v)) now;
+  stepped : (ids2 : ByVersion) (v : MappingVersion) (s2 : StoreState) (all : KeptRecords) → ids2 ≡ moved_to ids x v → IsKept (after v) s2 all → AreBy (moved_to ids x v) all → AreInStep s2 ids2 all
+  stepped ids2 v s2 all is now by =
+      subst (λ i. AreInStep s2 i all) (sym is) (record {
+        kept = subst (λ (s : List EntityId). IsKept (meaning_by meaning s) s2 all) (sym (moved_second ids x v)) now;
         by = by;
       })
 
-  module _ (r1 : Texts) (st2 : Store) (r2 r3 : Texts)
+  module _ (s1 s2 s3 : StoreState)
       (state : State) (reconciled : Option Event) (rev : ℕ) (content : Kept) (bytes : Bytes) (ts : List Triple) (old : List Key) (v : MappingVersion)
-      (placed : Changes (beside st r) (beside st r1) content.piece None (Some bytes))
-      (place_kept : (key : Key) (t : Triple) → HasKey st r key t → HasKey st r1 key t)
-      (place_counts : counts_in st r1 ≡ counts_in st r)
-      (keeps : KeepsKeys st r1 st2 r2)
-      (texts : (p : Piece) → beside st2 r2 p ≡ beside st r1 p)
-      (counts : counts_in st2 r3 ≡ counts_in st2 r2)
-      (put_kept : (key : Key) (t : Triple) → HasKey st2 r2 key t → HasKey st2 r3 key t)
-      (freed : Frees (piece_at kept x) (beside st2 r2) (beside st2 r3)) where
+      (placed : Changes (beside s) (beside s1) content.piece None (Some bytes))
+      (place_kept : (key : Key) (t : Triple) → HasKey s key t → HasKey s1 key t)
+      (place_counts : counts_in s1 ≡ counts_in s)
+      (keeps : KeepsKeys s1 s2)
+      (texts : (p : Piece) → beside s2 p ≡ beside s1 p)
+      (counts : counts_in s3 ≡ counts_in s2)
+      (put_kept : (key : Key) (t : Triple) → HasKey s2 key t → HasKey s3 key t)
+      (freed : Frees (piece_at kept x) (beside s2) (beside s3)) where
     -- the records after a page came
-    pub page_seen : seen st2 r3 (map.insert kept x (with_page state reconciled rev content)) ≡ map.insert (seen st r kept) x (with_bytes state reconciled rev bytes)
-    page_seen = came_seen before (after v) x (agree v) st r r1 st2 r2 r3 kept state reconciled rev content bytes ts old h.kept placed place_kept place_counts keeps texts counts put_kept freed
+    pub page_seen : seen s3 (map.insert kept x (with_page state reconciled rev content)) ≡ map.insert (seen s kept) x (with_bytes state reconciled rev bytes)
+    page_seen = came_seen before (after v) x (agree v) s s1 s2 s3 kept state reconciled rev content bytes ts old h.kept placed place_kept place_counts keeps texts counts put_kept freed
 
     -- a page came, mapped by the version
     pub page_step : (ids2 : ByVersion) → ids2 ≡ moved_to ids x v
-        → IsStored st2 r3
+        → IsSound s3
         → old ≡ keys_held (kept_of kept x).held
-        → ((gone : List Triple) → AreKeysOf st r1 old gone → Exchanges (counts_in st r1) (counts_in st2 r2) gone ts)
-        → AreKeysOf st2 r2 content.keys.rising.items ts
+        → ((gone : List Triple) → AreKeysOf s1 old gone → Exchanges (counts_in s1) (counts_in s2) gone ts)
+        → AreKeysOf s2 content.keys.rising.items ts
         → ((t : Triple) → has triple_cmp t ts ≡ has triple_cmp t (meaning v x rev bytes))
-        → AreInStep st2 r3 ids2 (map.insert kept x (with_page state reconciled rev content))
-    page_step ids2 is stored were exchanges keyed meant =
-        stepped ids2 v st2 r3 (map.insert kept x (with_page state reconciled rev content)) is
-        (came before (after v) x (agree v) st r r1 st2 r2 r3 kept state reconciled rev content bytes ts old h.kept placed place_kept place_counts keeps texts counts put_kept freed
-        stored were exchanges keyed (λ t. meant t ∙ ap (λ w. has triple_cmp t (meaning w x rev bytes)) (sym (own v))))
+        → AreInStep s3 ids2 (map.insert kept x (with_page state reconciled rev content))
+    page_step ids2 is sound were exchanges keyed meant =
+        stepped ids2 v s3 (map.insert kept x (with_page state reconciled rev content)) is
+        (came before (after v) x (agree v) s s1 s2 s3 kept state reconciled rev content bytes ts old h.kept placed place_kept place_counts keeps texts counts put_kept freed
+        sound were exchanges keyed (λ t. meant t ∙ ap (λ w. has triple_cmp t (meaning w x rev bytes)) (sym (own v))))
         (by_put ids kept x v (with_page state reconciled rev content) h.by refl)
 
-  module _ (st2 : Store) (r2 r3 : Texts) (state : State) (reconciled : Option Event)
-      (texts : (p : Piece) → beside st2 r2 p ≡ beside st r p)
-      (freed : Frees (piece_at kept x) (beside st2 r2) (beside st2 r3)) where
+  module _ (s2 s3 : StoreState) (state : State) (reconciled : Option Event)
+      (texts : (p : Piece) → beside s2 p ≡ beside s p)
+      (freed : Frees (piece_at kept x) (beside s2) (beside s3)) where
     abbrev without : Record Kept
     without = record { state = state; held = None; reconciled = reconciled }
 
     -- the records after the page went
-    pub gone_seen : seen st2 r3 (map.insert kept x without) ≡ map.insert (seen st r kept) x (record { state = state; held = None; reconciled = reconciled })
-    gone_seen = went_seen before (after One) x (agree One) st r st2 r2 r3 kept state reconciled h.kept texts freed
+    pub gone_seen : seen s3 (map.insert kept x without) ≡ map.insert (seen s kept) x (record { state = state; held = None; reconciled = reconciled })
+    gone_seen = went_seen before (after One) x (agree One) s s2 s3 kept state reconciled h.kept texts freed
 
     -- the page went
     pub gone_step : (ids2 : ByVersion) (old : List Key) → ids2 ≡ moved_out ids x
-        → IsStored st2 r3
+        → IsSound s3
         → old ≡ keys_held (kept_of kept x).held
-        → ((gone : List Triple) → AreKeysOf st r old gone → Exchanges (counts_in st r) (counts_in st2 r2) gone [])
-        → KeepsKeys st r st2 r2
-        → counts_in st2 r3 ≡ counts_in st2 r2
-        → ((key : Key) (t : Triple) → HasKey st2 r2 key t → HasKey st2 r3 key t)
-        → AreInStep st2 r3 ids2 (map.insert kept x without)
-    gone_step ids2 old is stored were exchanges keeps counts put_kept =
-        subst (λ i. AreInStep st2 r3 i (map.insert kept x without)) (sym is) (record {
-          kept = went before (after One) x (agree One) st r st2 r2 r3 kept state reconciled h.kept texts freed old stored were exchanges keeps counts put_kept;
+        → ((gone : List Triple) → AreKeysOf s old gone → Exchanges (counts_in s) (counts_in s2) gone [])
+        → KeepsKeys s s2
+        → counts_in s3 ≡ counts_in s2
+        → ((key : Key) (t : Triple) → HasKey s2 key t → HasKey s3 key t)
+        → AreInStep s3 ids2 (map.insert kept x without)
+    gone_step ids2 old is sound were exchanges keeps counts put_kept =
+        subst (λ i. AreInStep s3 i (map.insert kept x without)) (sym is) (record {
+          kept = went before (after One) x (agree One) s s2 s3 kept state reconciled h.kept texts freed old sound were exchanges keeps counts put_kept;
           by = by_drop ids kept x without h.by refl;
         })
 
   -- the page stays
-  pub stay_step : (state : State) (reconciled : Option Event) → AreInStep st r ids (map.insert kept x (record { state = state; held = (kept_of kept x).held; reconciled = reconciled }))
+  pub stay_step : (state : State) (reconciled : Option Event) → AreInStep s ids (map.insert kept x (record { state = state; held = (kept_of kept x).held; reconciled = reconciled }))
   stay_step state reconciled = record {
-    kept = stayed before st r kept x state reconciled h.kept;
+    kept = stayed before s kept x state reconciled h.kept;
     by = by_keep ids kept x (record { state = state; held = (kept_of kept x).held; reconciled = reconciled }) h.by refl;
   }
 
-  module _ (st2 : Store) (r2 : Texts) (keys : Keys) (v : MappingVersion)
+  module _ (s2 : StoreState) (keys : Keys) (v : MappingVersion)
       (there : is_some (kept_of kept x).held ≡ true)
-      (texts : (p : Piece) → beside st2 r2 p ≡ beside st r p) where
+      (texts : (p : Piece) → beside s2 p ≡ beside s p) where
     -- what is seen after the page was mapped anew
-    pub again_seen : seen st2 r2 (map.insert kept x (with_keys (kept_of kept x) keys)) ≡ seen st r kept
-    again_seen = anew_seen before (after v) x (agree v) st r st2 r2 kept keys h.kept there texts
+    pub again_seen : seen s2 (map.insert kept x (with_keys (kept_of kept x) keys)) ≡ seen s kept
+    again_seen = anew_seen before (after v) x (agree v) s s2 kept keys h.kept there texts
 
     -- the page was mapped anew by the version
     pub again_step : (ids2 : ByVersion) (old : List Key) (ts : List Triple) → ids2 ≡ moved_to ids x v
-        → IsStored st2 r2
+        → IsSound s2
         → old ≡ keys_held (kept_of kept x).held
-        → ((gone : List Triple) → AreKeysOf st r old gone → Exchanges (counts_in st r) (counts_in st2 r2) gone ts)
-        → KeepsKeys st r st2 r2
-        → AreKeysOf st2 r2 keys.rising.items ts
-        → ((t : Triple) → has triple_cmp t ts ≡ has triple_cmp t (triples_held (meaning v) x (held_with (beside st r) (kept_of kept x).held)))
-        → AreInStep st2 r2 ids2 (map.insert kept x (with_keys (kept_of kept x) keys))
-    again_step ids2 old ts is stored were exchanges keeps keyed meant =
-        stepped ids2 v st2 r2 (map.insert kept x (with_keys (kept_of kept x) keys)) is
-        (anew_kept before (after v) x (agree v) st r st2 r2 kept keys h.kept there texts old ts stored were exchanges keeps keyed
-        (λ t. meant t ∙ ap (has triple_cmp t) (sym (own_held v (held_with (beside st r) (kept_of kept x).held)))))
+        → ((gone : List Triple) → AreKeysOf s old gone → Exchanges (counts_in s) (counts_in s2) gone ts)
+        → KeepsKeys s s2
+        → AreKeysOf s2 keys.rising.items ts
+        → ((t : Triple) → has triple_cmp t ts ≡ has triple_cmp t (triples_held (meaning v) x (held_with (beside s) (kept_of kept x).held)))
+        → AreInStep s2 ids2 (map.insert kept x (with_keys (kept_of kept x) keys))
+    again_step ids2 old ts is sound were exchanges keeps keyed meant =
+        stepped ids2 v s2 (map.insert kept x (with_keys (kept_of kept x) keys)) is
+        (anew_kept before (after v) x (agree v) s s2 kept keys h.kept there texts old ts sound were exchanges keeps keyed
+        (λ t. meant t ∙ ap (has triple_cmp t) (sym (own_held v (held_with (beside s) (kept_of kept x).held)))))
         (by_put ids kept x v (with_keys (kept_of kept x) keys) h.by (some_keys (kept_of kept x).held keys there))
 
 -- the entities that hold, among the records that are seen
-pub links : (st : Store) (r : Texts) (kept : KeptRecords) (x : EntityId) → is_holder (seen st r kept) x ≡ is_some (kept_of kept x).held
-links st r kept x = ap (λ (was : Record Bytes). is_some was.held) (seen_of (beside st r) kept x) ∙ by (kept_of kept x).held
+pub links : (s : StoreState) (kept : KeptRecords) (x : EntityId) → is_holder (seen s kept) x ≡ is_some (kept_of kept x).held
+links s kept x = ap (λ (was : Record Bytes). is_some was.held) (seen_of (beside s) kept x) ∙ by (kept_of kept x).held
   where
-    by : (h : Option (Held Kept)) → is_some (held_with (beside st r) h) ≡ is_some h
+    by : (h : Option (Held Kept)) → is_some (held_with (beside s) h) ≡ is_some h
     by None = refl
     by (Some h) = refl
+
+-- what is held has room
+pub has_room : (s : StoreState) (ids : ByVersion) (kept : KeptRecords) → AreInStep s ids kept → HasRoom (meaning_by meaning ids.second) (limit_of s) (seen s kept)
+has_room s ids kept h = room_held (meaning_by meaning ids.second) s kept h.kept
+
+-- those of version Two hold
+pub are_holders : (s : StoreState) (ids : ByVersion) (kept : KeptRecords) → AreInStep s ids kept → AreHolders ids.second (seen s kept)
+are_holders s ids kept h = second_holds ids kept (seen s kept) h.by (links s kept)

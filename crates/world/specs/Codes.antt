@@ -14,7 +14,7 @@ use Rattle.replay_model.specs.Play.{Played}
 use Rattle.replay_model.specs.ReplayState.{ReplayState}
 use Rattle.reorder_buffer.specs.Buffered.{Buffered}
 use Rattle.world.specs.Holders.{ByVersion}
-use Rattle.world.specs.WorldState.{PagesState, WorldState}
+use Rattle.world.specs.WorldState.{HoldingsState, WorldState}
 use Rattle.entity_model.specs.declared.event.Event.{Event}
 use Rattle.entity_model.specs.contracts.event.Event as event
 
@@ -39,12 +39,13 @@ state_code = code_by (Buffered × Played) (coded× buffered_code played_code) (�
 abbrev pub terms_code : Coded (ℕ × (MappingVersion × List EntityId))
 terms_code = coded× coded_ℕ (coded× (mapping_version.the_row).coded (coded_list (entity_id.the_row).coded))
 
--- with these
-abbrev pub pages_code : Coded PagesState
-pages_code =
-    code_by (Played × (ℕ × (MappingVersion × List EntityId))) (coded× played_code terms_code)
-    (λ p. (p.played, (p.room, (p.mapping, p.second)))) (λ c. record { played = c.0; room = c.1.0; mapping = c.1.1.0; second = c.1.1.1 }) (λ _. refl)
+-- what is held
+abbrev pub holdings_code : Coded HoldingsState
+holdings_code =
+    code_by (Records × (ℕ × List EntityId)) (coded× (map.code (entity_id.the_row).coded (record_code (coded_list coded_ℕ))) (coded× coded_ℕ (coded_list (entity_id.the_row).coded)))
+    (λ h. (h.records, (h.limit, h.second))) (λ c. record { records = c.0; limit = c.1.0; second = c.1.1 }) (λ _. refl)
 
+-- all of it
 abbrev pub world_code : Coded WorldState
 world_code =
     code_by (ReplayState × (ℕ × (MappingVersion × List EntityId))) (coded× state_code terms_code)

@@ -29,7 +29,6 @@ reply_or_any (Some reply) = reply_of reply
 -- the triples are those that the bytes of this revision of x mean by this version, though one may stand there twice; their
 -- terms are fit and short, and the bytes fit a block of the region
 pub record IsPageOf (mapping : MappingVersion) (x : EntityId) (rev : ℕ) (page : Page) : Type 0 where
-  pub version : page.version ≡ mapping
   pub meant : (t : Triple) → has triple_cmp t page.triples ≡ has triple_cmp t (meaning mapping x rev page.bytes)
   pub fit : AllByRecursion HasFitAndShortTerms page.triples
   pub short : length page.bytes ≤ 33554432

@@ -1,13 +1,11 @@
--- Store and region in step with what is kept of the entities, where each document means what a function says.
+-- The store in step with what is kept of the entities, where each document means what a function says.
 use Rattle.std.specs.Prelude.{◌≡◌, true, List, Option, Some, is_some}
 use Rattle.rdf_term.specs.declared.triple.Triple.{Triple}
 use Rattle.rdf_term.specs.Order.{triple_cmp}
 use Rattle.entity_model.specs.declared.id.EntityId.{EntityId}
 use Rattle.text_region.specs.declared.piece.Piece.{Piece}
-use Rattle.text_region.specs.Region.{Texts}
-use Rattle.triple_store.specs.declared.store.Store.{Store}
 use Rattle.triple_store.specs.Counts.{Counts, count_of}
-use Rattle.triple_store.specs.Stored.{AreKeysOf, IsStored, beside, counts_in}
+use Rattle.triple_store.specs.StoreState.{AreKeysOf, IsSound, StoreState, beside, counts_in}
 use Rattle.replay_model.specs.Records.{Records}
 use Rattle.replay_model.specs.Union.{Meaning, owners, triples_held}
 use Rattle.replay_model.specs.Versions.{meaning_by}
@@ -29,15 +27,15 @@ pub record IsHeld (text : PieceTexts) (at : EntityId → Option Piece) : Type 0 
 abbrev pub triples_kept : Meaning Triple → PieceTexts → KeptRecords → EntityId → List Triple
 triples_kept m text kept x = triples_held m x (held_with text (kept_of kept x).held)
 
--- the store counts the entities that hold each triple, the region has beside the store's texts a piece for each held page
--- and no other, and the keys of each held page are those of its triples
-pub record IsKept (m : Meaning Triple) (store : Store) (region : Texts) (kept : KeptRecords) : Type 0 where
-  pub stored : IsStored store region
-  pub counted : IsCounted m (counts_in store region) (seen store region kept)
-  pub held : IsHeld (beside store region) (piece_at kept)
-  pub keyed : (x : EntityId) → AreKeysOf store region (keys_held (kept_of kept x).held) (triples_kept m (beside store region) kept x)
+-- the store counts the entities that hold each triple, has beside its terms' texts a piece for each held page and no other, and the keys
+-- of each held page are those of its triples
+pub record IsKept (m : Meaning Triple) (store : StoreState) (kept : KeptRecords) : Type 0 where
+  pub sound : IsSound store
+  pub counted : IsCounted m (counts_in store) (seen store kept)
+  pub held : IsHeld (beside store) (piece_at kept)
+  pub keyed : (x : EntityId) → AreKeysOf store (keys_held (kept_of kept x).held) (triples_kept m (beside store) kept x)
 
 -- the same where each document means what it means by the version that its entity is named by
-pub record AreInStep (store : Store) (region : Texts) (ids : ByVersion) (entities : KeptRecords) : Type 0 where
-  pub kept : IsKept (meaning_by meaning ids.second) store region entities
+pub record AreInStep (store : StoreState) (ids : ByVersion) (entities : KeptRecords) : Type 0 where
+  pub kept : IsKept (meaning_by meaning ids.second) store entities
   pub by : AreBy ids entities

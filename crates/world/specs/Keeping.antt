@@ -1,4 +1,4 @@
--- What is kept of each entity, and the records that this is with the texts of the region.
+-- What is kept of each entity, and the records that this is with the texts of the store.
 use Rattle.std.specs.Prelude.{◌≡◌, List, [], Option, None, Some, unwrap_or}
 use Rattle.std.specs.Prelude.{map as mapped}
 use Rattle.std.specs.FinMap as map
@@ -8,11 +8,10 @@ use Rattle.entity_state.specs.declared.record.Held.{Held}
 use Rattle.entity_state.specs.declared.record.Record.{Record}
 use Rattle.entity_state.specs.Record.{blank}
 use Rattle.text_region.specs.declared.piece.Piece.{Piece}
-use Rattle.text_region.specs.Region.{Texts}
 use Rattle.slot_index.specs.declared.key.Key.{Key}
 use Rattle.triple_store.specs.declared.keys.Keys.{Keys}
-use Rattle.triple_store.specs.declared.store.Store.{Store}
-use Rattle.triple_store.specs.Stored.{Changes, beside}
+use Rattle.triple_store.specs.StoreState.{StoreState, beside}
+use Rattle.triple_store.specs.Stored.{Changes}
 use Rattle.replay_model.specs.Records.{Bytes, Records}
 use Rattle.world.specs.declared.kept.Kept.{Kept}
 
@@ -44,8 +43,8 @@ abbrev pub records_with : PieceTexts → KeptRecords → Records
 records_with text kept = with_values (record_with text) kept
 
 -- the records, each with the bytes that its entity holds
-abbrev pub seen : Store → Texts → KeptRecords → Records
-seen store region kept = records_with (beside store region) kept
+abbrev pub seen : StoreState → KeptRecords → Records
+seen store kept = records_with (beside store) kept
 
 -- the piece of what is held
 abbrev pub piece_held : Option (Held Kept) → Option Piece

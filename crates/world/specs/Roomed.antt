@@ -17,7 +17,7 @@ use Rattle.replay_model.specs.Union.{Meaning, union}
 use Rattle.replay_model.specs.Versions.{meaning_by}
 use Rattle.world.specs.Applying.{IsReply}
 use Rattle.world.specs.Meaning.{meaning}
-use Rattle.world.specs.WorldState.{PagesState, WorldState}
+use Rattle.world.specs.WorldState.{HoldingsState, WorldState}
 
 -- how many different terms the triples of all that is held have together with other triples
 abbrev pub room_with : Meaning Triple → Records → List Triple → ℕ
@@ -32,11 +32,11 @@ abbrev pub triples_of_reply : MappingVersion → EntityId → ℕ → Result Byt
 triples_of_reply mapping x rev (Ok bytes) = meaning mapping x rev bytes
 triples_of_reply mapping x rev (Err cause) = []
 
--- the reply is a page of a revision of x whose triples, with those of all that is held, have more terms than there is room for
-pub record Overfills (old : PagesState) (x : EntityId) (rev : ℕ) (reply : Result Bytes Cause) : Type 0 where
+-- the reply is a page of a revision of x whose triples by a version, with those of all that is held, have more terms than there may be
+pub record Overfills (old : HoldingsState) (mapping : MappingVersion) (x : EntityId) (rev : ℕ) (reply : Result Bytes Cause) : Type 0 where
   pub bytes : Bytes
   pub is : reply ≡ Ok bytes
-  pub over : old.room < room_with (meaning_by meaning old.second) old.played.records (meaning old.mapping x rev bytes)
+  pub over : old.limit < room_with (meaning_by meaning old.second) old.records (meaning mapping x rev bytes)
 
 -- the least due event wants a page that a source may give, and for whose triples there is no room
 pub record IsOverfull (told : Option Contents) (place : List ℕ) (old : WorldState) : Type 0 where

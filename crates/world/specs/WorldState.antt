@@ -6,6 +6,7 @@ use Rattle.entity_model.specs.declared.id.EntityId.{EntityId}
 use Rattle.entity_model.specs.declared.mapping.MappingVersion.{MappingVersion}
 use Rattle.entity_model.specs.declared.mapping.MappingVersion.TheVariants.{One, Two}
 use Rattle.entity_model.specs.EntityId.{entity_cmp}
+use Rattle.side_output.specs.declared.entry.Entry.{Entry}
 use Rattle.replay_model.specs.Records.{Records, record_of}
 use Rattle.replay_model.specs.Play.{Played}
 use Rattle.replay_model.specs.ReplayState.{ReplayState}
@@ -15,15 +16,19 @@ use Rattle.world.specs.Meaning.{meaning}
 use Rattle.world.specs.declared.applied.Outcome.{Outcome}
 use Rattle.world.specs.declared.applied.Outcome.TheVariants.{Same, Stored, Dropped, Sided}
 
--- records and side output; how many terms there may be; the version of the mapping in force; and the entities whose
+-- the records of the entities, each with the bytes that its entity holds; how many terms there may be; and the entities whose
 -- documents are mapped by version Two
-pub record PagesState : Type 0 where
-  pub played : Played
-  pub room : ℕ
-  pub mapping : MappingVersion
+pub record HoldingsState : Type 0 where
+  pub records : Records
+  pub limit : ℕ
   pub second : List EntityId
 
--- the same with the events that wait
+-- with the side output
+abbrev pub played_of : HoldingsState → List Entry → Played
+played_of held side = record { records = held.records; side = side }
+
+-- the state of a replay; how many terms there may be; the version of the mapping in force; and the entities whose documents are mapped by
+-- version Two
 pub record WorldState : Type 0 where
   pub replay : ReplayState
   pub room : ℕ
@@ -79,9 +84,6 @@ abbrev pub next_stale : WorldState → Option EntityId
 next_stale w = first_of (stale w)
 
 -- the least of them, if there is one, holds by the version in force now
-abbrev pub remapped_pages : PagesState → PagesState
-remapped_pages p = record p { second = with_version_of p.mapping (first_of (stale_by p.mapping p.second p.played.records)) p.second }
-
 abbrev pub remapped : WorldState → WorldState
 remapped w = record w { second = with_version_of w.mapping (next_stale w) w.second }
 

@@ -20,30 +20,34 @@ use side_output::Cause;
 use std::alloc::Global;
 use triple_texts::TripleTexts;
 
-/// A document as it was fetched: its bytes, the version of the mapping by which they are mapped, and the texts of the triples
-/// that they mean by it.
+/// A document as it was fetched: its bytes, and the texts of the triples that they mean by a version of the mapping.
 #[derive(Drop)]
 pub struct Page {
     pub bytes: List<u8>,
-    pub version: MappingVersion,
     pub triples: TripleTexts,
+}
+
+/// The revision of an entity that is to be fetched, and the version of the mapping by which it is mapped.
+#[derive(Clone, Copy, Debug)]
+pub struct Wanted {
+    pub id: EntityId,
+    pub rev: u64,
+    pub version: MappingVersion,
 }
 
 /// A document, or why there is none.
 pub type Reply = Result<Page, Cause>;
 
-/// Fetches the revision once, and says whether its bytes are a document of `id`. They are read once, for that and for
+/// Fetches the revision once, and says whether its bytes are a document of the entity. They are read once, for that and for
 /// their triples by the version.
 pub fn fetch<R: Revisions>(
     alloc: Global,
     revisions: &mut R,
     place: &str,
-    id: EntityId,
-    rev: u64,
-    version: MappingVersion,
+    wanted: Wanted,
 ) -> Result<Reply, OutOfMemory>
-    ensures reply { IfOk result (λ reply. IsReply (R.contents revisions.old) place.now id rev (reply_of reply)) }
-    ensures meant { IfOk result (IsMeant version id rev) }
+    ensures reply { IfOk result (λ reply. IsReply (R.contents revisions.old) place.now wanted.id wanted.rev (reply_of reply)) }
+    ensures meant { IfOk result (IsMeant wanted.version wanted.id wanted.rev) }
     ensures shown { IfOk result (λ reply. IsShown (outcome_of_reply (reply_of reply))
         (R.misses revisions.old) (R.misses revisions.new) (R.faults revisions.old) (R.faults revisions.new)) }
     ensures told { R.contents revisions.new ≡ R.contents revisions.old }
@@ -52,29 +56,23 @@ pub fn fetch<R: Revisions>(
     ensures more_misses { R.misses revisions.old ≤ R.misses revisions.new }
     ensures most { R.most_faults revisions.new ≡ R.most_faults revisions.old }
 {
-    match revisions.fetch(alloc, place, rev) {
-        Ok(bytes) => judge(alloc, id, rev, bytes, version),
+    match revisions.fetch(alloc, place, wanted.rev) {
+        Ok(bytes) => judge(alloc, wanted, bytes),
         Err(NoRevision::Missing) => Ok(Err(Cause::Missing)),
         Err(NoRevision::Failed) => Ok(Err(Cause::Failed)),
         Err(NoRevision::OutOfMemory) => Err(OutOfMemory),
     }
 }
 
-// Whether the bytes are a document of `id`, and its triples. The document borrows the bytes, so it goes before they are moved.
-fn judge(
-    alloc: Global,
-    id: EntityId,
-    rev: u64,
-    bytes: Vec<u8>,
-    version: MappingVersion,
-) -> Result<Reply, OutOfMemory>
-    ensures judged { IfOk result (λ reply. IsJudged id bytes.items (reply_of reply)) }
-    ensures meant { IfOk result (IsMeant version id rev) }
+// Whether the bytes are a document of the entity, and its triples. The document borrows the bytes, so it goes before they are moved.
+fn judge(alloc: Global, wanted: Wanted, bytes: Vec<u8>) -> Result<Reply, OutOfMemory>
+    ensures judged { IfOk result (λ reply. IsJudged wanted.id bytes.items (reply_of reply)) }
+    ensures meant { IfOk result (IsMeant wanted.version wanted.id wanted.rev) }
 {
+    let Wanted { id, rev, version } = wanted;
     match texts_in(alloc, id, rev, bytes.as_slice(), version) {
         Ok(triples) => Ok(Ok(Page {
             bytes: List::from_vec(bytes),
-            version,
             triples,
         })),
         Err(DocumentFault::Unfit(unfit)) => Ok(Err(Cause::Unfit(unfit))),

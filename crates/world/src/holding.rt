@@ -1,191 +1,174 @@
-// What an entity holds comes, goes or stays, and store and region follow.
+// What an entity holds comes, goes or stays, and the store follows.
 
-ghost use Rattle.std.specs.Prelude.{◌≡◌, ◌<◌, ◌≤◌, [], None, Some, Ok, Err, IfSome, IfOk, IsSome, IsTrue, OnErr, OnOk};
+ghost use Rattle.std.specs.Prelude.{◌≡◌, ◌<◌, ◌≤◌, None, Some, Ok, Err, IfSome, IfOk, IsSome, IsTrue, OnErr, OnOk};
 ghost use Rattle.std.specs.FinMap as map;
 ghost use Rattle.rdf_term.specs.declared.triple.Triple.{Triple};
+ghost use Rattle.term_pool.specs.declared.fault.PoolFault.TheVariants.{Full};
 ghost use Rattle.entity_state.specs.Table.{has_room};
 ghost use Rattle.slot_index.specs.declared.key.Key.{Key as TheKey};
-ghost use Rattle.triple_store.specs.Stored.{HasKey, IsStored, beside, counts_in, limit_of};
-ghost use Rattle.triple_store.specs.declared.fault.StoreFault.TheVariants.{Full};
+ghost use Rattle.triple_store.specs.StoreState.{HasKey, IsSound, beside, counts_in, limit_of};
 ghost use Rattle.entity_model.specs.declared.mapping.MappingVersion.TheVariants.{One};
 ghost use Rattle.replay_model.specs.Records.{record_of};
 ghost use Rattle.replay_model.specs.Versions.{meaning_by, with_version};
 ghost use Rattle.world.specs.Fetched.{IsPageOf};
-ghost use Rattle.world.specs.InStep.{AreInStep};
-ghost use Rattle.world.specs.Keeping.{Frees, kept_of, keys_held, piece_at, seen};
+ghost use Rattle.world.specs.Keeping.{Frees, kept_of, keys_held, piece_at};
 ghost use Rattle.world.specs.Meaning.{meaning};
-ghost use Rattle.world.specs.Roomed.{room_with};
+ghost use Rattle.world.specs.Roomed.{HasRoom, room_with};
 ghost use Rattle.world.specs.Standing.{unfetched_outcome, unless_deleted};
-ghost use Rattle.world.specs.WorldState.{second_after};
+ghost use Rattle.world.specs.WorldState.{AreHolders, second_after};
 
 use crate::applied::Outcome;
 use crate::fetching::Page;
-use crate::holders::{Holders, other};
+use crate::holders::other;
+use crate::holdings::{Holdings, make_room};
 use crate::kept::Kept;
-use crate::uncounted::{exchange, release};
 use entity_model::{EntityId, MappingVersion};
 use entity_state::{Held, Mode, Record, Standing, Table};
-use text_region::Region;
+use rdf_term::OutOfMemory;
 use triple_store::{KeySlices, Store, StoreFault};
 
-/// Sets the record of an entity, which holds this page from now on, by the version that it is mapped by. After a fault
-/// nothing has changed.
-pub fn hold(
-    store: &mut Store,
-    region: &mut Region,
-    table: &mut Table<Kept>,
-    holders: &mut Holders,
-    id: EntityId,
-    after: Standing,
-    page: Page,
-) -> Result<(), StoreFault>
-    requires step { AreInStep store.old region.old holders.old table.old.records }
-    requires room { IsTrue (has_room table.old id) }
-    requires page { IsPageOf page.version id after.state.rev page }
-    ensures step { AreInStep store.new region.new holders.new table.new.records }
-    ensures ok { OnOk result (seen store.new region.new table.new.records ≡ map.insert (seen store.old region.old table.old.records) id (record {
-      state = after.state;
-      held = Some (record { revision = after.state.rev; content = page.bytes });
-      reconciled = after.reconciled;
-    })) }
-    ensures second { OnOk result (holders.new.second ≡ with_version page.version id holders.old.second) }
-    ensures err { OnErr result (seen store.new region.new table.new.records ≡ seen store.old region.old table.old.records) }
-    ensures err_holders { OnErr result (holders.new ≡ holders.old) }
-    ensures full { result ≡ Err Full → limit_of store.old < room_with (meaning_by meaning holders.old.second) (seen store.old region.old table.old.records) (meaning page.version id after.state.rev page.bytes) }
-    ensures within { OnOk result (room_with (meaning_by meaning holders.old.second) (seen store.old region.old table.old.records) (meaning page.version id after.state.rev page.bytes) ≤ limit_of store.old) }
-    ensures limit { limit_of store.new ≡ limit_of store.old }
-{
-    // A triple has at most as many owners as there are records, so no count is at its last value.
-    let entities = table.len();
-    prove!(entities < usize::MAX);
-    let version = page.version;
-    let Ok(added) = holders.add(id, version) else {
-        return Err(StoreFault::OutOfMemory);
-    };
-    let Ok(piece) = store.place(region, page.bytes.as_slice()) else {
-        holders.take_back(id, version, added);
-        return Err(StoreFault::OutOfMemory);
-    };
-    let old = keys_of(table, id);
-    match exchange(store, region, old.rising, old.walk, &page.triples) {
-        Ok(keys) => {
-            let held = Held {
-                revision: after.state.rev,
-                content: Kept { piece, keys },
-            };
-            replace(store, region, table, id, after, Some(held));
-            holders.remove(id, other(version));
-            Ok(())
+impl Holdings {
+    /// Sets the record of an entity, which holds this page from now on, by the version that it is mapped by. After a fault
+    /// nothing has changed. `Full` is said where its triples, with those of all that is held, have more terms than there may be.
+    pub fn hold(
+        &mut self,
+        id: EntityId,
+        after: Standing,
+        page: Page,
+        version: MappingVersion,
+    ) -> Result<(), StoreFault>
+        requires { IsPageOf version id after.state.rev page }
+        ensures ok { OnOk result (self.new.records ≡ map.insert self.old.records id (record {
+          state = after.state;
+          held = Some (record { revision = after.state.rev; content = page.bytes });
+          reconciled = after.reconciled;
+        })) }
+        ensures second { OnOk result (self.new.second ≡ with_version version id self.old.second) }
+        ensures limit { self.new.limit ≡ self.old.limit }
+        ensures err { OnErr result (self.new ≡ self.old) }
+        ensures full { result ≡ Err Full → self.old.limit < room_with (meaning_by meaning self.old.second) self.old.records (meaning version id after.state.rev page.bytes) }
+        ensures within { OnOk result (room_with (meaning_by meaning self.old.second) self.old.records (meaning version id after.state.rev page.bytes) ≤ self.old.limit) }
+        ensures held { HasRoom (meaning_by meaning self.new.second) self.new.limit self.new.records }
+        ensures holders { AreHolders self.new.second self.new.records }
+    {
+        if make_room(&mut self.table, id).is_err() {
+            return Err(StoreFault::OutOfMemory);
         }
-        Err(refused) => {
-            store.free(region, piece);
-            holders.take_back(id, version, added);
-            Err(refused)
-        }
-    }
-}
-
-/// Sets the record of an entity where nothing was fetched. It takes no memory.
-pub fn settle_unfetched(
-    store: &mut Store,
-    region: &mut Region,
-    table: &mut Table<Kept>,
-    holders: &mut Holders,
-    id: EntityId,
-    after: Standing,
-) -> Outcome
-    requires step { AreInStep store.old region.old holders.old table.old.records }
-    requires room { IsTrue (has_room table.old id) }
-    ensures step { AreInStep store.new region.new holders.new table.new.records }
-    ensures second { (version : MappingVersion) → holders.new.second ≡ second_after (unfetched_outcome after.state.mode) version id holders.old.second }
-    ensures records { seen store.new region.new table.new.records ≡ map.insert (seen store.old region.old table.old.records) id (record {
-      state = after.state;
-      held = unless_deleted after.state.mode (record_of (seen store.old region.old table.old.records) id).held;
-      reconciled = after.reconciled;
-    }) }
-    ensures outcome { result ≡ unfetched_outcome after.state.mode }
-    ensures limit { limit_of store.new ≡ limit_of store.old }
-{
-    match after.state.mode {
-        Mode::Deleted => {
-            drop_held(store, region, table, holders, id, after);
-            Outcome::Dropped
-        }
-        Mode::Unknown | Mode::Kept => {
-            keep(store, region, table, holders, id, after);
-            Outcome::Same
+        // A triple has at most as many owners as there are records, so no count is at its last value.
+        let entities = self.table.len();
+        prove!(entities < usize::MAX);
+        let Ok(added) = self.holders.add(id, version) else {
+            return Err(StoreFault::OutOfMemory);
+        };
+        let Ok(piece) = self.store.place(page.bytes.as_slice()) else {
+            self.holders.take_back(id, version, added);
+            return Err(StoreFault::OutOfMemory);
+        };
+        match self.store.exchange(keys_of(&self.table, id), &page.triples) {
+            Ok(keys) => {
+                let held = Held {
+                    revision: after.state.rev,
+                    content: Kept { piece, keys },
+                };
+                replace(&mut self.store, &mut self.table, id, after, Some(held));
+                self.holders.remove(id, other(version));
+                Ok(())
+            }
+            Err(refused) => {
+                self.store.free(piece);
+                self.holders.take_back(id, version, added);
+                Err(refused)
+            }
         }
     }
-}
 
-/// Sets the record of an entity, which holds what it held.
-pub fn keep(
-    store: &Store,
-    region: &Region,
-    table: &mut Table<Kept>,
-    holders: &Holders,
-    id: EntityId,
-    after: Standing,
-)
-    requires step { AreInStep store.now region.now holders.now table.old.records }
-    requires room { IsTrue (has_room table.old id) }
-    ensures step { AreInStep store.now region.now holders.now table.new.records }
-    ensures records { seen store.now region.now table.new.records ≡ map.insert (seen store.now region.now table.old.records) id (record {
-      state = after.state;
-      held = (record_of (seen store.now region.now table.old.records) id).held;
-      reconciled = after.reconciled;
-    }) }
-{
-    keep_record(table, id, after);
-}
+    /// Sets the record of an entity where nothing was fetched. After `OutOfMemory` nothing has changed.
+    pub fn settle(&mut self, id: EntityId, after: Standing) -> Result<Outcome, OutOfMemory>
+        ensures records { OnOk result (self.new.records ≡ map.insert self.old.records id (record {
+          state = after.state;
+          held = unless_deleted after.state.mode (record_of self.old.records id).held;
+          reconciled = after.reconciled;
+        })) }
+        ensures second { OnOk result ((version : MappingVersion) → self.new.second ≡ second_after (unfetched_outcome after.state.mode) version id self.old.second) }
+        ensures outcome { IfOk result (λ outcome. outcome ≡ unfetched_outcome after.state.mode) }
+        ensures limit { self.new.limit ≡ self.old.limit }
+        ensures err { OnErr result (self.new ≡ self.old) }
+        ensures held { HasRoom (meaning_by meaning self.new.second) self.new.limit self.new.records }
+        ensures holders { AreHolders self.new.second self.new.records }
+    {
+        match after.state.mode {
+            Mode::Deleted => {
+                self.release(id, after)?;
+                Ok(Outcome::Dropped)
+            }
+            Mode::Unknown | Mode::Kept => {
+                self.keep(id, after)?;
+                Ok(Outcome::Same)
+            }
+        }
+    }
 
-// Sets the record of an entity, which holds nothing from now on.
-fn drop_held(
-    store: &mut Store,
-    region: &mut Region,
-    table: &mut Table<Kept>,
-    holders: &mut Holders,
-    id: EntityId,
-    after: Standing,
-)
-    requires step { AreInStep store.old region.old holders.old table.old.records }
-    requires room { IsTrue (has_room table.old id) }
-    ensures step { AreInStep store.new region.new holders.new table.new.records }
-    ensures second { holders.new.second ≡ with_version One id holders.old.second }
-    ensures records { seen store.new region.new table.new.records ≡ map.insert (seen store.old region.old table.old.records) id (record {
-      state = after.state;
-      held = None;
-      reconciled = after.reconciled;
-    }) }
-    ensures limit { limit_of store.new ≡ limit_of store.old }
-{
-    release(store, region, keys_of(table, id).rising);
-    replace(store, region, table, id, after, None);
-    holders.remove(id, MappingVersion::One);
-    holders.remove(id, MappingVersion::Two);
+    /// Sets the record of an entity, which holds what it held. After `OutOfMemory` nothing has changed.
+    pub fn keep(&mut self, id: EntityId, after: Standing) -> Result<(), OutOfMemory>
+        ensures records { OnOk result (self.new.records ≡ map.insert self.old.records id (record {
+          state = after.state;
+          held = (record_of self.old.records id).held;
+          reconciled = after.reconciled;
+        })) }
+        ensures second { self.new.second ≡ self.old.second }
+        ensures limit { self.new.limit ≡ self.old.limit }
+        ensures err { OnErr result (self.new ≡ self.old) }
+        ensures held { HasRoom (meaning_by meaning self.new.second) self.new.limit self.new.records }
+        ensures holders { AreHolders self.new.second self.new.records }
+    {
+        make_room(&mut self.table, id)?;
+        keep_record(&mut self.table, id, after);
+        Ok(())
+    }
+
+    /// Sets the record of an entity, which holds nothing from now on. After `OutOfMemory` nothing has changed.
+    pub fn release(&mut self, id: EntityId, after: Standing) -> Result<(), OutOfMemory>
+        ensures records { OnOk result (self.new.records ≡ map.insert self.old.records id (record {
+          state = after.state;
+          held = None;
+          reconciled = after.reconciled;
+        })) }
+        ensures second { OnOk result (self.new.second ≡ with_version One id self.old.second) }
+        ensures limit { self.new.limit ≡ self.old.limit }
+        ensures err { OnErr result (self.new ≡ self.old) }
+        ensures held { HasRoom (meaning_by meaning self.new.second) self.new.limit self.new.records }
+        ensures holders { AreHolders self.new.second self.new.records }
+    {
+        make_room(&mut self.table, id)?;
+        self.store.release(keys_of(&self.table, id));
+        replace(&mut self.store, &mut self.table, id, after, None);
+        self.holders.remove(id, MappingVersion::One);
+        self.holders.remove(id, MappingVersion::Two);
+        Ok(())
+    }
 }
 
 // Puts a record and frees the piece of the page that the one before held.
 fn replace(
-    store: &Store,
-    region: &mut Region,
+    store: &mut Store,
     table: &mut Table<Kept>,
     id: EntityId,
     after: Standing,
     held: Option<Held<Kept>>,
 )
     requires room { IsTrue (has_room table.old id) }
-    requires stored { IsStored store.now region.old }
-    requires live { IfSome (piece_at table.old.records id) (λ piece. IsSome (beside store.now region.old piece)) }
+    requires sound { IsSound store.old }
+    requires live { IfSome (piece_at table.old.records id) (λ piece. IsSome (beside store.old piece)) }
     ensures records { table.new.records ≡ map.insert table.old.records id (record {
       state = after.state;
       held = held;
       reconciled = after.reconciled;
     }) }
-    ensures stored { IsStored store.now region.new }
-    ensures counts { counts_in store.now region.new ≡ counts_in store.now region.old }
-    ensures kept { (key : TheKey) (triple : Triple) → HasKey store.now region.old key triple → HasKey store.now region.new key triple }
-    ensures freed { Frees (piece_at table.old.records id) (beside store.now region.old) (beside store.now region.new) }
+    ensures sound { IsSound store.new }
+    ensures counts { counts_in store.new ≡ counts_in store.old }
+    ensures kept { (key : TheKey) (triple : Triple) → HasKey store.old key triple → HasKey store.new key triple }
+    ensures freed { Frees (piece_at table.old.records id) (beside store.old) (beside store.new) }
+    ensures limit { limit_of store.new ≡ limit_of store.old }
 {
     let record = Record {
         state: after.state,
@@ -196,7 +179,7 @@ fn replace(
         return;
     };
     if let Some(held) = before.held {
-        store.free(region, held.content.piece);
+        store.free(held.content.piece);
     }
 }
 

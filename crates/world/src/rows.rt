@@ -9,8 +9,7 @@ ghost use Rattle.replay_model.specs.Union.{owners, union};
 ghost use Rattle.replay_model.specs.Versions.{meaning_by};
 ghost use Rattle.world.specs.Meaning.{meaning};
 
-use crate::pages::Pages;
-use crate::uncounted::{count, matches, matching};
+use crate::holdings::Holdings;
 use crate::world::World;
 use rdf_term::{OutOfMemory, Pattern, Triple, TripleSet};
 use triple_store::Rows;
@@ -22,71 +21,71 @@ impl World {
         ensures value { IfOk result (λ set. set ≡ union triple_cmp (meaning_by meaning self.now.second) self.now.replay.played.records) }
         ensures fit { IfOk result (AllByRecursion HasFitAndShortTerms) }
     {
-        self.pages.triples()
+        self.holdings.triples()
     }
 
     /// The stored triples that agree with the pattern, in order, in memory of their own.
     pub fn matches(&self, pattern: &Pattern) -> Result<TripleSet, OutOfMemory>
         ensures { IfOk result (λ set. set ≡ rows (union triple_cmp (meaning_by meaning self.now.second) self.now.replay.played.records) pattern.now) }
     {
-        self.pages.matches(pattern)
+        self.holdings.matches(pattern)
     }
 
     /// How many entities hold the triple, which takes no memory.
     pub fn owners(&self, triple: &Triple) -> u64
         ensures { result ≡ owners triple_cmp (meaning_by meaning self.now.second) self.now.replay.played.records triple.now }
     {
-        self.pages.owners(triple)
+        self.holdings.owners(triple)
     }
 
     /// The triples of all that is held, in order, without a copy of their texts.
     pub fn rows(&self) -> Result<Rows<'_>, OutOfMemory>
         ensures { IfOk result (λ found. found ≡ union triple_cmp (meaning_by meaning self.now.second) self.now.replay.played.records) }
     {
-        self.pages.rows()
+        self.holdings.rows()
     }
 
     /// Those of them that agree with the pattern, in order, without a copy of their texts.
     pub fn matching(&self, pattern: &Pattern) -> Result<Rows<'_>, OutOfMemory>
         ensures { IfOk result (λ found. found ≡ rows (union triple_cmp (meaning_by meaning self.now.second) self.now.replay.played.records) pattern.now) }
     {
-        self.pages.matching(pattern)
+        self.holdings.matching(pattern)
     }
 }
 
-impl Pages {
+impl Holdings {
     /// The triples of all that is held, in memory of their own.
     pub fn triples(&self) -> Result<TripleSet, OutOfMemory>
-        ensures { IfOk result (λ set. set ≡ union triple_cmp (meaning_by meaning self.now.second) self.now.played.records) }
+        ensures { IfOk result (λ set. set ≡ union triple_cmp (meaning_by meaning self.now.second) self.now.records) }
     {
-        self.store.all(&self.region)
+        self.store.all()
     }
 
     /// Those of them that agree with the pattern, in memory of their own.
     pub fn matches(&self, pattern: &Pattern) -> Result<TripleSet, OutOfMemory>
-        ensures { IfOk result (λ set. set ≡ rows (union triple_cmp (meaning_by meaning self.now.second) self.now.played.records) pattern.now) }
+        ensures { IfOk result (λ set. set ≡ rows (union triple_cmp (meaning_by meaning self.now.second) self.now.records) pattern.now) }
     {
-        matches(&self.store, &self.region, pattern)
+        self.store.matches(pattern)
     }
 
     /// How many entities hold the triple.
     pub fn owners(&self, triple: &Triple) -> u64
-        ensures { result ≡ owners triple_cmp (meaning_by meaning self.now.second) self.now.played.records triple.now }
+        ensures { result ≡ owners triple_cmp (meaning_by meaning self.now.second) self.now.records triple.now }
     {
-        count(&self.store, &self.region, triple)
+        self.store.owners(triple)
     }
 
     // The triples of all that is held.
     pub(crate) fn rows(&self) -> Result<Rows<'_>, OutOfMemory>
-        ensures { IfOk result (λ found. found ≡ union triple_cmp (meaning_by meaning self.now.second) self.now.played.records) }
+        ensures { IfOk result (λ found. found ≡ union triple_cmp (meaning_by meaning self.now.second) self.now.records) }
     {
-        self.store.rows(&self.region)
+        self.store.rows()
     }
 
     // Those of them that agree with the pattern.
     pub(crate) fn matching(&self, pattern: &Pattern) -> Result<Rows<'_>, OutOfMemory>
-        ensures { IfOk result (λ found. found ≡ rows (union triple_cmp (meaning_by meaning self.now.second) self.now.played.records) pattern.now) }
+        ensures { IfOk result (λ found. found ≡ rows (union triple_cmp (meaning_by meaning self.now.second) self.now.records) pattern.now) }
     {
-        matching(&self.store, &self.region, pattern)
+        self.store.matching(pattern)
     }
 }

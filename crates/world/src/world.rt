@@ -1,15 +1,10 @@
 // The state of a replay.
 
-ghost use Rattle.std.specs.Prelude.{◌≡◌, ◌≢◌, ◌↔◌, ◌⊎◌, ◌<◌, ◌≤◌, ◌+◌, ◌++◌, [], false, None, Some, length, slice_get, is_some, IfSome, MatchOption, if◌then◌else◌, IfOk, IfErr, OnErr, OnOk, IsErrOf};
-ghost use Rattle.std.specs.Option.{option_copied};
+ghost use Rattle.std.specs.Prelude.{◌≡◌, ◌≢◌, ◌↔◌, ◌⊎◌, ◌<◌, ◌≤◌, ◌+◌, ◌++◌, [], false, None, Some, length, is_some, IfSome, if◌then◌else◌, IfOk, IfErr, OnErr, OnOk, IsErrOf};
 ghost use Rattle.std.specs.FinMap as map;
-ghost use Rattle.entity_json.specs.Document.{unfit_of};
-ghost use Rattle.entity_model.specs.declared.id.EntityId.{EntityId as AnEntity};
 ghost use Rattle.revisions.specs.Revisions.{counted};
 ghost use Rattle.reorder_buffer.specs.Buffered.{after_taking, answer_to, first_due};
-ghost use Rattle.replay_model.specs.Entries.{HoldsUnlessOpen, is_open_in};
 ghost use Rattle.replay_model.specs.Records.{record_of};
-ghost use Rattle.replay_model.specs.Replies.{HoldsDocument};
 ghost use Rattle.replay_model.specs.ReplayState.{after_end, after_event, after_mark, nothing_delivered, nothing_delivered_within, taken_entries};
 ghost use Rattle.replay_model.specs.Union.{triples_held};
 ghost use Rattle.replay_model.specs.Versions.{meaning_by};
@@ -17,7 +12,6 @@ ghost use Rattle.world.specs.Applying.{Applies, IsReply, IsShown, calls_after, o
 ghost use Rattle.entity_state.specs.Standing.{standing_after, standing_of, standing_wants};
 ghost use Rattle.entity_state.specs.State.{state_after};
 ghost use Rattle.world.specs.Fetched.{AreMeant, reply_of, reply_or_any};
-ghost use Rattle.world.specs.Laid.{IsLaid};
 ghost use Rattle.world.specs.Meaning.{meaning};
 ghost use Rattle.world.specs.Roomed.{HasRoom, IsOverfull, room_with};
 ghost use Rattle.world.specs.WorldState.{AreHolders, second_after};
@@ -26,31 +20,32 @@ ghost use Rattle.world.specs.declared.applied.Outcome.TheVariants.{Stored};
 ghost use Rattle.world.specs.declared.applied.WorldFault.TheVariants.{Full, Nothing as NothingDue};
 
 use crate::applied::{Applied, WorldFault};
-use crate::fetching::{Reply, fetch};
-use crate::pages::Pages;
-use entity_model::{EntityId, Event};
-use entity_state::State;
-use rdf_term::{List, OutOfMemory};
+use crate::applying::apply;
+use crate::fetching::{Reply, Wanted, fetch};
+use crate::holdings::Holdings;
+use entity_model::{Event, MappingVersion};
+use rdf_term::OutOfMemory;
 use reorder_buffer::{Buffer, Taken};
 use revisions::Revisions;
-use side_output::{Entry, Side, is_open};
+use side_output::{Entry, Side};
 use std::alloc::Global;
 use std::hash::RandomState;
 use std::marker::Model;
-use text_region::Region;
 use triple_store::StoreFault;
 
 // For how many terms there is room, unless it is set otherwise.
 const ROOM: u32 = 20_000_000;
 
-/// The events that wait, what is kept of each entity, the side output, and the triples that all held pages mean, each with
-/// the number of its owners. Contracts see the state of a replay, which the triples follow; for how many terms there is
+/// The events that wait, the side output, the version of the mapping in force, and what the entities hold, with the triples that all held
+/// pages mean, each with the number of its owners. Contracts see the state of a replay, which the triples follow; for how many terms there is
 /// room; and the version of the mapping in force, with the entities whose pages are mapped by version Two.
 #[derive(Drop)]
 pub struct World {
-    pub(crate) alloc: Global,
+    alloc: Global,
     buffer: Buffer,
-    pub(crate) pages: Pages,
+    pub(crate) side: Side,
+    pub(crate) mapping: MappingVersion,
+    pub(crate) holdings: Holdings,
 }
 
 impl Model for World {
@@ -63,21 +58,21 @@ impl Model for World {
     ghost use Rattle.replay_model.specs.Versions.{meaning_by};
     ghost use Rattle.world.specs.Meaning.{meaning};
     ghost use Rattle.world.specs.Roomed.{HasRoom};
-    ghost use Rattle.world.specs.WorldState.{AreHolders, WorldState};
+    ghost use Rattle.world.specs.WorldState.{AreHolders, WorldState, played_of};
 
     ghost Value = { WorldState };
 
     ghost coded = { world_code };
 
     ghost view = { λ a. record {
-      replay = record { buffer = a.buffer; played = a.pages.played };
-      room = a.pages.room;
-      mapping = a.pages.mapping;
-      second = a.pages.second;
+      replay = record { buffer = a.buffer; played = played_of a.holdings a.side.entries };
+      room = a.holdings.limit;
+      mapping = a.mapping;
+      second = a.holdings.second;
     } };
 
-    ghost invariant = { λ a. HoldsUnlessOpen a.pages.played × HasRoom (meaning_by meaning a.pages.second) a.pages.room a.pages.played.records
-        × AreHolders a.pages.second a.pages.played.records × ((x : EntityId) → HoldsDocument unfit_of x (record_of a.pages.played.records x).held) };
+    ghost invariant = { λ a. HoldsUnlessOpen (played_of a.holdings a.side.entries) × HasRoom (meaning_by meaning a.holdings.second) a.holdings.limit a.holdings.records
+        × AreHolders a.holdings.second a.holdings.records × ((x : EntityId) → HoldsDocument unfit_of x (record_of a.holdings.records x).held) };
 }
 
 impl World {
@@ -87,11 +82,13 @@ impl World {
         ensures { IfOk result (λ world. world ≡ record { replay = nothing_delivered; room = 20000000; mapping = One; second = [] }) }
     {
         let buffer = Buffer::new(alloc)?;
-        let pages = Pages::new(alloc, keys, ROOM)?;
+        let holdings = Holdings::new(alloc, keys, ROOM)?;
         Ok(World {
             alloc,
             buffer,
-            pages,
+            side: Side::new(alloc),
+            mapping: MappingVersion::One,
+            holdings,
         })
     }
 
@@ -100,7 +97,7 @@ impl World {
         requires { map.len self.old.replay.played.records ≡ 0 }
         ensures { self.new ≡ record self.old { room = terms } }
     {
-        self.pages.set_room(terms);
+        self.holdings.set_limit(terms);
     }
 
     /// Sets the horizon, in microseconds: events whose time is further behind the greatest watermark are forgotten, so that
@@ -121,7 +118,7 @@ impl World {
         ensures rest { self.new ≡ record self.old { replay = self.new.replay } }
         ensures err { OnErr result (self.new ≡ self.old) }
     {
-        take_event(&mut self.buffer, &mut self.pages.side, event)
+        take_event(&mut self.buffer, &mut self.side, event)
     }
 
     /// Takes a watermark, in microseconds since 1970-01-01T00:00:00Z: events up to its time are due from now on, and what is
@@ -183,7 +180,13 @@ impl World {
             return Err(WorldFault::Nothing);
         };
         let reply = self.reply(revisions, place, &event)?;
-        match self.pages.apply(event, reply) {
+        match apply(
+            &mut self.holdings,
+            &mut self.side,
+            self.mapping,
+            event,
+            reply,
+        ) {
             Ok(outcome) => {
                 self.buffer.drop_least();
                 Ok(Applied { event, outcome })
@@ -191,79 +194,6 @@ impl World {
             Err(StoreFault::Full) => Err(WorldFault::Full),
             Err(StoreFault::OutOfMemory) => Err(WorldFault::OutOfMemory),
         }
-    }
-
-    /// The region, which has the texts of the terms of all that is held, each once, and the held pages, and nothing else.
-    pub fn region(&self) -> &Region
-        ensures { IsLaid (meaning_by meaning self.now.second) result.now self.now.replay.played.records }
-    {
-        self.pages.region()
-    }
-
-    /// How many different terms the triples of all that is held have.
-    pub fn terms(&self) -> u32
-        ensures count { result ≡ room_with (meaning_by meaning self.now.second) self.now.replay.played.records [] }
-        ensures within { result ≤ self.now.room }
-    {
-        self.pages.terms()
-    }
-
-    /// The ids of the entities with a record, in rising order.
-    pub fn entities(&self) -> Result<List<EntityId>, OutOfMemory>
-        ensures { IfOk result (λ ids. ids ≡ map.keys self.now.replay.played.records) }
-    {
-        self.pages.entities(self.alloc)
-    }
-
-    /// The state of an entity; Unknown with revision 0 where it has no record.
-    pub fn state(&self, id: EntityId) -> State
-        ensures { result ≡ (record_of self.now.replay.played.records id).state }
-    {
-        self.pages.standing(id).state
-    }
-
-    /// The revision that an entity holds, and its bytes. An entity holds what its state wants exactly where no revision entry
-    /// of it is open, and nothing of a page that isn't kept. Its bytes are a document of the entity.
-    pub fn held(&self, id: EntityId) -> Option<(u64, &[u8])>
-        ensures unless_open { HoldsUnlessOpen self.now.replay.played }
-        ensures documents { (x : AnEntity) → HoldsDocument unfit_of x (record_of self.now.replay.played.records x).held }
-        ensures value { MatchOption result ((record_of self.now.replay.played.records id).held ≡ None)
-            (λ h. (record_of self.now.replay.played.records id).held ≡ Some (record { revision = h.0; content = h.1.now })) }
-    {
-        self.pages.held(id)
-    }
-
-    /// The number of entries of the side output.
-    pub fn side_len(&self) -> usize
-        ensures { result ≡ length self.now.replay.played.side }
-    {
-        self.pages.side.len()
-    }
-
-    /// The entry of the side output at a place from 0.
-    pub fn side(&self, place: usize) -> Option<&Entry>
-        ensures { option_copied result ≡ slice_get self.now.replay.played.side place }
-    {
-        self.pages.side.get(place)
-    }
-
-    /// Whether the entry of the side output at a place from 0 is open.
-    pub fn side_open(&self, place: usize) -> bool
-        requires { place < length self.now.replay.played.side }
-        ensures { IfSome (slice_get self.now.replay.played.side place) (λ entry. result ≡ is_open_in self.now.replay.played.records entry) }
-    {
-        match self.side(place) {
-            Some(entry) => self.is_open(entry),
-            None => false,
-        }
-    }
-
-    // Whether an entry is open, by the record of its entity.
-    fn is_open(&self, entry: &Entry) -> bool
-        ensures { result ≡ is_open_in self.now.replay.played.records entry.now }
-    {
-        let standing = self.pages.standing(entry.entity());
-        is_open(entry, standing.state, standing.held, standing.reconciled)
     }
 
     // The reply to the fetch that an event wants, if it wants one.
@@ -289,19 +219,16 @@ impl World {
         ensures more_misses { R.misses revisions.old ≤ R.misses revisions.new }
         ensures most { R.most_faults revisions.new ≡ R.most_faults revisions.old }
     {
-        let after = self.pages.standing(event.entity).after(event);
+        let after = self.holdings.standing(event.entity).after(event);
         if !after.wants() {
             return Ok(None);
         }
-        let version = self.pages.mapping();
-        let reply = fetch(
-            self.alloc,
-            revisions,
-            place,
-            event.entity,
-            after.state.rev,
-            version,
-        )?;
+        let wanted = Wanted {
+            id: event.entity,
+            rev: after.state.rev,
+            version: self.mapping,
+        };
+        let reply = fetch(self.alloc, revisions, place, wanted)?;
         Ok(Some(reply))
     }
 }

@@ -4,5 +4,5 @@ use Rattle.world.proofs.fetching.judge.Goals as goal
 
 pub returns-in-Ok-clause-meant : goal.returns-in-Ok-clause-meant
 returns-in-Ok-clause-meant c =
-    page_of c.args.version c.args.id c.args.rev c.args.bytes.items c.from_vec.result c.in-Ok.triples c.from_vec.ensures
+    page_of c.args.wanted.version c.args.wanted.id c.args.wanted.rev c.args.bytes.items c.from_vec.result c.in-Ok.triples c.from_vec.ensures
     (rw c.as_slice.ensures.value at c.in-Ok.ensures.meant) c.in-Ok.ensures.fit (rw c.as_slice.ensures.value at c.in-Ok.ensures.short)

@@ -1,6 +1,4 @@
-use Rattle.std.proofs.Common.{sym, ◌∙◌}
-use Rattle.triple_store.proofs.Unchanged.{len_image}
 use Rattle.triple_store.proofs.store.Store.triples.Goals as goal
 
 pub returns : goal.returns
-returns c = λ region h. c.len.ensures.len ∙ sym (len_image c.args.self.now region h)
+returns c = rw (← c.self.view_is) (c.triples.ensures c.self.inside.region c.self.invariant)

@@ -2,8 +2,11 @@
 use Rattle.std.proofs.Common.{◌≤◌, List, ap, subst, sym, ◌∙◌}
 use Rattle.rdf_term.specs.declared.triple.Triple.{Triple}
 use Rattle.entity_json.specs.Document.{unfit_of}
+use Rattle.entity_model.specs.declared.id.EntityId.{EntityId}
+use Rattle.replay_model.specs.Entries.{HoldsUnlessOpen}
 use Rattle.replay_model.specs.Play.{Played}
 use Rattle.replay_model.specs.Records.{record_of}
+use Rattle.replay_model.specs.Replies.{HoldsDocument}
 use Rattle.replay_model.specs.Union.{triples_held}
 use Rattle.replay_model.specs.Versions.{meaning_by}
 use Rattle.replay_model.proofs.Documents.{documents-apply}
@@ -11,22 +14,24 @@ use Rattle.replay_model.proofs.Settled.{holds-apply}
 use Rattle.world.specs.Fetched.{reply_or_any}
 use Rattle.world.specs.Meaning.{meaning}
 use Rattle.world.specs.Roomed.{room_with}
+use Rattle.world.specs.WorldState.{played_of}
 use Rattle.world.proofs.Fit.{reply_gives}
 use Rattle.world.proofs.Rooming.{stored_page}
 use Rattle.world.proofs.world.World.apply_next.Goals as goal
 
 pub invariant_of-self : goal.invariant_of-self
-invariant_of-self g c = (
-  rw c.in-Ok.ensures.applied (holds-apply (λ _ _. reply_or_any c.in_ok-reply.reply) c.self.inside.pages.played c.in-Some.event c.self.invariant.0),
-  c.in-Ok.ensures.held,
-  c.in-Ok.ensures.holders,
-  rw c.in-Ok.ensures.applied (documents-apply unfit_of c.in-Some.event (reply_or_any c.in_ok-reply.reply) (reply_gives _ _ c.in-Some.event.entity _ (reply_or_any c.in_ok-reply.reply) c.in_ok-reply.ensures.reply)
-      c.self.inside.pages.played c.self.invariant.3),
-)
+invariant_of-self g c =
+    let was : Played = played_of c.self.inside.holdings c.self.inside.side.entries in (
+      subst (λ (p : Played). HoldsUnlessOpen p) (sym c.in-Ok.ensures.applied) (holds-apply (λ _ _. reply_or_any c.in_ok-reply.reply) was c.in-Some.event c.self.invariant.0),
+      c.in-Ok.ensures.held,
+      c.in-Ok.ensures.holders,
+      subst (λ (p : Played). (x : EntityId) → HoldsDocument unfit_of x (record_of p.records x).held) (sym c.in-Ok.ensures.applied)
+          (documents-apply unfit_of c.in-Some.event (reply_or_any c.in_ok-reply.reply) (reply_gives _ _ c.in-Some.event.entity _ (reply_or_any c.in_ok-reply.reply) c.in_ok-reply.ensures.reply) was c.self.invariant.3),
+    )
 
 pub returns-in-Ok-clause-within : goal.returns-in-Ok-clause-within
 returns-in-Ok-clause-within g c = rw (← c.self.view_is) (λ stored.
-    subst (λ (ts : List Triple). room_with (meaning_by meaning c.self.inside.pages.second) c.self.inside.pages.played.records ts ≤ c.self.inside.pages.room)
-    (sym (ap (λ (p : Played). triples_held (meaning c.self.inside.pages.mapping) c.in-Some.event.entity (record_of p.records c.in-Some.event.entity).held) c.in-Ok.ensures.applied
-    ∙ stored_page c.self.inside.pages.mapping c.self.inside.pages.played.records c.in-Some.event (reply_or_any c.in_ok-reply.reply) c.in-Ok.outcome c.in-Ok.ensures.outcome stored))
+    subst (λ (ts : List Triple). room_with (meaning_by meaning c.self.inside.holdings.second) c.self.inside.holdings.records ts ≤ c.self.inside.holdings.limit)
+    (sym (ap (λ (p : Played). triples_held (meaning c.self.inside.mapping) c.in-Some.event.entity (record_of p.records c.in-Some.event.entity).held) c.in-Ok.ensures.applied
+    ∙ stored_page c.self.inside.mapping c.self.inside.holdings.records c.in-Some.event (reply_or_any c.in_ok-reply.reply) c.in-Ok.outcome c.in-Ok.ensures.outcome stored))
     c.in-Ok.ensures.within)

@@ -10,7 +10,7 @@ use Rattle.world.proofs.Starting.{no_documents}
 use Rattle.world.proofs.world.World.new.Goals as goal
 
 pub invariant_of-result : goal.invariant_of-result
-invariant_of-result c = rw c.in_ok-pages.ensures (
+invariant_of-result c = rw (c.in_ok-holdings.ensures, c.new-3.ensures) (
   holds-nothing,
   nothing_held (meaning_by meaning []) nothing_played.records 20000000 (len-empty _ _),
   record { rising = tt; holding = λ _ there. absurd (true≢false (sym there)) },

@@ -1,0 +1,47 @@
+-- The triples of the range of slots, by their texts, are those that agree.
+use Rattle.std.proofs.Common.{◌+◌, ◌∙◌, ap, count_by, length, subst, sym, arith}
+use Rattle.std.specs.Prelude.{map as mapped}
+use Rattle.std.specs.FinMap as map
+use Rattle.std.proofs.lemmas.List.Sorted.{All-permutation}
+use Rattle.block_index.specs.Steps.{Within}
+use Rattle.triple_store.specs.Slots.{HasCanonicalTexts, triple_of}
+use Rattle.triple_store.proofs.Matched.{found_stored, none_matched}
+use Rattle.triple_store.proofs.Ordered.{rows_long, rows_matched, rows_rising}
+use Rattle.triple_store.proofs.Unchanged.{len_image}
+use Rattle.triple_store.proofs.catalog.Catalog.matching.Goals as goal
+
+pub returns-in_default : goal.returns-in_default
+returns-in_default g c = record {
+  rows = ap (mapped triple_of) c.new.ensures.items ∙ none_matched c.args.self.now.pool c.args.region.now c.args.self.now.index c.args.pattern.now c.in_default.ensures;
+  cost = (omega arith, λ d few. omega arith);
+  forward = omega arith;
+}
+
+pub texts_of-requires-clause-there : goal.texts_of-requires-clause-there
+texts_of-requires-clause-there g c = found_stored c.args.self.now.index c.in-Some.wanted c.as_slice.result.now (λ f. ap (λ ks. count_by f ks) c.as_slice.ensures ∙ c.in_ok-keys.ensures.found f)
+
+pub invariant_of-result-2 : goal.invariant_of-result-2
+invariant_of-result-2 g c = record {
+  canonical = All-permutation HasCanonicalTexts c.in_ok-rows.rows.items c.sort_rows.new.rows.items c.sort_rows.ensures.same c.in_ok-rows.ensures.canonical;
+  rising = rows_rising c.args.self.now c.args.region.now c.in-Some.wanted c.as_slice.result.now c.in_ok-rows.rows.items c.sort_rows.new.rows.items
+      c.requires (λ f. ap (λ ks. count_by f ks) c.as_slice.ensures ∙ c.in_ok-keys.ensures.found f)
+      c.in_ok-rows.ensures.triples c.in_ok-rows.ensures.canonical c.sort_rows.ensures.same c.sort_rows.ensures.sorted;
+}
+
+pub returns : goal.returns
+returns g c =
+    let st = c.args.self.now in
+    let r = c.args.region.now in
+    let found = c.as_slice.result.now in
+    let before = c.in_ok-rows.rows.items in
+    let after = c.sort_rows.new.rows.items in
+    let long = ap length c.as_slice.ensures in
+    let as_many = rows_long st r found before after c.in_ok-rows.ensures.triples c.sort_rows.ensures.same in
+    record {
+      rows = rows_matched st r c.args.pattern.now c.in-Some.wanted found before after
+          c.requires c.in-Some.ensures (λ f. ap (λ ks. count_by f ks) c.as_slice.ensures ∙ c.in_ok-keys.ensures.found f)
+          c.in_ok-rows.ensures.triples c.in_ok-rows.ensures.canonical c.sort_rows.ensures.same c.sort_rows.ensures.sorted;
+      cost = subst (λ n. Within n (9 + length (mapped triple_of after)) c.args.steps.now c.range.new.steps) (sym (len_image st r c.requires))
+          (subst (λ n. Within (map.len st.index) (9 + n) c.args.steps.now c.range.new.steps) (sym long ∙ as_many) c.in_ok-keys.ensures.cost);
+      forward = c.range.ensures.forward;
+    }

@@ -1,0 +1,116 @@
+// The stored triples, or those that agree with a pattern, and the number of the owners of one: the store's calls, each with its steps
+// counted and without.
+
+ghost use Rattle.std.specs.Prelude.{◌≡◌, ◌+◌, ◌<◌, ◌≤◌, length, IfOk};
+ghost use Rattle.std.specs.FinMap as map;
+ghost use Rattle.block_index.specs.Steps.{Within};
+ghost use Rattle.rdf_term.specs.Pattern.{rows};
+ghost use Rattle.triple_store.specs.Counts.{count_of};
+ghost use Rattle.triple_store.specs.StoreState.{counts_in};
+
+use crate::rows::Rows;
+use crate::store::Store;
+use block_index::Steps;
+use rdf_term::{OutOfMemory, Pattern, Triple, TripleSet};
+use std::marker::Brand;
+use std::sync::ledger::{Blank, Ledger};
+
+impl Store {
+    /// The stored triples: three slices each, which are sorted.
+    pub fn rows(&self) -> Result<Rows<'_>, OutOfMemory>
+        ensures rows { IfOk result (λ found. found ≡ map.keys (counts_in self.now)) }
+    {
+        self.matching(&Pattern {
+            subject: None,
+            predicate: None,
+            object: None,
+        })
+    }
+
+    /// The stored triples, in memory of their own: each is read from its texts.
+    pub fn all(&self) -> Result<TripleSet, OutOfMemory>
+        ensures rows { IfOk result (λ set. set ≡ map.keys (counts_in self.now)) }
+    {
+        self.rows()?.triples(self.catalog.alloc)
+    }
+
+    /// The stored triples that agree with the pattern. A wanted term costs one look-up; then it is one range of one index, and
+    /// the triples of that range, three slices each, are sorted.
+    pub fn matching(&self, pattern: &Pattern) -> Result<Rows<'_>, OutOfMemory>
+        ensures rows { IfOk result (λ found. found ≡ rows (map.keys (counts_in self.now)) pattern.now) }
+    {
+        matching_by::<Brand>(self, pattern, Blank::new(1))
+    }
+
+    /// The same, counting the steps in the index: at most nine more than the triples that it gives and the binary digits of the number
+    /// of stored triples together.
+    pub fn matching_counting<L: Ledger>(
+        &self,
+        pattern: &Pattern,
+        steps: &mut Steps<L>,
+    ) -> Result<Rows<'_>, OutOfMemory>
+        ensures rows { IfOk result (λ found. found ≡ rows (map.keys (counts_in self.now)) pattern.now) }
+        ensures cost { IfOk result (λ found. Within (map.len (counts_in self.now)) (9 + length found) steps.old steps.new) }
+        ensures forward { steps.old ≤ steps.new }
+    {
+        self.catalog.matching(&self.region, pattern, steps)
+    }
+
+    /// The stored triples that agree with the pattern, in memory of their own: each is read from its texts.
+    pub fn matches(&self, pattern: &Pattern) -> Result<TripleSet, OutOfMemory>
+        ensures rows { IfOk result (λ set. set ≡ rows (map.keys (counts_in self.now)) pattern.now) }
+    {
+        self.matching(pattern)?.triples(self.catalog.alloc)
+    }
+
+    /// The same, counting the steps in the index, which are those of `matching_counting`.
+    pub fn matches_counting<L: Ledger>(
+        &self,
+        pattern: &Pattern,
+        steps: &mut Steps<L>,
+    ) -> Result<TripleSet, OutOfMemory>
+        ensures rows { IfOk result (λ set. set ≡ rows (map.keys (counts_in self.now)) pattern.now) }
+        ensures cost { IfOk result (λ set. Within (map.len (counts_in self.now)) (9 + length set) steps.old steps.new) }
+        ensures forward { steps.old ≤ steps.new }
+    {
+        self.matching_counting(pattern, steps)?
+            .triples(self.catalog.alloc)
+    }
+
+    /// How many entities own the triple, which takes no memory: three look-ups and one search in one index.
+    pub fn owners(&self, triple: &Triple) -> u64
+        ensures { result ≡ count_of (counts_in self.now) triple.now }
+    {
+        owners_by::<Brand>(self, triple, Blank::new(1))
+    }
+
+    /// The same, counting the steps in the index: at most eight more than the number of stored triples has binary digits.
+    pub fn owners_counting<L: Ledger>(&self, triple: &Triple, steps: &mut Steps<L>) -> u64
+        ensures count { result ≡ count_of (counts_in self.now) triple.now }
+        ensures cost { Within (map.len (counts_in self.now)) 8 steps.old steps.new }
+    {
+        self.catalog.count(&self.region, triple, steps)
+    }
+}
+
+fn matching_by<'a, L: Ledger>(
+    store: &'a Store,
+    pattern: &Pattern,
+    blank: Blank,
+) -> Result<Rows<'a>, OutOfMemory>
+    requires name { blank.name ≡ L.name }
+    requires parts { blank.parts ≡ L.parts }
+    requires some { 0 < blank.parts }
+    ensures rows { IfOk result (λ found. found ≡ rows (map.keys (counts_in store.now)) pattern.now) }
+{
+    store.matching_counting(pattern, &mut Steps::<L>::new(blank))
+}
+
+fn owners_by<L: Ledger>(store: &Store, triple: &Triple, blank: Blank) -> u64
+    requires name { blank.name ≡ L.name }
+    requires parts { blank.parts ≡ L.parts }
+    requires some { 0 < blank.parts }
+    ensures { result ≡ count_of (counts_in store.now) triple.now }
+{
+    store.owners_counting(triple, &mut Steps::<L>::new(blank))
+}

@@ -1,0 +1,39 @@
+-- The page that is held stays.
+use Rattle.std.proofs.Common.{ap, ◌∙◌}
+use Rattle.replay_model.specs.Versions.{meaning_by}
+use Rattle.world.specs.InStep.{AreInStep}
+use Rattle.world.specs.Keeping.{seen}
+use Rattle.world.specs.Meaning.{meaning}
+use Rattle.world.proofs.Replacing.{stayed_seen}
+use Rattle.world.proofs.Stepping.{are_holders, has_room, stay_step}
+use Rattle.world.proofs.holdings.Holdings.keep.Goals.{After-from_residual, After-keep_record}
+use Rattle.world.proofs.holdings.Holdings.keep.Goals as goal
+
+before : (c : After-from_residual) → AreInStep c.self.inside.store c.self.inside.holders c.make_room.new.table.records
+before c = rw c.make_room.ensures.records c.self.invariant
+
+after : (c : After-keep_record) → AreInStep c.self.inside.store c.self.inside.holders c.keep_record.new.table.records
+after c = rw c.keep_record.ensures
+    (stay_step c.self.inside.store c.self.inside.holders c.make_room.new.table.records c.args.id (rw c.make_room.ensures.records c.self.invariant) c.args.after.state c.args.after.reconciled)
+
+pub invariant_of-self : goal.invariant_of-self
+invariant_of-self c = before c
+
+pub invariant_of-self-2 : goal.invariant_of-self-2
+invariant_of-self-2 c = after c
+
+pub returns-in_err-make_room-clause-held : goal.returns-in_err-make_room-clause-held
+returns-in_err-make_room-clause-held c = has_room _ _ _ (before c)
+
+pub returns-in_err-make_room-clause-holders : goal.returns-in_err-make_room-clause-holders
+returns-in_err-make_room-clause-holders c = are_holders _ _ _ (before c)
+
+pub returns-clause-records : goal.returns-clause-records
+returns-clause-records c = rw (← c.self.view_is, ← c.make_room.ensures.records) (ap (seen c.self.inside.store) c.keep_record.ensures
+    ∙ stayed_seen (meaning_by meaning c.self.inside.holders.second) c.self.inside.store c.make_room.new.table.records c.args.id c.args.after.state c.args.after.reconciled (rw c.make_room.ensures.records c.self.invariant.kept))
+
+pub returns-clause-held : goal.returns-clause-held
+returns-clause-held c = has_room _ _ _ (after c)
+
+pub returns-clause-holders : goal.returns-clause-holders
+returns-clause-holders c = are_holders _ _ _ (after c)

@@ -1,0 +1,17 @@
+-- The stale entities are those of the other version.
+use Rattle.std.proofs.Common.{sym, ap, ◌∙◌}
+use Rattle.world.specs.Holders.{held_by, other_version}
+use Rattle.world.specs.Keeping.{seen}
+use Rattle.world.specs.WorldState.{first_of}
+use Rattle.world.proofs.ByVersion.{first_is_holder, stale_is}
+use Rattle.world.proofs.Stepping.{links}
+use Rattle.world.proofs.holdings.Holdings.next_stale.Goals as goal
+
+pub returns-clause-entity : goal.returns-clause-entity
+returns-clause-entity c = rw (← c.self.view_is) (c.least.ensures ∙ ap (λ v. first_of (held_by c.self.inside.holders v)) c.other.ensures
+    ∙ ap first_of (sym (stale_is c.self.inside.holders c.self.inside.table.records (seen c.self.inside.store c.self.inside.table.records) c.self.invariant.by
+    (links c.self.inside.store c.self.inside.table.records) c.args.version)))
+
+pub returns-clause-holder : goal.returns-clause-holder
+returns-clause-holder c = rw (← c.self.view_is) (first_is_holder c.self.inside.holders c.self.inside.table.records (seen c.self.inside.store c.self.inside.table.records) c.self.invariant.by
+    (links c.self.inside.store c.self.inside.table.records) (other_version c.args.version) c.least.result (c.least.ensures ∙ ap (λ v. first_of (held_by c.self.inside.holders v)) c.other.ensures))

@@ -1,0 +1,6 @@
+-- The count of a triple is the number of its owners.
+use Rattle.std.proofs.Common.{◌∙◌}
+use Rattle.world.proofs.holdings.Holdings.owners.Goals as goal
+
+pub returns : goal.returns
+returns c = rw (← c.self.view_is) (c.owners.ensures ∙ c.self.invariant.kept.counted.owned c.args.triple.now)

@@ -1,0 +1,115 @@
+-- The triples of the page change, or all is as it was.
+use Rattle.std.proofs.Common.{◌≡◌, ◌<◌, ◌≤◌, Err, Option, refl, sym, ap, subst, ◌∙◌, arith}
+use Rattle.std.specs.FinMap as map
+use Rattle.rising.specs.Rising.{has}
+use Rattle.rising.proofs.Rising.{has-sorted}
+use Rattle.rdf_term.specs.Order.{triple_cmp, triple_cmp-total}
+use Rattle.term_pool.specs.declared.fault.PoolFault.TheVariants.{Full}
+use Rattle.entity_state.specs.declared.record.Held.{Held}
+use Rattle.triple_store.specs.StoreState.{beside, limit_of}
+use Rattle.replay_model.specs.Records.{Bytes}
+use Rattle.replay_model.specs.Union.{triples_held}
+use Rattle.replay_model.specs.Versions.{meaning_by}
+use Rattle.world.specs.Holders.{ByVersion}
+use Rattle.world.specs.InStep.{AreInStep}
+use Rattle.world.specs.Keeping.{seen}
+use Rattle.world.specs.Meaning.{meaning}
+use Rattle.world.proofs.ByVersion.{moves, undone}
+use Rattle.world.proofs.Moving.{are_stored, held_is, seen_again}
+use Rattle.world.proofs.Replacing.{kept_refused}
+use Rattle.world.proofs.Rooming.{countable_kept, room_is}
+use Rattle.world.proofs.Stepping.{again_seen, again_step, are_holders, has_room, links}
+use Rattle.world.proofs.holdings.Holdings.remap.Goals.{After-drop-triples-inside-4, After-drop-triples-inside-in-Ok-exchange-3}
+use Rattle.world.proofs.holdings.Holdings.remap.Goals as goal
+
+pub exchange-requires-clause-may_come : goal.exchange-requires-clause-may_come
+exchange-requires-clause-may_come c = record {
+  fit = c.in-Ok.ensures.fit;
+  countable =
+      let few : map.len c.self.inside.table.records < 18446744073709551615 = omega arith in
+      λ t _. countable_kept (meaning_by meaning c.self.inside.holders.second) c.self.inside.store c.self.inside.table.records c.self.invariant.kept _ refl _ few t;
+}
+
+pub exchange-requires-clause-stored : goal.exchange-requires-clause-stored
+exchange-requires-clause-stored c = are_stored (meaning_by meaning c.self.inside.holders.second) c.self.inside.store c.self.inside.store c.self.inside.table.records c.args.id _ c.self.invariant.kept (λ _ _ is. is) c.keys_of.ensures
+
+-- the page is mapped anew
+done : (c : After-drop-triples-inside-in-Ok-exchange-3) → AreInStep c.exchange.new.self c.remove.new.self c.set_keys.new.table.records
+done c = rw c.set_keys.ensures
+    (again_step c.self.inside.store c.self.inside.holders c.self.inside.table.records c.args.id c.self.invariant c.exchange.new.self
+    c.in-Ok-exchange.keys c.args.version (sym (links c.self.inside.store c.self.inside.table.records c.args.id) ∙ (rw (← c.self.view_is) at c.requires)) c.exchange.ensures.rest.beside c.remove.new.self c.keys_of.result.rising.now c.in-Ok.triples
+    (moves c.self.inside.holders c.add.new.self c.remove.new.self c.args.id c.args.version c.other.result c.in-Ok-add.ensures.ok c.other.ensures c.remove.ensures)
+    c.exchange.ensures.rest.sound c.keys_of.ensures c.in-Ok-exchange.ensures.exchanged.ok c.exchange.ensures.rest.keeps c.in-Ok-exchange.ensures.exchanged.keys
+    (λ t. sym (has-sorted triple_cmp-total t c.in-Ok.triples) ∙ ap (has triple_cmp t) c.in-Ok.ensures.value))
+
+-- the page stays as it is mapped
+refused : (c : After-drop-triples-inside-4) → AreInStep c.exchange.new.self c.take_back.new.self c.self.inside.table.records
+refused c =
+    subst (λ (i : ByVersion). AreInStep c.exchange.new.self i c.self.inside.table.records) (sym (undone c.self.inside.holders c.add.new.self c.take_back.new.self c.self.inside.table.records c.args.id c.args.version c.in-Ok-add.added c.self.invariant.by c.in-Ok-add.ensures.ok c.in-Ok-add.ensures.added c.take_back.ensures)) (record {
+      kept = kept_refused (meaning_by meaning c.self.inside.holders.second) c.self.inside.store c.exchange.new.self c.self.inside.table.records
+          c.self.invariant.kept c.exchange.ensures.rest.sound c.in-Err.ensures.exchanged.err c.exchange.ensures.rest.keeps c.exchange.ensures.rest.beside;
+      by = c.self.invariant.by;
+    })
+
+pub set_keys-requires : goal.set_keys-requires
+set_keys-requires c = sym (links c.self.inside.store c.self.inside.table.records c.args.id) ∙ (rw (← c.self.view_is) at c.requires)
+
+pub invariant_of-self-in-Ok-exchange : goal.invariant_of-self-in-Ok-exchange
+invariant_of-self-in-Ok-exchange c = done c
+
+pub invariant_of-self-in-Err : goal.invariant_of-self-in-Err
+invariant_of-self-in-Err c =
+    subst (λ (i : ByVersion). AreInStep c.exchange.new.self i c.self.inside.table.records) (sym (undone c.self.inside.holders c.add.new.self c.take_back.new.self c.self.inside.table.records c.args.id c.args.version c.in-Ok-add.added c.self.invariant.by c.in-Ok-add.ensures.ok c.in-Ok-add.ensures.added c.take_back.ensures)) (record {
+      kept = kept_refused (meaning_by meaning c.self.inside.holders.second) c.self.inside.store c.exchange.new.self c.self.inside.table.records
+          c.self.invariant.kept c.exchange.ensures.rest.sound c.in-Err.ensures.exchanged.err c.exchange.ensures.rest.keeps c.exchange.ensures.rest.beside;
+      by = c.self.invariant.by;
+    })
+
+pub returns-in_default-clause-held : goal.returns-in_default-clause-held
+returns-in_default-clause-held c = rw (← c.self.view_is) (has_room _ _ _ c.self.invariant)
+
+pub returns-in_default-clause-holders : goal.returns-in_default-clause-holders
+returns-in_default-clause-holders c = rw (← c.self.view_is) (are_holders _ _ _ c.self.invariant)
+
+pub returns-in_default-add-clause-held : goal.returns-in_default-add-clause-held
+returns-in_default-add-clause-held c = rw c.in_default-add.ensures.err (has_room _ _ _ c.self.invariant)
+
+pub returns-in_default-add-clause-holders : goal.returns-in_default-add-clause-holders
+returns-in_default-add-clause-holders c = rw c.in_default-add.ensures.err (are_holders _ _ _ c.self.invariant)
+
+pub returns-in-Ok-exchange-clause-records : goal.returns-in-Ok-exchange-clause-records
+returns-in-Ok-exchange-clause-records c = rw (← c.self.view_is) (ap (seen c.exchange.new.self) c.set_keys.ensures
+    ∙ again_seen c.self.inside.store c.self.inside.holders c.self.inside.table.records c.args.id c.self.invariant c.exchange.new.self
+    c.in-Ok-exchange.keys c.args.version (sym (links c.self.inside.store c.self.inside.table.records c.args.id) ∙ (rw (← c.self.view_is) at c.requires)) c.exchange.ensures.rest.beside)
+
+pub returns-in-Ok-exchange-clause-within : goal.returns-in-Ok-exchange-clause-within
+returns-in-Ok-exchange-clause-within c = rw (← c.self.view_is)
+    (subst (λ n. n ≤ limit_of c.self.inside.store) (room_is (meaning_by meaning c.self.inside.holders.second) c.self.inside.store c.self.inside.table.records c.self.invariant.kept _ refl c.in-Ok.triples _
+    (λ t. sym (has-sorted triple_cmp-total t c.in-Ok.triples) ∙ ap (has triple_cmp t) c.in-Ok.ensures.value
+    ∙ ap (λ (h : Option (Held Bytes)). has triple_cmp t (triples_held (meaning c.args.version) c.args.id h)) (sym (held_is c.self.inside.store c.self.inside.table.records c.args.id)))) c.in-Ok-exchange.ensures.exchanged.within)
+
+pub returns-in-Ok-exchange-clause-held : goal.returns-in-Ok-exchange-clause-held
+returns-in-Ok-exchange-clause-held c = has_room _ _ _ (done c)
+
+pub returns-in-Ok-exchange-clause-holders : goal.returns-in-Ok-exchange-clause-holders
+returns-in-Ok-exchange-clause-holders c = are_holders _ _ _ (done c)
+
+pub returns-clause-err : goal.returns-clause-err
+returns-clause-err c = rw (← c.self.view_is) (λ i. record {
+  records = seen_again (beside c.self.inside.store) (beside c.exchange.new.self) c.self.inside.table.records c.exchange.ensures.rest.beside i;
+  limit = c.exchange.ensures.rest.limit i;
+  second = ap (λ (ids : ByVersion). ids.second) (undone c.self.inside.holders c.add.new.self c.take_back.new.self c.self.inside.table.records c.args.id c.args.version c.in-Ok-add.added c.self.invariant.by c.in-Ok-add.ensures.ok c.in-Ok-add.ensures.added c.take_back.ensures) i;
+})
+
+pub returns-clause-full : goal.returns-clause-full
+returns-clause-full c = rw (← c.self.view_is) (λ is.
+    let same : c.in-Err.refused ≡ Full = cc in
+    subst (λ n. limit_of c.self.inside.store < n) (room_is (meaning_by meaning c.self.inside.holders.second) c.self.inside.store c.self.inside.table.records c.self.invariant.kept _ refl c.in-Ok.triples _
+    (λ t. sym (has-sorted triple_cmp-total t c.in-Ok.triples) ∙ ap (has triple_cmp t) c.in-Ok.ensures.value
+    ∙ ap (λ (h : Option (Held Bytes)). has triple_cmp t (triples_held (meaning c.args.version) c.args.id h)) (sym (held_is c.self.inside.store c.self.inside.table.records c.args.id)))) (c.in-Err.ensures.exchanged.full (ap (λ fault. Err fault) same)))
+
+pub returns-clause-held : goal.returns-clause-held
+returns-clause-held c = has_room _ _ _ (refused c)
+
+pub returns-clause-holders : goal.returns-clause-holders
+returns-clause-holders c = are_holders _ _ _ (refused c)

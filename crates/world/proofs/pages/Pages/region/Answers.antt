@@ -1,8 +1,0 @@
--- Store and records say what lies in the region.
-use Rattle.world.proofs.Laying.{laid}
-use Rattle.replay_model.specs.Versions.{meaning_by}
-use Rattle.world.specs.Meaning.{meaning}
-use Rattle.world.proofs.pages.Pages.region.Goals as goal
-
-pub returns : goal.returns
-returns c = rw (← c.self.view_is) (laid (meaning_by meaning c.self.inside.holders.second) c.self.inside.store c.self.inside.region c.self.inside.table.records c.self.invariant.kept)

@@ -1,0 +1,149 @@
+// What the entities hold.
+
+ghost use Rattle.std.specs.Prelude.{◌≡◌, ◌≤◌, [], IfOk, IsTrue, MatchOption, OnOk};
+ghost use Rattle.std.specs.FinMap as map;
+ghost use Rattle.entity_state.specs.Standing.{standing_of};
+ghost use Rattle.entity_state.specs.Table.{has_room};
+ghost use Rattle.replay_model.specs.Records.{record_of};
+ghost use Rattle.replay_model.specs.Versions.{meaning_by};
+ghost use Rattle.world.specs.Keeping.{kept_of};
+ghost use Rattle.world.specs.Laid.{IsLaid};
+ghost use Rattle.world.specs.Meaning.{meaning};
+ghost use Rattle.world.specs.Roomed.{HasRoom, room_with};
+
+use crate::holders::Holders;
+use crate::kept::Kept;
+use crate::remapping::held_in;
+use entity_model::EntityId;
+use entity_state::{Record, Standing, Table};
+use rdf_term::{List, OutOfMemory};
+use std::alloc::Global;
+use std::hash::RandomState;
+use std::marker::Model;
+use text_region::Region;
+use triple_store::Store;
+
+/// The records of the entities, the store of the triples that all held pages mean, with the bytes of these pages beside its terms' texts,
+/// and the names of the entities that hold one. Contracts see the records, each with the bytes that its entity holds, how many terms
+/// there may be, and the entities whose pages are mapped by version Two.
+#[derive(Drop)]
+pub struct Holdings {
+    pub(crate) alloc: Global,
+    pub(crate) store: Store,
+    pub(crate) table: Table<Kept>,
+    pub(crate) holders: Holders,
+}
+
+impl Model for Holdings {
+    ghost use Rattle.triple_store.specs.StoreState.{limit_of};
+    ghost use Rattle.world.specs.Codes.{holdings_code};
+    ghost use Rattle.world.specs.InStep.{AreInStep};
+    ghost use Rattle.world.specs.Keeping.{seen};
+    ghost use Rattle.world.specs.WorldState.{HoldingsState};
+
+    ghost Value = { HoldingsState };
+
+    ghost coded = { holdings_code };
+
+    ghost view = { λ a. record { records = seen a.store a.table.records; limit = limit_of a.store; second = a.holders.second } };
+
+    ghost invariant = { λ a. AreInStep a.store a.holders a.table.records };
+}
+
+impl Holdings {
+    /// No record, and at most so many terms. The hashes of the table and of the store are keyed by `keys`.
+    pub fn new(alloc: Global, keys: RandomState, limit: u32) -> Result<Holdings, OutOfMemory>
+        ensures { IfOk result (λ holdings. holdings ≡ record { records = map.empty; limit = limit; second = [] }) }
+    {
+        let store = Store::new(alloc, keys, limit)?;
+        let table = Table::new(alloc, keys)?;
+        Ok(Holdings {
+            alloc,
+            store,
+            table,
+            holders: Holders::new(alloc),
+        })
+    }
+
+    /// Sets how many terms there may be. There is no record yet.
+    pub fn set_limit(&mut self, limit: u32)
+        requires { map.len self.old.records ≡ 0 }
+        ensures limit { self.new ≡ record self.old { limit = limit } }
+        ensures held { HasRoom (meaning_by meaning self.new.second) self.new.limit self.new.records }
+    {
+        self.store.set_limit(limit);
+    }
+
+    /// What stands of an entity's record.
+    pub fn standing(&self, id: EntityId) -> Standing
+        ensures { result ≡ standing_of (record_of self.now.records id) }
+    {
+        standing_in(&self.table, id)
+    }
+
+    /// The revision that an entity holds, and its bytes.
+    pub fn held(&self, id: EntityId) -> Option<(u64, &[u8])>
+        ensures { MatchOption result ((record_of self.now.records id).held ≡ None)
+            (λ h. (record_of self.now.records id).held ≡ Some (record { revision = h.0; content = h.1.now })) }
+    {
+        held_in(&self.store, &self.table, id)
+    }
+
+    /// The ids of the entities with a record, in rising order.
+    pub fn entities(&self) -> Result<List<EntityId>, OutOfMemory>
+        ensures { IfOk result (λ ids. ids ≡ map.keys self.now.records) }
+    {
+        self.table.ids(self.alloc)
+    }
+
+    /// The region, which has the texts of the terms of all that is held, and the held pages, and nothing else.
+    pub fn region(&self) -> &Region
+        ensures { IsLaid (meaning_by meaning self.now.second) result.now self.now.records }
+    {
+        self.store.region()
+    }
+
+    /// How many different terms the triples of all that is held have.
+    pub fn terms(&self) -> u32
+        ensures count { result ≡ room_with (meaning_by meaning self.now.second) self.now.records [] }
+        ensures within { result ≤ self.now.limit }
+    {
+        self.store.terms()
+    }
+}
+
+// What stands of an entity's record.
+fn standing_in(table: &Table<Kept>, id: EntityId) -> Standing
+    ensures { result ≡ standing_of (kept_of table.now.records id) }
+{
+    match table.get(id) {
+        Some(record) => Standing {
+            state: record.state,
+            held: held_revision(record),
+            reconciled: record.reconciled,
+        },
+        None => {
+            let blank: Record<Kept> = Record::blank();
+            Standing {
+                state: blank.state,
+                held: None,
+                reconciled: None,
+            }
+        }
+    }
+}
+
+// The number of the revision that a record holds.
+fn held_revision(entity: &Record<Kept>) -> Option<u64>
+    ensures { result ≡ (standing_of entity.now).held }
+{
+    entity.held.as_ref().map(|held| held.revision)
+}
+
+// Makes room for a record, so that the next one of the entity that is put takes no memory.
+pub(crate) fn make_room(table: &mut Table<Kept>, id: EntityId) -> Result<(), OutOfMemory>
+    ensures records { table.new.records ≡ table.old.records }
+    ensures room { OnOk result (IsTrue (has_room table.new id)) }
+{
+    table.make_room(id)
+}

@@ -1,0 +1,96 @@
+// What a world tells of its state.
+
+ghost use Rattle.std.specs.Prelude.{◌≡◌, ◌<◌, ◌≤◌, [], None, Some, length, slice_get, IfSome, MatchOption, IfOk};
+ghost use Rattle.std.specs.Option.{option_copied};
+ghost use Rattle.std.specs.FinMap as map;
+ghost use Rattle.entity_json.specs.Document.{unfit_of};
+ghost use Rattle.entity_model.specs.declared.id.EntityId.{EntityId as AnEntity};
+ghost use Rattle.replay_model.specs.Entries.{HoldsUnlessOpen, is_open_in};
+ghost use Rattle.replay_model.specs.Records.{record_of};
+ghost use Rattle.replay_model.specs.Replies.{HoldsDocument};
+ghost use Rattle.replay_model.specs.Versions.{meaning_by};
+ghost use Rattle.world.specs.Laid.{IsLaid};
+ghost use Rattle.world.specs.Meaning.{meaning};
+ghost use Rattle.world.specs.Roomed.{room_with};
+
+use crate::world::World;
+use entity_model::EntityId;
+use entity_state::State;
+use rdf_term::{List, OutOfMemory};
+use side_output::{Entry, is_open};
+use text_region::Region;
+
+impl World {
+    /// The region, which has the texts of the terms of all that is held, each once, and the held pages, and nothing else.
+    pub fn region(&self) -> &Region
+        ensures { IsLaid (meaning_by meaning self.now.second) result.now self.now.replay.played.records }
+    {
+        self.holdings.region()
+    }
+
+    /// How many different terms the triples of all that is held have.
+    pub fn terms(&self) -> u32
+        ensures count { result ≡ room_with (meaning_by meaning self.now.second) self.now.replay.played.records [] }
+        ensures within { result ≤ self.now.room }
+    {
+        self.holdings.terms()
+    }
+
+    /// The ids of the entities with a record, in rising order.
+    pub fn entities(&self) -> Result<List<EntityId>, OutOfMemory>
+        ensures { IfOk result (λ ids. ids ≡ map.keys self.now.replay.played.records) }
+    {
+        self.holdings.entities()
+    }
+
+    /// The state of an entity; Unknown with revision 0 where it has no record.
+    pub fn state(&self, id: EntityId) -> State
+        ensures { result ≡ (record_of self.now.replay.played.records id).state }
+    {
+        self.holdings.standing(id).state
+    }
+
+    /// The revision that an entity holds, and its bytes. An entity holds what its state wants exactly where no revision entry
+    /// of it is open, and nothing of a page that isn't kept. Its bytes are a document of the entity.
+    pub fn held(&self, id: EntityId) -> Option<(u64, &[u8])>
+        ensures unless_open { HoldsUnlessOpen self.now.replay.played }
+        ensures documents { (x : AnEntity) → HoldsDocument unfit_of x (record_of self.now.replay.played.records x).held }
+        ensures value { MatchOption result ((record_of self.now.replay.played.records id).held ≡ None)
+            (λ h. (record_of self.now.replay.played.records id).held ≡ Some (record { revision = h.0; content = h.1.now })) }
+    {
+        self.holdings.held(id)
+    }
+
+    /// The number of entries of the side output.
+    pub fn side_len(&self) -> usize
+        ensures { result ≡ length self.now.replay.played.side }
+    {
+        self.side.len()
+    }
+
+    /// The entry of the side output at a place from 0.
+    pub fn side(&self, place: usize) -> Option<&Entry>
+        ensures { option_copied result ≡ slice_get self.now.replay.played.side place }
+    {
+        self.side.get(place)
+    }
+
+    /// Whether the entry of the side output at a place from 0 is open.
+    pub fn side_open(&self, place: usize) -> bool
+        requires { place < length self.now.replay.played.side }
+        ensures { IfSome (slice_get self.now.replay.played.side place) (λ entry. result ≡ is_open_in self.now.replay.played.records entry) }
+    {
+        match self.side(place) {
+            Some(entry) => self.is_open(entry),
+            None => false,
+        }
+    }
+
+    // Whether an entry is open, by the record of its entity.
+    fn is_open(&self, entry: &Entry) -> bool
+        ensures { result ≡ is_open_in self.now.replay.played.records entry.now }
+    {
+        let standing = self.holdings.standing(entry.entity());
+        is_open(entry, standing.state, standing.held, standing.reconciled)
+    }
+}
