@@ -3,6 +3,7 @@ use Rattle.std.proofs.Common.{◌≡◌, ℕ, zero, suc, ◌+◌, ◌-◌, ◌*�
 use Rattle.std.proofs.Math.Nat.{mul-le-mul_left}
 use Rattle.std.specs.Cmp.{IsTotalOrder}
 use Rattle.std.specs.FinMap as map
+use Rattle.block_index.specs.Steps.{Within}
 use Rattle.slot_index.specs.declared.key.Key.{Key}
 use Rattle.slot_index.specs.Keys.{key_cmp-total}
 use Rattle.slot_index.specs.Counts.{Counts as KeyCounts, count_of, lowered, raised, with_count}
@@ -10,6 +11,9 @@ use Rattle.text_region.specs.Region.{Texts}
 use Rattle.triple_store.specs.declared.catalog.Catalog.{Catalog}
 use Rattle.triple_store.specs.Costs.{Costs}
 use Rattle.triple_store.specs.Stored.{IsStored, counts_in}
+use Rattle.triple_store.specs.Telling.{if_told}
+use Rattle.triple_store.specs.declared.telling.Telling.{Telling}
+use Rattle.triple_store.specs.declared.telling.Telling.TheVariants.{Nothing, Change}
 use Rattle.triple_store.proofs.Unchanged.{len_image}
 
 -- ---- how many are stored
@@ -110,3 +114,28 @@ patched n m k texts adds removes before mid after e f g = at_most n k (texts + 0
 
 pub not_patched : (n m texts adds removes before after : ℕ) → texts ≡ adds → Costs n m texts (texts + 0) before after → Costs n m adds (adds + removes) before after
 not_patched n m texts adds removes before after e f = at_most n m texts adds (texts + 0) (adds + removes) before after (omega arith) (omega arith) f
+
+-- a look-up is allowed where one goes
+looked_up : (n before after : ℕ) → Within n 8 before after → Costs n n 0 1 before after
+looked_up n before after h = record { forward = h.0; grown = omega arith; within = λ d few. omega (arith, h.1 d (omega arith)) }
+
+pub one_looked_up : (n i before mid after : ℕ) → Costs n n 0 i before mid → Within n 8 mid after → Costs n n 0 (i + 1) before after
+one_looked_up n i before mid after h look = both n n n 0 0 i 1 before mid after h (looked_up n mid after look)
+
+-- of two passes
+pub twice : (n a b before mid after : ℕ) → Costs n n 0 a before mid → Costs n n 0 b mid after → Costs n n 0 (a + b) before after
+twice n a b before mid after f g = both n n n 0 0 a b before mid after f g
+
+pub first_pass : (n a b before mid : ℕ) → Costs n n 0 a before mid → Costs n n 0 (a + b) before mid
+first_pass n a b before mid f = at_most n n 0 0 a (a + b) before mid (omega arith) (omega arith) f
+
+-- what came, what is told of it, and what went
+pub told_between : (n m k came told most gone old before mid then after : ℕ) → Costs n m came 0 before mid → Costs m m 0 told mid then → Costs m k 0 gone then after → told ≤ most → gone ≤ came + old → Costs n k came (most + (came + old)) before after
+told_between n m k came told most gone old before mid then after f g h few le =
+    at_most n k (came + (0 + 0)) came (0 + (told + gone)) (most + (came + old)) before after (omega arith) (omega arith)
+    (both n m k came (0 + 0) 0 (told + gone) before mid after f (both m m k 0 0 told gone mid then after g h))
+
+-- fewer look-ups where fewer are told
+pub told_fewer : (telling : Telling) (a b : ℕ) → a ≤ b → if_told telling a ≤ if_told telling b
+told_fewer Change a b h = h
+told_fewer Nothing a b h = omega arith

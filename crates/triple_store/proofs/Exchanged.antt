@@ -116,11 +116,11 @@ module _ (st : Catalog) (r : Texts) (now : Catalog) (s : Texts) (had keys : List
   keys_there key there = let one : (t : Triple) × HasKey now s key t × (has triple_cmp t done ≡ true) = h.each key (of_keys key there) in one.1.stored
 
   -- the owner's keys stand for what they stood for
-  had_meant : meant now s had ≡ meant st r had
+  pub had_meant : meant now s had ≡ meant st r had
   had_meant = mapped_alike (triple_at now.pool s) (triple_at st.pool r) had (λ k there. tells now.pool s k (triple_at st.pool r k) (had_key st r now s had keys done stored all h k there).has)
 
   -- and those that came for the triples that are done
-  keys_meant : (t : Triple) → has triple_cmp t (meant now s in_order) ≡ has triple_cmp t done
+  pub keys_meant : (t : Triple) → has triple_cmp t (meant now s in_order) ≡ has triple_cmp t done
   keys_meant t =
       let m = triple_at now.pool s in
       same_test (has triple_cmp t (meant now s in_order)) (has triple_cmp t done)
@@ -139,7 +139,7 @@ module _ (st : Catalog) (r : Texts) (now : Catalog) (s : Texts) (had keys : List
 
     -- the old ones that didn't come again are gone
     module _ (less : Removes now s new u (difference key_cmp had in_order)) where
-      gone_then : (t : Triple) → has triple_cmp t (meant now s (difference key_cmp had in_order)) ≡ (not (has triple_cmp t done) && has triple_cmp t (meant st r had))
+      pub gone_then : (t : Triple) → has triple_cmp t (meant now s (difference key_cmp had in_order)) ≡ (not (has triple_cmp t done) && has triple_cmp t (meant st r had))
       gone_then t =
           meant-difference now s h.stored had in_order had_there keys_there t
           ∙ ap (λ b. not b && has triple_cmp t (meant now s had)) (keys_meant t)

@@ -1,5 +1,6 @@
 pub mod AtHand
 pub mod Costs
+pub mod Differing
 pub mod Distinct
 pub mod Exchanged
 pub mod Held

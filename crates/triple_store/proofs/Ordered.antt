@@ -77,7 +77,7 @@ row_order a b c d = λ i. ordering_then
     (bytes_cmp (canonical_back a.predicate.now c.predicate i) (canonical_back b.predicate.now d.predicate i))
     (bytes_cmp (canonical_back a.object.now c.object i) (canonical_back b.object.now d.object i)))
 
-sorted_triples : (rows : List TripleText) → All HasCanonicalTexts rows → IsSorted text_cmp rows → IsSorted triple_cmp (mapped triple_of rows)
+pub sorted_triples : (rows : List TripleText) → All HasCanonicalTexts rows → IsSorted text_cmp rows → IsSorted triple_cmp (mapped triple_of rows)
 sorted_triples [] all s = λ k d low high. absurd (omega (arith, high))
 sorted_triples (row ∷ rows) all s = λ k d low high.
     let xs = row ∷ rows in

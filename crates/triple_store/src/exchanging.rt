@@ -16,10 +16,12 @@ ghost use Rattle.triple_store.specs.Moves.{Takes};
 ghost use Rattle.triple_store.specs.Room.{room_for};
 ghost use Rattle.triple_store.specs.Slots.{HasTexts};
 ghost use Rattle.triple_store.specs.Stored.{AreKeysOf, IsStored, KeepsKeys, beside, counts_in, is_key, limit_of};
+ghost use Rattle.triple_store.specs.Telling.{TellsIf, if_told};
 
 use crate::StoreFault;
 use crate::catalog::Catalog;
 use crate::keys::{KeySlices, Keys, NOWHERE, in_order, narrowed};
+use crate::telling::{Exchange, Telling};
 use block_index::Steps;
 use rdf_term::OutOfMemory;
 use slot_index::Key;
@@ -92,20 +94,57 @@ impl Catalog {
         ensures limit { limit_of self.new ≡ limit_of self.old }
         ensures cost { Costs (map.len (counts_in self.old region.old)) (map.len (counts_in self.new region.new)) (length new.now) (length new.now + length old.entry.rising.now) steps.old steps.new }
     {
+        match self.exchange_with(region, old, new, Telling::Nothing, steps) {
+            Ok(done) => Ok(done.keys),
+            Err(fault) => Err(fault),
+        }
+    }
+
+    // The same, telling the change where it is to be told: between what comes and what goes, while the triples of both are stored.
+    pub(crate) fn exchange_with<L: Ledger>(
+        &mut self,
+        region: &mut Region,
+        old: KeySlices<'_>,
+        new: &TripleTexts,
+        telling: Telling,
+        steps: &mut Steps<L>,
+    ) -> Result<Exchange, StoreFault>
+        requires stored { IsStored self.old region.old }
+        requires fit { AllByRecursion HasFitAndShortTerms new.now }
+        requires rising { IsRising key_cmp old.rising.now }
+        requires there { (key : TheKey) → has key_cmp key old.rising.now ≡ true → is_key self.old key ≡ true }
+        requires countable { (triple : Triple) → has triple_cmp triple new.now ≡ true → count_of (counts_in self.old region.old) triple < 18446744073709551615 }
+        ensures stored { IsStored self.new region.new }
+        ensures ok { OnOk result ((gone : List Triple) → AreKeysOf self.old region.old old.entry.rising.now gone → Exchanges (counts_in self.old region.old) (counts_in self.new region.new) gone new.now) }
+        ensures told { IfOk result (λ done. TellsIf telling (counts_in self.old region.old) (counts_in self.new region.new) done.change) }
+        ensures err { OnErr result (counts_in self.new region.new ≡ counts_in self.old region.old) }
+        ensures keys { IfOk result (λ done. AreKeysOf self.new region.new done.keys.rising.items new.now) }
+        ensures full { result ≡ Err StoreFault.Full → limit_of self.old < room_for (counts_in self.old region.old) new.now }
+        ensures within { OnOk result (room_for (counts_in self.old region.old) new.now ≤ limit_of self.old) }
+        ensures free { telling ≡ Telling.Nothing → new.now ≡ [] → IsOk result }
+        ensures keeps { KeepsKeys self.old region.old self.new region.new }
+        ensures beside { (piece : ThePiece) → beside self.new region.new piece ≡ beside self.old region.old piece }
+        ensures limit { limit_of self.new ≡ limit_of self.old }
+        ensures cost { Costs (map.len (counts_in self.old region.old)) (map.len (counts_in self.new region.new)) (length new.now) (if_told telling (length new.now + length old.entry.rising.now) + (length new.now + length old.entry.rising.now)) steps.old steps.new }
+    {
         let Ok(mut met) = no_keys_met(self.alloc, new.len()) else {
             return Err(StoreFault::OutOfMemory);
         };
         let taken = self.take_in(region, Swap { old, new }, &mut met, steps);
         let Met { keys, places } = met;
         let keys = in_order(self.alloc, old.rising, keys, places.as_slice());
-        match taken {
-            Ok(()) => {
+        if let Err(fault) = taken {
+            self.remove_beside(region, keys.slices().rising, old.rising, steps);
+            return Err(fault);
+        }
+        match self.change_if(telling, region, old.rising, keys.slices().rising, steps) {
+            Ok(change) => {
                 self.remove_beside(region, old.rising, keys.slices().rising, steps);
-                Ok(keys)
+                Ok(Exchange { keys, change })
             }
-            Err(fault) => {
+            Err(_) => {
                 self.remove_beside(region, keys.slices().rising, old.rising, steps);
-                Err(fault)
+                Err(StoreFault::OutOfMemory)
             }
         }
     }

@@ -5,7 +5,7 @@
 //! the region stands below: `catalog` is a pool of terms and an index of triples of slots. `holding` uses the terms of a triple once
 //! more, all or none, and once less. `keys` has the keys of one owner, in order and as its triples came. On these `changing` gives a
 //! triple one owner more or less; triple by triple `exchanging` puts the triples of one owner in the place of others, `releasing` takes
-//! them away, and `patching` applies a patch. `rows` finds the triples that agree with a pattern, as slices of their texts; `reading`
+//! them away, and `patching` applies a patch. `telling` finds what an exchange changed, in its middle. `rows` finds the triples that agree with a pattern, as slices of their texts; `reading`
 //! reads triples back from these. `matching` counts the owners of a triple, and `room` says how many terms there are.
 #![tactic(auto)]
 
@@ -22,10 +22,12 @@ mod releasing;
 mod room;
 mod rows;
 mod store;
+mod telling;
 mod updates;
 
 pub use keys::{KeySlices, Keys};
 pub use rows::Rows;
 pub use store::Store;
+pub use telling::{Change, Exchange, Telling, TripleLines};
 /// Why a store takes no triples: there are more terms than the limit says, or memory was refused.
 pub use term_pool::PoolFault as StoreFault;

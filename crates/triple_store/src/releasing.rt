@@ -1,6 +1,6 @@
 // Triples of one owner that go.
 
-ghost use Rattle.std.specs.Prelude.{◌≡◌, true, List, [], length, is_ok};
+ghost use Rattle.std.specs.Prelude.{◌≡◌, ◌+◌, true, List, [], length, is_ok, IfOk, IsOk, OnOk, OnErr};
 ghost use Rattle.std.specs.FinMap as map;
 ghost use Rattle.std.specs.List.Sorted.{IsSearchInRange};
 ghost use Rattle.rising.specs.Rising.{IsRising, difference, has};
@@ -12,9 +12,12 @@ ghost use Rattle.triple_store.specs.Costs.{Costs};
 ghost use Rattle.triple_store.specs.Counts.{Exchanges};
 ghost use Rattle.triple_store.specs.Moves.{Removes};
 ghost use Rattle.triple_store.specs.Stored.{AreKeysOf, IsStored, KeepsKeys, beside, counts_in, is_key, limit_of};
+ghost use Rattle.triple_store.specs.Telling.{TellsIf, if_told};
 
 use crate::catalog::Catalog;
+use crate::telling::{Change, Telling};
 use block_index::Steps;
+use rdf_term::OutOfMemory;
 use slot_index::Key;
 use std::sync::ledger::Ledger;
 use text_region::Region;
@@ -37,7 +40,36 @@ impl Catalog {
         ensures limit { limit_of self.new ≡ limit_of self.old }
         ensures cost { Costs (map.len (counts_in self.old region.old)) (map.len (counts_in self.new region.new)) 0 (length old.now) steps.old steps.new }
     {
+        let Ok(_) = self.release_with(region, old, Telling::Nothing, steps) else {
+            unreachable!()
+        };
+    }
+
+    // The same, telling the change where it is to be told. After `OutOfMemory` nothing has changed.
+    pub(crate) fn release_with<L: Ledger>(
+        &mut self,
+        region: &mut Region,
+        old: &[Key],
+        telling: Telling,
+        steps: &mut Steps<L>,
+    ) -> Result<Option<Change>, OutOfMemory>
+        requires stored { IsStored self.old region.old }
+        requires rising { IsRising key_cmp old.now }
+        requires there { (key : TheKey) → has key_cmp key old.now ≡ true → is_key self.old key ≡ true }
+        ensures stored { IsStored self.new region.new }
+        ensures released { OnOk result ((gone : List Triple) → AreKeysOf self.old region.old old.now gone → Exchanges (counts_in self.old region.old) (counts_in self.new region.new) gone []) }
+        ensures told { IfOk result (λ change. TellsIf telling (counts_in self.old region.old) (counts_in self.new region.new) change) }
+        ensures err { OnErr result (self.new ≡ self.old) }
+        ensures err_region { OnErr result (region.new ≡ region.old) }
+        ensures free { telling ≡ Telling.Nothing → IsOk result }
+        ensures keeps { KeepsKeys self.old region.old self.new region.new }
+        ensures beside { (piece : ThePiece) → beside self.new region.new piece ≡ beside self.old region.old piece }
+        ensures limit { limit_of self.new ≡ limit_of self.old }
+        ensures cost { Costs (map.len (counts_in self.old region.old)) (map.len (counts_in self.new region.new)) 0 (if_told telling (length old.now) + length old.now) steps.old steps.new }
+    {
+        let change = self.change_if(telling, region, old, &[], steps)?;
         self.remove_beside(region, old, &[], steps);
+        Ok(change)
     }
 
     // Takes one owner away from the triples of these keys, but for the keys that are among others. It takes no memory.

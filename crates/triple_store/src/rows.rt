@@ -5,20 +5,23 @@ ghost use Rattle.std.specs.FinMap as map;
 ghost use Rattle.std.specs.List.{All};
 ghost use Rattle.std.specs.List.Sorted.{IsPermutation, IsSorted};
 ghost use Rattle.std.specs.Ordering.{ordering_then};
-ghost use Rattle.rising.specs.Rising.{has};
+ghost use Rattle.rising.specs.Rising.{IsRising, has, sorted};
 ghost use Rattle.block_index.specs.Steps.{Within};
 ghost use Rattle.rdf_term.specs.Append.{Appends};
-ghost use Rattle.rdf_term.specs.Order.{bytes_cmp};
+ghost use Rattle.rdf_term.specs.Order.{bytes_cmp, triple_cmp};
 ghost use Rattle.rdf_term.specs.Pattern.{rows};
 ghost use Rattle.rdf_term.specs.Text.{triple_text};
 ghost use Rattle.slot_index.specs.declared.key.Key.{Key as TheKey};
 ghost use Rattle.slot_index.specs.Keys.{key_cmp};
+ghost use Rattle.triple_store.specs.Moves.{meant};
 ghost use Rattle.triple_store.specs.Rows.{line_of, text_cmp};
 ghost use Rattle.triple_store.specs.Slots.{HasCanonicalTexts, HasTexts, triple_at, triple_of};
 ghost use Rattle.triple_store.specs.Stored.{IsStored, counts_in, is_key};
+ghost use Rattle.triple_store.specs.Telling.{AreLinesOf};
 
 use crate::catalog::Catalog;
 use crate::reading::read_rows;
+use crate::telling::TripleLines;
 use block_index::Steps;
 use rdf_term::{OutOfMemory, Pattern, TripleSet};
 use slot_index::Key;
@@ -66,6 +69,18 @@ impl<'a> Rows<'a> {
         write_row(&self.rows[place], out)
     }
 
+    /// The lines of the triples, in their order.
+    pub fn lines(&self, alloc: Global) -> Result<TripleLines, OutOfMemory>
+        ensures { IfOk result (λ lines. AreLinesOf lines self.now) }
+    {
+        let mut text = Vec::new(alloc);
+        let count = self.len();
+        for place in 0..count {
+            self.write(place, &mut text)?;
+        }
+        Ok(TripleLines { count, text })
+    }
+
     /// The triples in memory of their own.
     pub fn triples(&self, alloc: Global) -> Result<TripleSet, OutOfMemory>
         ensures { IfOk result (λ set. set ≡ self.now) }
@@ -96,6 +111,22 @@ impl Catalog {
         };
         let keys = self.index.range(wanted, steps)?;
         let mut rows = self.texts_of(region, keys.as_slice())?;
+        sort_rows(&mut rows);
+        Ok(Rows { rows })
+    }
+
+    // The triples of keys, in their own order.
+    pub(crate) fn rows_of<'a>(
+        &self,
+        region: &'a Region,
+        keys: &[Key],
+    ) -> Result<Rows<'a>, OutOfMemory>
+        requires stored { IsStored self.now region.now }
+        requires rising { IsRising key_cmp keys.now }
+        requires there { (key : TheKey) → has key_cmp key keys.now ≡ true → is_key self.now key ≡ true }
+        ensures { IfOk result (λ rows. rows ≡ sorted triple_cmp (meant self.now region.now keys.now)) }
+    {
+        let mut rows = self.texts_of(region, keys)?;
         sort_rows(&mut rows);
         Ok(Rows { rows })
     }

@@ -4,12 +4,15 @@ ghost use Rattle.std.specs.Prelude.{◌≡◌, ◌+◌, ◌<◌, length};
 ghost use Rattle.std.specs.FinMap as map;
 ghost use Rattle.triple_store.specs.Costs.{Costs};
 ghost use Rattle.triple_store.specs.StoreState.{counts_in};
-ghost use Rattle.triple_store.specs.Updates.{AreStored, IsExchange, IsPatched, IsRelease, KeepsRest, MayCome, MayGo};
+ghost use Rattle.triple_store.specs.Telling.{if_told};
+ghost use Rattle.triple_store.specs.Updates.{AreStored, IsExchange, IsPatched, IsRelease, IsToldExchange, IsToldRelease, KeepsRest, MayCome, MayGo};
 
 use crate::StoreFault;
 use crate::keys::{KeySlices, Keys};
 use crate::store::Store;
+use crate::telling::{Change, Exchange, Telling};
 use block_index::Steps;
+use rdf_term::OutOfMemory;
 use std::marker::Brand;
 use std::sync::ledger::{Blank, Ledger};
 use triple_patch::Patch;
@@ -45,6 +48,42 @@ impl Store {
         self.catalog.exchange(&mut self.region, old, new, steps)
     }
 
+    /// Does what `exchange` does, and where it is to tell the change, tells which triples it made stored and which stored no longer.
+    /// Telling takes a look-up at most for each old and each new triple, and memory for the lines of those told. After a fault every
+    /// triple has the count that it had.
+    pub fn exchange_with(
+        &mut self,
+        old: KeySlices<'_>,
+        new: &TripleTexts,
+        telling: Telling,
+    ) -> Result<Exchange, StoreFault>
+        requires may_come { MayCome self.old new.now }
+        requires stored { AreStored self.old old.rising.now }
+        ensures exchanged { IsToldExchange telling self.old self.new old.entry.rising.now new.now result }
+        ensures rest { KeepsRest self.old self.new }
+    {
+        exchange_with_by::<Brand>(self, old, new, telling, Blank::new(1))
+    }
+
+    /// The same, counting the steps in the index: where the change is told, at most 11 (d + 8) for each new triple and 6 (d + 8) for each
+    /// old one, where d is the number of binary digits of the number of stored and new triples together.
+    pub fn exchange_with_counting<L: Ledger>(
+        &mut self,
+        old: KeySlices<'_>,
+        new: &TripleTexts,
+        telling: Telling,
+        steps: &mut Steps<L>,
+    ) -> Result<Exchange, StoreFault>
+        requires may_come { MayCome self.old new.now }
+        requires stored { AreStored self.old old.rising.now }
+        ensures exchanged { IsToldExchange telling self.old self.new old.entry.rising.now new.now result }
+        ensures rest { KeepsRest self.old self.new }
+        ensures cost { Costs (map.len (counts_in self.old)) (map.len (counts_in self.new)) (length new.now) (if_told telling (length new.now + length old.entry.rising.now) + (length new.now + length old.entry.rising.now)) steps.old steps.new }
+    {
+        self.catalog
+            .exchange_with(&mut self.region, old, new, telling, steps)
+    }
+
     /// Takes one owner away from the triples of these keys. It takes no memory.
     pub fn release(&mut self, old: KeySlices<'_>)
         requires stored { AreStored self.old old.rising.now }
@@ -63,6 +102,37 @@ impl Store {
         ensures cost { Costs (map.len (counts_in self.old)) (map.len (counts_in self.new)) 0 (length old.entry.rising.now) steps.old steps.new }
     {
         self.catalog.release(&mut self.region, old.rising, steps);
+    }
+
+    /// Does what `release` does, and where it is to tell the change, tells which triples it made stored no longer. Only telling takes
+    /// memory. After `OutOfMemory` the store is as it was.
+    pub fn release_with(
+        &mut self,
+        old: KeySlices<'_>,
+        telling: Telling,
+    ) -> Result<Option<Change>, OutOfMemory>
+        requires stored { AreStored self.old old.rising.now }
+        ensures released { IsToldRelease telling self.old self.new old.entry.rising.now result }
+        ensures rest { KeepsRest self.old self.new }
+    {
+        release_with_by::<Brand>(self, old, telling, Blank::new(1))
+    }
+
+    /// The same, counting the steps in the index: where the change is told, at most 6 (d + 8) for each key, where d is the number of
+    /// binary digits of the number of stored triples.
+    pub fn release_with_counting<L: Ledger>(
+        &mut self,
+        old: KeySlices<'_>,
+        telling: Telling,
+        steps: &mut Steps<L>,
+    ) -> Result<Option<Change>, OutOfMemory>
+        requires stored { AreStored self.old old.rising.now }
+        ensures released { IsToldRelease telling self.old self.new old.entry.rising.now result }
+        ensures rest { KeepsRest self.old self.new }
+        ensures cost { Costs (map.len (counts_in self.old)) (map.len (counts_in self.new)) 0 (if_told telling (length old.entry.rising.now) + length old.entry.rising.now) steps.old steps.new }
+    {
+        self.catalog
+            .release_with(&mut self.region, old.rising, telling, steps)
     }
 
     /// Counts one owner more of each triple that comes and one less of each that goes; what has no owner left is no longer
@@ -110,6 +180,24 @@ fn exchange_by<L: Ledger>(
     store.exchange_counting(old, new, &mut Steps::<L>::new(blank))
 }
 
+fn exchange_with_by<L: Ledger>(
+    store: &mut Store,
+    old: KeySlices<'_>,
+    new: &TripleTexts,
+    telling: Telling,
+    blank: Blank,
+) -> Result<Exchange, StoreFault>
+    requires may_come { MayCome store.old new.now }
+    requires stored { AreStored store.old old.rising.now }
+    requires name { blank.name ≡ L.name }
+    requires parts { blank.parts ≡ L.parts }
+    requires some { 0 < blank.parts }
+    ensures exchanged { IsToldExchange telling store.old store.new old.entry.rising.now new.now result }
+    ensures rest { KeepsRest store.old store.new }
+{
+    store.exchange_with_counting(old, new, telling, &mut Steps::<L>::new(blank))
+}
+
 fn release_by<L: Ledger>(store: &mut Store, old: KeySlices<'_>, blank: Blank)
     requires stored { AreStored store.old old.rising.now }
     requires name { blank.name ≡ L.name }
@@ -119,6 +207,22 @@ fn release_by<L: Ledger>(store: &mut Store, old: KeySlices<'_>, blank: Blank)
     ensures rest { KeepsRest store.old store.new }
 {
     store.release_counting(old, &mut Steps::<L>::new(blank));
+}
+
+fn release_with_by<L: Ledger>(
+    store: &mut Store,
+    old: KeySlices<'_>,
+    telling: Telling,
+    blank: Blank,
+) -> Result<Option<Change>, OutOfMemory>
+    requires stored { AreStored store.old old.rising.now }
+    requires name { blank.name ≡ L.name }
+    requires parts { blank.parts ≡ L.parts }
+    requires some { 0 < blank.parts }
+    ensures released { IsToldRelease telling store.old store.new old.entry.rising.now result }
+    ensures rest { KeepsRest store.old store.new }
+{
+    store.release_with_counting(old, telling, &mut Steps::<L>::new(blank))
 }
 
 fn apply_by<L: Ledger>(store: &mut Store, patch: &Patch, blank: Blank) -> Result<(), StoreFault>

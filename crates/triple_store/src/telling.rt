@@ -1,0 +1,150 @@
+// What the triples of one owner change of those that are stored.
+
+ghost use Rattle.std.specs.Prelude.{◌≡◌, ◌+◌, true, length, IfOk, IsOk};
+ghost use Rattle.std.specs.FinMap as map;
+ghost use Rattle.rising.specs.Rising.{IsRising, has, sorted};
+ghost use Rattle.rdf_term.specs.Order.{triple_cmp};
+ghost use Rattle.slot_index.specs.declared.key.Key.{Key as TheKey};
+ghost use Rattle.slot_index.specs.Keys.{key_cmp};
+ghost use Rattle.triple_store.specs.Costs.{Costs};
+ghost use Rattle.triple_store.specs.Moves.{meant};
+ghost use Rattle.triple_store.specs.Stored.{IsStored, is_key};
+ghost use Rattle.triple_store.specs.Telling.{AreLinesOf, LinesIf, if_told, sole};
+
+use crate::catalog::Catalog;
+use crate::keys::Keys;
+use crate::releasing::find_from;
+use block_index::Steps;
+use rdf_term::OutOfMemory;
+use slot_index::Key;
+use std::sync::ledger::Ledger;
+use text_region::Region;
+
+/// Whether a call tells what it changed of the stored triples.
+#[derive(Clone, Copy, Debug, PartialEq, Eq)]
+pub enum Telling {
+    /// It tells nothing, and pays nothing for it.
+    Nothing,
+    /// It tells the change.
+    Change,
+}
+
+/// The lines of triples in rising order, each with its LF, and the number of the triples.
+#[derive(Debug, Drop)]
+pub struct TripleLines {
+    pub count: usize,
+    pub text: Vec<u8>,
+}
+
+/// The triples that a call made stored, and those that it made stored no longer.
+#[derive(Debug, Drop)]
+pub struct Change {
+    pub came: TripleLines,
+    pub gone: TripleLines,
+}
+
+/// The keys of the triples that an owner has after an exchange, and what the exchange changed, where it was to tell that.
+#[derive(Debug, Drop)]
+pub struct Exchange {
+    pub keys: Keys,
+    pub change: Option<Change>,
+}
+
+impl Catalog {
+    // What the new keys made stored and what the loss of the old ones will end, where that is to be told. The triples of both are stored.
+    pub(crate) fn change_if<L: Ledger>(
+        &self,
+        telling: Telling,
+        region: &Region,
+        old: &[Key],
+        new: &[Key],
+        steps: &mut Steps<L>,
+    ) -> Result<Option<Change>, OutOfMemory>
+        requires stored { IsStored self.now region.now }
+        requires rising { IsRising key_cmp old.now }
+        requires rising_new { IsRising key_cmp new.now }
+        requires there { (key : TheKey) → has key_cmp key old.now ≡ true → is_key self.now key ≡ true }
+        requires there_new { (key : TheKey) → has key_cmp key new.now ≡ true → is_key self.now key ≡ true }
+        ensures lines { IfOk result (λ change. LinesIf telling (sorted triple_cmp (meant self.now region.now (sole self.now new.now old.now))) (sorted triple_cmp (meant self.now region.now (sole self.now old.now new.now))) change) }
+        ensures free { telling ≡ Telling.Nothing → IsOk result }
+        ensures cost { Costs (map.len self.now.index) (map.len self.now.index) 0 (if_told telling (length new.now + length old.now)) steps.old steps.new }
+    {
+        match telling {
+            Telling::Nothing => Ok(None),
+            Telling::Change => {
+                let change = self.change_of(region, old, new, steps)?;
+                Ok(Some(change))
+            }
+        }
+    }
+
+    // The same, told in any case. A triple came where its key is a new one alone and has one owner, and it goes where its key is an old
+    // one alone and has one owner.
+    fn change_of<L: Ledger>(
+        &self,
+        region: &Region,
+        old: &[Key],
+        new: &[Key],
+        steps: &mut Steps<L>,
+    ) -> Result<Change, OutOfMemory>
+        requires stored { IsStored self.now region.now }
+        requires rising { IsRising key_cmp old.now }
+        requires rising_new { IsRising key_cmp new.now }
+        requires there { (key : TheKey) → has key_cmp key old.now ≡ true → is_key self.now key ≡ true }
+        requires there_new { (key : TheKey) → has key_cmp key new.now ≡ true → is_key self.now key ≡ true }
+        ensures came { IfOk result (λ change. AreLinesOf change.came (sorted triple_cmp (meant self.now region.now (sole self.now new.now old.now)))) }
+        ensures gone { IfOk result (λ change. AreLinesOf change.gone (sorted triple_cmp (meant self.now region.now (sole self.now old.now new.now)))) }
+        ensures cost { Costs (map.len self.now.index) (map.len self.now.index) 0 (length new.now + length old.now) steps.old steps.new }
+    {
+        let came = self.sole_lines(region, new, old, steps)?;
+        let gone = self.sole_lines(region, old, new, steps)?;
+        Ok(Change { came, gone })
+    }
+
+    // The lines of the triples with one owner whose keys are these, but for the keys that are among others.
+    fn sole_lines<L: Ledger>(
+        &self,
+        region: &Region,
+        keys: &[Key],
+        others: &[Key],
+        steps: &mut Steps<L>,
+    ) -> Result<TripleLines, OutOfMemory>
+        requires stored { IsStored self.now region.now }
+        requires rising { IsRising key_cmp keys.now }
+        requires others { IsRising key_cmp others.now }
+        requires there { (key : TheKey) → has key_cmp key keys.now ≡ true → is_key self.now key ≡ true }
+        ensures lines { IfOk result (λ lines. AreLinesOf lines (sorted triple_cmp (meant self.now region.now (sole self.now keys.now others.now)))) }
+        ensures cost { Costs (map.len self.now.index) (map.len self.now.index) 0 (length keys.now) steps.old steps.new }
+    {
+        let found = self.sole_keys(keys, others, steps)?;
+        let rows = self.rows_of(region, found.as_slice())?;
+        rows.lines(self.alloc)
+    }
+
+    // The keys with one owner, but for those that are among others.
+    fn sole_keys<L: Ledger>(
+        &self,
+        keys: &[Key],
+        others: &[Key],
+        steps: &mut Steps<L>,
+    ) -> Result<Vec<Key>, OutOfMemory>
+        requires others { IsRising key_cmp others.now }
+        ensures sole { IfOk result (λ found. found.items ≡ sole self.now keys.now others.now) }
+        ensures cost { Costs (map.len self.now.index) (map.len self.now.index) 0 (length keys.now) steps.old steps.new }
+    {
+        let mut found = Vec::new(self.alloc);
+        let mut next = 0;
+        for key in keys {
+            match find_from(others, *key, next) {
+                Ok(place) => next = place + 1,
+                Err(place) => {
+                    next = place;
+                    if self.index.count(*key, steps) == 1 {
+                        found.push(*key)?;
+                    }
+                }
+            }
+        }
+        Ok(found)
+    }
+}
