@@ -1,0 +1,4 @@
+pub mod Heads
+pub mod Records
+pub mod TermEnds
+pub mod TripleLines

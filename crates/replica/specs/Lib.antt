@@ -1,0 +1,5 @@
+pub mod Head
+pub mod Reader
+pub mod Record
+pub mod TermEnd
+pub mod TripleLine

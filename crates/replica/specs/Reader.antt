@@ -1,0 +1,95 @@
+-- What a reader of records gives and refuses, line by line.
+use Rattle.std.specs.Prelude.{◌≡◌, ◌≢◌, ℕ, ◌≤◌, Bool, true, false, not, ◌&&◌, ◌==◌, nat_lt, if◌then◌else◌, List, [], ◌∷◌, ◌++◌, length, Option, None, Some, MatchOption, ⊤}
+use Rattle.std.specs.List.{AllByRecursion}
+use Rattle.std.specs.Ordering.{is_lt}
+use Rattle.rising.specs.Rising.{IsRising, has}
+use Rattle.rdf_term.specs.declared.triple.Triple.{Triple}
+use Rattle.rdf_term.specs.Order.{triple_cmp}
+use Rattle.replica.specs.declared.head.Head.{Head}
+use Rattle.replica.specs.declared.record.PatchRecord.{PatchRecord}
+use Rattle.replica.specs.declared.reader.Begun.{Begun}
+use Rattle.replica.specs.declared.reader.PatchFault.{PatchFault}
+use Rattle.replica.specs.declared.reader.PatchFault.TheVariants.{Head as NoHead, Triple as NoTriple, Order as OutOfOrder, OutOfMemory}
+use Rattle.replica.specs.Head.{IsHead, head_line}
+use Rattle.replica.specs.Record.{lines_with}
+use Rattle.replica.specs.TripleLine.{HasReadableTerms, IsTripleLine}
+
+-- the lines that were read of a record
+abbrev pub lines_of : Option Begun → List (List ℕ)
+lines_of None = []
+lines_of (Some begun) = lines_with begun.head (begun.adds ++ begun.removes)
+
+-- the triple is greater than the last one of the list
+abbrev pub is_next : List Triple → Triple → Bool
+is_next [] triple = true
+is_next (x ∷ []) triple = is_lt (triple_cmp x triple)
+is_next (x ∷ y ∷ ys) triple = is_next (y ∷ ys) triple
+
+-- whether triples that come are due
+abbrev pub is_adding : Begun → Bool
+is_adding begun = nat_lt (length begun.adds) begun.head.adds
+
+-- whether the triple may follow: it is greater than the one before it in its part, and isn't in both parts
+unfoldable pub in_order : Begun → Triple → Bool
+in_order begun triple = if is_adding begun then is_next begun.adds triple else (is_next begun.removes triple && not (has triple_cmp triple begun.adds))
+
+-- a record whose head was read
+abbrev pub opened : Head → Begun
+opened head = record { head = head; adds = []; removes = [] }
+
+-- the record with one more triple
+unfoldable pub with_triple : Begun → Triple → Begun
+with_triple begun triple =
+    if is_adding begun then record { head = begun.head; adds = begun.adds ++ triple ∷ []; removes = begun.removes }
+    else record { head = begun.head; adds = begun.adds; removes = begun.removes ++ triple ∷ [] }
+
+-- whether all triples that the head counts were read
+abbrev pub is_whole : Begun → Bool
+is_whole begun = (length begun.adds == begun.head.adds) && (length begun.removes == begun.head.removes)
+
+-- the record of what was read
+abbrev pub record_of : Begun → PatchRecord
+record_of begun = record { number = begun.head.number; adds = begun.adds; removes = begun.removes }
+
+-- what is given behind a line, and what is left to be read on
+unfoldable pub given : Begun → Option PatchRecord
+given begun = if is_whole begun then Some (record_of begun) else None
+
+unfoldable pub left : Begun → Option Begun
+left begun = if is_whole begun then None else Some begun
+
+-- with the line, this was read of a record: the line is its head, or that of its next triple
+abbrev pub Grows : Option Begun → List ℕ → Begun → Type 0
+Grows None line begun = IsHead line begun.head × (begun ≡ opened begun.head)
+Grows (Some before) line begun = (triple : Triple) × IsTripleLine line triple × (in_order before triple ≡ true) × (begun ≡ with_triple before triple)
+
+-- the reader takes the line: it gives the record at its last line
+pub record Takes (old : Option Begun) (line : List ℕ) (new : Option Begun) (found : Option PatchRecord) : Type 0 where
+  pub begun : Begun
+  pub grows : Grows old line begun
+  pub found_is : found ≡ given begun
+  pub left_is : new ≡ left begun
+
+-- the part of a record that was read: no part has more triples than the head says, those that come are first, and each part is a
+-- set of readable triples
+pub record IsPart (begun : Begun) : Type 0 where
+  pub head : IsHead (head_line begun.head) begun.head
+  pub few_adds : length begun.adds ≤ begun.head.adds
+  pub few_removes : length begun.removes ≤ begun.head.removes
+  pub in_turn : is_adding begun ≡ true → begun.removes ≡ []
+  pub adds : IsRising triple_cmp begun.adds
+  pub removes : IsRising triple_cmp begun.removes
+  pub readable : AllByRecursion HasReadableTerms (begun.adds ++ begun.removes)
+  pub apart : (triple : Triple) → has triple_cmp triple begun.adds ≡ true → has triple_cmp triple begun.removes ≡ false
+
+-- a record that lacks lines
+pub record IsUnfinished (begun : Begun) : Type 0 where
+  pub part : IsPart begun
+  pub lacks : is_whole begun ≡ false
+
+-- why a line is refused: a head is due, and it is none; a triple is due, and it is none's; or this triple may not follow
+abbrev pub HasCause : PatchFault → Option Begun → List ℕ → Type 0
+HasCause NoHead begun line = (begun ≡ None) × ((head : Head) → IsHead line head → ⊥)
+HasCause NoTriple begun line = (begun ≢ None) × ((triple : Triple) → IsTripleLine line triple → ⊥)
+HasCause OutOfOrder begun line = MatchOption begun ⊥ (λ before. (triple : Triple) × IsTripleLine line triple × (in_order before triple ≡ false))
+HasCause OutOfMemory begun line = ⊤
