@@ -89,7 +89,7 @@ begins (suc n) (b ∷ bs) one more =
     rw parts.0 (begins-cons b (suc n) (lines bs) (begins n bs parts.1 (omega (arith, more))))
 
 -- an over-long line is refused
-over_long_among : (before : List (List ℕ)) (bytes : List ℕ) (room : ℕ) → IsLineLong room bytes → deliveries_of (before ++ lines bytes) ≡ None
+over_long_among : (before : List (List ℕ)) (bytes : List ℕ) (room : ℕ) → IsLineLong room longest_line bytes → deliveries_of (before ++ lines bytes) ≡ None
 over_long_among before bytes room long =
     let first : BeginsWith (longest_line + 1) (lines bytes) = begins longest_line bytes long.in_line (omega (arith, long.more)) in
     let refused : line_delivers first.first ≡ Err LineLong = ap (λ b. cond b (delivery_of first.first) (Err LineLong)) (lt-leb (length first.first) longest_line (omega (arith, first.more))) in

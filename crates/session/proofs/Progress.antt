@@ -1,7 +1,7 @@
 -- How far the taking of lines has come, and what follows where it goes on, stops or ends.
 use Rattle.std.proofs.Common.{refl, sym, subst, ◌∙◌, ap, inl, ⊎_elim, ◌≡◌, ◌⊎◌, ℕ, ◌+◌, ◌≤◌, true, false, List, [], ◌∷◌, ◌++◌, length, Option, None, Some, IfSome, Ok, Err, arith, append-nil}
 use Rattle.wq_io.specs.Streams.{IsAtEnd, LastRead}
-use Rattle.wq_io.specs.Lines.{HasCause, IsSound, Leaves, ReadsAsNeeded, Reading, fresh, unread}
+use Rattle.wq_io.specs.Lines.{HasCause, IsSound, Leaves, ReadsAsNeeded, Reading, fresh, longest_line, unread}
 use Rattle.wq_io.specs.declared.lines.LineFault.{LineFault}
 use Rattle.wq_io.specs.declared.lines.LineFault.TheVariants.{ReadFault as NotRead, TooLong as PastLimit, LineLong as OverLong, OutOfMemory as NoMemory}
 use Rattle.rdf_term.specs.declared.triple.Triple.{Triple}
@@ -47,7 +47,7 @@ use Rattle.session.proofs.Deliveries.{asks-push, rest_within}
 use Rattle.session.proofs.Due.{within_mapped}
 use Rattle.session.proofs.Ends.{halted, interrupted, is_played, left_stale, rose_since}
 use Rattle.session.proofs.Versions.{all_held_by}
-use Rattle.session.proofs.Reading.{IsNextLine, all_read, as_many, bad_line, first_lines, first_with, not_called, nothing_read, nothing_taken_of, over_long, past_limit, read_more, takes_on, whole_read}
+use Rattle.session.proofs.Reading.{HasLimits, IsNextLine, all_read, as_many, bad_line, first_lines, first_with, not_called, nothing_read, nothing_taken_of, over_long, past_limit, read_more, takes_on, whole_read}
 
 -- the lines so far were read, the world has taken them, and so many of them asked
 pub record Progress (run : Run) (before now : Moment) (reader : Reading) (asked : ℕ) : Type 0 where
@@ -58,7 +58,7 @@ pub record Progress (run : Run) (before now : Moment) (reader : Reading) (asked 
   pub earlier : before.input.faults ≤ now.input.faults
   pub asked_is : asked ≡ asks deliveries
   pub few_asked : asked ≤ reader.given
-  pub max : reader.max_bytes ≡ limit_of run.choices
+  pub max : HasLimits (limit_of run.choices) reader
   pub sound : IsSound reader
   pub going : reader.failed ≡ false
   pub ended : reader.ended ≡ true → IsAtEnd now.input.left
@@ -84,7 +84,7 @@ abbrev pub at_start : Option ℕ → Input → Output → SourceCounts → Momen
 at_start h input output counts = record { input = input; stage = record { output = output; counts = counts; world = nothing_delivered_within h; mapped = record { version = One; second = [] } } }
 
 -- before the first line
-pub nothing_begun : (run : Run) (h : Option ℕ) (input : Input) (output : Output) (counts : SourceCounts) → Progress run (at_start h input output counts) (at_start h input output counts) (fresh (limit_of run.choices)) 0
+pub nothing_begun : (run : Run) (h : Option ℕ) (input : Input) (output : Output) (counts : SourceCounts) → Progress run (at_start h input output counts) (at_start h input output counts) (fresh (limit_of run.choices) longest_line) 0
 nothing_begun run h input output counts = record {
   deliveries = [];
   read = nothing_read (limit_of run.choices) input.left;
@@ -93,7 +93,7 @@ nothing_begun run h input output counts = record {
   earlier = omega arith;
   asked_is = refl;
   few_asked = omega arith;
-  max = refl;
+  max = record { bytes = refl; line = refl };
   sound = record { within = omega arith; counted = omega arith; bounded = omega arith; buffered = omega arith };
   going = refl;
   ended = λ never. cc;
@@ -269,7 +269,7 @@ module _ (run : Run) (before now : Moment) (reader : Reading) (asked : ℕ) (so_
         earlier = omega (arith, so_far.earlier, later);
         asked_is = asked_is;
         few_asked = omega (arith, so_far.few_asked, more, one, given);
-        max = is.goes.limit ∙ so_far.max;
+        max = record { bytes = is.goes.limit ∙ so_far.max.bytes; line = is.goes.longest ∙ so_far.max.line };
         sound = is.goes.sound;
         going = is.goes.going;
         ended = ended;
@@ -278,6 +278,6 @@ module _ (run : Run) (before now : Moment) (reader : Reading) (asked : ℕ) (so_
 -- memory was refused before the first line
 pub stands_at_start : (run : Run) (h : Option ℕ) (input : Input) (output : Output) (counts : SourceCounts) → StopsWithin Starved run (at_start h input output counts) (at_start h input output counts)
 stands_at_start run h input output counts =
-    let so_far : Progress run (at_start h input output counts) (at_start h input output counts) (fresh (limit_of run.choices)) 0 = nothing_begun run h input output counts in
-    stands run (at_start h input output counts) (at_start h input output counts) (fresh (limit_of run.choices)) 0 so_far (fresh (limit_of run.choices)) input None None
-    (not_called (fresh (limit_of run.choices)) input.left None so_far.sound)
+    let so_far : Progress run (at_start h input output counts) (at_start h input output counts) (fresh (limit_of run.choices) longest_line) 0 = nothing_begun run h input output counts in
+    stands run (at_start h input output counts) (at_start h input output counts) (fresh (limit_of run.choices) longest_line) 0 so_far (fresh (limit_of run.choices) longest_line) input None None
+    (not_called (fresh (limit_of run.choices) longest_line) input.left None so_far.sound)

@@ -53,20 +53,20 @@ as_many (l ∷ ls) ds is =
     let more : length ds ≡ length ls + 1 = onto-length (line_delivers l) (deliveries_of ls) (length ls) ds (as_many ls) is in
     omega arith
 
-same_lines : (limit : ℕ) (left : Option (List ℕ)) → lines_of left ≡ option_map (λ (ls : List (List ℕ)). [] ++ ls) (lines_of (unread (fresh limit) left))
+same_lines : (limit : ℕ) (left : Option (List ℕ)) → lines_of left ≡ option_map (λ (ls : List (List ℕ)). [] ++ ls) (lines_of (unread (fresh limit longest_line) left))
 same_lines limit None = refl
 same_lines limit (Some bytes) = refl
 
-same_length : (limit : ℕ) (left : Option (List ℕ)) → input_length (fresh limit) left ≡ option_map (λ (bytes : List ℕ). length bytes) left
+same_length : (limit : ℕ) (left : Option (List ℕ)) → input_length (fresh limit longest_line) left ≡ option_map (λ (bytes : List ℕ). length bytes) left
 same_length limit None = refl
 same_length limit (Some bytes) = ap Some (let n : 0 + length bytes ≡ length bytes = omega arith in n)
 
-same_bytes : (limit : ℕ) (left : Option (List ℕ)) → left ≡ before_known [] (unread (fresh limit) left)
+same_bytes : (limit : ℕ) (left : Option (List ℕ)) → left ≡ before_known [] (unread (fresh limit longest_line) left)
 same_bytes limit None = refl
 same_bytes limit (Some bytes) = refl
 
 -- before the first line
-pub nothing_read : (limit : ℕ) (left : Option (List ℕ)) → HasRead left (fresh limit) left []
+pub nothing_read : (limit : ℕ) (left : Option (List ℕ)) → HasRead left (fresh limit longest_line) left []
 nothing_read limit left = record {
   done = [];
   are = same_lines limit left;
@@ -98,7 +98,7 @@ not_called reader left read sound = record {
 }
 
 -- no bytes decide nothing
-nothing_undecided : (room : ℕ) → IsUndecided room []
+nothing_undecided : (room : ℕ) → IsUndecided room longest_line []
 nothing_undecided room = record { in_line = refl; within = omega arith; short = omega arith }
 
 pub nothing_taken_of : (limit : ℕ) (left : Option (List ℕ)) → IfSome left (λ bytes. TakesByNeed limit bytes left)
@@ -172,7 +172,7 @@ at_known (Some x) u P is holds = let same : x ≡ u = cc in subst P same holds
 same_room : (limit : ℕ) (reader : Reading) (read : List ℕ) → reader.max_bytes ≡ limit → length read ≡ reader.consumed → room reader ≡ limit - length read
 same_room limit reader read max is = ap (λ n. n - reader.consumed) max ∙ ap (λ n. limit - n) (sym is)
 
-too_long : (bytes : List ℕ) (u : List ℕ) (max consumed : ℕ) → IsTooLong (max - consumed) u → consumed ≤ max → consumed + length u ≡ length bytes → max < length bytes
+too_long : (bytes : List ℕ) (u : List ℕ) (max consumed : ℕ) → IsTooLong (max - consumed) longest_line u → consumed ≤ max → consumed + length u ≡ length bytes → max < length bytes
 too_long bytes u max consumed over within total = omega (arith, over.more)
 
 -- one line more behind the others
@@ -202,20 +202,29 @@ pub record IsNextLine (line : List ℕ) (reader next : Reading) (left left_next 
   pub goes : GoesOn reader next line
   pub reads : ReadsAsNeeded reader next left left_next last last_next
 
-module _ (limit : ℕ) (reader : Reading) (left : Option (List ℕ)) (ds : List Delivery) (max : reader.max_bytes ≡ limit) (sound : IsSound reader) where
+-- the reader has these limits on the bytes of the input and of a line
+pub record HasLimits (limit : ℕ) (reader : Reading) : Type 0 where
+  pub bytes : reader.max_bytes ≡ limit
+  pub line : reader.max_line ≡ longest_line
+
+module _ (limit : ℕ) (reader : Reading) (left : Option (List ℕ)) (ds : List Delivery) (limits : HasLimits limit reader) (sound : IsSound reader) where
   known_now : (bytes : List ℕ) (read : HasRead (Some bytes) reader left ds) → Known bytes read.done read.read reader.consumed (unread reader left)
   known_now bytes read = known_parts bytes read.done read.read reader.consumed (unread reader left) read.are read.total read.bytes
+
+  -- what decides nothing by the reader's limit on a line
+  undecided_as : {bytes : List ℕ} → IsUndecided (room reader) reader.max_line bytes → IsUndecided (room reader) longest_line bytes
+  undecided_as {bytes} is = subst (λ n. IsUndecided (room reader) n bytes) limits.line is
 
   -- the bytes that went into lines are within the limit
   lines_within : (start : Option (List ℕ)) (read : HasRead start reader left ds) → IfSome start (λ _. length read.read ≤ limit)
   lines_within None read = tt
   lines_within (Some bytes) read =
       let parts = known_now bytes read in
-      omega (arith, max, sound.within, parts.read_is)
+      omega (arith, limits.bytes, sound.within, parts.read_is)
 
   -- the lines so far are the first ones, where a part of a line that decided nothing and what one read gives are behind them
   first_before : (bytes : List ℕ) (left_now : Option (List ℕ)) (part last : List ℕ) → (read : HasRead (Some bytes) reader left ds) → unread reader left ≡ before_known (part ++ last) left_now →
-      IsUndecided (room reader) part → length last ≤ longest_read → AreFirst limit (Some bytes) left_now ds
+      IsUndecided (room reader) longest_line part → length last ≤ longest_read → AreFirst limit (Some bytes) left_now ds
   first_before bytes left_now part last read behind undecided piece =
       let parts = known_now bytes read in
       record {
@@ -227,7 +236,7 @@ module _ (limit : ℕ) (reader : Reading) (left : Option (List ℕ)) (ds : List 
         are_lines = read.are ∙ ap (λ (o : Option (List ℕ)). option_map (λ (ls : List (List ℕ)). read.done ++ ls) (lines_of o)) behind;
         within = lines_within (Some bytes) read;
         delivered = read.delivered;
-        undecided = subst (λ n. IsUndecided n part) (same_room limit reader read.read max parts.read_is) undecided;
+        undecided = subst (λ n. IsUndecided n longest_line part) (same_room limit reader read.read limits.bytes parts.read_is) undecided;
         piece = piece;
       }
 
@@ -243,7 +252,7 @@ module _ (limit : ℕ) (reader : Reading) (left : Option (List ℕ)) (ds : List 
 
       by : IsNeeded reader reads.before reads.last last last_next ⊎ ((reads.before ++ reads.last ≡ []) × (last_next ≡ last)) → AreFirst limit (Some bytes) left_next ds
       by (inl is) =
-          first_before bytes left_next (reader.held ++ reads.before) reads.last read (behind ∙ ap (λ xs. before_known xs left_next) (sym (append_assoc reader.held reads.before reads.last))) is.undecided reads.piece
+          first_before bytes left_next (reader.held ++ reads.before) reads.last read (behind ∙ ap (λ xs. before_known xs left_next) (sym (append_assoc reader.held reads.before reads.last))) (undecided_as is.undecided) reads.piece
       by (inr none) =
           first_before bytes left_next [] reader.held read (behind ∙ ap (λ xs. before_known (reader.held ++ xs) left_next) none.0 ∙ ap (λ xs. before_known xs left_next) (append-nil reader.held)) (nothing_undecided (room reader)) sound.buffered
 
@@ -263,7 +272,7 @@ module _ (limit : ℕ) (reader : Reading) (left : Option (List ℕ)) (ds : List 
       ) in
       let at : left ≡ before_known reads.before (before_known reads.last left_next) = reads.told ∙ sym (before_both reads.before reads.last left_next) in
       let Fits : List ℕ → Type 0 = λ xs. length (xs ++ (reader.held ++ reads.before) ++ reads.last) ≤ limit + 1 in
-      let fits : length (read.read ++ (reader.held ++ reads.before) ++ reads.last) ≤ limit + 1 = omega (arith, size, parts.read_is, reads.counted, reads.sound.bounded, reads.limit, max) in
+      let fits : length (read.read ++ (reader.held ++ reads.before) ++ reads.last) ≤ limit + 1 = omega (arith, size, parts.read_is, reads.counted, reads.sound.bounded, reads.limit, limits.bytes) in
       record {
         done = read.done;
         part = reader.held ++ reads.before;
@@ -276,7 +285,7 @@ module _ (limit : ℕ) (reader : Reading) (left : Option (List ℕ)) (ds : List 
         are_lines = read.are_lines;
         ds = ds;
         delivered = read.delivered;
-        undecided = subst (λ n. IsUndecided n (reader.held ++ reads.before)) (same_room limit reader read.read max parts.read_is ∙ ap (λ xs. limit - length xs) ends) is.undecided;
+        undecided = subst (λ n. IsUndecided n longest_line (reader.held ++ reads.before)) (same_room limit reader read.read limits.bytes parts.read_is ∙ ap (λ xs. limit - length xs) ends) (undecided_as is.undecided);
         piece = reads.piece;
         bounded = subst Fits ends fits;
       }
@@ -296,7 +305,7 @@ module _ (limit : ℕ) (reader : Reading) (left : Option (List ℕ)) (ds : List 
   part_within None read part few = tt
   part_within (Some bytes) read part few =
       let parts = known_now bytes read in
-      omega (arith, length-append read.read part, parts.read_is, max, sound.within, few)
+      omega (arith, length-append read.read part, parts.read_is, limits.bytes, sound.within, few)
 
   -- what was read and a part of a line are the bytes that were read
   pub whole_read : (start left_now : Option (List ℕ)) (read : HasRead start reader left ds) → StopsInLine reader left left_now → AreWhole limit start left_now ds
@@ -308,35 +317,37 @@ module _ (limit : ℕ) (reader : Reading) (left : Option (List ℕ)) (ds : List 
         ap (λ xs. deliveries_of (whole_lines (xs ++ stops.part))) (read.whole stops.going)
         ∙ ap deliveries_of (whole_lines-ended read.done stops.part read.are_lines stops.in_line) ∙ read.delivered;
     short = subst (λ (xs : List ℕ). length xs ≤ longest_line)
-        (sym (ap (λ xs. last_part (xs ++ stops.part)) (read.whole stops.going) ∙ last_part-ended read.done stops.part read.are_lines stops.in_line)) stops.short;
+        (sym (ap (λ xs. last_part (xs ++ stops.part)) (read.whole stops.going) ∙ last_part-ended read.done stops.part read.are_lines stops.in_line)) (subst (λ n. length stops.part ≤ n) limits.line stops.short);
   }
 
   -- the input goes past the limit
-  pub past_limit : (start : Option (List ℕ)) → HasRead start reader left ds → IfSome (unread reader left) (IsTooLong (room reader)) → IfSome start (λ bytes. IsPastLimit limit bytes ds)
+  pub past_limit : (start : Option (List ℕ)) → HasRead start reader left ds → IfSome (unread reader left) (IsTooLong (room reader) reader.max_line) → IfSome start (λ bytes. IsPastLimit limit bytes ds)
   past_limit None read over = tt
   past_limit (Some bytes) read over =
       let parts = known_now bytes read in
-      let here : IsTooLong (room reader) parts.u = at_known (unread reader left) parts.u (IsTooLong (room reader)) parts.is over in
+      let here : IsTooLong (room reader) longest_line parts.u =
+      subst (λ n. IsTooLong (room reader) n parts.u) limits.line (at_known (unread reader left) parts.u (IsTooLong (room reader) reader.max_line) parts.is over) in
       let above : reader.max_bytes < length bytes = too_long bytes parts.u reader.max_bytes reader.consumed here sound.within parts.total in
       record {
-        more = omega (arith, max);
+        more = omega (arith, limits.bytes);
         before = read.done;
         read_bytes = read.read;
         unread_bytes = parts.u;
         all = parts.all;
         are_lines = parts.are_lines;
         delivered = read.delivered;
-        within = omega (arith, max, sound.within, parts.read_is);
-        past = subst (λ n. IsTooLong n parts.u) (same_room limit reader read.read max parts.read_is) here;
+        within = omega (arith, limits.bytes, sound.within, parts.read_is);
+        past = subst (λ n. IsTooLong n longest_line parts.u) (same_room limit reader read.read limits.bytes parts.read_is) here;
       }
 
   -- the next line is over-long
-  pub over_long : (start : Option (List ℕ)) (number : ℕ) → HasRead start reader left ds → number ≡ reader.given + 1 → IfSome (unread reader left) (IsLineLong (room reader)) →
+  pub over_long : (start : Option (List ℕ)) (number : ℕ) → HasRead start reader left ds → number ≡ reader.given + 1 → IfSome (unread reader left) (IsLineLong (room reader) reader.max_line) →
       IfSome start (λ bytes. IsRefusedLine limit bytes ds number LineLong)
   over_long None number read next over = tt
   over_long (Some bytes) number read next over =
       let parts = known_now bytes read in
-      let here : IsLineLong (room reader) parts.u = at_known (unread reader left) parts.u (IsLineLong (room reader)) parts.is over in
+      let here : IsLineLong (room reader) longest_line parts.u =
+      subst (λ n. IsLineLong (room reader) n parts.u) limits.line (at_known (unread reader left) parts.u (IsLineLong (room reader) reader.max_line) parts.is over) in
       inr (
         refl,
         record {
@@ -347,7 +358,7 @@ module _ (limit : ℕ) (reader : Reading) (left : Option (List ℕ)) (ds : List 
           are_lines = parts.are_lines;
           delivered = read.delivered;
           counted = next ∙ ap (λ n. n + 1) read.counted;
-          over = subst (λ n. IsLineLong n parts.u) (same_room limit reader read.read max parts.read_is) here;
+          over = subst (λ n. IsLineLong n longest_line parts.u) (same_room limit reader read.read limits.bytes parts.read_is) here;
         },
       )
 
@@ -359,11 +370,15 @@ module _ (limit : ℕ) (reader : Reading) (left : Option (List ℕ)) (ds : List 
       let none : parts.u ≡ [] = at_known (unread reader left) parts.u (λ u. u ≡ []) parts.is at_end in
       let all : lines bytes ≡ read.done = parts.are_lines ∙ ap (λ u. read.done ++ lines u) none ∙ append-nil read.done in
       let nothing : length parts.u ≡ 0 = ap length none in
-      record { within = omega (arith, parts.total, max, sound.within); delivered = rw all read.delivered }
+      record { within = omega (arith, parts.total, limits.bytes, sound.within); delivered = rw all read.delivered }
 
   module _ (line : List ℕ) (next : Reading) (left_next : Option (List ℕ)) (last last_next : Option LastRead) (is : IsNextLine line reader next left left_next last last_next) where
     bytes_grow : (start : Option (List ℕ)) (read : HasRead start reader left ds) → start ≡ before_known (read.read ++ is.takes.moved) (unread next left_next)
     bytes_grow start read = read.bytes ∙ ap (λ (o : Option (List ℕ)). before_known read.read o) is.takes.front ∙ before_both read.read is.takes.moved (unread next left_next)
+
+    -- the line isn't over-long
+    short_line : length line ≤ longest_line
+    short_line = subst (λ n. length line ≤ n) limits.line is.goes.short
 
     known_next : (bytes : List ℕ) (read : HasRead (Some bytes) reader left ds) → Known bytes (read.done ++ line ∷ []) (read.read ++ is.takes.moved) next.consumed (unread next left_next)
     known_next bytes read =
@@ -375,7 +390,7 @@ module _ (limit : ℕ) (reader : Reading) (left : Option (List ℕ)) (ds : List 
     line_within None read = tt
     line_within (Some bytes) read =
         let parts = known_next bytes read in
-        omega (arith, parts.read_is, is.goes.sound.within, is.goes.limit, max)
+        omega (arith, parts.read_is, is.goes.sound.within, is.goes.limit, limits.bytes)
 
     -- the lines so far and this one are the first ones
     pub first_with : (start : Option (List ℕ)) (d : Delivery) → HasRead start reader left ds → delivery_of line ≡ Ok d → AreFirst limit start left_next (ds ++ d ∷ [])
@@ -387,7 +402,7 @@ module _ (limit : ℕ) (reader : Reading) (left : Option (List ℕ)) (ds : List 
       all = bytes_grow start read;
       are_lines = lines_grow (lines_of start) (lines_of (unread reader left)) (lines_of (unread next left_next)) read.done line read.are is.first;
       within = line_within start read;
-      delivered = deliveries-push read.done line ds d read.delivered (short_delivers line d is.goes.short delivers);
+      delivered = deliveries-push read.done line ds d read.delivered (short_delivers line d short_line delivers);
       undecided = nothing_undecided (limit - length (read.read ++ is.takes.moved));
       piece = is.goes.sound.buffered;
     }
@@ -405,10 +420,10 @@ module _ (limit : ℕ) (reader : Reading) (left : Option (List ℕ)) (ds : List 
           unread_bytes = parts.u;
           all = parts.all;
           are_lines = parts.are_lines ∙ append_assoc read.done (line ∷ []) (lines parts.u);
-          within = omega (arith, parts.read_is, is.goes.sound.within, is.goes.limit, max);
+          within = omega (arith, parts.read_is, is.goes.sound.within, is.goes.limit, limits.bytes);
           delivered = read.delivered;
           counted = counted ∙ ap (λ n. n + 1) read.counted;
-          short = is.goes.short;
+          short = short_line;
           refused = refused;
         })
 
@@ -417,7 +432,7 @@ module _ (limit : ℕ) (reader : Reading) (left : Option (List ℕ)) (ds : List 
     read_more start d read given delivers = record {
       done = read.done ++ line ∷ [];
       are = lines_grow (lines_of start) (lines_of (unread reader left)) (lines_of (unread next left_next)) read.done line read.are is.first;
-      delivered = deliveries-push read.done line ds d read.delivered (short_delivers line d is.goes.short delivers);
+      delivered = deliveries-push read.done line ds d read.delivered (short_delivers line d short_line delivers);
       counted = given ∙ omega (arith, read.counted, length-append read.done (line ∷ []));
       total = is.total ∙ read.total;
       read = read.read ++ is.takes.moved;

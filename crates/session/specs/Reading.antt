@@ -52,7 +52,7 @@ pub record AreFirst (limit : ℕ) (left left_now : Option (List ℕ)) (ds : List
   pub are_lines : lines_of left ≡ option_map (λ (ls : List (List ℕ)). before ++ ls) (lines_of (before_known (part ++ last) left_now))
   pub within : IfSome left (λ _. length read ≤ limit)
   pub delivered : deliveries_of before ≡ Some ds
-  pub undecided : IsUndecided (limit - length read) part
+  pub undecided : IsUndecided (limit - length read) longest_line part
   pub piece : length last ≤ longest_read
 
 -- the bytes behind the last line feed
@@ -78,7 +78,7 @@ pub record TakesByNeed (limit : ℕ) (bytes : List ℕ) (left : Option (List ℕ
   pub are_lines : Each IsOneLine done
   pub ds : List Delivery
   pub delivered : deliveries_of done ≡ Some ds
-  pub undecided : IsUndecided (limit - length (ended_lines done)) part
+  pub undecided : IsUndecided (limit - length (ended_lines done)) longest_line part
   pub piece : length last ≤ longest_read
   pub bounded : length (ended_lines done ++ part ++ last) ≤ limit + 1
 
@@ -107,7 +107,7 @@ pub record IsOverLongLine (limit : ℕ) (bytes : List ℕ) (ds : List Delivery) 
   pub are_lines : lines bytes ≡ before ++ lines unread_bytes
   pub delivered : deliveries_of before ≡ Some ds
   pub counted : number ≡ length before + 1
-  pub over : IsLineLong (limit - length read_bytes) unread_bytes
+  pub over : IsLineLong (limit - length read_bytes) longest_line unread_bytes
 
 -- why a line is refused: it is no delivery, or it is over-long
 abbrev pub IsRefusedLine : ℕ → List ℕ → List Delivery → ℕ → LineCause → Type 0
@@ -124,4 +124,4 @@ pub record IsPastLimit (limit : ℕ) (bytes : List ℕ) (ds : List Delivery) : T
   pub are_lines : lines bytes ≡ before ++ lines unread_bytes
   pub delivered : deliveries_of before ≡ Some ds
   pub within : length read_bytes ≤ limit
-  pub past : IsTooLong (limit - length read_bytes) unread_bytes
+  pub past : IsTooLong (limit - length read_bytes) longest_line unread_bytes

@@ -3,7 +3,7 @@ use Rattle.std.proofs.Common.{refl, sym, subst, ◌∙◌, ap, ◌≡◌, ◌⊎
 use Rattle.std.proofs.lemmas.Bool.Decides.{nat_tests}
 use Rattle.std.proofs.lemmas.List.{append-nil}
 use Rattle.wq_io.specs.Streams.{AreFewEmpty, LastRead, after_read, before_known, counted}
-use Rattle.wq_io.specs.Lines.{Reading, IsNeeded, IsOneLine, IsSound, ReadsAsNeeded, longest_line, longest_read, room, taken}
+use Rattle.wq_io.specs.Lines.{Reading, IsNeeded, IsOneLine, IsSound, ReadsAsNeeded, longest_read, room, taken}
 use Rattle.wq_io.specs.Taking.{ReadsByNeed}
 
 -- the bytes that were held at the start and what the reads gave went by, but for those that are held
@@ -69,7 +69,7 @@ none_read start left read = record {
 
 -- another read, where it was needed
 pub read_more : (start now next : Reading) (left_start left left_next : Option (List ℕ)) (read_start read read_next : Option LastRead) (line : List ℕ) →
-    HasRead start now left_start left read_start read line → IsOneLine line → length line ≤ longest_line → length line ≤ room start →
+    HasRead start now left_start left read_start read line → IsOneLine line → length line ≤ start.max_line → length line ≤ room start →
     now.consumed ≡ start.consumed + length line → now.max_bytes ≡ start.max_bytes → (now.ended ≡ false → start.ended ≡ false) →
     AreFewEmpty read_start read 0 → ReadsByNeed now next left left_next read read_next → HasRead start next left_start left_next read_start read_next line
 read_more start now next left_start left left_next read_start read read_next line so_far in_line short within consumed limit ended few (inl refills) =

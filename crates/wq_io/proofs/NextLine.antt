@@ -2,7 +2,7 @@
 use Rattle.std.proofs.Common.{refl, sym, ◌∙◌, ap, ◌≡◌, ◌↔◌, ℕ, ◌+◌, ◌<◌, ◌≤◌, Bool, true, false, List, [], ◌∷◌, Option, Some, None, IfSome, IsNone, MatchOption, ◌++◌, length, arith, append_assoc, length-append}
 use Rattle.std.proofs.lemmas.List.{take-append-le, append-nil}
 use Rattle.wq_io.specs.Streams.{AreFewEmpty, before_known, IsAtEnd, LastRead}
-use Rattle.wq_io.specs.Lines.{Reading, IsSound, IsOneLine, IsLineLong, GivesLine, HasCause, ReadsAsNeeded, TakesBytes, line_feed, lines, lines_of, before_lines, longest_line, unread, room}
+use Rattle.wq_io.specs.Lines.{Reading, IsSound, IsOneLine, IsLineLong, GivesLine, HasCause, ReadsAsNeeded, TakesBytes, line_feed, lines, lines_of, before_lines, unread, room}
 use Rattle.wq_io.specs.Taking.{HasByte, IsOverLong, IsRefusedLine, ReadsByNeed, Takes}
 use Rattle.wq_io.specs.declared.lines.LineFault.{LineFault}
 use Rattle.wq_io.specs.declared.lines.LineFault.TheVariants.{ReadFault, TooLong, LineLong, OutOfMemory}
@@ -14,7 +14,7 @@ pub record Going (start now : Reading) (left_start left : Option (List ℕ)) (li
     (most_start most : Option ℕ) (read_start read : Option LastRead) : Type 0 where
   pub front : unread start left_start ≡ before_known line (unread now left)
   pub in_line : IsOneLine line
-  pub short : length line ≤ longest_line
+  pub short : length line ≤ start.max_line
   pub others : now ≡ record start { held = now.held; consumed = start.consumed + length line; ended = now.ended }
   pub sound : IsSound now
   pub counted : start.given ≤ start.consumed
@@ -84,42 +84,42 @@ moved_behind unread_start None line moved held held_now front is = front
 moved_behind unread_start (Some xs) line moved held held_now front is =
     rw (front, is) (ap Some (ap (λ ys. line ++ ys) (append_assoc moved held_now xs) ∙ sym (append_assoc line moved (held_now ++ xs))))
 
-long_line : (line moved others xs : List ℕ) (room_start room_now : ℕ) → IsOneLine line → IsOneLine moved → length line ≤ longest_line →
-    longest_line < length line + length moved → length moved ≤ room_now → (0 < room_now → room_start ≡ room_now + length line) →
-    IsLineLong room_start (line ++ ((moved ++ others) ++ xs))
-long_line line moved others xs room_start room_now in_line in_moved short over within rooms =
+long_line : (line moved others xs : List ℕ) (room_start room_now max_line : ℕ) → IsOneLine line → IsOneLine moved → length line ≤ max_line →
+    max_line < length line + length moved → length moved ≤ room_now → (0 < room_now → room_start ≡ room_now + length line) →
+    IsLineLong room_start max_line (line ++ ((moved ++ others) ++ xs))
+long_line line moved others xs room_start room_now max_line in_line in_moved short over within rooms =
     let some : 0 < room_now = omega arith in
     let grouped : line ++ ((moved ++ others) ++ xs) ≡ (line ++ moved) ++ (others ++ xs) =
     ap (λ ys. line ++ ys) (append_assoc moved others xs) ∙ sym (append_assoc line moved (others ++ xs)) in
     let both : length (line ++ moved) ≡ length line + length moved = length-append line moved in
     let behind : length ((line ++ moved) ++ (others ++ xs)) ≡ length (line ++ moved) + length (others ++ xs) = length-append (line ++ moved) (others ++ xs) in
-    let reaches : longest_line + 1 ≤ length (line ++ moved) = omega arith in
+    let reaches : max_line + 1 ≤ length (line ++ moved) = omega arith in
     rw grouped (record {
       more = omega arith;
       within = omega (arith, rooms some);
-      in_line = rw (take-append-le (longest_line + 1) (line ++ moved) (others ++ xs) reaches) (one_line-take (longest_line + 1) (line ++ moved) (one_line-append line moved in_line in_moved));
+      in_line = rw (take-append-le (max_line + 1) (line ++ moved) (others ++ xs) reaches) (one_line-take (max_line + 1) (line ++ moved) (one_line-append line moved in_line in_moved));
     })
 
 -- a line that gets too long is too long where it began
 pub over_long : (unread_start left : Option (List ℕ)) (line : List ℕ) (start now : Reading) →
-    unread_start ≡ before_known line (before_known now.held left) → IsOneLine line → length line ≤ longest_line →
-    now.consumed ≡ start.consumed + length line → now.max_bytes ≡ start.max_bytes → IsOverLong now line →
-    IfSome unread_start (IsLineLong (room start))
-over_long unread_start None line start now front in_line short consumed limit over = rw front tt
-over_long unread_start (Some xs) line start now front in_line short consumed limit over =
+    unread_start ≡ before_known line (before_known now.held left) → IsOneLine line → length line ≤ start.max_line →
+    now.consumed ≡ start.consumed + length line → now.max_bytes ≡ start.max_bytes → now.max_line ≡ start.max_line → IsOverLong now line →
+    IfSome unread_start (IsLineLong (room start) start.max_line)
+over_long unread_start None line start now front in_line short consumed limit longest over = rw front tt
+over_long unread_start (Some xs) line start now front in_line short consumed limit longest over =
     let rooms : 0 < room now → room start ≡ room now + length line = λ some. omega (arith, consumed, limit) in
-    rw (front, over.held) (long_line line over.moved over.others xs (room start) (room now) in_line over.in_line short over.over over.within rooms)
+    rw (front, over.held) (long_line line over.moved over.others xs (room start) (room now) start.max_line in_line over.in_line short (rw longest at over.over) over.within rooms)
 
 -- a refusal of the held bytes is a fault of the line where it began
 pub cause_of : (fault : LineFault) (start now : Reading) (left_start left : Option (List ℕ)) (line : List ℕ) (before after : ℕ) →
-    unread start left_start ≡ before_known line (unread now left) → IsOneLine line → length line ≤ longest_line →
-    now.consumed ≡ start.consumed + length line → now.max_bytes ≡ start.max_bytes → now.given ≡ start.given →
+    unread start left_start ≡ before_known line (unread now left) → IsOneLine line → length line ≤ start.max_line →
+    now.consumed ≡ start.consumed + length line → now.max_bytes ≡ start.max_bytes → now.max_line ≡ start.max_line → now.given ≡ start.given →
     IsRefusedLine fault now line → HasCause fault start left_start before after
-cause_of ReadFault start now left_start left line before after front in_line short consumed limit given cause = absurd cause
-cause_of TooLong start now left_start left line before after front in_line short consumed limit given cause = absurd cause
-cause_of (LineLong number) start now left_start left line before after front in_line short consumed limit given cause =
-    (cause.0 ∙ ap (λ n. n + 1) given, over_long (unread start left_start) left line start now front in_line short consumed limit cause.1)
-cause_of OutOfMemory start now left_start left line before after front in_line short consumed limit given cause = tt
+cause_of ReadFault start now left_start left line before after front in_line short consumed limit longest given cause = absurd cause
+cause_of TooLong start now left_start left line before after front in_line short consumed limit longest given cause = absurd cause
+cause_of (LineLong number) start now left_start left line before after front in_line short consumed limit longest given cause =
+    (cause.0 ∙ ap (λ n. n + 1) given, over_long (unread start left_start) left line start now front in_line short consumed limit longest cause.1)
+cause_of OutOfMemory start now left_start left line before after front in_line short consumed limit longest given cause = tt
 
 -- the reads of a call with one more, which may have been needed
 pub going_reads : (start now next : Reading) (left_start left left_next : Option (List ℕ)) (line : List ℕ) (faults_start faults : ℕ) (most_start most : Option ℕ)
@@ -196,12 +196,13 @@ going_on start now next after left_start left left_next line line_now faults_sta
     let ended : after.ended ≡ next.ended = ap (λ (r : Reading). r.ended) takes.others in
     let before : next.consumed ≡ start.consumed + length line = ap (λ (r : Reading). r.consumed) has.others ∙ ap (λ (r : Reading). r.consumed) going.others in
     let long : length line_now ≡ length line + length moved = ap length takes.line ∙ length-append line moved in
+    let longest : next.max_line ≡ start.max_line = ap (λ (r : Reading). r.max_line) has.others ∙ ap (λ (r : Reading). r.max_line) going.others in
     let consumed : after.consumed ≡ start.consumed + length line_now = omega (arith, takes.consumed, before, long) in
     let front = going.front ∙ ap (λ (u : Option (List ℕ)). before_known line u) (sym has.same) in
     record {
       front = rw takes.line (moved_behind (unread start left_start) left_next line moved next.held after.held front takes.held);
       in_line = rw takes.line (one_line-append line moved going.in_line takes.in_line);
-      short = takes.short;
+      short = rw longest at takes.short;
       others = cc;
       sound = takes.sound;
       counted = going.counted;

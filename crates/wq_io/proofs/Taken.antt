@@ -1,14 +1,14 @@
 -- Held bytes that move into a line, or that the line can't take.
 use Rattle.std.proofs.Common.{refl, sym, ◌∙◌, ap, inl, inr, ◌≡◌, ℕ, suc, ◌+◌, ◌<◌, ◌≤◌, ◌⊎◌, List, ◌∷◌, ◌++◌, length, take, drop, arith, append_assoc, take-append-drop, length-take}
 use Rattle.std.proofs.lemmas.List.{drop-append-le}
-use Rattle.wq_io.specs.Lines.{Reading, IsOneLine, line_feed, longest_line, room}
+use Rattle.wq_io.specs.Lines.{Reading, IsOneLine, line_feed, room}
 use Rattle.wq_io.specs.Taking.{EndsAt, IsRefusedLine}
 use Rattle.wq_io.specs.declared.lines.LineFault.{LineFault}
 use Rattle.wq_io.specs.declared.lines.LineFault.TheVariants.{LineLong, OutOfMemory}
 
 -- the bytes don't fit, or memory was refused
 pub refused : (fault : LineFault) (old : Reading) (before moved others : List ℕ) → old.held ≡ moved ++ others → IsOneLine moved →
-    length moved ≤ room old → (fault ≡ OutOfMemory) ⊎ ((fault ≡ LineLong (old.given + 1)) × (longest_line < length before + length moved)) →
+    length moved ≤ room old → (fault ≡ OutOfMemory) ⊎ ((fault ≡ LineLong (old.given + 1)) × (old.max_line < length before + length moved)) →
     IsRefusedLine fault old before
 refused fault old before moved others held in_line within (inl is) = rw is tt
 refused fault old before moved others held in_line within (inr is) =

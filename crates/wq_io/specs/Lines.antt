@@ -10,7 +10,7 @@ use Rattle.wq_io.specs.declared.lines.LineFault.TheVariants.{ReadFault, TooLong,
 abbrev pub line_feed : ℕ
 line_feed = 10
 
--- the most bytes that a line may have without its line feed
+-- the most bytes that a line may have without its line feed, where no other number is chosen
 abbrev pub longest_line : ℕ
 longest_line = 65536
 
@@ -56,19 +56,20 @@ abbrev pub before_lines : List ℕ → Option (List (List ℕ)) → Option (List
 before_lines line known = option_map (λ ls. line ∷ ls) known
 
 -- where a reader of lines stands: the bytes that it holds and hasn't given, how many bytes it gave away in lines,
--- the number of its last line, the most bytes that the input may have, whether the source was read to its end, and
--- whether the reader refused to go on
+-- the number of its last line, the most bytes that the input may have and that a line may have, whether the source was read to its
+-- end, and whether the reader refused to go on
 pub record Reading : Type 0 where
   pub held : List ℕ
   pub consumed : ℕ
   pub given : ℕ
   pub max_bytes : ℕ
+  pub max_line : ℕ
   pub ended : Bool
   pub failed : Bool
 
 -- a reader that hasn't read yet
-abbrev pub fresh : ℕ → Reading
-fresh max_bytes = record { held = []; consumed = 0; given = 0; max_bytes = max_bytes; ended = false; failed = false }
+abbrev pub fresh : ℕ → ℕ → Reading
+fresh max_bytes max_line = record { held = []; consumed = 0; given = 0; max_bytes = max_bytes; max_line = max_line; ended = false; failed = false }
 
 -- how many bytes were taken from the source
 abbrev pub taken : Reading → ℕ
@@ -96,17 +97,17 @@ input_length r left = option_map (λ bytes. r.consumed + length bytes) (unread r
 
 -- bytes that decide neither a line nor a fault: they have no line feed, lie within the limit, and are no more than a line may
 -- have
-pub record IsUndecided (room : ℕ) (bytes : List ℕ) : Type 0 where
+pub record IsUndecided (room max_line : ℕ) (bytes : List ℕ) : Type 0 where
   pub in_line : IsOneLine bytes
   pub within : length bytes ≤ room
-  pub short : length bytes ≤ longest_line
+  pub short : length bytes ≤ max_line
 
 -- the last read of a call gave `last`, where the reads before it gave `before`: it was made while all bytes that were held or read
 -- decided nothing, and the end of the source wasn't seen. Where it is told, it asked for as many bytes as one read may, or for those
 -- up to the byte after the limit where these are fewer; `last` is all that it gave; and, as far as 64 bits count them, each read
 -- before it gave at least a byte, so none of them failed
 pub record IsNeeded (old : Reading) (before last : List ℕ) (read read_now : Option LastRead) : Type 0 where
-  pub undecided : IsUndecided (room old) (old.held ++ before)
+  pub undecided : IsUndecided (room old) old.max_line (old.held ++ before)
   pub going : old.ended ≡ false
   pub asked : IfSome read_now (λ r. r.asked ≡ min longest_read (old.max_bytes + 1 - (taken old + length before)))
   pub gave : IfSome read_now (λ r. r.gave ≡ length last)
@@ -140,23 +141,23 @@ pub record TakesBytes (ended : Bool) (old new : Option (List ℕ)) (line : List 
 
 -- the byte that is needed next is the first one past the most that the input may have: neither a line's end nor a
 -- line that is too long comes before it
-pub record IsTooLong (room : ℕ) (bytes : List ℕ) : Type 0 where
+pub record IsTooLong (room max_line : ℕ) (bytes : List ℕ) : Type 0 where
   pub more : room < length bytes
-  pub before_line_long : room ≤ longest_line
+  pub before_line_long : room ≤ max_line
   pub in_line : IsOneLine (take room bytes)
 
 -- the line has a byte more than a line may have, and this byte lies within the input's limit
-pub record IsLineLong (room : ℕ) (bytes : List ℕ) : Type 0 where
-  pub more : longest_line < length bytes
-  pub within : longest_line < room
-  pub in_line : IsOneLine (take (longest_line + 1) bytes)
+pub record IsLineLong (room max_line : ℕ) (bytes : List ℕ) : Type 0 where
+  pub more : max_line < length bytes
+  pub within : max_line < room
+  pub in_line : IsOneLine (take (max_line + 1) bytes)
 
 -- the cause of a fault, where the source tells what it has left: the source's count of faults rose, or the byte that
 -- decides it stands in the input
 abbrev pub HasCause : LineFault → Reading → Option (List ℕ) → ℕ → ℕ → Type 0
 HasCause ReadFault old left before now = Rose before now
-HasCause TooLong old left before now = IfSome (unread old left) (IsTooLong (room old))
-HasCause (LineLong number) old left before now = (number ≡ old.given + 1) × IfSome (unread old left) (IsLineLong (room old))
+HasCause TooLong old left before now = IfSome (unread old left) (IsTooLong (room old) old.max_line)
+HasCause (LineLong number) old left before now = (number ≡ old.given + 1) × IfSome (unread old left) (IsLineLong (room old) old.max_line)
 HasCause OutOfMemory old left before now = ⊤
 
 -- a read failed within a line: what was taken of it has no line feed, lies within the limit and is no more than a line may have,
@@ -166,7 +167,7 @@ pub record StopsInLine (old : Reading) (left left_now : Option (List ℕ)) : Typ
   pub front : unread old left ≡ before_known part left_now
   pub in_line : IsOneLine part
   pub within : length part ≤ room old
-  pub short : length part ≤ longest_line
+  pub short : length part ≤ old.max_line
   pub going : old.ended ≡ false
 
 -- what a fault leaves of the source: a read that failed stands before the first byte that wasn't taken
@@ -179,7 +180,8 @@ Leaves OutOfMemory old left left_now = ⊤
 -- the reader after a line or the end
 pub record GoesOn (old new : Reading) (line : List ℕ) : Type 0 where
   pub limit : new.max_bytes ≡ old.max_bytes
-  pub short : length line ≤ longest_line
+  pub longest : new.max_line ≡ old.max_line
+  pub short : length line ≤ old.max_line
   pub sound : IsSound new
   pub going : new.failed ≡ false
   pub still : old.ended ≡ true → new.ended ≡ true

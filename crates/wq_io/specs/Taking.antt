@@ -1,7 +1,7 @@
 -- One step of a reader of lines: a read, and the move of held bytes into a line.
 use Rattle.std.specs.Prelude.{◌≡◌, ℕ, suc, ◌+◌, ◌-◌, ◌<◌, ◌≤◌, Bool, true, false, List, [], ◌∷◌, ◌++◌, length, min, take, drop, Option, MatchBool, cond, ◌⊎◌, ⊤}
 use Rattle.wq_io.specs.Streams.{after_read, before_known, IsAtEnd, LastRead}
-use Rattle.wq_io.specs.Lines.{Reading, IsSound, IsOneLine, line_feed, longest_line, longest_read, room, unread}
+use Rattle.wq_io.specs.Lines.{Reading, IsSound, IsOneLine, line_feed, longest_read, room, unread}
 use Rattle.wq_io.specs.declared.lines.LineFault.{LineFault}
 use Rattle.wq_io.specs.declared.lines.LineFault.TheVariants.{ReadFault, TooLong, LineLong, OutOfMemory}
 
@@ -61,7 +61,7 @@ pub record Takes (old new : Reading) (before after : List ℕ) (ended : Bool) : 
   pub some : MatchBool ended ⊤ (0 < length moved)
   pub in_line : IsOneLine moved
   pub line : after ≡ before ++ moved
-  pub short : length after ≤ longest_line
+  pub short : length after ≤ old.max_line
   pub held : MatchBool ended (old.held ≡ moved ++ line_feed ∷ new.held) (old.held ≡ moved ++ new.held)
   pub consumed : new.consumed ≡ old.consumed + length moved + cond ended 1 0
   pub others : new ≡ record old { held = new.held; consumed = new.consumed }
@@ -73,7 +73,7 @@ pub record IsOverLong (old : Reading) (before : List ℕ) : Type 0 where
   pub others : List ℕ
   pub held : old.held ≡ moved ++ others
   pub in_line : IsOneLine moved
-  pub over : longest_line < length before + length moved
+  pub over : old.max_line < length before + length moved
   pub within : length moved ≤ room old
 
 -- why held bytes aren't taken: the line has too many, within the limit, or memory was refused

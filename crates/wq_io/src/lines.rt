@@ -14,8 +14,8 @@ use thiserror::Error;
 /// The most bytes that one read asks for.
 const BUFFER: usize = 4_096;
 
-/// The most bytes that a line may have without its line feed.
-const LONGEST_LINE: usize = 65_536;
+/// The most bytes that a line may have without its line feed, where no other number is chosen.
+const LONGEST_LINE: u64 = 65_536;
 
 /// Why there is no next line.
 #[derive(Clone, Copy, Debug, PartialEq, Eq, Error)]
@@ -53,6 +53,7 @@ pub struct Lines {
     consumed: u64,
     given: u64,
     max_bytes: u64,
+    max_line: u64,
     ended: bool,
     failed: bool,
 }
@@ -68,6 +69,7 @@ impl Model for Lines {
       consumed = a.consumed;
       given = a.given;
       max_bytes = a.max_bytes;
+      max_line = a.max_line;
       ended = a.ended;
       failed = a.failed;
     } };
@@ -77,10 +79,18 @@ impl Model for Lines {
 }
 
 impl Lines {
-    /// A reader of an input that may have at most `max_bytes` bytes.
+    /// A reader of an input that may have at most `max_bytes` bytes, of which a line may have 65,536.
     pub fn new(max_bytes: u64) -> Lines
         requires { max_bytes ≤ 2 ^ 40 }
-        ensures { result ≡ fresh max_bytes }
+        ensures { result ≡ fresh max_bytes longest_line }
+    {
+        Lines::with_limit(max_bytes, LONGEST_LINE)
+    }
+
+    /// A reader of an input that may have at most `max_bytes` bytes, and at most `max_line` in a line, without its line feed.
+    pub fn with_limit(max_bytes: u64, max_line: u64) -> Lines
+        requires { max_bytes ≤ 2 ^ 40 }
+        ensures { result ≡ fresh max_bytes max_line }
     {
         Lines {
             buffer: [0; BUFFER],
@@ -89,6 +99,7 @@ impl Lines {
             consumed: 0,
             given: 0,
             max_bytes,
+            max_line,
             ended: false,
             failed: false,
         }
@@ -268,22 +279,23 @@ impl Lines {
     fn take_held(&mut self, line: &mut Vec<u8>) -> Result<bool, LineFault>
         requires held { self.old.held ≢ [] }
         requires room { 0 < room self.old }
-        requires short { length line.old.items ≤ longest_line }
+        requires short { length line.old.items ≤ self.old.max_line }
         ensures takes { IfOk result (λ ended. Takes self.old self.new line.old.items line.new.items ended) }
         ensures cause { IfErr result (λ fault. IsRefusedLine fault self.old line.old.items) }
         ensures unchanged { IsErr result → self.new ≡ self.old }
     {
         let number = self.given + 1;
+        let max_line = self.max_line;
         let usable = self.usable();
         match line_feed_at(usable) {
             Some(place) => {
-                append(line, &usable[..place], number)?;
+                append(line, &usable[..place], number, max_line)?;
                 self.advance(place + 1);
                 Ok(true)
             }
             None => {
                 let count = usable.len();
-                append(line, usable, number)?;
+                append(line, usable, number, max_line)?;
                 self.advance(count);
                 Ok(false)
             }
@@ -346,14 +358,14 @@ fn first_line_feed(bytes: &[u8]) -> Option<usize>
     bytes.iter().position(|byte| *byte == b'\n')
 }
 
-// Puts bytes at the end of the line with this number, which may not get too long by them.
-fn append(line: &mut Vec<u8>, bytes: &[u8], number: u64) -> Result<(), LineFault>
-    requires { length line.old.items ≤ longest_line }
-    ensures ok { OnOk result ((line.new.items ≡ line.old.items ++ bytes.now) × (length line.new.items ≤ longest_line)) }
+// Puts bytes at the end of the line with this number, which may not get longer than this by them.
+fn append(line: &mut Vec<u8>, bytes: &[u8], number: u64, max_line: u64) -> Result<(), LineFault>
+    requires { length line.old.items ≤ max_line }
+    ensures ok { OnOk result ((line.new.items ≡ line.old.items ++ bytes.now) × (length line.new.items ≤ max_line)) }
     ensures cause { IfErr result (λ fault. (fault ≡ Refused)
-        ⊎ ((fault ≡ OverLong number) × (longest_line < length line.old.items + length bytes.now))) }
+        ⊎ ((fault ≡ OverLong number) × (max_line < length line.old.items + length bytes.now))) }
 {
-    if bytes.len() > LONGEST_LINE - line.len() {
+    if bytes.len() as u64 > max_line - line.len() as u64 {
         return Err(LineFault::LineLong(number));
     }
     line.extend_from_slice(bytes).map_err(OutOfMemory::from)?;

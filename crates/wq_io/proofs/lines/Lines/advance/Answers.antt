@@ -15,6 +15,7 @@ returns-clause-moved c =
       consumed = r.consumed + c.args.count;
       given = r.given;
       max_bytes = r.max_bytes;
+      max_line = r.max_line;
       ended = r.ended;
       failed = r.failed;
     } in

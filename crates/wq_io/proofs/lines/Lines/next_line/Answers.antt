@@ -18,8 +18,9 @@ returns-in_err-take_held-clause-cause g c =
     let front = going.front ∙ ap (λ (u : Option (List ℕ)). before_known line u) (sym has.same) in
     let consumed = ap (λ (r : Reading). r.consumed) has.others ∙ ap (λ (r : Reading). r.consumed) going.others in
     let limit = ap (λ (r : Reading). r.max_bytes) has.others ∙ ap (λ (r : Reading). r.max_bytes) going.others in
+    let longest = ap (λ (r : Reading). r.max_line) has.others ∙ ap (λ (r : Reading). r.max_line) going.others in
     let given = ap (λ (r : Reading). r.given) has.others ∙ ap (λ (r : Reading). r.given) going.others in
-    rw (p.1, p.2) (cause_of _ c.args.self.now c.has_byte.new.self (g.S.Source.left c.args.source.now) left line _ _ front going.in_line going.short consumed limit given c.in_err-take_held.ensures.cause)
+    rw (p.1, p.2) (cause_of _ c.args.self.now c.has_byte.new.self (g.S.Source.left c.args.source.now) left line _ _ front going.in_line going.short consumed limit longest given c.in_err-take_held.ensures.cause)
 
 pub returns-then-not-branch-clause-line : goal.returns-then-not-branch-clause-line
 returns-then-not-branch-clause-line g c =

@@ -11,7 +11,8 @@ returns-in_err-append-in-Some-clause-cause c =
     let p = err_from_is_err_and c.from_residual.result c.from_residual.ensures.1 in
     let old : Reading = c.args.self.now in
     let given : c.self.inside.given ≡ old.given = ap (λ (r : Reading). r.given) c.self.view_is in
-    let cause = rw (given, c.usable-usable.ensures) at c.in_err-append-in-Some.ensures.cause in
+    let longest : c.self.inside.max_line ≡ old.max_line = ap (λ (r : Reading). r.max_line) c.self.view_is in
+    let cause = rw (given, longest, c.usable-usable.ensures) at c.in_err-append-in-Some.ensures.cause in
     let ends : EndsAt c.in-Some.place (take (room old) old.held) = rw c.usable-usable.ensures at c.in-Some.ensures in
     rw (p.1, p.2) (refused _ old _ _ _ (held_front old.held (room old) c.in-Some.place) ends.in_line (front_within old.held (room old) c.in-Some.place) cause)
 
@@ -20,7 +21,8 @@ returns-in_err-append-in-None-clause-cause c =
     let p = err_from_is_err_and c.from_residual-in_err-append-in-None.result c.from_residual-in_err-append-in-None.ensures.1 in
     let old : Reading = c.args.self.now in
     let given : c.self.inside.given ≡ old.given = ap (λ (r : Reading). r.given) c.self.view_is in
-    let cause = rw (given, c.usable-usable.ensures) at c.in_err-append-in-None.ensures.cause in
+    let longest : c.self.inside.max_line ≡ old.max_line = ap (λ (r : Reading). r.max_line) c.self.view_is in
+    let cause = rw (given, longest, c.usable-usable.ensures) at c.in_err-append-in-None.ensures.cause in
     let one_line = rw c.usable-usable.ensures at c.in-None.ensures in
     let within : length (take (room old) old.held) ≤ room old = omega (arith, length-take (room old) old.held) in
     rw (p.1, p.2) (refused _ old _ _ _ (sym (take-append-drop (room old) old.held)) one_line within cause)
@@ -37,7 +39,7 @@ returns-in_ok-append-in-Some-clause-takes c =
       some = tt;
       in_line = ends.in_line;
       line = line;
-      short = c.in_ok-append-in-Some.ensures.ok.1;
+      short = rw (ap (λ (r : Reading). r.max_line) c.self.view_is) at c.in_ok-append-in-Some.ensures.ok.1;
       held = rw (c.advance.ensures.moved, add-one) (held_round old.held (room old) c.in-Some.place ends);
       consumed = rw c.advance.ensures.moved (omega (arith, long));
       others = rw c.advance.ensures.moved refl;
