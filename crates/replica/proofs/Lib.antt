@@ -1,3 +1,5 @@
+pub mod Applied
+pub mod Following
 pub mod Heads
 pub mod Records
 pub mod TermEnds

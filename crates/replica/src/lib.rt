@@ -2,13 +2,19 @@
 //!
 //! `record` has a record and the writing of it, `head` its first line, and `triple_line` a triple by the line that it has in a
 //! record: `term_end` finds where a term ends there. `reader` takes lines and gives records.
+//! `replica` keeps records until it is their turn; `applying` says what one changes of the triples that are stored.
 #![tactic(auto)]
 
+mod applying;
 mod head;
 mod reader;
 mod record;
+mod replica;
 mod term_end;
 mod triple_line;
 
 pub use reader::{PatchFault, PatchReader};
 pub use record::{PatchRecord, write_patch};
+pub use replica::{Received, Replica};
+/// Why a record isn't applied.
+pub use triple_store::StoreFault as ReplicaFault;
