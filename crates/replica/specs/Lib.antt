@@ -1,4 +1,5 @@
 pub mod Head
+pub mod Laws
 pub mod Reader
 pub mod Record
 pub mod Replica

@@ -3,16 +3,22 @@
 //! `record` has a record and the writing of it, `head` its first line, and `triple_line` a triple by the line that it has in a
 //! record: `term_end` finds where a term ends there. `reader` takes lines and gives records.
 //! `replica` keeps records until it is their turn; `applying` says what one changes of the triples that are stored.
+//! `laws` has what holds of the definitions themselves.
 #![tactic(auto)]
 
 mod applying;
 mod head;
+mod laws;
 mod reader;
 mod record;
 mod replica;
 mod term_end;
 mod triple_line;
 
+pub use laws::{
+    a_replica_follows_its_producer, lines_are_read_as_their_records,
+    records_are_read_from_their_lines,
+};
 pub use reader::{PatchFault, PatchReader};
 pub use record::{PatchRecord, write_patch};
 pub use replica::{Received, Replica};
