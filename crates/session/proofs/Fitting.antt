@@ -3,7 +3,7 @@
 use Rattle.std.proofs.Common.{◌≡◌, refl, sym, subst, ◌∙◌, ⊎_elim, ℕ, zero, suc, ◌<◌, ◌≤◌, List, [], ◌∷◌, ◌++◌, append-nil, Option, None, Some, arith}
 use Rattle.std.specs.Option.{option_to_list}
 use Rattle.std.specs.Ordering.{eq_by_cmp}
-use Rattle.rising.specs.Rising.{In, has}
+use Rattle.rising.specs.Rising.{In}
 use Rattle.rising.proofs.Bools.{clash}
 use Rattle.rising.proofs.FirstPassing.{has-remove_key}
 use Rattle.entity_model.specs.declared.delivery.Delivery.{Delivery}

@@ -1,5 +1,5 @@
 -- What a run leaves: the states, what is held, the side output and what was printed.
-use Rattle.std.specs.Prelude.{◌≡◌, ◌⊎◌, ℕ, ◌-◌, ◌^◌, ◌+◌, ◌<◌, true, false, not, List, [], ◌∷◌, ◌++◌, Option, None, Some, IfSome, length}
+use Rattle.std.specs.Prelude.{◌≡◌, ◌⊎◌, ℕ, ◌-◌, ◌^◌, ◌+◌, ◌<◌, true, false, not, List, [], ◌∷◌, ◌++◌, Option, None, Some, IfSome, MatchOption, length}
 use Rattle.std.specs.List.{list_any}
 use Rattle.rising.specs.Rising.{Each}
 use Rattle.wq_io.specs.Streams.{IsAtEnd, Rose, after_known}
@@ -28,15 +28,17 @@ use Rattle.transcript.specs.declared.write.Unwritten.{Unwritten}
 use Rattle.transcript.specs.declared.write.Unwritten.TheVariants.{WriteFault as NotWritten, OutOfMemory as Refused}
 use Rattle.transcript.specs.Printing.{IsCutShort, Output}
 use Rattle.words.specs.Options.{limit_of}
+use Rattle.session.specs.declared.status.Status.{Status}
 use Rattle.session.specs.declared.stop.Stop.{Stop}
 use Rattle.session.specs.declared.stop.Stop.TheVariants.{BadLine, ReadFault, WriteFault, TooLong, StoreFull, OutOfMemory}
 use Rattle.session.specs.declared.stop.Unapplied.TheVariants.{StoreFull as NoRoom, OutOfMemory as Starved}
 use Rattle.session.specs.Counts.{HasCounted}
 use Rattle.session.specs.Moment.{Moment, Run, Setting, Stage, with_mapped, with_output, horizon_at}
 use Rattle.session.specs.Needed.{HaveRoom, HaveRoomBefore, needed_anew}
-use Rattle.session.specs.Reading.{AreDeliveries, AreFirst, AreWhole, IsPastLimit, IsRefusedLine}
+use Rattle.session.specs.Reading.{AreDeliveries, AreFirst, AreWhole, IsPastLimit, IsRefusedLine, TakesByNeed}
 use Rattle.session.specs.Remapping.{IsFullOfStale, mapped_by, remapped_some}
 use Rattle.session.specs.Sections.{sections_of}
+use Rattle.session.specs.Stop.{stop_of}
 use Rattle.session.specs.Stops.{IsHalted}
 use Rattle.session.specs.Taking.{Course, HoldsDocuments, IsFull, course_after, course_printed, course_to_end, judgement, replies_there}
 
@@ -175,3 +177,8 @@ Stopped StoreFull run before now =
     (IsFull run.setting now.stage.world now.stage.mapped × IsHalted NoRoom run before now)
     ⊎ (IsFullOfStale run.setting.room now.stage.world.played.records now.stage.mapped × StandsAtMapping run before now)
 Stopped OutOfMemory run before now = (IsHalted Starved run before now ⊎ StandsAtMapping run before now) ⊎ IsInterrupted Refused run before now
+
+-- what a replay leaves that was begun: it ended well, or it stopped for a cause; and what it took of its input is bounded
+pub record ReplayEnding (status : Status) (run : Run) (before now : Moment) : Type 0 where
+  pub outcome : MatchOption (stop_of status) (Ending run before now) (λ stop. Stopped stop run before now)
+  pub taken : IfSome before.input.left (λ bytes. TakesByNeed (limit_of run.choices) bytes now.input.left)
