@@ -13,7 +13,7 @@ use Rattle.transcript.specs.Printing.{Output, output}
 use Rattle.session.specs.declared.ports.Ports.{Ports}
 use Rattle.session.specs.Counts.{SourceCounts, counts}
 use Rattle.session.specs.Remapping.{Mapped, mapped_in}
-use Rattle.words.specs.Options.{Choices, place_of, terms_of}
+use Rattle.words.specs.Options.{Choices, folder_of, max_terms_of}
 
 -- what deliveries are taken under: what the source of revisions has in its folder, where it is known, and for how many terms
 -- there is room
@@ -79,8 +79,8 @@ pub record Run : Type 0 where
 -- the world that a run of these choices begins with: empty, with the horizon and the room that were chosen, and with the first
 -- version of the mapping
 abbrev pub world_at_start : Choices → WorldState
-world_at_start choices = record { replay = nothing_delivered_within choices.horizon; room = terms_of choices; mapping = One; second = [] }
+world_at_start choices = record { replay = nothing_delivered_within choices.horizon; room = max_terms_of choices; mapping = One; second = [] }
 
 -- the run of these choices over a source with these contents
 abbrev pub run_of : Option Contents → Choices → Run
-run_of contents choices = record { choices = choices; setting = setting contents (place_of choices) (terms_of choices) }
+run_of contents choices = record { choices = choices; setting = setting contents (folder_of choices) (max_terms_of choices) }

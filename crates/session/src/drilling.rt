@@ -14,7 +14,6 @@ use crate::remapping::begin_by_first;
 use drill_replay::{summarize, summary_lines};
 use std::alloc::Global;
 use transcript::{Unwritten, print_lines};
-use words::take_size;
 use world::World;
 use wq_io::Sink;
 
@@ -39,7 +38,6 @@ pub fn drill<K: Sink>(
 {
     begin_by_first(world);
     world.set_room(ROOM);
-    let size = take_size(alloc, size)?;
     let counts = play(alloc, size, out, world)?;
     let summary = summarize(alloc, size, counts, world)?;
     let lines = summary_lines(alloc, &summary)?;

@@ -1,6 +1,6 @@
 // A replay: the lines of the input, the end, and the sections that are asked for.
 
-ghost use Rattle.std.specs.Prelude.{◌≡◌, Err, IfErr, IfSome, OnOk};
+ghost use Rattle.std.specs.Prelude.{◌≡◌, IfErr, IfSome, OnOk};
 ghost use Rattle.drill_replay.specs.Playing.{IsByFirst};
 ghost use Rattle.replay_model.specs.ReplayState.{nothing_delivered, nothing_delivered_within};
 ghost use Rattle.transcript.specs.Sections.{chosen};
@@ -9,10 +9,8 @@ ghost use Rattle.session.specs.Headline.{Ending, HasReplayed, Stopped};
 ghost use Rattle.session.specs.Moment.{moment, run_of, world_at_start};
 ghost use Rattle.session.specs.Reading.{TakesByNeed};
 ghost use Rattle.session.specs.Remapping.{HoldsWithin};
-ghost use Rattle.session.specs.Room.{LeavesRoom};
 ghost use Rattle.session.specs.Sections.{sections_of};
-ghost use Rattle.session.specs.declared.stop.Stop.TheVariants.{OutOfMemory as Refused};
-ghost use Rattle.words.specs.Options.{limit_of, terms_of};
+ghost use Rattle.words.specs.Options.{max_bytes_of, max_terms_of};
 
 use crate::delivering::take_end;
 use crate::ports::Ports;
@@ -22,11 +20,11 @@ use crate::taking::take_lines;
 use revisions::Revisions;
 use std::alloc::Global;
 use transcript::{Sections, print_closing};
-use words::{Arguments, ReplayOptions, take_arguments};
+use words::ReplayOptions;
 use world::World;
 use wq_io::{Sink, Source};
 
-// Begins by the first version of the mapping, sets the horizon, takes the values of the options, the lines and the end, and prints.
+// Begins by the first version of the mapping, sets the horizon and the room, takes the lines and the end, and prints.
 pub fn replay<S: Source, R: Revisions, K: Sink>(
     alloc: Global,
     options: &ReplayOptions<'_>,
@@ -40,9 +38,9 @@ pub fn replay<S: Source, R: Revisions, K: Sink>(
     ensures err { IfErr result (λ stop. Stopped stop (run_of (R.contents ports.old.revisions) options.now)
         (moment S.Source R.Revisions K.Sink ports.old (world_at_start options.now))
         (moment S.Source R.Revisions K.Sink ports.new world.new)) }
-    ensures taken { IfSome (S.left ports.old.events) (λ bytes. TakesByNeed (limit_of options.now) bytes (S.left ports.new.events)) }
-    ensures room { LeavesRoom (result ≡ Err Refused) (terms_of options.now) world.old.room world.new.room }
-    ensures held { HoldsWithin (terms_of options.now) world.new }
+    ensures taken { IfSome (S.left ports.old.events) (λ bytes. TakesByNeed (max_bytes_of options.now) bytes (S.left ports.new.events)) }
+    ensures room { world.new.room ≡ max_terms_of options.now }
+    ensures held { HoldsWithin (max_terms_of options.now) world.new }
     ensures further { HaveGoneOn S.Source R.Revisions K.Sink ports.old ports.new }
 {
     begin_by_first(world);
@@ -63,7 +61,7 @@ fn set_horizon(options: &ReplayOptions<'_>, world: &mut World)
     }
 }
 
-// Takes the values of the options, the lines and the end, and prints.
+// Sets the room, takes the lines and the end, and prints.
 fn replay_within<S: Source, R: Revisions, K: Sink>(
     alloc: Global,
     options: &ReplayOptions<'_>,
@@ -78,38 +76,37 @@ fn replay_within<S: Source, R: Revisions, K: Sink>(
     ensures err { IfErr result (λ stop. Stopped stop (run_of (R.contents ports.old.revisions) options.now)
         (moment S.Source R.Revisions K.Sink ports.old world.old)
         (moment S.Source R.Revisions K.Sink ports.new world.new)) }
-    ensures taken { IfSome (S.left ports.old.events) (λ bytes. TakesByNeed (limit_of options.now) bytes (S.left ports.new.events)) }
-    ensures room { LeavesRoom (result ≡ Err Refused) (terms_of options.now) world.old.room world.new.room }
-    ensures held { HoldsWithin (terms_of options.now) world.new }
+    ensures taken { IfSome (S.left ports.old.events) (λ bytes. TakesByNeed (max_bytes_of options.now) bytes (S.left ports.new.events)) }
+    ensures room { world.new.room ≡ max_terms_of options.now }
+    ensures held { HoldsWithin (max_terms_of options.now) world.new }
     ensures further { HaveGoneOn S.Source R.Revisions K.Sink ports.old ports.new }
 {
-    let arguments = take_arguments(alloc, options)?;
-    world.set_room(arguments.terms());
-    take_all(alloc, &arguments, ports, world)?;
-    Ok(print_closing(alloc, sections(&arguments), world, &mut ports.out)?)
+    world.set_room(options.max_terms());
+    take_all(alloc, options, ports, world)?;
+    Ok(print_closing(alloc, sections(options), world, &mut ports.out)?)
 }
 
 // Which sections are asked for.
-fn sections(arguments: &Arguments) -> Sections
-    ensures { chosen result ≡ sections_of arguments.now }
+fn sections(options: &ReplayOptions<'_>) -> Sections
+    ensures { chosen result ≡ sections_of options.now }
 {
     Sections {
-        export: arguments.export(),
-        state: arguments.state(),
-        side: arguments.side(),
+        export: options.export(),
+        state: options.state(),
+        side: options.side(),
     }
 }
 
 // Takes the lines, with the answers to their questions, and the end.
 fn take_all<S: Source, R: Revisions, K: Sink>(
     alloc: Global,
-    plan: &Arguments,
+    plan: &ReplayOptions<'_>,
     ports: &mut Ports<S, R, K>,
     world: &mut World,
 ) -> Result<(), Stop>
     requires world { world.old.replay ≡ nothing_delivered_within world.old.replay.buffer.horizon }
     requires first { IsByFirst world.old }
-    requires room { world.old.room ≡ terms_of plan.now }
+    requires room { world.old.room ≡ max_terms_of plan.now }
     requires held { HoldsWithin world.old.room world.old }
     ensures ok { OnOk result (HasReplayed (run_of (R.contents ports.old.revisions) plan.now)
         (moment S.Source R.Revisions K.Sink ports.old world.old)
@@ -117,12 +114,12 @@ fn take_all<S: Source, R: Revisions, K: Sink>(
     ensures err { IfErr result (λ stop. Stopped stop (run_of (R.contents ports.old.revisions) plan.now)
         (moment S.Source R.Revisions K.Sink ports.old world.old)
         (moment S.Source R.Revisions K.Sink ports.new world.new)) }
-    ensures taken { IfSome (S.left ports.old.events) (λ bytes. TakesByNeed (limit_of plan.now) bytes (S.left ports.new.events)) }
+    ensures taken { IfSome (S.left ports.old.events) (λ bytes. TakesByNeed (max_bytes_of plan.now) bytes (S.left ports.new.events)) }
     ensures room { world.new.room ≡ world.old.room }
     ensures held { HoldsWithin world.old.room world.new }
     ensures further { HaveGoneOn S.Source R.Revisions K.Sink ports.old ports.new }
 {
     take_lines(alloc, plan, ports, world)?;
-    take_end(plan.place(), &mut ports.revisions, world)?;
+    take_end(plan.folder(), &mut ports.revisions, world)?;
     Ok(())
 }

@@ -8,7 +8,7 @@ ghost use Rattle.session.specs.Drilling.{DrillEnding};
 ghost use Rattle.session.specs.Headline.{ReplayEnding};
 ghost use Rattle.session.specs.Moment.{moment, run_of, stage, world_at_start};
 ghost use Rattle.session.specs.Remapping.{HoldsWithin};
-ghost use Rattle.session.specs.Room.{LeavesRoom, room_of};
+ghost use Rattle.session.specs.Room.{room_of};
 ghost use Rattle.words.specs.Options.{Choices};
 ghost use Rattle.words.specs.Plan.{plan_of};
 ghost use Rattle.words.specs.declared.plan.Plan.{Plan as ThePlan};
@@ -57,12 +57,11 @@ pub fn run<S: Source, R: Revisions, K: Sink>(
         (stage R.Revisions K.Sink ports.new.revisions ports.new.out world.new)
         × IsByFirst world.new × (ports.new ≡ record ports.old { out = ports.new.out }) }
 
-    // However a run ends, what is held has the room of its plan. The world is left with this room, or, where memory was refused,
-    // perhaps with its old one.
+    // However a run ends, the world is left with the room of the plan, and what it holds has this room.
     ensures room { (plan : ThePlan) → plan_of (map (λ w. string_bytes w) words.now) ≡ Some plan →
-        LeavesRoom (result ≡ Status.OutOfMemory) (room_of plan) world.old.room world.new.room × HoldsWithin (room_of plan) world.new }
+        (world.new.room ≡ room_of plan) × HoldsWithin (room_of plan) world.new }
 
-    // The contents of the revisions stay the same, and no count of failed calls falls.
+    // The contents of the revisions stay the same, and failure counters never decrease.
     ensures further { HaveGoneOn S.Source R.Revisions K.Sink ports.old ports.new }
 {
     match read_plan(words) {

@@ -12,7 +12,7 @@ ghost use Rattle.session.specs.Moment.{moment, run_of};
 ghost use Rattle.session.specs.Reading.{TakesByNeed};
 ghost use Rattle.session.specs.Remapping.{HoldsWithin};
 ghost use Rattle.session.specs.Stops.{HasTaken};
-ghost use Rattle.words.specs.Options.{limit_of, terms_of};
+ghost use Rattle.words.specs.Options.{max_bytes_of, max_terms_of};
 
 use crate::delivering::{Context, asks, deliver};
 use crate::ports::Ports;
@@ -21,7 +21,7 @@ use entity_model::Delivery;
 use event_line::{DeliveryFault, delivery};
 use revisions::Revisions;
 use std::alloc::Global;
-use words::Arguments;
+use words::ReplayOptions;
 use world::World;
 use wq_io::{Lines, Sink, Source};
 
@@ -29,13 +29,13 @@ use wq_io::{Lines, Sink, Source};
 // question is answered at once; at a change of the mapping all that is held is mapped anew before the next line is taken.
 pub fn take_lines<S: Source, R: Revisions, K: Sink>(
     alloc: Global,
-    plan: &Arguments,
+    plan: &ReplayOptions<'_>,
     ports: &mut Ports<S, R, K>,
     world: &mut World,
 ) -> Result<(), Stop>
     requires world { world.old.replay ≡ nothing_delivered_within world.old.replay.buffer.horizon }
     requires first { IsByFirst world.old }
-    requires room { world.old.room ≡ terms_of plan.now }
+    requires room { world.old.room ≡ max_terms_of plan.now }
     requires held { HoldsWithin world.old.room world.old }
     ensures ok { OnOk result (HasTaken (run_of (R.contents ports.old.revisions) plan.now)
         (moment S.Source R.Revisions K.Sink ports.old world.old)
@@ -43,13 +43,13 @@ pub fn take_lines<S: Source, R: Revisions, K: Sink>(
     ensures err { IfErr result (λ stop. Stopped stop (run_of (R.contents ports.old.revisions) plan.now)
         (moment S.Source R.Revisions K.Sink ports.old world.old)
         (moment S.Source R.Revisions K.Sink ports.new world.new)) }
-    ensures taken { IfSome (S.left ports.old.events) (λ bytes. TakesByNeed (limit_of plan.now) bytes (S.left ports.new.events)) }
+    ensures taken { IfSome (S.left ports.old.events) (λ bytes. TakesByNeed (max_bytes_of plan.now) bytes (S.left ports.new.events)) }
     ensures room { world.new.room ≡ world.old.room }
     ensures held { HoldsWithin world.old.room world.new }
     ensures further { HaveGoneOn S.Source R.Revisions K.Sink ports.old ports.new }
 {
-    let folder = plan.place();
-    let mut lines = Lines::new(plan.limit());
+    let folder = plan.folder();
+    let mut lines = Lines::new(plan.max_bytes());
     let mut line = Vec::new(alloc);
     let mut asked = 0;
     while let Some(number) = lines.next(&mut ports.events, &mut line)? {

@@ -1,4 +1,4 @@
--- Values that are not taken, a stop of the taking, a fault of the sink, and the end.
+-- A stop of the taking, a fault of the sink, and the end.
 use Rattle.std.proofs.Common.{inl, inr, refl, ap, Err, ◌∙◌}
 use Rattle.std.specs.FinMap.{len-empty}
 use Rattle.std.proofs.lemmas.Result.{err_from_is_err_and}
@@ -12,24 +12,18 @@ use Rattle.session.proofs.Progress.{stands_at_start}
 use Rattle.session.proofs.Reading.{nothing_taken_of}
 use Rattle.session.proofs.replaying.replay_within.Goals as goal
 
-pub returns-in_err-arguments-clause-err : goal.returns-in_err-arguments-clause-err
-returns-in_err-arguments-clause-err g c =
-    let p = err_from_is_err_and c.from_residual.result c.from_residual.ensures.1 in
-    let run : Run = run_of (g.R.Revisions.contents c.args.ports.now.revisions) c.args.options.now in
-    rw (p.1, p.2, c.requires.world, c.requires.first.0, c.requires.first.1) (inl (inl (inl (stands_at_start run _ _ _ _))))
-
 pub returns-in_err-take_all-clause-err : goal.returns-in_err-take_all-clause-err
 returns-in_err-take_all-clause-err g c =
-    let p = err_from_is_err_and c.from_residual-in_err-take_all.result c.from_residual-in_err-take_all.ensures.1 in
-    rw (p.1, p.2) (rw (c.in_ok-arguments.ensures, c.set_room.ensures) at c.in_err-take_all.ensures.err)
+    let p = err_from_is_err_and c.from_residual.result c.from_residual.ensures.1 in
+    rw (p.1, p.2) (rw c.set_room.ensures at c.in_err-take_all.ensures.err)
 
 pub returns-clause-ok : goal.returns-clause-ok
 returns-clause-ok g c =
     let run : Run = run_of (g.R.Revisions.contents c.args.ports.now.revisions) c.args.options.now in
     let before : Moment = moment g.S.Source g.R.Revisions g.K.Sink c.args.ports.now c.args.world.now in
     let between : Moment = moment g.S.Source g.R.Revisions g.K.Sink c.take_all.new.ports c.take_all.new.world in
-    let replayed : HasReplayed run before between = rw (c.in_ok-arguments.ensures, c.set_room.ensures) at c.in_ok-take_all.ensures.ok in
-    ending run before between _ replayed (prints_asked _ _ _ _ _ _ _ _ (rw c.in_ok-arguments.ensures at c.sections.ensures) replayed.replay.played.mapped c.in_ok-print_closing.ensures)
+    let replayed : HasReplayed run before between = rw c.set_room.ensures at c.in_ok-take_all.ensures.ok in
+    ending run before between _ replayed (prints_asked _ _ _ _ _ _ _ _ c.sections.ensures replayed.replay.played.mapped c.in_ok-print_closing.ensures)
 
 pub returns-in_err-print_closing-clause-err : goal.returns-in_err-print_closing-clause-err
 returns-in_err-print_closing-clause-err g c =
@@ -37,26 +31,20 @@ returns-in_err-print_closing-clause-err g c =
     let before : Moment = moment g.S.Source g.R.Revisions g.K.Sink c.args.ports.now c.args.world.now in
     let between : Moment = moment g.S.Source g.R.Revisions g.K.Sink c.take_all.new.ports c.take_all.new.world in
     let p = err_from_is_err_and c.from_residual-in_err-print_closing.result c.from_residual-in_err-print_closing.ensures.1 in
-    let replayed : HasReplayed run before between = rw (c.in_ok-arguments.ensures, c.set_room.ensures) at c.in_ok-take_all.ensures.ok in
-    rw (p.1, p.2) (broken_off _ run before between _ replayed c.take_all.ensures.further.out.faults (prints_asked _ _ _ _ _ _ _ _ (rw c.in_ok-arguments.ensures at c.sections.ensures) replayed.replay.played.mapped c.in_err-print_closing.ensures))
+    let replayed : HasReplayed run before between = rw c.set_room.ensures at c.in_ok-take_all.ensures.ok in
+    rw (p.1, p.2) (broken_off _ run before between _ replayed c.take_all.ensures.further.out.faults (prints_asked _ _ _ _ _ _ _ _ c.sections.ensures replayed.replay.played.mapped c.in_err-print_closing.ensures))
 
 pub set_room-requires : goal.set_room-requires
 set_room-requires g c = rw c.requires.world (len-empty _ _)
 
-pub returns-in_err-arguments-clause-taken : goal.returns-in_err-arguments-clause-taken
-returns-in_err-arguments-clause-taken g c = nothing_taken_of _ _
-
 pub returns-in_err-take_all-clause-taken : goal.returns-in_err-take_all-clause-taken
-returns-in_err-take_all-clause-taken g c = rw c.in_ok-arguments.ensures at c.take_all.ensures.taken
+returns-in_err-take_all-clause-taken g c = c.take_all.ensures.taken
 
 pub returns-in_err-print_closing-clause-taken : goal.returns-in_err-print_closing-clause-taken
-returns-in_err-print_closing-clause-taken g c = rw c.in_ok-arguments.ensures at c.take_all.ensures.taken
+returns-in_err-print_closing-clause-taken g c = c.take_all.ensures.taken
 
 pub returns-clause-taken : goal.returns-clause-taken
-returns-clause-taken g c = rw c.in_ok-arguments.ensures at c.take_all.ensures.taken
-
-pub returns-in_err-arguments-clause-further : goal.returns-in_err-arguments-clause-further
-returns-in_err-arguments-clause-further g c = none_gone g.S.Source g.R.Revisions g.K.Sink _
+returns-clause-taken g c = c.take_all.ensures.taken
 
 pub returns-in_err-print_closing-clause-further : goal.returns-in_err-print_closing-clause-further
 returns-in_err-print_closing-clause-further g c =
@@ -66,31 +54,23 @@ pub returns-clause-further : goal.returns-clause-further
 returns-clause-further g c =
     written_on g.S.Source g.R.Revisions g.K.Sink _ c.take_all.new.ports _ c.take_all.ensures.further (record { faults = c.print_closing.ensures.later; most = c.print_closing.ensures.most })
 
-pub returns-in_err-arguments-clause-held : goal.returns-in_err-arguments-clause-held
-returns-in_err-arguments-clause-held g c = rw c.requires.world (nothing_held _ nothing_played.records _ (len-empty _ _))
-
 pub returns-in_err-take_all-clause-held : goal.returns-in_err-take_all-clause-held
-returns-in_err-take_all-clause-held g c = rw (c.set_room.ensures, c.terms.ensures, c.in_ok-arguments.ensures) at c.take_all.ensures.held
+returns-in_err-take_all-clause-held g c = rw (c.set_room.ensures, c.max_terms.ensures) at c.take_all.ensures.held
 
 pub returns-in_err-print_closing-clause-held : goal.returns-in_err-print_closing-clause-held
-returns-in_err-print_closing-clause-held g c = rw (c.set_room.ensures, c.terms.ensures, c.in_ok-arguments.ensures) at c.take_all.ensures.held
+returns-in_err-print_closing-clause-held g c = rw (c.set_room.ensures, c.max_terms.ensures) at c.take_all.ensures.held
 
 pub returns-clause-held : goal.returns-clause-held
-returns-clause-held g c = rw (c.set_room.ensures, c.terms.ensures, c.in_ok-arguments.ensures) at c.take_all.ensures.held
+returns-clause-held g c = rw (c.set_room.ensures, c.max_terms.ensures) at c.take_all.ensures.held
 
 pub take_all-requires-clause-held : goal.take_all-requires-clause-held
 take_all-requires-clause-held g c = rw (c.set_room.ensures, c.requires.world) (nothing_held _ nothing_played.records _ (len-empty _ _))
 
 pub returns-clause-room : goal.returns-clause-room
-returns-clause-room g c = inl (rw (c.set_room.ensures, c.terms.ensures, c.in_ok-arguments.ensures) at c.take_all.ensures.room)
-
-pub returns-in_err-arguments-clause-room : goal.returns-in_err-arguments-clause-room
-returns-in_err-arguments-clause-room g c =
-    let p = err_from_is_err_and c.from_residual.result c.from_residual.ensures.1 in
-    inr (p.1 ∙ ap Err p.2, refl)
+returns-clause-room g c = rw (c.set_room.ensures, c.max_terms.ensures) at c.take_all.ensures.room
 
 pub returns-in_err-take_all-clause-room : goal.returns-in_err-take_all-clause-room
-returns-in_err-take_all-clause-room g c = inl (rw (c.set_room.ensures, c.terms.ensures, c.in_ok-arguments.ensures) at c.take_all.ensures.room)
+returns-in_err-take_all-clause-room g c = rw (c.set_room.ensures, c.max_terms.ensures) at c.take_all.ensures.room
 
 pub returns-in_err-print_closing-clause-room : goal.returns-in_err-print_closing-clause-room
-returns-in_err-print_closing-clause-room g c = inl (rw (c.set_room.ensures, c.terms.ensures, c.in_ok-arguments.ensures) at c.take_all.ensures.room)
+returns-in_err-print_closing-clause-room g c = rw (c.set_room.ensures, c.max_terms.ensures) at c.take_all.ensures.room

@@ -1,15 +1,15 @@
 -- What a replay and a drill leave, by the plan that was read.
-use Rattle.std.proofs.Common.{◌≡◌, ◌∙◌, sym, ap, Some, inl, refl}
+use Rattle.std.proofs.Common.{◌≡◌, ◌∙◌, sym, ap, Some, refl}
 use Rattle.words.specs.declared.plan.Plan.TheVariants.{Replay, Drill}
-use Rattle.session.specs.declared.status.Status.TheVariants.{Ok as Ended, OutOfMemory}
+use Rattle.session.specs.declared.status.Status.TheVariants.{Ok as Ended}
 use Rattle.session.specs.Drilling.{DrillEnding}
 use Rattle.session.specs.Headline.{ReplayEnding}
 use Rattle.session.specs.Moment.{moment, run_of, stage, world_at_start}
 use Rattle.session.specs.Remapping.{HoldsWithin}
-use Rattle.session.specs.Room.{LeavesRoom, room_of}
+use Rattle.session.specs.Room.{room_of}
 use Rattle.drill_replay.specs.Playing.{IsByFirst}
 use Rattle.session.proofs.Ongoing.{none_gone, written_on}
-use Rattle.session.proofs.Plans.{for_choices, for_plan, for_size, no_drill, no_replay, replay_stopped, room_at_end, room_at_stop}
+use Rattle.session.proofs.Plans.{for_choices, for_plan, for_size, no_drill, no_replay, replay_stopped}
 use Rattle.session.proofs.running.run.Goals as goal
 
 -- ---- a replay that ended well
@@ -24,8 +24,8 @@ returns-in-Ok-clause-drill g c = λ size plan. no_drill _ _ size (ap Some (sym c
 
 pub returns-in-Ok-clause-room : goal.returns-in-Ok-clause-room
 returns-in-Ok-clause-room g c = λ the plan.
-    for_plan (λ x. LeavesRoom (Ended ≡ OutOfMemory) (room_of x) c.args.world.now.room c.replay.new.world.room × HoldsWithin (room_of x) c.replay.new.world)
-    (Replay c.in-Some-Replay.options) the (ap Some (sym c.in-Some-Replay.field-0-is) ∙ c.in-Some-Replay.ensures.value ∙ plan) (room_at_end _ _ _ _ c.replay.result c.in-Ok.is c.replay.ensures.room, c.in-Ok.ensures.held)
+    for_plan (λ x. (c.replay.new.world.room ≡ room_of x) × HoldsWithin (room_of x) c.replay.new.world)
+    (Replay c.in-Some-Replay.options) the (ap Some (sym c.in-Some-Replay.field-0-is) ∙ c.in-Some-Replay.ensures.value ∙ plan) (c.replay.ensures.room, c.in-Ok.ensures.held)
 
 -- ---- a replay that stopped
 
@@ -39,8 +39,8 @@ returns-in-Err-clause-drill g c = λ size plan. no_drill _ _ size (ap Some (sym 
 
 pub returns-in-Err-clause-room : goal.returns-in-Err-clause-room
 returns-in-Err-clause-room g c = λ the plan.
-    for_plan (λ x. LeavesRoom (c.status.result ≡ OutOfMemory) (room_of x) c.args.world.now.room c.replay.new.world.room × HoldsWithin (room_of x) c.replay.new.world)
-    (Replay c.in-Some-Replay.options) the (ap Some (sym c.in-Some-Replay.field-0-is) ∙ c.in-Some-Replay.ensures.value ∙ plan) (room_at_stop _ c.in-Err.stop _ _ _ c.replay.result c.in-Err.is c.status.ensures.refused c.replay.ensures.room, c.in-Err.ensures.held)
+    for_plan (λ x. (c.replay.new.world.room ≡ room_of x) × HoldsWithin (room_of x) c.replay.new.world)
+    (Replay c.in-Some-Replay.options) the (ap Some (sym c.in-Some-Replay.field-0-is) ∙ c.in-Some-Replay.ensures.value ∙ plan) (c.replay.ensures.room, c.in-Err.ensures.held)
 
 -- ---- a drill that ended well
 
@@ -55,8 +55,8 @@ returns-in-Ok-drill-clause-drill g c = λ size plan.
 
 pub returns-in-Ok-drill-clause-room : goal.returns-in-Ok-drill-clause-room
 returns-in-Ok-drill-clause-room g c = λ the plan.
-    for_plan (λ x. LeavesRoom (Ended ≡ OutOfMemory) (room_of x) c.args.world.now.room c.drill.new.world.room × HoldsWithin (room_of x) c.drill.new.world)
-    (Drill c.in-Some-Drill.size) the (ap Some (sym c.in-Some-Drill.field-0-is) ∙ c.in-Some-Drill.ensures.value ∙ plan) (inl c.in-Ok-drill.ensures.room, c.in-Ok-drill.ensures.held)
+    for_plan (λ x. (c.drill.new.world.room ≡ room_of x) × HoldsWithin (room_of x) c.drill.new.world)
+    (Drill c.in-Some-Drill.size) the (ap Some (sym c.in-Some-Drill.field-0-is) ∙ c.in-Some-Drill.ensures.value ∙ plan) (c.in-Ok-drill.ensures.room, c.in-Ok-drill.ensures.held)
 
 pub returns-in-Ok-drill-clause-further : goal.returns-in-Ok-drill-clause-further
 returns-in-Ok-drill-clause-further g c = written_on g.S.Source g.R.Revisions g.K.Sink c.args.ports.now c.args.ports.now c.drill.new.out (none_gone g.S.Source g.R.Revisions g.K.Sink _) c.drill.ensures.written
@@ -68,8 +68,8 @@ returns-in-Err-drill-clause-replay g c = λ choices plan. no_replay _ choices _ 
 
 pub returns-in-Err-drill-clause-room : goal.returns-in-Err-drill-clause-room
 returns-in-Err-drill-clause-room g c = λ the plan.
-    for_plan (λ x. LeavesRoom (c.status-in-Err-drill.result ≡ OutOfMemory) (room_of x) c.args.world.now.room c.drill.new.world.room × HoldsWithin (room_of x) c.drill.new.world)
-    (Drill c.in-Some-Drill.size) the (ap Some (sym c.in-Some-Drill.field-0-is) ∙ c.in-Some-Drill.ensures.value ∙ plan) (inl c.drill.ensures.room, c.drill.ensures.held)
+    for_plan (λ x. (c.drill.new.world.room ≡ room_of x) × HoldsWithin (room_of x) c.drill.new.world)
+    (Drill c.in-Some-Drill.size) the (ap Some (sym c.in-Some-Drill.field-0-is) ∙ c.in-Some-Drill.ensures.value ∙ plan) (c.drill.ensures.room, c.drill.ensures.held)
 
 pub returns-in-Err-drill-clause-further : goal.returns-in-Err-drill-clause-further
 returns-in-Err-drill-clause-further g c = written_on g.S.Source g.R.Revisions g.K.Sink c.args.ports.now c.args.ports.now c.drill.new.out (none_gone g.S.Source g.R.Revisions g.K.Sink _) c.drill.ensures.written

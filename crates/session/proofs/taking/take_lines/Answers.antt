@@ -11,7 +11,7 @@ use Rattle.session.proofs.taking.take_lines.Goals as goal
 pub loop-line-init : goal.loop-line-init
 loop-line-init g c =
     let run : Run = run_of (g.R.Revisions.contents c.args.ports.now.revisions) c.args.plan.now in (
-      rw (c.new-lines.ensures, c.limit.ensures.value, c.requires.world, c.requires.first.0, c.requires.first.1) (nothing_begun run _ _ _ _),
+      rw (c.new-lines.ensures, c.max_bytes.ensures.value, c.requires.world, c.requires.first.0, c.requires.first.1) (nothing_begun run _ _ _ _),
       none_gone g.S.Source g.R.Revisions g.K.Sink _,
       refl,
       c.requires.held,
@@ -41,7 +41,7 @@ returns-in_err-deliver-clause-err g c =
     let line = rw c.in-Some.is at c.in_ok-number.ensures.line in
     let bytes = rw c.in-Some.is at c.in_ok-number.ensures.bytes in
     let delivered = rw c.as_slice.ensures.value at c.in_ok-delivery.ensures.ok in
-    let cuts = rw (c.loop-line.invariant.1.revisions.known, c.place-folder.ensures, c.loop-line.invariant.2 ∙ c.requires.room) at c.in_err-deliver.ensures.err in
+    let cuts = rw (c.loop-line.invariant.1.revisions.known, c.folder-folder.ensures, c.loop-line.invariant.2 ∙ c.requires.room) at c.in_err-deliver.ensures.err in
     rw (p.1, p.2) (delivery_stops _ _ _ _ _ c.loop-line.invariant.0 c.next.new.line.items c.next.new.self _ _
     (moment g.S.Source g.R.Revisions g.K.Sink (record { events = c.next.new.source; revisions = c.deliver.new.revisions; out = c.deliver.new.out }) c.deliver.new.world) c.in_ok-delivery.delivery _
     (record { first = line; total = c.in_ok-number.ensures.length; takes = bytes; goes = c.in_ok-number.ensures.goes_on; reads = c.next.ensures.reads }) delivered (omega (arith, c.asks-asked.ensures.number)) _ cuts)
@@ -52,7 +52,7 @@ loop-line-preserved g c =
     let number = rw c.in-Some.is at c.in_ok-number.ensures.number in
     let bytes = rw c.in-Some.is at c.in_ok-number.ensures.bytes in
     let delivered = rw c.as_slice.ensures.value at c.in_ok-delivery.ensures.ok in
-    let takes = rw (c.loop-line.invariant.1.revisions.known, c.place-folder.ensures, c.loop-line.invariant.2 ∙ c.requires.room) at c.in_ok-deliver.ensures.ok in
+    let takes = rw (c.loop-line.invariant.1.revisions.known, c.folder-folder.ensures, c.loop-line.invariant.2 ∙ c.requires.room) at c.in_ok-deliver.ensures.ok in
     let one = c.asks-asked.ensures.at_most_one in
     let asked = c.asks-asked.ensures.number in (
       line_taken _ _ _ _ _ c.loop-line.invariant.0 c.next.new.line.items c.next.new.self _ _
