@@ -4,7 +4,7 @@ use anyhow::Result;
 use case_file::{Given, Page};
 use rdf_term::{List, Text};
 use revisions::{MemoryRevisions, RevisionBytes};
-use session::{Status, run};
+use session::{Ports, Status, run};
 use std::alloc::Global;
 use std::hash::RandomState;
 use world::World;
@@ -21,23 +21,22 @@ pub struct Left {
 
 // Makes one run.
 pub fn run_over(alloc: Global, keys: RandomState, given: &Given) -> Result<Left> {
-    let mut events = source(alloc, given)?;
-    let mut revisions = revisions(alloc, given)?;
-    let mut out = sink(alloc, given)?;
+    let events = source(alloc, given)?;
+    let revisions = revisions(alloc, given)?;
+    let out = sink(alloc, given)?;
+    let mut ports = Ports {
+        events,
+        revisions,
+        out,
+    };
     let mut world = World::new(alloc, keys)?;
-    let status = run(
-        alloc,
-        given.words.as_slice(),
-        &mut events,
-        &mut revisions,
-        &mut out,
-        &mut world,
-    );
+    let status = run(alloc, given.words.as_slice(), &mut ports, &mut world);
+    let fetches = ports.revisions.fetches();
     Ok(Left {
         status,
-        out,
+        out: ports.out,
         world,
-        fetches: revisions.fetches(),
+        fetches,
     })
 }
 

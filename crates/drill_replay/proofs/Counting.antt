@@ -15,7 +15,7 @@ use Rattle.replay_model.specs.Fate.{in_order}
 use Rattle.replay_model.specs.Play.{Replies}
 use Rattle.replay_model.specs.ReplayState.{following}
 use Rattle.replay_model.proofs.Deliveries.{events_passing-kept, events_passing-told}
-use Rattle.drill_replay.specs.declared.playing.DrillCounts.{DrillCounts}
+use Rattle.drill_replay.specs.declared.counts.DrillCounts.{DrillCounts}
 use Rattle.drill_replay.specs.Playing.{Counted, HasFew, answer_of, with_answer}
 
 one_more : (ds : List Delivery) (d : Delivery) (n : ℕ) → n ≡ length ds → n + 1 ≡ length (ds ++ d ∷ [])

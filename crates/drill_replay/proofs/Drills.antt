@@ -1,11 +1,17 @@
 -- How drills follow one another, and parts of them.
-use Rattle.std.proofs.Common.{◌≡◌, ◌∙◌, refl, sym, ap, subst, inl, inr, ℕ, zero, suc, ◌+◌, ◌-◌, ◌%◌, ◌≤◌, ◌==◌, Bool, true, false, cond, List, [], ◌∷◌, ◌++◌, append_assoc, append-nil, length, length-append, ⊎_elim, arith}
+use Rattle.std.proofs.Common.{◌≡◌, ◌∙◌, refl, sym, ap, subst, inl, inr, ℕ, zero, suc, ◌+◌, ◌-◌, ◌%◌, ◌<◌, ◌≤◌, ◌==◌, Bool, true, false, cond, List, [], ◌∷◌, ◌++◌, append_assoc, append-nil, length, length-append, Option, None, Some, ⊎_elim, arith}
 use Rattle.std.specs.List.{flat_map, range_with_len}
 use Rattle.std.proofs.lemmas.List.Concat.{flat_map-append}
 use Rattle.entity_model.specs.declared.delivery.Delivery.{Delivery}
-use Rattle.replay_model.specs.ReplayState.{ReplayState, nothing_delivered}
+use Rattle.entity_model.specs.declared.event.Event.{Event}
+use Rattle.reorder_buffer.specs.Buffered.{first_due}
+use Rattle.rising.proofs.FirstPassing.{shorter_without}
+use Rattle.replay_model.specs.Play.{Replies}
+use Rattle.replay_model.specs.ReplayState.{ReplayState, after_applying, after_due, after_end, after_next, after_some, following, nothing_delivered}
+use Rattle.replay_model.proofs.Following.{after_due-none, after_due-some, following-end}
 use Rattle.drill.specs.Drill.{deletion, deliveries_of, drill, edits, late_edit}
 use Rattle.drill_replay.specs.Playing.{HasBegun, IsPartOf, StandsBetween, StandsWithin}
+use Rattle.drill_replay.specs.Summary.{drilled, replies_of}
 
 -- before the first delivery a drill has begun
 pub nothing_taken : (size : ℕ) → HasBegun size nothing_delivered
@@ -80,3 +86,34 @@ few_deliveries i =
     let late : length (late_edit i) ≤ 2 = at_most (i % 10 == 0) _ 2 (omega arith) in
     let three : length (edits i) ≡ 3 = refl in
     omega (arith, joined, deleted, late, three)
+
+-- ---- all due events, one after the other
+
+-- the least due event may be applied before others or after them
+next_before : (replies : Replies) (n : ℕ) (w : ReplayState) → after_some replies n (after_next replies w) ≡ after_next replies (after_some replies n w)
+next_before replies zero w = refl
+next_before replies (suc n) w = ap (after_next replies) (next_before replies n w)
+
+-- where fewer than n events wait, those that are due are so many
+all_due : (replies : Replies) (n : ℕ) (w : ReplayState) → length w.buffer.waiting < n → (steps : ℕ) × (after_due replies w ≡ after_some replies steps w)
+all_due replies zero w few = absurd (omega (arith, few))
+all_due replies (suc n) w few = by (λ v shorter. all_due replies n v (omega (arith, shorter, few))) (first_due w.buffer) refl
+  where
+    Later : Type 0
+    Later = (v : ReplayState) → length v.buffer.waiting < length w.buffer.waiting → (steps : ℕ) × (after_due replies v ≡ after_some replies steps v)
+
+    by : Later → (o : Option Event) → first_due w.buffer ≡ o → (steps : ℕ) × (after_due replies w ≡ after_some replies steps w)
+    by later None none = (0, after_due-none replies w none)
+    by later (Some e) some =
+        let fewer : length (after_applying replies w (Some e)).buffer.waiting < length w.buffer.waiting = shorter_without _ e w.buffer.waiting some in
+        let rest = later (after_applying replies w (Some e)) fewer in (
+          suc rest.0,
+          sym (after_due-some replies w e some) ∙ rest.1 ∙ ap (after_some replies rest.0) (sym (ap (after_applying replies w) some)) ∙ next_before replies rest.0 w,
+        )
+
+-- a drill that was run to its end has begun
+pub drilled_begun : (size : ℕ) → HasBegun size (drilled size)
+drilled_begun size =
+    let last : ReplayState = after_end (following None (replies_of size) (drill size)) in
+    let all = all_due (replies_of size) (suc (length last.buffer.waiting)) last (omega arith) in
+    inr (record { steps = all.0; is = following-end None (replies_of size) (drill size) ∙ all.1 })

@@ -1,8 +1,6 @@
-mod Applying
-mod Counting
+pub mod Counting
 pub mod Drills
-mod Rooms
-mod Taking
-mod Versions
+pub mod Taking
+pub mod Versions
 mod Roomy
-mod NeverFull
+pub mod NeverFull

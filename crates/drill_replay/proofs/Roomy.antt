@@ -8,7 +8,7 @@ use Rattle.rising.specs.Rising.{In}
 use Rattle.rising.proofs.Members.{has-member, member-has}
 use Rattle.rdf_term.specs.declared.term.Term.{Term}
 use Rattle.rdf_term.specs.declared.triple.Triple.{Triple}
-use Rattle.rdf_term.specs.Order.{term_cmp, term_cmp-total}
+use Rattle.rdf_term.specs.Order.{term_cmp-total}
 use Rattle.rdf_term.proofs.Texts.{term_cmp-IsAntisymmetric}
 use Rattle.entity_model.specs.declared.delivery.Delivery.{Delivery}
 use Rattle.entity_model.specs.declared.delivery.Delivery.TheVariants.{Watermark}

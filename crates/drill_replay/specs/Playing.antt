@@ -8,12 +8,9 @@ use Rattle.reorder_buffer.specs.declared.taken.Taken.{Taken}
 use Rattle.reorder_buffer.specs.declared.taken.Taken.TheVariants.{New, Repeat, Late}
 use Rattle.replay_model.specs.Acceptance.{accepted, late}
 use Rattle.replay_model.specs.ReplayState.{ReplayState, after_end, after_some, entered, following}
-use Rattle.replay_model.specs.Versions.{meaning_by}
-use Rattle.world.specs.Meaning.{meaning}
-use Rattle.world.specs.Roomed.{HasRoom}
 use Rattle.world.specs.WorldState.{WorldState}
 use Rattle.drill.specs.Drill.{drill}
-use Rattle.drill_replay.specs.declared.playing.DrillCounts.{DrillCounts}
+use Rattle.drill_replay.specs.declared.counts.DrillCounts.{DrillCounts}
 use Rattle.drill_replay.specs.Summary.{replies_of}
 
 -- these deliveries were counted
@@ -40,10 +37,6 @@ with_answer (Some New) c = record c { deliveries = c.deliveries + 1; accepted = 
 with_answer (Some Late) c = record c { deliveries = c.deliveries + 1; late = c.late + 1 }
 with_answer (Some Repeat) c = record c { deliveries = c.deliveries + 1 }
 
--- the world has taken these deliveries of a drill and has applied what they made due
-abbrev pub IsAfter : ℕ → List Delivery → ReplayState → Type 0
-IsAfter size ds world = world ≡ following None (replies_of size) ds
-
 -- the world has taken the first deliveries
 pub record StandsBetween (size : ℕ) (ds : List Delivery) (world : ReplayState) : Type 0 where
   pub before : List Delivery
@@ -69,13 +62,6 @@ pub record StandsAtEnd (size : ℕ) (world : ReplayState) : Type 0 where
   pub steps : ℕ
   pub is : world ≡ after_some (replies_of size) steps (after_end (following None (replies_of size) (drill size)))
 
--- the world has taken the first deliveries of the drill, and this one is the next
-pub record StandsBefore (size : ℕ) (next : Delivery) (world : ReplayState) : Type 0 where
-  pub before : List Delivery
-  pub after : List Delivery
-  pub all : drill size ≡ before ++ next ∷ after
-  pub is : world ≡ following None (replies_of size) before
-
 -- the world of a first part of the drill: each due event was applied whole or not at all
 abbrev pub HasBegun : ℕ → ReplayState → Type 0
 HasBegun size world = IsPartOf size (drill size) world ⊎ StandsAtEnd size world
@@ -83,16 +69,3 @@ HasBegun size world = IsPartOf size (drill size) world ⊎ StandsAtEnd size worl
 -- version One of the mapping is in force, and all that is held is mapped by it
 abbrev pub IsByFirst : WorldState → Type 0
 IsByFirst world = (world.mapping ≡ One) × (world.second ≡ [])
-
--- there is room for so many terms, and what is held has no more different ones
-pub record HasRoomFor (room : ℕ) (world : WorldState) : Type 0 where
-  pub room_is : world.room ≡ room
-  pub within : HasRoom (meaning_by meaning world.second) room world.replay.played.records
-
--- where what was held was within the room, the room is the same, and what is held is within it
-abbrev pub KeepsRoom : WorldState → WorldState → Type 0
-KeepsRoom old new = (room : ℕ) → HasRoomFor room old → HasRoomFor room new
-
--- there is room for the terms of each drill
-abbrev pub IsRoomy : WorldState → Type 0
-IsRoomy world = 20_000_000 ≤ world.room

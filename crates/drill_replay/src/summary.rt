@@ -1,17 +1,16 @@
 // What is told of a drill.
 
-ghost use Rattle.std.specs.Prelude.{◌≡◌, ◌++◌, IfOk, OnOk, map, string_bytes};
-ghost use Rattle.replay_model.specs.ReplayState.{nothing_delivered};
+ghost use Rattle.std.specs.Prelude.{◌≡◌, ◌++◌, IfOk, map, string_bytes};
 ghost use Rattle.replay_model.specs.Union.{union};
 ghost use Rattle.rdf_term.specs.Order.{triple_cmp};
 ghost use Rattle.entity_model.specs.declared.mapping.MappingVersion.TheVariants.{One};
 ghost use Rattle.world.specs.Meaning.{meaning};
 ghost use Rattle.md5.specs.Md5.{md5};
-ghost use Rattle.drill.specs.Drill.{IsSize, drill};
-ghost use Rattle.drill_replay.specs.Playing.{Counted, HasBegun, IsByFirst, IsRoomy, KeepsRoom};
+ghost use Rattle.drill.specs.Drill.{drill};
+ghost use Rattle.drill_replay.specs.Playing.{Counted, IsByFirst};
 ghost use Rattle.drill_replay.specs.Summary.{digest_line, drilled, kept_in, lines_of, number_line, summary_of, triple_lines};
 
-use crate::playing::{DrillCounts, play};
+use crate::counts::DrillCounts;
 use entity_state::Mode;
 use md5::{Digest, Md5};
 use rdf_term::OutOfMemory;
@@ -32,42 +31,8 @@ pub struct Summary {
     pub digest: [u8; 16],
 }
 
-/// Runs the drill of this size in an empty world with room for at least 20,000,000 terms, by version One of the mapping. For each answer
-/// the world is that of a first part of the drill, and for a summary that of all of it. There is always room, so memory alone may be
-/// refused.
-pub fn run_drill(alloc: Global, size: u32, world: &mut World) -> Result<Summary, OutOfMemory>
-    requires size { IsSize size }
-    requires world { world.old.replay ≡ nothing_delivered }
-    requires first { IsByFirst world.old }
-    requires room { IsRoomy world.old }
-    ensures summary { IfOk result (λ summary. summary ≡ summary_of size) }
-    ensures ok { OnOk result (world.new.replay ≡ drilled size) }
-    ensures begun { HasBegun size world.new.replay }
-    ensures first { IsByFirst world.new }
-    ensures room { IsRoomy world.new }
-    ensures within { KeepsRoom world.old world.new }
-{
-    let counts = play(alloc, size, world)?;
-    summarize(alloc, size, counts, world)
-}
-
-/// The seven lines of a summary, each with its line feed.
-pub fn summary_lines(alloc: Global, summary: &Summary) -> Result<Vec<String>, OutOfMemory>
-    ensures { IfOk result (λ lines. map (λ line. string_bytes line) lines.items ≡ lines_of summary.now) }
-{
-    let mut lines = Vec::new(alloc);
-    lines.push(number_line(alloc, "drill", u64::from(summary.size))?)?;
-    lines.push(number_line(alloc, "deliveries", summary.deliveries)?)?;
-    lines.push(number_line(alloc, "accepted", summary.accepted)?)?;
-    lines.push(number_line(alloc, "late", summary.late)?)?;
-    lines.push(number_line(alloc, "kept", summary.kept)?)?;
-    lines.push(number_line(alloc, "triples", summary.triples as u64)?)?;
-    lines.push(digest_line(alloc, &summary.digest)?)?;
-    Ok(lines)
-}
-
-// What is told of a drill whose deliveries were counted so, by the world at its end.
-fn summarize(
+/// What is told of a drill whose deliveries were counted so, by the world at its end, all of which is mapped by the first version.
+pub fn summarize(
     alloc: Global,
     size: u32,
     counts: DrillCounts,
@@ -89,6 +54,21 @@ fn summarize(
         triples: rows.len(),
         digest: digest(alloc, &rows)?,
     })
+}
+
+/// The seven lines of a summary, each with its line feed.
+pub fn summary_lines(alloc: Global, summary: &Summary) -> Result<Vec<String>, OutOfMemory>
+    ensures { IfOk result (λ lines. map (λ line. string_bytes line) lines.items ≡ lines_of summary.now) }
+{
+    let mut lines = Vec::new(alloc);
+    lines.push(number_line(alloc, "drill", u64::from(summary.size))?)?;
+    lines.push(number_line(alloc, "deliveries", summary.deliveries)?)?;
+    lines.push(number_line(alloc, "accepted", summary.accepted)?)?;
+    lines.push(number_line(alloc, "late", summary.late)?)?;
+    lines.push(number_line(alloc, "kept", summary.kept)?)?;
+    lines.push(number_line(alloc, "triples", summary.triples as u64)?)?;
+    lines.push(digest_line(alloc, &summary.digest)?)?;
+    Ok(lines)
 }
 
 // The triples of all that is held, by version One of the mapping.

@@ -28,7 +28,7 @@ use Rattle.replay_model.specs.ReplayState.{ReplayState}
 use Rattle.replay_model.specs.Union.{triples_held}
 use Rattle.world.specs.Meaning.{meaning}
 use Rattle.world.proofs.Entries.{over_ids}
-use Rattle.words.specs.Options.{limit_of}
+use Rattle.words.specs.Options.{max_bytes_of}
 use Rattle.session.specs.declared.status.Status.{Status}
 use Rattle.session.specs.declared.status.Status.TheVariants.{Ok as Ended, BadWords, BadLine, ReadFault, WriteFault, TooLong, StoreFull, OutOfMemory}
 use Rattle.session.specs.Complete.{FindsDocument, IsStill, has_document, triples_in}
@@ -108,21 +108,21 @@ none_refused {G} limit bytes ds before number cause are refused = ⊎_elim
     clash : deliveries_of (lines bytes) ≡ None → G
     clash none = let never : Some ds ≡ None = sym are.delivered ∙ none in cc
 
-module _ (run : Run) (before now : Moment) (bytes : List ℕ) (ds : List Delivery) (known : before.input.left ≡ Some bytes) (are : AreDeliveries (limit_of run.choices) bytes ds)
+module _ (run : Run) (before now : Moment) (bytes : List ℕ) (ds : List Delivery) (known : before.input.left ≡ Some bytes) (are : AreDeliveries (max_bytes_of run.choices) bytes ds)
     (reads : IsStill before.input.faults now.input.faults) (writes : IsStill before.stage.output.faults now.stage.output.faults) (room : Stopped RoomPassed run before now → ⊥) where
   pub ends_well : (status : Status) → (status ≡ BadWords → ⊥) → IfSome (stop_of status) (λ stop. Stopped stop run before now) → (status ≡ Ended) ⊎ (status ≡ OutOfMemory)
   ends_well Ended understood stopped = inl refl
   ends_well BadWords understood stopped = absurd (understood refl)
   ends_well (BadLine number cause) understood stopped =
-      none_refused (limit_of run.choices) bytes ds stopped.deliveries number cause are
-      (at_known before.input.left bytes (λ b. IsRefusedLine (limit_of run.choices) b stopped.deliveries number cause) known stopped.bad)
+      none_refused (max_bytes_of run.choices) bytes ds stopped.deliveries number cause are
+      (at_known before.input.left bytes (λ b. IsRefusedLine (max_bytes_of run.choices) b stopped.deliveries number cause) known stopped.bad)
   ends_well ReadFault understood stopped = not_risen before.input.faults now.input.faults reads stopped.0
   ends_well WriteFault understood stopped = not_risen before.stage.output.faults now.stage.output.faults writes stopped.0
   ends_well TooLong understood stopped =
-      let past = at_known before.input.left bytes (λ b. limit_of run.choices < length b) known (more before.input.left stopped.past) in
+      let past = at_known before.input.left bytes (λ b. max_bytes_of run.choices < length b) known (more before.input.left stopped.past) in
       absurd (omega (arith, past, are.within))
     where
-      more : (left : Option (List ℕ)) → IfSome left (λ b. IsPastLimit (limit_of run.choices) b stopped.deliveries) → IfSome left (λ b. limit_of run.choices < length b)
+      more : (left : Option (List ℕ)) → IfSome left (λ b. IsPastLimit (max_bytes_of run.choices) b stopped.deliveries) → IfSome left (λ b. max_bytes_of run.choices < length b)
       more None past = tt
       more (Some b) past = past.more
   ends_well StoreFull understood stopped = absurd (room stopped)

@@ -1,20 +1,15 @@
 -- What the summary of a drill leaves that was printed, or was not printed wholly.
-use Rattle.std.proofs.Common.{◌≡◌, ◌∙◌, refl, ap, subst, ℕ, List, [], ◌∷◌, ◌++◌, map, Result, Ok, Err, OnOk, IfErr, Some}
+use Rattle.std.proofs.Common.{◌≡◌, ◌∙◌, refl, ap, ℕ, arith, List, [], ◌∷◌, ◌++◌, map, Result, Ok, Err, OnOk, IfErr}
 use Rattle.std.specs.List.{flat_map}
-use Rattle.std.specs.FinMap.{len-empty}
-use Rattle.replay_model.specs.Play.{nothing_played}
-use Rattle.replay_model.specs.ReplayState.{ReplayState, nothing_delivered}
-use Rattle.replay_model.specs.Versions.{meaning_by}
-use Rattle.world.specs.Meaning.{meaning}
-use Rattle.world.specs.WorldState.{WorldState}
-use Rattle.world.proofs.Rooming.{nothing_held}
+use Rattle.replay_model.specs.ReplayState.{ReplayState}
+use Rattle.wq_io.specs.declared.sink.Sink.{Ghosts as SinkOf}
 use Rattle.transcript.specs.declared.write.Unwritten.{Unwritten}
 use Rattle.transcript.specs.declared.write.Unwritten.TheVariants.{WriteFault as NotWritten, OutOfMemory as Refused}
-use Rattle.transcript.specs.Printing.{Output, Prints}
+use Rattle.transcript.specs.Printing.{Output, Prints, output}
 use Rattle.transcript.proofs.Parts.{cut_short_at_once}
-use Rattle.drill_replay.specs.Playing.{HasBegun, HasRoomFor}
+use Rattle.drill_replay.specs.Playing.{HasBegun}
 use Rattle.drill_replay.specs.Summary.{drilled, lines_of, summary_of}
-use Rattle.words.specs.declared.plan.Plan.TheVariants.{Drill}
+use Rattle.session.specs.Counts.{HasWrittenOn}
 use Rattle.session.specs.Drilling.{DrillStopped, HasDrilled, summary_text}
 
 -- texts one after the other
@@ -23,8 +18,8 @@ joined f [] = refl
 joined f (x ∷ xs) = ap (λ l. f x ++ l) (joined f xs)
 
 -- nothing was printed, for want of memory
-pub not_begun : (size : ℕ) (out : Output) (world : ReplayState) → HasBegun size world → DrillStopped Refused size out out world
-not_begun size out world begun = record { has_come = begun; cut_short = (cut_short_at_once (summary_text size) out).outcome }
+pub not_begun : (size : ℕ) (old new : Output) (world : ReplayState) → new ≡ old → HasBegun size world → DrillStopped Refused size old new world
+not_begun size old new world same begun = rw same (record { has_come = begun; cut_short = (cut_short_at_once (summary_text size) old).outcome })
 
 -- the lines of the summary of a drill that was run to its end were printed, or a prefix of them
 module _ {X : Type 0} (f : X → List ℕ) (lines : List X) (size : ℕ) (old new : Output) (world : ReplayState) (are : map f lines ≡ lines_of (summary_of size)) (is : world ≡ drilled size) where
@@ -40,16 +35,15 @@ module _ {X : Type 0} (f : X → List ℕ) (lines : List X) (size : ℕ) (old ne
   printed_in_part (Err NotWritten) begun printed = record { has_come = is; cut_short = rw text at printed.outcome }
   printed_in_part (Err Refused) begun printed = record { has_come = begun; cut_short = rw text at printed.outcome }
 
--- the drill of the size that the words say
-pub of_plan : (taken size : ℕ) (old new : Output) (world : ReplayState) → Some (Drill taken) ≡ Some (Drill size) → HasDrilled taken old new world → HasDrilled size old new world
-of_plan taken size old new world same ended =
-    let is : taken ≡ size = cc in
-    let At : ℕ → Type 0 = λ n. HasDrilled n old new world in
-    subst At is ended
+-- where nothing was printed, the output went on
+module _ {K : Type 0} (sink : SinkOf K) where
+  pub silent_on : (old new : K) → output sink new ≡ output sink old → HasWrittenOn sink old new
+  silent_on old new same =
+      let faults : sink.faults new ≡ sink.faults old = ap (λ (o : Output). o.faults) same in
+      record { faults = omega (arith, faults); most = ap (λ (o : Output). o.most_faults) same }
 
--- a world to which nothing was delivered has the room that was set
-pub roomy : (room : ℕ) (old new : WorldState) → old.replay ≡ nothing_delivered → new ≡ record old { room = room } → HasRoomFor room new
-roomy room old new nothing is = record {
-  room_is = ap (λ (w : WorldState). w.room) is;
-  within = rw (is, nothing) (nothing_held (meaning_by meaning old.second) nothing_played.records room (len-empty _ _));
-}
+  -- and where something was printed behind that
+  pub printed_on : {bytes : List ℕ} {result : Result (Unit {0}) Unwritten} (old between new : K) → output sink between ≡ output sink old → Prints bytes (output sink between) (output sink new) result → HasWrittenOn sink old new
+  printed_on old between new same prints =
+      let faults : sink.faults between ≡ sink.faults old = ap (λ (o : Output). o.faults) same in
+      record { faults = omega (arith, faults, prints.later); most = prints.most ∙ ap (λ (o : Output). o.most_faults) same }

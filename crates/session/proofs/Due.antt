@@ -1,9 +1,6 @@
 -- One due event is applied: the world still leads to its play, the counts rise with its fetch, and fewer events wait.
-use Rattle.std.proofs.Common.{refl, sym, subst, ◌∙◌, ap, inl, inr, ⊎_elim, ◌≡◌, ◌⊎◌, ℕ, suc, ◌+◌, ◌-◌, ◌^◌, ◌<◌, ◌≤◌, Bool, true, false, cond, max, min, List, [], ◌∷◌, ◌++◌, length, length-append, Option, None, Some, Result, Ok, Err, arith}
-use Rattle.std.specs.List.{find}
-use Rattle.std.specs.Set.{remove_key}
+use Rattle.std.proofs.Common.{refl, sym, subst, ◌∙◌, ap, inl, inr, ⊎_elim, ◌≡◌, ◌⊎◌, ℕ, suc, ◌+◌, ◌-◌, ◌^◌, ◌<◌, ◌≤◌, Bool, true, false, cond, max, min, List, [], ◌++◌, length, length-append, Option, None, Some, Result, Ok, Err, arith}
 use Rattle.entity_model.specs.declared.id.EntityId.{EntityId}
-use Rattle.entity_model.specs.declared.unfit.Unfit.{Unfit}
 use Rattle.entity_model.specs.declared.event.Event.{Event}
 use Rattle.entity_model.specs.declared.mapping.MappingVersion.{MappingVersion}
 use Rattle.entity_state.specs.State.{state_after, is_deleted}
@@ -14,7 +11,7 @@ use Rattle.revisions.specs.Revisions.{Contents, counted}
 use Rattle.reorder_buffer.specs.Buffered.{first_due}
 use Rattle.replay_model.specs.Records.{Bytes, record_of}
 use Rattle.replay_model.specs.Play.{Replies, risen_by}
-use Rattle.replay_model.specs.Replies.{GivesDocument, HasUnfit, failed_events, missing_events, reply_there}
+use Rattle.replay_model.specs.Replies.{GivesDocument, failed_events, missing_events, reply_there}
 use Rattle.replay_model.specs.ReplayState.{ReplayState, after_applying, after_next}
 use Rattle.replay_model.specs.Explained.{AgreeOnApplied, is_fetching, revision_wanted}
 use Rattle.replay_model.proofs.Documents.{documents-apply}
@@ -49,22 +46,22 @@ pub record Rises (outcome : Outcome) (before now : SourceCounts) : Type 0 where
   pub more_misses : before.misses ≤ now.misses
 
 -- a reply that agrees with what the source has is honest
-pub reply_is_honest : (contents : Option Contents) (directory : List ℕ) (room : ℕ) (x : EntityId) (r : ℕ) (reply : Result Bytes Cause) →
-    IsReply contents directory x r reply → (there : ℕ → Option Bytes) → (setting contents directory room).known ≡ Some there →
+pub reply_is_honest : (contents : Option Contents) (folder : List ℕ) (room : ℕ) (x : EntityId) (r : ℕ) (reply : Result Bytes Cause) →
+    IsReply contents folder x r reply → (there : ℕ → Option Bytes) → (setting contents folder room).known ≡ Some there →
     (reply ≡ Err Failed) ⊎ (reply ≡ reply_there judgement x (there r))
-reply_is_honest None directory room x r reply is there known = cc
-reply_is_honest (Some c) directory room x r (Ok bytes) is there known =
-    let same : c directory ≡ there = cc in
+reply_is_honest None folder room x r reply is there known = cc
+reply_is_honest (Some c) folder room x r (Ok bytes) is there known =
+    let same : c folder ≡ there = cc in
     let found : there r ≡ Some bytes = ap (λ (f : ℕ → Option Bytes). f r) (sym same) ∙ is.1 in
     inr (rw (found, is.0) refl)
-reply_is_honest (Some c) directory room x r (Err Missing) is there known =
-    let same : c directory ≡ there = cc in
+reply_is_honest (Some c) folder room x r (Err Missing) is there known =
+    let same : c folder ≡ there = cc in
     let found : there r ≡ None = ap (λ (f : ℕ → Option Bytes). f r) (sym same) ∙ is in
     inr (rw found refl)
-reply_is_honest (Some c) directory room x r (Err Failed) is there known = inl refl
-reply_is_honest (Some c) directory room x r (Err (NoDocument unfit)) is there known =
-    let same : c directory ≡ there = cc in
-    inr (unfit_there judgement x unfit (c directory r) is ∙ ap (λ (f : ℕ → Option Bytes). reply_there judgement x (f r)) same)
+reply_is_honest (Some c) folder room x r (Err Failed) is there known = inl refl
+reply_is_honest (Some c) folder room x r (Err (NoDocument unfit)) is there known =
+    let same : c folder ≡ there = cc in
+    inr (unfit_there judgement x unfit (c folder r) is ∙ ap (λ (f : ℕ → Option Bytes). reply_there judgement x (f r)) same)
 
 -- what an application leads to, by whether it fetches
 abbrev outcome_by : Bool → Bool → Result Bytes Cause → Outcome
@@ -105,9 +102,9 @@ rose_twice m n first before now rose then_rose more = λ below.
     let earlier : before < 2 ^ 64 - 1 = omega arith in
     omega (arith, rose earlier, then_rose below)
 
-counted_applying : (contents : Option Contents) (directory : List ℕ) (start before now : SourceCounts) (made : ℕ) (old new : ReplayState) (applied : Applied) → Applies contents directory old new applied →
+counted_applying : (contents : Option Contents) (folder : List ℕ) (start before now : SourceCounts) (made : ℕ) (old new : ReplayState) (applied : Applied) → Applies contents folder old new applied →
     Rises applied.outcome before now → HasCounted start before made old.played.side → HasCounted start now (made + cond (is_fetching old applied.event) 1 0) new.played.side
-counted_applying contents directory start before now made old new applied a rises so_far =
+counted_applying contents folder start before now made old new applied a rises so_far =
     let e : Event = applied.event in
     let fetching : Bool = is_fetching old e in
     let deleting : Bool = is_deleted (state_after (record_of old.played.records e.entity).state e).mode in
@@ -128,33 +125,33 @@ counted_applying contents directory start before now made old new applied a rise
     }
 
 -- a reply that gives bytes gives a document
-reply_gives : (contents : Option Contents) (directory : List ℕ) (x : EntityId) (r : ℕ) (reply : Result Bytes Cause) → IsReply contents directory x r reply → GivesDocument judgement x reply
-reply_gives contents directory x r (Ok bytes) is = is.0
-reply_gives contents directory x r (Err cause) is = tt
+reply_gives : (contents : Option Contents) (folder : List ℕ) (x : EntityId) (r : ℕ) (reply : Result Bytes Cause) → IsReply contents folder x r reply → GivesDocument judgement x reply
+reply_gives contents folder x r (Ok bytes) is = is.0
+reply_gives contents folder x r (Err cause) is = tt
 
 -- the world still leads to its play, one application further
-pub applies-leads : (contents : Option Contents) (directory : List ℕ) (room : ℕ) (mapped : Mapped) (before now : SourceCounts) (old new : ReplayState) (applied : Applied) (a : Applies contents directory old new applied) → Rises applied.outcome before now →
+pub applies-leads : (contents : Option Contents) (folder : List ℕ) (room : ℕ) (mapped : Mapped) (before now : SourceCounts) (old new : ReplayState) (applied : Applied) (a : Applies contents folder old new applied) → Rises applied.outcome before now →
     ((version : MappingVersion) → mapped ≡ mapped_by version old.played.records →
     HaveRoom room (cond (is_fetching old applied.event) (needed_for version old.played.records applied.event.entity (revision_wanted old applied.event) a.reply) [])) →
-    Goes (setting contents directory room) mapped before now old new
-applies-leads contents directory room mapped before now old new applied a rises has_room = record {
+    Goes (setting contents folder room) mapped before now old new
+applies-leads contents folder room mapped before now old new applied a rises has_room = record {
   leads = λ course begun start s is_mapped under_way.
-      let known : Option (ℕ → Option Bytes) = (setting contents directory room).known in
+      let known : Option (ℕ → Option Bytes) = (setting contents folder room).known in
       let e : Event = applied.event in
-      let leads : Leads (setting contents directory room) course start (onward s before old) = under_way.leads in
+      let leads : Leads (setting contents folder room) course start (onward s before old) = under_way.leads in
       let made : ℕ = leads.made + cond (is_fetching old e) 1 0 in
       let next : Next judgement known course.state course.fetched leads.made old e a.reply leads.explained =
       Explained-next judgement known course.state course.fetched leads.made old e a.reply leads.explained a.due
-      (λ there is _. reply_is_honest contents directory room e.entity _ a.reply a.is_reply there is)
-      (reply_gives contents directory e.entity _ a.reply a.is_reply) in
+      (λ there is _. reply_is_honest contents folder room e.entity _ a.reply a.is_reply there is)
+      (reply_gives contents folder e.entity _ a.reply a.is_reply) in
       let Counted : ReplayState → Type 0 = λ w. HasCounted start.counts now made w.played.side in
-      let There : ReplayState → Type 0 = λ w. IsUnderWay (setting contents directory room) course begun start (onward s now w) in
+      let There : ReplayState → Type 0 = λ w. IsUnderWay (setting contents folder room) course begun start (onward s now w) in
       let there : There (next_by old e a.reply) = record {
         leads = record {
           made = made;
           explained = next.explained;
-          counted = subst Counted a.new_is (counted_applying contents directory start.counts before now leads.made old new applied a rises leads.counted);
-          documents = documents-apply judgement e a.reply (reply_gives contents directory e.entity _ a.reply a.is_reply) old.played leads.documents;
+          counted = subst Counted a.new_is (counted_applying contents folder start.counts before now leads.made old new applied a rises leads.counted);
+          documents = documents-apply judgement e a.reply (reply_gives contents folder e.entity _ a.reply a.is_reply) old.played leads.documents;
           says = λ others agree. leads.says others (next.agree_before others agree);
           roomed = λ others agree.
               let same : next_by old e a.reply ≡ after_applying others old (Some e) = next.is_next others agree ∙ ap (after_applying others old) a.due in
@@ -286,15 +283,15 @@ starved why setting mapped before now last old world new goes lasts same =
     rw same (λ course begun start s is_mapped under_way. within why setting course begun start (onward s now world) last lasts (goes.leads course begun start s is_mapped under_way))
 
 -- where the world says that there is no room, the store is full
-full_there : (contents : Option Contents) (directory : List ℕ) (room : ℕ) (x : EntityId) (r : ℕ) (bytes : Bytes) → IsReply contents directory x r (Ok bytes) → (there : ℕ → Option Bytes) →
-    (setting contents directory room).known ≡ Some there → there r ≡ Some bytes
-full_there None directory room x r bytes is there known = cc
-full_there (Some c) directory room x r bytes is there known =
-    let same : c directory ≡ there = cc in
+full_there : (contents : Option Contents) (folder : List ℕ) (room : ℕ) (x : EntityId) (r : ℕ) (bytes : Bytes) → IsReply contents folder x r (Ok bytes) → (there : ℕ → Option Bytes) →
+    (setting contents folder room).known ≡ Some there → there r ≡ Some bytes
+full_there None folder room x r bytes is there known = cc
+full_there (Some c) folder room x r bytes is there known =
+    let same : c folder ≡ there = cc in
     ap (λ (f : ℕ → Option Bytes). f r) (sym same) ∙ is.1
 
-pub is_full : (contents : Option Contents) (directory : List ℕ) (room : ℕ) (old new : WorldState) → old.room ≡ room → new ≡ old → IsOverfull contents directory old → IsFull (setting contents directory room) new.replay (mapped_in new)
-is_full contents directory room old new same stays over =
+pub is_full : (contents : Option Contents) (folder : List ℕ) (room : ℕ) (old new : WorldState) → old.room ≡ room → new ≡ old → IsOverfull contents folder old → IsFull (setting contents folder room) new.replay (mapped_in new)
+is_full contents folder room old new same stays over =
     let Over : ℕ → Type 0 = λ n. HasNoRoom n old.replay.played.records (mapped_in old) over.event.entity (revision_wanted old.replay over.event) over.bytes in
     rw stays (record {
       event = over.event;
@@ -302,6 +299,6 @@ is_full contents directory room old new same stays over =
       fetches = over.wanted;
       bytes = over.bytes;
       document = over.is_reply.0;
-      there = full_there contents directory room over.event.entity _ over.bytes over.is_reply;
+      there = full_there contents folder room over.event.entity _ over.bytes over.is_reply;
       over = subst Over same over.over;
     })

@@ -41,7 +41,7 @@ use Rattle.session.specs.Stops.{IsHalted}
 use Rattle.session.specs.declared.stop.Unapplied.{Unapplied}
 use Rattle.session.specs.declared.stop.Unapplied.TheVariants.{StoreFull as NoRoom, OutOfMemory as Starved}
 use Rattle.session.specs.Taking.{AtEnd, Course, HoldsDocuments, IsHeldUp, Leads, course_printed, course_to_end, judgement, replies_there, said_behind}
-use Rattle.words.specs.Options.{limit_of}
+use Rattle.words.specs.Options.{max_bytes_of}
 use Rattle.session.proofs.Needed.{all_met, due-none}
 use Rattle.session.proofs.Versions.{all_held_by}
 
@@ -110,7 +110,7 @@ is_replayed setting ds start now at_end =
     }
 
 -- the same, of an input that was read
-pub replayed : (run : Run) (before now : Moment) (ds : List Delivery) → IsAtEnd now.input.left → IfSome before.input.left (λ bytes. AreDeliveries (limit_of run.choices) bytes ds) → AtEnd run.setting ds before.stage now.stage → HasReplayed run before now
+pub replayed : (run : Run) (before now : Moment) (ds : List Delivery) → IsAtEnd now.input.left → IfSome before.input.left (λ bytes. AreDeliveries (max_bytes_of run.choices) bytes ds) → AtEnd run.setting ds before.stage now.stage → HasReplayed run before now
 replayed run before now ds read are at_end = record { deliveries = ds; read = read; are = are; replay = is_replayed run.setting ds before.stage now.stage at_end }
 
 -- no fetch failed where the count of faults stands still below its last value

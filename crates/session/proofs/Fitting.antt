@@ -3,7 +3,7 @@
 use Rattle.std.proofs.Common.{◌≡◌, refl, sym, subst, ◌∙◌, ⊎_elim, ℕ, zero, suc, ◌<◌, ◌≤◌, List, [], ◌∷◌, ◌++◌, append-nil, Option, None, Some, arith}
 use Rattle.std.specs.Option.{option_to_list}
 use Rattle.std.specs.Ordering.{eq_by_cmp}
-use Rattle.rising.specs.Rising.{In, has}
+use Rattle.rising.specs.Rising.{In}
 use Rattle.rising.proofs.Bools.{clash}
 use Rattle.rising.proofs.FirstPassing.{has-remove_key}
 use Rattle.entity_model.specs.declared.delivery.Delivery.{Delivery}
@@ -22,7 +22,7 @@ use Rattle.replay_model.specs.ReplayState.{following}
 use Rattle.replay_model.specs.Versions.{all_by}
 use Rattle.triple_store.specs.Room.{distinct}
 use Rattle.world.specs.WorldState.{with_version_of}
-use Rattle.words.specs.Options.{limit_of}
+use Rattle.words.specs.Options.{max_bytes_of}
 use Rattle.session.specs.declared.stop.Stop.TheVariants.{StoreFull}
 use Rattle.session.specs.declared.stop.Unapplied.TheVariants.{StoreFull as NoRoom}
 use Rattle.told_pages.specs.Told.{terms_there, versions_told}
@@ -73,7 +73,7 @@ module _ (contents : ℕ → Option Bytes) (es : List Event) (replies : Replies)
 no_number : (a b c : ℕ) → a < b → b ≤ c → c ≤ a → ⊥
 no_number a b c over within enough = omega (arith, over, within, enough)
 
-module _ (run : Run) (before now : Moment) (bytes : List ℕ) (ds : List Delivery) (contents : ℕ → Option Bytes) (left : before.input.left ≡ Some bytes) (are : AreDeliveries (limit_of run.choices) bytes ds)
+module _ (run : Run) (before now : Moment) (bytes : List ℕ) (ds : List Delivery) (contents : ℕ → Option Bytes) (left : before.input.left ≡ Some bytes) (are : AreDeliveries (max_bytes_of run.choices) bytes ds)
     (known : run.setting.known ≡ Some contents) where
   abbrev replies : Replies
   replies = replies_there contents now.stage.world
@@ -95,7 +95,7 @@ module _ (run : Run) (before now : Moment) (bytes : List ℕ) (ds : List Deliver
 
   brought_within : StopsWithin NoRoom run before now → Brought
   brought_within s =
-      let b = first_begins (limit_of run.choices) before.input.left now.input.left bytes (s.deliveries ++ option_to_list s.last) ds left are s.first in
+      let b = first_begins (max_bytes_of run.choices) before.input.left now.input.left bytes (s.deliveries ++ option_to_list s.last) ds left are s.first in
       record {
         named = subst (WorldNamed contents (events ds)) (sym (s.within.source contents known))
             (some_named contents (events ds) replies gives s.within.steps _
@@ -105,7 +105,7 @@ module _ (run : Run) (before now : Moment) (bytes : List ℕ) (ds : List Deliver
 
   brought_at_end : StopsAtEnd NoRoom run before now → Brought
   brought_at_end s =
-      let all = at_known before.input.left bytes (λ u. AreDeliveries (limit_of run.choices) u s.deliveries) left s.are in
+      let all = at_known before.input.left bytes (λ u. AreDeliveries (max_bytes_of run.choices) u s.deliveries) left s.are in
       let same : Some ds ≡ Some s.deliveries = sym are.delivered ∙ all.delivered in
       let is : ds ≡ s.deliveries = cc in
       let b : Begins ds s.deliveries = subst (λ l. Begins ds l) is (begins-all ds) in
@@ -119,7 +119,7 @@ module _ (run : Run) (before now : Moment) (bytes : List ℕ) (ds : List Deliver
 
   brought_at_mapping : StandsAtMapping run before now → Brought
   brought_at_mapping s =
-      let b = first_begins (limit_of run.choices) before.input.left now.input.left bytes (s.deliveries ++ Mapping s.version ∷ []) ds left are s.first in
+      let b = first_begins (max_bytes_of run.choices) before.input.left now.input.left bytes (s.deliveries ++ Mapping s.version ∷ []) ds left are s.first in
       let fewer_ones = begins-fewer ds s.deliveries (Mapping s.version ∷ []) b in
       record {
         named = subst (WorldNamed contents (events ds)) (sym (s.played.source contents known))

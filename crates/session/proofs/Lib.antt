@@ -1,13 +1,16 @@
 mod Beginnings
 mod Complete
 mod Deliveries
+mod DrillPlaying
 mod Drills
 mod Due
 mod Ends
 mod Finding
 mod Fitting
 mod Needed
+mod Ongoing
 mod Opening
+mod Plans
 mod Progress
 mod Reading
 mod Versions

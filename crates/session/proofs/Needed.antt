@@ -179,11 +179,11 @@ by_one : (room : ℕ) (version : MappingVersion) (records : Records) (triples : 
 by_one room version records triples = subst (λ ts. distinct (flat_map terms_of (ts ++ triples)) ≤ room) (union-all meaning version records triple_cmp)
 
 -- a due event that was applied had room
-pub applied_has_room : (contents : Option Contents) (directory : List ℕ) (room : ℕ) (old : WorldState) (new : ReplayState) (applied : Applied) (a : Applies contents directory old.replay new applied) →
+pub applied_has_room : (contents : Option Contents) (folder : List ℕ) (room : ℕ) (old : WorldState) (new : ReplayState) (applied : Applied) (a : Applies contents folder old.replay new applied) →
     (applied.outcome ≡ Stored → room_with (meaning_by meaning old.second) old.replay.played.records (triples_held (meaning old.mapping) applied.event.entity (record_of new.played.records applied.event.entity).held) ≤ room) →
     (version : MappingVersion) → mapped_in old ≡ mapped_by version old.replay.played.records →
     HaveRoom room (cond (is_fetching old.replay applied.event) (needed_for version old.replay.played.records applied.event.entity (revision_wanted old.replay applied.event) a.reply) [])
-applied_has_room contents directory room old new applied a within version is =
+applied_has_room contents folder room old new applied a within version is =
     let e : Event = applied.event in
     let records : Records = old.replay.played.records in
     let held : Option (Held Bytes) = (record_of new.played.records e.entity).held in

@@ -42,23 +42,23 @@ use Rattle.session.specs.Remapping.{Mapped, held_triples, mapped_by, remapped_so
 use Rattle.session.specs.Stop.{stop_of_fault}
 use Rattle.session.specs.Stops.{HasTaken, StopsWithin}
 use Rattle.session.specs.Taking.{AnswersInPart, AtRest, CutsOff, IsUntaken, IsWithin, RemapsInPart, TakesDelivery, TakesInPart, course_after, course_begun, judgement, turn}
-use Rattle.words.specs.Options.{limit_of}
+use Rattle.words.specs.Options.{max_bytes_of}
 use Rattle.session.proofs.Deliveries.{asks-push, rest_within}
 use Rattle.session.proofs.Due.{within_mapped}
 use Rattle.session.proofs.Ends.{halted, interrupted, is_played, left_stale, rose_since}
 use Rattle.session.proofs.Versions.{all_held_by}
-use Rattle.session.proofs.Reading.{HasLimits, IsNextLine, all_read, as_many, bad_line, first_lines, first_with, not_called, nothing_read, nothing_taken_of, over_long, past_limit, read_more, takes_on, whole_read}
+use Rattle.session.proofs.Reading.{HasLimits, IsNextLine, all_read, as_many, bad_line, first_lines, first_with, nothing_read, nothing_taken_of, over_long, past_limit, read_more, takes_on, whole_read}
 
 -- the lines so far were read, the world has taken them, and so many of them asked
 pub record Progress (run : Run) (before now : Moment) (reader : Reading) (asked : ℕ) : Type 0 where
   pub deliveries : List Delivery
   pub read : HasRead before.input.left reader now.input.left deliveries
-  pub taken : IfSome before.input.left (λ bytes. TakesByNeed (limit_of run.choices) bytes now.input.left)
+  pub taken : IfSome before.input.left (λ bytes. TakesByNeed (max_bytes_of run.choices) bytes now.input.left)
   pub at_rest : AtRest run.setting deliveries before.stage now.stage
   pub earlier : before.input.faults ≤ now.input.faults
   pub asked_is : asked ≡ asks deliveries
   pub few_asked : asked ≤ reader.given
-  pub max : HasLimits (limit_of run.choices) reader
+  pub max : HasLimits (max_bytes_of run.choices) reader
   pub sound : IsSound reader
   pub going : reader.failed ≡ false
   pub ended : reader.ended ≡ true → IsAtEnd now.input.left
@@ -84,11 +84,11 @@ abbrev pub at_start : Option ℕ → Input → Output → SourceCounts → Momen
 at_start h input output counts = record { input = input; stage = record { output = output; counts = counts; world = nothing_delivered_within h; mapped = record { version = One; second = [] } } }
 
 -- before the first line
-pub nothing_begun : (run : Run) (h : Option ℕ) (input : Input) (output : Output) (counts : SourceCounts) → Progress run (at_start h input output counts) (at_start h input output counts) (fresh (limit_of run.choices) longest_line) 0
+pub nothing_begun : (run : Run) (h : Option ℕ) (input : Input) (output : Output) (counts : SourceCounts) → Progress run (at_start h input output counts) (at_start h input output counts) (fresh (max_bytes_of run.choices) longest_line) 0
 nothing_begun run h input output counts = record {
   deliveries = [];
-  read = nothing_read (limit_of run.choices) input.left;
-  taken = nothing_taken_of (limit_of run.choices) input.left;
+  read = nothing_read (max_bytes_of run.choices) input.left;
+  taken = nothing_taken_of (max_bytes_of run.choices) input.left;
   at_rest = nothing_taken run.setting h output counts;
   earlier = omega arith;
   asked_is = refl;
@@ -105,16 +105,16 @@ module _ (run : Run) (before now : Moment) (reader : Reading) (asked : ℕ) (so_
 
   -- what was taken, after a call of the reader, whatever it answered
   pub taken_on : (next : Reading) (left_next : Option (List ℕ)) (last last_next : Option LastRead) → ReadsAsNeeded reader next now.input.left left_next last last_next →
-      IfSome before.input.left (λ bytes. TakesByNeed (limit_of run.choices) bytes left_next)
+      IfSome before.input.left (λ bytes. TakesByNeed (max_bytes_of run.choices) bytes left_next)
   taken_on next left_next last last_next reads =
-      takes_on (limit_of run.choices) reader now.input.left so_far.deliveries so_far.max so_far.sound before.input.left next left_next last last_next so_far.read reads so_far.taken
+      takes_on (max_bytes_of run.choices) reader now.input.left so_far.deliveries so_far.max so_far.sound before.input.left next left_next last last_next so_far.read reads so_far.taken
 
   -- the lines so far, and none more
   first_still : (next : Reading) (left_next : Option (List ℕ)) (last last_next : Option LastRead) → ReadsAsNeeded reader next now.input.left left_next last last_next →
-      AreFirst (limit_of run.choices) before.input.left left_next (so_far.deliveries ++ [])
+      AreFirst (max_bytes_of run.choices) before.input.left left_next (so_far.deliveries ++ [])
   first_still next left_next last last_next reads =
       rw (append-nil so_far.deliveries)
-      (first_lines (limit_of run.choices) reader now.input.left so_far.deliveries so_far.max so_far.sound before.input.left next left_next last last_next reads so_far.read)
+      (first_lines (max_bytes_of run.choices) reader now.input.left so_far.deliveries so_far.max so_far.sound before.input.left next left_next last last_next reads so_far.read)
 
   -- memory was refused: the world is as it was after the lines so far
   pub stands : (next : Reading) (input : Input) (last last_next : Option LastRead) → ReadsAsNeeded reader next now.input.left input.left last last_next →
@@ -136,12 +136,12 @@ module _ (run : Run) (before now : Moment) (reader : Reading) (asked : ℕ) (so_
       Leaves fault reader now.input.left input.left → ReadsAsNeeded reader next now.input.left input.left last last_next → Stopped (stop_of_fault fault) run before (record now { input = input })
   fault_stops NotRead next input last last_next cause leaves reads = (
     rose_since before.input.faults now.input.faults input.faults so_far.earlier cause,
-    record { deliveries = so_far.deliveries; played = played; whole = whole_read (limit_of run.choices) reader now.input.left so_far.deliveries so_far.max so_far.sound before.input.left input.left so_far.read leaves },
+    record { deliveries = so_far.deliveries; played = played; whole = whole_read (max_bytes_of run.choices) reader now.input.left so_far.deliveries so_far.max so_far.sound before.input.left input.left so_far.read leaves },
   )
   fault_stops PastLimit next input last last_next cause leaves reads =
-      record { deliveries = so_far.deliveries; played = played; past = past_limit (limit_of run.choices) reader now.input.left so_far.deliveries so_far.max so_far.sound before.input.left so_far.read cause }
+      record { deliveries = so_far.deliveries; played = played; past = past_limit (max_bytes_of run.choices) reader now.input.left so_far.deliveries so_far.max so_far.sound before.input.left so_far.read cause }
   fault_stops (OverLong number) next input last last_next cause leaves reads =
-      record { deliveries = so_far.deliveries; played = played; counted = numbered number cause.0; bad = over_long (limit_of run.choices) reader now.input.left so_far.deliveries so_far.max so_far.sound before.input.left number so_far.read cause.0 cause.1 }
+      record { deliveries = so_far.deliveries; played = played; counted = numbered number cause.0; bad = over_long (max_bytes_of run.choices) reader now.input.left so_far.deliveries so_far.max so_far.sound before.input.left number so_far.read cause.0 cause.1 }
   fault_stops NoMemory next input last last_next cause leaves reads = inl (inl (inl (stands next input last last_next reads)))
 
   -- at the end of the input all lines were taken
@@ -149,7 +149,7 @@ module _ (run : Run) (before now : Moment) (reader : Reading) (asked : ℕ) (so_
   end_reached input read at_end = record {
     deliveries = so_far.deliveries;
     read = read;
-    are = all_read (limit_of run.choices) reader now.input.left so_far.deliveries so_far.max so_far.sound before.input.left so_far.read at_end;
+    are = all_read (max_bytes_of run.choices) reader now.input.left so_far.deliveries so_far.max so_far.sound before.input.left so_far.read at_end;
     at_rest = so_far.at_rest;
   }
 
@@ -162,7 +162,7 @@ module _ (run : Run) (before now : Moment) (reader : Reading) (asked : ℕ) (so_
           deliveries = so_far.deliveries;
           played = played;
           counted = numbered number counted;
-          bad = bad_line (limit_of run.choices) reader now.input.left so_far.deliveries so_far.max so_far.sound line next input.left last last_next is before.input.left number bad.0 so_far.read counted bad.2;
+          bad = bad_line (max_bytes_of run.choices) reader now.input.left so_far.deliveries so_far.max so_far.sound line next input.left last last_next is before.input.left number bad.0 so_far.read counted bad.2;
         }))
         (λ refused. subst (λ s. Stopped s run before (record now { input = input })) (sym refused) (inl (inl (inl (stands next input last last_next is.reads)))))
         why
@@ -171,8 +171,8 @@ module _ (run : Run) (before now : Moment) (reader : Reading) (asked : ℕ) (so_
       asked_is : asked_now ≡ asks (so_far.deliveries ++ d ∷ [])
       asked_is = more ∙ ap (λ n. n + asks (d ∷ [])) so_far.asked_is ∙ sym (asks-push so_far.deliveries d)
 
-      first : AreFirst (limit_of run.choices) before.input.left after.input.left (so_far.deliveries ++ d ∷ [])
-      first = first_with (limit_of run.choices) reader now.input.left so_far.deliveries so_far.max so_far.sound line next after.input.left last last_next is before.input.left d so_far.read delivers
+      first : AreFirst (max_bytes_of run.choices) before.input.left after.input.left (so_far.deliveries ++ d ∷ [])
+      first = first_with (max_bytes_of run.choices) reader now.input.left so_far.deliveries so_far.max so_far.sound line next after.input.left last last_next is before.input.left d so_far.read delivers
 
       -- what was played before stands with a stage in which nothing else changed but the output
       played_still : after.stage.world ≡ now.stage.world → after.stage.counts ≡ now.stage.counts → (mapped : Mapped) → mapped ≡ now.stage.mapped →
@@ -196,7 +196,7 @@ module _ (run : Run) (before now : Moment) (reader : Reading) (asked : ℕ) (so_
                 ∙ ap (λ (w : ReplayState). union triple_cmp (meaning (version_in_force so_far.deliveries)) w.played.records) (sym in_part.world))
                 (subst (λ n. CutShort n (held_triples now.stage.mapped now.stage.world.played.records))
                 (asked_is ∙ ap (λ q. asks (so_far.deliveries ++ q ∷ [])) in_part.is ∙ asks-push so_far.deliveries (Ask in_part.pattern)) in_part.cut_short);
-            first = subst (λ q. AreFirst (limit_of run.choices) before.input.left after.input.left (so_far.deliveries ++ q ∷ [])) in_part.is first;
+            first = subst (λ q. AreFirst (max_bytes_of run.choices) before.input.left after.input.left (so_far.deliveries ++ q ∷ [])) in_part.is first;
           }
 
       -- a delivery wasn't taken wholly, and nothing was printed
@@ -245,7 +245,7 @@ module _ (run : Run) (before now : Moment) (reader : Reading) (asked : ℕ) (so_
             roomed = subst (λ (w : ReplayState). HaveRoomBefore run.setting.room (needed_anew w.played.records after.stage.mapped) (needed_anew w.played.records (record { version = in_part.version; second = all_by v w.played.records }))) (sym in_part.world)
                 (subst (λ second. HaveRoomBefore run.setting.room (needed_anew now.stage.world.played.records after.stage.mapped) (needed_anew now.stage.world.played.records (record { version = in_part.version; second = second })))
                 (ap (λ (m : Mapped). m.second) so_far.at_rest.mapped) in_part.roomed);
-            first = subst (λ q. AreFirst (limit_of run.choices) before.input.left after.input.left (so_far.deliveries ++ q ∷ [])) in_part.is first;
+            first = subst (λ q. AreFirst (max_bytes_of run.choices) before.input.left after.input.left (so_far.deliveries ++ q ∷ [])) in_part.is first;
           }
 
       -- a delivery that isn't taken wholly stops the taking
@@ -264,7 +264,7 @@ module _ (run : Run) (before now : Moment) (reader : Reading) (asked : ℕ) (so_
       line_taken later given ended one takes = record {
         deliveries = so_far.deliveries ++ d ∷ [];
         taken = taken_on next after.input.left last last_next is.reads;
-        read = read_more (limit_of run.choices) reader now.input.left so_far.deliveries so_far.max so_far.sound line next after.input.left last last_next is before.input.left d so_far.read given delivers;
+        read = read_more (max_bytes_of run.choices) reader now.input.left so_far.deliveries so_far.max so_far.sound line next after.input.left last last_next is before.input.left d so_far.read given delivers;
         at_rest = takes so_far.deliveries before.stage asked_is so_far.at_rest;
         earlier = omega (arith, so_far.earlier, later);
         asked_is = asked_is;
@@ -274,10 +274,3 @@ module _ (run : Run) (before now : Moment) (reader : Reading) (asked : ℕ) (so_
         going = is.goes.going;
         ended = ended;
       }
-
--- memory was refused before the first line
-pub stands_at_start : (run : Run) (h : Option ℕ) (input : Input) (output : Output) (counts : SourceCounts) → StopsWithin Starved run (at_start h input output counts) (at_start h input output counts)
-stands_at_start run h input output counts =
-    let so_far : Progress run (at_start h input output counts) (at_start h input output counts) (fresh (limit_of run.choices) longest_line) 0 = nothing_begun run h input output counts in
-    stands run (at_start h input output counts) (at_start h input output counts) (fresh (limit_of run.choices) longest_line) 0 so_far (fresh (limit_of run.choices) longest_line) input None None
-    (not_called (fresh (limit_of run.choices) longest_line) input.left None so_far.sound)

@@ -26,13 +26,13 @@ pub all_held_by : (version : MappingVersion) (mapped : Mapped) (records : Record
 all_held_by version mapped records is = ap (λ (m : Mapped). held_triples m records) is ∙ union-all meaning version records triple_cmp
 
 -- after an application every page is mapped by the version by which all were
-pub applies-versions : (contents : Option Contents) (directory : List ℕ) (old new : WorldState) (applied : Applied) → Applies contents directory old.replay new.replay applied → new.mapping ≡ old.mapping →
+pub applies-versions : (contents : Option Contents) (folder : List ℕ) (old new : WorldState) (applied : Applied) → Applies contents folder old.replay new.replay applied → new.mapping ≡ old.mapping →
     new.second ≡ second_after applied.outcome old.mapping applied.event.entity old.second → KeepsVersion (mapped_in old) (mapped_in new) old.replay.played.records new.replay.played.records
-applies-versions contents directory old new applied a same second version is =
+applies-versions contents folder old new applied a same second version is =
     let records : Records = old.replay.played.records in
     let mapping : old.mapping ≡ version = ap (λ (m : Mapped). m.version) is in
     let one : old.second ≡ all_by old.mapping records = ap (λ (m : Mapped). m.second) is ∙ ap (λ v. all_by v records) (sym mapping) in
-    ap (λ xs. record { version = new.mapping; second = xs }) (applied_by_one contents directory old new applied a same second one)
+    ap (λ xs. record { version = new.mapping; second = xs }) (applied_by_one contents folder old new applied a same second one)
     ∙ ap (λ v. mapped_by v new.replay.played.records) (same ∙ mapping)
 
 -- what has room has it where nothing of it changes

@@ -4,6 +4,9 @@ use Rattle.revisions.specs.declared.revisions.Revisions.{Ghosts as RevisionsOf}
 use Rattle.side_output.specs.declared.entry.Entry.{Entry}
 use Rattle.replay_model.specs.Play.{risen_by}
 use Rattle.replay_model.specs.Replies.{failed_events, missing_events}
+use Rattle.wq_io.specs.declared.source.Source.{Ghosts as SourceOf}
+use Rattle.wq_io.specs.declared.sink.Sink.{Ghosts as SinkOf}
+use Rattle.session.specs.declared.ports.Ports.{Ports}
 use Rattle.session.specs.declared.stop.Unapplied.{Unapplied}
 use Rattle.session.specs.declared.stop.Unapplied.TheVariants.{StoreFull, OutOfMemory}
 
@@ -40,3 +43,19 @@ pub record HasGoneOn {R : Type 0} (members : RevisionsOf R) (old new : R) : Type
   pub faults : members.faults old ≤ members.faults new
   pub misses : members.misses old ≤ members.misses new
   pub most : members.most_faults new ≡ members.most_faults old
+
+-- an output was written further: the most calls that ever fail are the same, and the count of those that failed didn't fall
+pub record HasWrittenOn {K : Type 0} (members : SinkOf K) (old new : K) : Type 0 where
+  pub faults : members.faults old ≤ members.faults new
+  pub most : members.most_faults new ≡ members.most_faults old
+
+-- an input was read further: the same
+pub record HasReadOn {S : Type 0} (members : SourceOf S) (old new : S) : Type 0 where
+  pub faults : members.faults old ≤ members.faults new
+  pub most : members.most_faults new ≡ members.most_faults old
+
+-- all three went on
+pub record HaveGoneOn {S R K : Type 0} (input : SourceOf S) (source : RevisionsOf R) (sink : SinkOf K) (old new : Ports S R K) : Type 0 where
+  pub events : HasReadOn input old.events new.events
+  pub revisions : HasGoneOn source old.revisions new.revisions
+  pub out : HasWrittenOn sink old.out new.out

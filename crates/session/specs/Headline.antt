@@ -1,5 +1,5 @@
 -- What a run leaves: the states, what is held, the side output and what was printed.
-use Rattle.std.specs.Prelude.{◌≡◌, ◌⊎◌, ℕ, ◌-◌, ◌^◌, ◌+◌, ◌<◌, true, false, not, List, [], ◌∷◌, ◌++◌, Option, None, Some, IfSome, length}
+use Rattle.std.specs.Prelude.{◌≡◌, ◌⊎◌, ℕ, ◌-◌, ◌^◌, ◌+◌, ◌<◌, true, false, not, List, [], ◌∷◌, ◌++◌, Option, None, Some, IfSome, MatchOption, length}
 use Rattle.std.specs.List.{list_any}
 use Rattle.rising.specs.Rising.{Each}
 use Rattle.wq_io.specs.Streams.{IsAtEnd, Rose, after_known}
@@ -27,16 +27,18 @@ use Rattle.world.specs.Meaning.{meaning}
 use Rattle.transcript.specs.declared.write.Unwritten.{Unwritten}
 use Rattle.transcript.specs.declared.write.Unwritten.TheVariants.{WriteFault as NotWritten, OutOfMemory as Refused}
 use Rattle.transcript.specs.Printing.{IsCutShort, Output}
-use Rattle.words.specs.Options.{limit_of}
+use Rattle.words.specs.Options.{max_bytes_of}
+use Rattle.session.specs.declared.status.Status.{Status}
 use Rattle.session.specs.declared.stop.Stop.{Stop}
 use Rattle.session.specs.declared.stop.Stop.TheVariants.{BadLine, ReadFault, WriteFault, TooLong, StoreFull, OutOfMemory}
 use Rattle.session.specs.declared.stop.Unapplied.TheVariants.{StoreFull as NoRoom, OutOfMemory as Starved}
 use Rattle.session.specs.Counts.{HasCounted}
 use Rattle.session.specs.Moment.{Moment, Run, Setting, Stage, with_mapped, with_output, horizon_at}
 use Rattle.session.specs.Needed.{HaveRoom, HaveRoomBefore, needed_anew}
-use Rattle.session.specs.Reading.{AreDeliveries, AreFirst, AreWhole, IsPastLimit, IsRefusedLine}
+use Rattle.session.specs.Reading.{AreDeliveries, AreFirst, AreWhole, IsPastLimit, IsRefusedLine, TakesByNeed}
 use Rattle.session.specs.Remapping.{IsFullOfStale, mapped_by, remapped_some}
 use Rattle.session.specs.Sections.{sections_of}
+use Rattle.session.specs.Stop.{stop_of}
 use Rattle.session.specs.Stops.{IsHalted}
 use Rattle.session.specs.Taking.{Course, HoldsDocuments, IsFull, course_after, course_printed, course_to_end, judgement, replies_there}
 
@@ -101,7 +103,7 @@ pub record IsFunction (setting : Setting) (sections : Sections) (ds : List Deliv
 pub record Replayed (run : Run) (course : List Delivery → Stage → Course) (before now : Moment) : Type 0 where
   pub deliveries : List Delivery
   pub read : IsAtEnd now.input.left
-  pub are : IfSome before.input.left (λ bytes. AreDeliveries (limit_of run.choices) bytes deliveries)
+  pub are : IfSome before.input.left (λ bytes. AreDeliveries (max_bytes_of run.choices) bytes deliveries)
   pub replay : IsReplayed run.setting (course deliveries before.stage) deliveries before.stage now.stage
 
 -- the whole input was replayed, and the answers were printed, and nothing else
@@ -124,20 +126,20 @@ pub record BrokenOff (why : Unwritten) (run : Run) (before now : Moment) : Type 
 pub record StandsAfter (run : Run) (before now : Moment) : Type 0 where
   pub deliveries : List Delivery
   pub played : IsPlayedAfter run.setting deliveries before.stage now.stage
-  pub whole : AreWhole (limit_of run.choices) before.input.left now.input.left deliveries
+  pub whole : AreWhole (max_bytes_of run.choices) before.input.left now.input.left deliveries
 
 -- the world has taken the deliveries before the line in which the input goes past the limit
 pub record StandsAtLimit (run : Run) (before now : Moment) : Type 0 where
   pub deliveries : List Delivery
   pub played : IsPlayedAfter run.setting deliveries before.stage now.stage
-  pub past : IfSome before.input.left (λ bytes. IsPastLimit (limit_of run.choices) bytes deliveries)
+  pub past : IfSome before.input.left (λ bytes. IsPastLimit (max_bytes_of run.choices) bytes deliveries)
 
 -- the world has taken the deliveries before the line with this number, which is refused: each line before it was one
 pub record StandsBeforeLine (number : ℕ) (cause : LineCause) (run : Run) (before now : Moment) : Type 0 where
   pub deliveries : List Delivery
   pub played : IsPlayedAfter run.setting deliveries before.stage now.stage
   pub counted : number ≡ length deliveries + 1
-  pub bad : IfSome before.input.left (λ bytes. IsRefusedLine (limit_of run.choices) bytes deliveries number cause)
+  pub bad : IfSome before.input.left (λ bytes. IsRefusedLine (max_bytes_of run.choices) bytes deliveries number cause)
 
 -- the world has taken the deliveries before a question; the answers before it were printed and then a prefix of its own, and
 -- nothing else; where a write failed, not all of it
@@ -147,7 +149,7 @@ pub record StandsAtQuestion (why : Unwritten) (run : Run) (before now : Moment) 
   pub between : Output
   pub played : IsPlayedAfter run.setting deliveries before.stage (with_output now.stage between)
   pub cut_short : IsCutShort why (ask_section (asks deliveries + 1) (rows (union triple_cmp (meaning (version_in_force deliveries)) now.stage.world.played.records) pattern)) between now.stage.output
-  pub first : AreFirst (limit_of run.choices) before.input.left now.input.left (deliveries ++ Ask pattern ∷ [])
+  pub first : AreFirst (max_bytes_of run.choices) before.input.left now.input.left (deliveries ++ Ask pattern ∷ [])
 
 -- the world has taken the deliveries before a line that changes the mapping, every page being mapped by the version that was in force
 -- there; this line's version is in force, and the pages of some entities, the least first, are mapped by it, and had room
@@ -159,7 +161,7 @@ pub record StandsAtMapping (run : Run) (before now : Moment) : Type 0 where
   pub mapped : now.stage.mapped ≡ remapped_some steps now.stage.world.played.records (record { version = version; second = all_by (version_in_force deliveries) now.stage.world.played.records })
   pub roomed : HaveRoomBefore run.setting.room (needed_anew now.stage.world.played.records now.stage.mapped)
       (needed_anew now.stage.world.played.records (record { version = version; second = all_by (version_in_force deliveries) now.stage.world.played.records }))
-  pub first : AreFirst (limit_of run.choices) before.input.left now.input.left (deliveries ++ Mapping version ∷ [])
+  pub first : AreFirst (max_bytes_of run.choices) before.input.left now.input.left (deliveries ++ Mapping version ∷ [])
 
 -- what a run leaves that stopped while it printed: in the answer to a question, or in the sections
 abbrev pub IsInterrupted : Unwritten → Run → Moment → Moment → Type 0
@@ -175,3 +177,8 @@ Stopped StoreFull run before now =
     (IsFull run.setting now.stage.world now.stage.mapped × IsHalted NoRoom run before now)
     ⊎ (IsFullOfStale run.setting.room now.stage.world.played.records now.stage.mapped × StandsAtMapping run before now)
 Stopped OutOfMemory run before now = (IsHalted Starved run before now ⊎ StandsAtMapping run before now) ⊎ IsInterrupted Refused run before now
+
+-- what a replay leaves that was begun: it ended well, or it stopped for a cause; and what it took of its input is bounded
+pub record ReplayEnding (status : Status) (run : Run) (before now : Moment) : Type 0 where
+  pub outcome : MatchOption (stop_of status) (Ending run before now) (λ stop. Stopped stop run before now)
+  pub taken : IfSome before.input.left (λ bytes. TakesByNeed (max_bytes_of run.choices) bytes now.input.left)

@@ -1,11 +1,13 @@
 pub mod Complete
 pub mod Counts
+pub mod DrillPlaying
 pub mod Drilling
 pub mod Headline
 pub mod Moment
 pub mod Needed
 pub mod Reading
 pub mod Remapping
+pub mod Room
 pub mod Sections
 pub mod Status
 pub mod Stop

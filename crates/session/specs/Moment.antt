@@ -10,19 +10,20 @@ use Rattle.replay_model.specs.Records.{Bytes}
 use Rattle.replay_model.specs.ReplayState.{ReplayState, nothing_delivered_within}
 use Rattle.world.specs.WorldState.{WorldState}
 use Rattle.transcript.specs.Printing.{Output, output}
+use Rattle.session.specs.declared.ports.Ports.{Ports}
 use Rattle.session.specs.Counts.{SourceCounts, counts}
 use Rattle.session.specs.Remapping.{Mapped, mapped_in}
-use Rattle.words.specs.Options.{Choices, place_of, terms_of}
+use Rattle.words.specs.Options.{Choices, folder_of, max_terms_of}
 
--- what deliveries are taken under: what the source of revisions has in its directory, where it is known, and for how many terms
+-- what deliveries are taken under: what the source of revisions has in its folder, where it is known, and for how many terms
 -- there is room
 pub record Setting : Type 0 where
   pub known : Option (ℕ → Option Bytes)
   pub room : ℕ
 
--- the setting of a source with these contents, of a directory, and of a store with this room
+-- the setting of a source with these contents, of a folder, and of a store with this room
 abbrev pub setting : Option Contents → List ℕ → ℕ → Setting
-setting contents directory room = record { known = option_map (λ (c : Contents). c directory) contents; room = room }
+setting contents folder room = record { known = option_map (λ (c : Contents). c folder) contents; room = room }
 
 -- what the taking of deliveries changes: the output, the counts of the source of revisions, the world, and the versions by which
 -- it maps
@@ -64,10 +65,10 @@ pub record Moment : Type 0 where
   pub stage : Stage
 
 -- the moment that these are
-abbrev pub moment : {S R K : Type 0} → SourceOf S → RevisionsOf R → SinkOf K → S → R → K → WorldState → Moment
-moment events_of source sink events revisions out world = record {
-  input = record { left = events_of.left events; faults = events_of.faults events };
-  stage = stage source sink revisions out world;
+abbrev pub moment : {S R K : Type 0} → SourceOf S → RevisionsOf R → SinkOf K → Ports S R K → WorldState → Moment
+moment input source sink ports world = record {
+  input = record { left = input.left ports.events; faults = input.faults ports.events };
+  stage = stage source sink ports.revisions ports.out world;
 }
 
 -- a run: what was chosen, and what deliveries are taken under
@@ -78,8 +79,8 @@ pub record Run : Type 0 where
 -- the world that a run of these choices begins with: empty, with the horizon and the room that were chosen, and with the first
 -- version of the mapping
 abbrev pub world_at_start : Choices → WorldState
-world_at_start choices = record { replay = nothing_delivered_within choices.horizon; room = terms_of choices; mapping = One; second = [] }
+world_at_start choices = record { replay = nothing_delivered_within choices.horizon; room = max_terms_of choices; mapping = One; second = [] }
 
 -- the run of these choices over a source with these contents
 abbrev pub run_of : Option Contents → Choices → Run
-run_of contents choices = record { choices = choices; setting = setting contents (place_of choices) (terms_of choices) }
+run_of contents choices = record { choices = choices; setting = setting contents (folder_of choices) (max_terms_of choices) }

@@ -11,13 +11,13 @@ use Rattle.session.specs.Moment.{Moment, Run, horizon_at}
 use Rattle.session.specs.Reading.{AreDeliveries, AreFirst}
 use Rattle.session.specs.Remapping.{mapped_by}
 use Rattle.session.specs.Taking.{AtRest, IsWithin, course_begun, course_to_end, entered_perhaps}
-use Rattle.words.specs.Options.{limit_of}
+use Rattle.words.specs.Options.{max_bytes_of}
 
 -- the whole input was read, and all lines were taken
 pub record HasTaken (run : Run) (before now : Moment) : Type 0 where
   pub deliveries : List Delivery
   pub read : IsAtEnd now.input.left
-  pub are : IfSome before.input.left (λ bytes. AreDeliveries (limit_of run.choices) bytes deliveries)
+  pub are : IfSome before.input.left (λ bytes. AreDeliveries (max_bytes_of run.choices) bytes deliveries)
   pub at_rest : AtRest run.setting deliveries before.stage now.stage
 
 -- at a line: the world of the first lines of what was taken, of which the last is perhaps a watermark with some of the events that
@@ -27,7 +27,7 @@ pub record StopsWithin (why : Unapplied) (run : Run) (before now : Moment) : Typ
   pub last : Option Delivery
   pub within : IsWithin why run.setting (course_begun deliveries last before.stage) (λ replies. entered_perhaps (following (horizon_at before.stage) replies deliveries) last) before.stage now.stage
   pub mapped : now.stage.mapped ≡ mapped_by (version_in_force deliveries) now.stage.world.played.records
-  pub first : AreFirst (limit_of run.choices) before.input.left now.input.left (deliveries ++ option_to_list last)
+  pub first : AreFirst (max_bytes_of run.choices) before.input.left now.input.left (deliveries ++ option_to_list last)
 
 -- after the last line, the input being read to its end: the world of all lines and the end, with some of the events that the end
 -- makes due; every page is mapped by the version in force
@@ -36,7 +36,7 @@ pub record StopsAtEnd (why : Unapplied) (run : Run) (before now : Moment) : Type
   pub read : IsAtEnd now.input.left
   pub within : IsWithin why run.setting (course_to_end deliveries before.stage) (λ replies. after_end (following (horizon_at before.stage) replies deliveries)) before.stage now.stage
   pub mapped : now.stage.mapped ≡ mapped_by (version_in_force deliveries) now.stage.world.played.records
-  pub are : IfSome before.input.left (λ bytes. AreDeliveries (limit_of run.choices) bytes deliveries)
+  pub are : IfSome before.input.left (λ bytes. AreDeliveries (max_bytes_of run.choices) bytes deliveries)
 
 -- what stands where memory was refused, or the store was full, while nothing was printed and no page was being mapped anew
 abbrev pub IsHalted : Unapplied → Run → Moment → Moment → Type 0

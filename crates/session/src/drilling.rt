@@ -1,15 +1,17 @@
-// A drill: a replay of deliveries and pages that are made from its size, and its summary.
+// A drill: its deliveries, and its summary.
 
 ghost use Rattle.std.specs.Prelude.{◌≡◌, ◌≤◌, IfErr, OnOk};
 ghost use Rattle.replay_model.specs.ReplayState.{nothing_delivered};
 ghost use Rattle.transcript.specs.Printing.{output};
 ghost use Rattle.drill_replay.specs.Playing.{IsByFirst};
+ghost use Rattle.session.specs.Counts.{HasWrittenOn};
 ghost use Rattle.session.specs.Drilling.{DrillStopped, HasDrilled};
 ghost use Rattle.session.specs.Remapping.{HoldsWithin};
 ghost use Rattle.words.specs.Plan.{greatest_size};
 
+use crate::drill_playing::play;
 use crate::remapping::begin_by_first;
-use drill_replay::{run_drill, summary_lines};
+use drill_replay::{summarize, summary_lines};
 use std::alloc::Global;
 use transcript::{Unwritten, print_lines};
 use world::World;
@@ -28,16 +30,16 @@ pub fn drill<K: Sink>(
     requires size { (1 ≤ size) × (size ≤ greatest_size) }
     requires world { world.old.replay ≡ nothing_delivered }
     ensures ok { OnOk result (HasDrilled size (output K.Sink out.old) (output K.Sink out.new) world.new.replay) }
+    ensures err { IfErr result (λ why. DrillStopped why size (output K.Sink out.old) (output K.Sink out.new) world.new.replay) }
     ensures first { IsByFirst world.new }
     ensures room { world.new.room ≡ 20000000 }
     ensures held { HoldsWithin 20000000 world.new }
-    ensures most { K.most_faults out.new ≡ K.most_faults out.old }
-    ensures later { K.faults out.old ≤ K.faults out.new }
-    ensures err { IfErr result (λ why. DrillStopped why size (output K.Sink out.old) (output K.Sink out.new) world.new.replay) }
+    ensures written { HasWrittenOn K.Sink out.old out.new }
 {
     begin_by_first(world);
     world.set_room(ROOM);
-    let summary = run_drill(alloc, size, world)?;
+    let counts = play(alloc, size, out, world)?;
+    let summary = summarize(alloc, size, counts, world)?;
     let lines = summary_lines(alloc, &summary)?;
     print_lines(lines.as_slice(), out)
 }

@@ -13,7 +13,7 @@ ghost use Rattle.entity_state.specs.State.{is_kept};
 ghost use Rattle.replay_model.specs.Acceptance.{accepted, late, version_in_force};
 ghost use Rattle.replay_model.specs.Records.{Bytes, is_settled, record_of};
 ghost use Rattle.world.specs.Meaning.{meaning};
-ghost use Rattle.words.specs.Options.{limit_of};
+ghost use Rattle.words.specs.Options.{max_bytes_of};
 ghost use Rattle.triple_store.specs.Room.{distinct};
 ghost use Rattle.session.specs.declared.status.Status.{Status};
 ghost use Rattle.session.specs.declared.stop.Stop.{Stop};
@@ -32,7 +32,7 @@ ghost use Rattle.session.specs.Taking.{IsFull, judgement};
 pub fn good_input_is_replayed()
     ensures { (run : Run) (before now : Moment) (status : Status) (bytes : List ℕ) (ds : List Delivery) →
         (status ≡ Status.BadWords → ⊥) → IfSome (stop_of status) (λ stop. Stopped stop run before now) →
-        before.input.left ≡ Some bytes → AreDeliveries (limit_of run.choices) bytes ds →
+        before.input.left ≡ Some bytes → AreDeliveries (max_bytes_of run.choices) bytes ds →
         IsStill before.input.faults now.input.faults → IsStill before.stage.output.faults now.stage.output.faults →
         (IsFull run.setting now.stage.world now.stage.mapped → ⊥) →
         (IsFullOfStale run.setting.room now.stage.world.played.records now.stage.mapped → ⊥) →
@@ -44,7 +44,7 @@ pub fn good_input_is_replayed()
 /// document of the entity is there, by the first version of the mapping and by each that a line brings.
 pub fn told_pages_have_room()
     ensures { (run : Run) (before now : Moment) (contents : ℕ → Option Bytes) (bytes : List ℕ) (ds : List Delivery) →
-        Stopped Stop.StoreFull run before now → before.input.left ≡ Some bytes → AreDeliveries (limit_of run.choices) bytes ds →
+        Stopped Stop.StoreFull run before now → before.input.left ≡ Some bytes → AreDeliveries (max_bytes_of run.choices) bytes ds →
         run.setting.known ≡ Some contents → distinct (terms_there contents ds) ≤ run.setting.room → ⊥ }
 {}
 
@@ -54,7 +54,7 @@ pub fn told_pages_have_room()
 pub fn fitting_input_is_replayed()
     ensures { (run : Run) (before now : Moment) (status : Status) (contents : ℕ → Option Bytes) (bytes : List ℕ) (ds : List Delivery) →
         (status ≡ Status.BadWords → ⊥) → IfSome (stop_of status) (λ stop. Stopped stop run before now) →
-        before.input.left ≡ Some bytes → AreDeliveries (limit_of run.choices) bytes ds →
+        before.input.left ≡ Some bytes → AreDeliveries (max_bytes_of run.choices) bytes ds →
         IsStill before.input.faults now.input.faults → IsStill before.stage.output.faults now.stage.output.faults →
         run.setting.known ≡ Some contents → distinct (terms_there contents ds) ≤ run.setting.room →
         (status ≡ Status.Ok) ⊎ (status ≡ Status.OutOfMemory) }

@@ -16,6 +16,7 @@ pub fn begin_by_first(world: &mut World)
     requires world { world.old.replay ≡ nothing_delivered }
     ensures replay { world.new.replay ≡ nothing_delivered }
     ensures first { IsByFirst world.new }
+    ensures room { world.new.room ≡ world.old.room }
 {
     world.set_mapping(MappingVersion::One);
 }

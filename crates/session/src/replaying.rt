@@ -1,18 +1,19 @@
 // A replay: the lines of the input, the end, and the sections that are asked for.
 
-ghost use Rattle.std.specs.Prelude.{◌≡◌, ◌≤◌, IfErr, IfSome, OnOk};
+ghost use Rattle.std.specs.Prelude.{◌≡◌, IfErr, IfSome, OnOk};
 ghost use Rattle.drill_replay.specs.Playing.{IsByFirst};
 ghost use Rattle.replay_model.specs.ReplayState.{nothing_delivered, nothing_delivered_within};
 ghost use Rattle.transcript.specs.Sections.{chosen};
-ghost use Rattle.session.specs.Counts.{HasGoneOn};
+ghost use Rattle.session.specs.Counts.{HaveGoneOn};
 ghost use Rattle.session.specs.Headline.{Ending, HasReplayed, Stopped};
 ghost use Rattle.session.specs.Moment.{moment, run_of, world_at_start};
 ghost use Rattle.session.specs.Reading.{TakesByNeed};
 ghost use Rattle.session.specs.Remapping.{HoldsWithin};
 ghost use Rattle.session.specs.Sections.{sections_of};
-ghost use Rattle.words.specs.Options.{limit_of, terms_of};
+ghost use Rattle.words.specs.Options.{max_bytes_of, max_terms_of};
 
 use crate::delivering::take_end;
+use crate::ports::Ports;
 use crate::remapping::begin_by_first;
 use crate::stop::Stop;
 use crate::taking::take_lines;
@@ -27,28 +28,24 @@ use wq_io::{Sink, Source};
 pub fn replay<S: Source, R: Revisions, K: Sink>(
     alloc: Global,
     options: &ReplayOptions<'_>,
-    events: &mut S,
-    revisions: &mut R,
-    out: &mut K,
+    ports: &mut Ports<S, R, K>,
     world: &mut World,
 ) -> Result<(), Stop>
     requires world { world.old.replay ≡ nothing_delivered }
-    ensures ok { OnOk result (Ending (run_of (R.contents revisions.old) options.now)
-        (moment S.Source R.Revisions K.Sink events.old revisions.old out.old (world_at_start options.now))
-        (moment S.Source R.Revisions K.Sink events.new revisions.new out.new world.new)) }
-    ensures taken { IfSome (S.left events.old) (λ bytes. TakesByNeed (limit_of options.now) bytes (S.left events.new)) }
-    ensures most { (S.most_faults events.new ≡ S.most_faults events.old) × (K.most_faults out.new ≡ K.most_faults out.old) }
-    ensures later { (S.faults events.old ≤ S.faults events.new) × (K.faults out.old ≤ K.faults out.new) }
-    ensures err { IfErr result (λ stop. Stopped stop (run_of (R.contents revisions.old) options.now)
-        (moment S.Source R.Revisions K.Sink events.old revisions.old out.old (world_at_start options.now))
-        (moment S.Source R.Revisions K.Sink events.new revisions.new out.new world.new)) }
-    ensures room { world.new.room ≡ terms_of options.now }
-    ensures held { HoldsWithin (terms_of options.now) world.new }
-    ensures source { HasGoneOn R.Revisions revisions.old revisions.new }
+    ensures ok { OnOk result (Ending (run_of (R.contents ports.old.revisions) options.now)
+        (moment S.Source R.Revisions K.Sink ports.old (world_at_start options.now))
+        (moment S.Source R.Revisions K.Sink ports.new world.new)) }
+    ensures err { IfErr result (λ stop. Stopped stop (run_of (R.contents ports.old.revisions) options.now)
+        (moment S.Source R.Revisions K.Sink ports.old (world_at_start options.now))
+        (moment S.Source R.Revisions K.Sink ports.new world.new)) }
+    ensures taken { IfSome (S.left ports.old.events) (λ bytes. TakesByNeed (max_bytes_of options.now) bytes (S.left ports.new.events)) }
+    ensures room { world.new.room ≡ max_terms_of options.now }
+    ensures held { HoldsWithin (max_terms_of options.now) world.new }
+    ensures further { HaveGoneOn S.Source R.Revisions K.Sink ports.old ports.new }
 {
     begin_by_first(world);
     set_horizon(options, world);
-    replay_within(alloc, options, events, revisions, out, world)
+    replay_within(alloc, options, ports, world)
 }
 
 // Sets the horizon that is asked for, if one is.
@@ -57,6 +54,7 @@ fn set_horizon(options: &ReplayOptions<'_>, world: &mut World)
     requires first { IsByFirst world.old }
     ensures replay { world.new.replay ≡ (world_at_start options.now).replay }
     ensures first { IsByFirst world.new }
+    ensures room { world.new.room ≡ world.old.room }
 {
     if let Some(micros) = options.horizon() {
         world.set_horizon(micros);
@@ -67,29 +65,25 @@ fn set_horizon(options: &ReplayOptions<'_>, world: &mut World)
 fn replay_within<S: Source, R: Revisions, K: Sink>(
     alloc: Global,
     options: &ReplayOptions<'_>,
-    events: &mut S,
-    revisions: &mut R,
-    out: &mut K,
+    ports: &mut Ports<S, R, K>,
     world: &mut World,
 ) -> Result<(), Stop>
     requires world { world.old.replay ≡ nothing_delivered_within world.old.replay.buffer.horizon }
     requires first { IsByFirst world.old }
-    ensures ok { OnOk result (Ending (run_of (R.contents revisions.old) options.now)
-        (moment S.Source R.Revisions K.Sink events.old revisions.old out.old world.old)
-        (moment S.Source R.Revisions K.Sink events.new revisions.new out.new world.new)) }
-    ensures taken { IfSome (S.left events.old) (λ bytes. TakesByNeed (limit_of options.now) bytes (S.left events.new)) }
-    ensures most { (S.most_faults events.new ≡ S.most_faults events.old) × (K.most_faults out.new ≡ K.most_faults out.old) }
-    ensures later { (S.faults events.old ≤ S.faults events.new) × (K.faults out.old ≤ K.faults out.new) }
-    ensures err { IfErr result (λ stop. Stopped stop (run_of (R.contents revisions.old) options.now)
-        (moment S.Source R.Revisions K.Sink events.old revisions.old out.old world.old)
-        (moment S.Source R.Revisions K.Sink events.new revisions.new out.new world.new)) }
-    ensures room { world.new.room ≡ terms_of options.now }
-    ensures held { HoldsWithin (terms_of options.now) world.new }
-    ensures source { HasGoneOn R.Revisions revisions.old revisions.new }
+    ensures ok { OnOk result (Ending (run_of (R.contents ports.old.revisions) options.now)
+        (moment S.Source R.Revisions K.Sink ports.old world.old)
+        (moment S.Source R.Revisions K.Sink ports.new world.new)) }
+    ensures err { IfErr result (λ stop. Stopped stop (run_of (R.contents ports.old.revisions) options.now)
+        (moment S.Source R.Revisions K.Sink ports.old world.old)
+        (moment S.Source R.Revisions K.Sink ports.new world.new)) }
+    ensures taken { IfSome (S.left ports.old.events) (λ bytes. TakesByNeed (max_bytes_of options.now) bytes (S.left ports.new.events)) }
+    ensures room { world.new.room ≡ max_terms_of options.now }
+    ensures held { HoldsWithin (max_terms_of options.now) world.new }
+    ensures further { HaveGoneOn S.Source R.Revisions K.Sink ports.old ports.new }
 {
-    world.set_room(options.terms());
-    take_all(alloc, options, events, revisions, out, world)?;
-    Ok(print_closing(alloc, sections(options), world, out)?)
+    world.set_room(options.max_terms());
+    take_all(alloc, options, ports, world)?;
+    Ok(print_closing(alloc, sections(options), world, &mut ports.out)?)
 }
 
 // Which sections are asked for.
@@ -107,29 +101,25 @@ fn sections(options: &ReplayOptions<'_>) -> Sections
 fn take_all<S: Source, R: Revisions, K: Sink>(
     alloc: Global,
     plan: &ReplayOptions<'_>,
-    events: &mut S,
-    revisions: &mut R,
-    out: &mut K,
+    ports: &mut Ports<S, R, K>,
     world: &mut World,
 ) -> Result<(), Stop>
     requires world { world.old.replay ≡ nothing_delivered_within world.old.replay.buffer.horizon }
     requires first { IsByFirst world.old }
-    requires room { world.old.room ≡ terms_of plan.now }
+    requires room { world.old.room ≡ max_terms_of plan.now }
     requires held { HoldsWithin world.old.room world.old }
-    ensures ok { OnOk result (HasReplayed (run_of (R.contents revisions.old) plan.now)
-        (moment S.Source R.Revisions K.Sink events.old revisions.old out.old world.old)
-        (moment S.Source R.Revisions K.Sink events.new revisions.new out.new world.new)) }
-    ensures taken { IfSome (S.left events.old) (λ bytes. TakesByNeed (limit_of plan.now) bytes (S.left events.new)) }
-    ensures most { (S.most_faults events.new ≡ S.most_faults events.old) × (K.most_faults out.new ≡ K.most_faults out.old) }
-    ensures later { (S.faults events.old ≤ S.faults events.new) × (K.faults out.old ≤ K.faults out.new) }
-    ensures err { IfErr result (λ stop. Stopped stop (run_of (R.contents revisions.old) plan.now)
-        (moment S.Source R.Revisions K.Sink events.old revisions.old out.old world.old)
-        (moment S.Source R.Revisions K.Sink events.new revisions.new out.new world.new)) }
+    ensures ok { OnOk result (HasReplayed (run_of (R.contents ports.old.revisions) plan.now)
+        (moment S.Source R.Revisions K.Sink ports.old world.old)
+        (moment S.Source R.Revisions K.Sink ports.new world.new)) }
+    ensures err { IfErr result (λ stop. Stopped stop (run_of (R.contents ports.old.revisions) plan.now)
+        (moment S.Source R.Revisions K.Sink ports.old world.old)
+        (moment S.Source R.Revisions K.Sink ports.new world.new)) }
+    ensures taken { IfSome (S.left ports.old.events) (λ bytes. TakesByNeed (max_bytes_of plan.now) bytes (S.left ports.new.events)) }
     ensures room { world.new.room ≡ world.old.room }
     ensures held { HoldsWithin world.old.room world.new }
-    ensures source { HasGoneOn R.Revisions revisions.old revisions.new }
+    ensures further { HaveGoneOn S.Source R.Revisions K.Sink ports.old ports.new }
 {
-    take_lines(alloc, plan, events, revisions, out, world)?;
-    take_end(plan.place(), revisions, world)?;
+    take_lines(alloc, plan, ports, world)?;
+    take_end(plan.folder(), &mut ports.revisions, world)?;
     Ok(())
 }

@@ -1,20 +1,21 @@
 // The lines of the input are taken one by one.
 
-ghost use Rattle.std.specs.Prelude.{◌≡◌, ◌≤◌, ◌⊎◌, Ok, Err, IfErr, IfOk, IfSome, OnOk};
+ghost use Rattle.std.specs.Prelude.{◌≡◌, ◌⊎◌, Ok, Err, IfErr, IfOk, IfSome, OnOk};
 ghost use Rattle.drill_replay.specs.Playing.{IsByFirst};
 ghost use Rattle.replay_model.specs.ReplayState.{nothing_delivered_within};
 ghost use Rattle.event_line.specs.declared.faults.LineCause.{LineCause};
 ghost use Rattle.event_line.specs.Line.{delivery_of};
 ghost use Rattle.session.specs.declared.stop.Stop.TheVariants.{BadLine, OutOfMemory as Refused};
-ghost use Rattle.session.specs.Counts.{HasGoneOn};
+ghost use Rattle.session.specs.Counts.{HaveGoneOn};
 ghost use Rattle.session.specs.Headline.{Stopped};
 ghost use Rattle.session.specs.Moment.{moment, run_of};
 ghost use Rattle.session.specs.Reading.{TakesByNeed};
 ghost use Rattle.session.specs.Remapping.{HoldsWithin};
 ghost use Rattle.session.specs.Stops.{HasTaken};
-ghost use Rattle.words.specs.Options.{limit_of, terms_of};
+ghost use Rattle.words.specs.Options.{max_bytes_of, max_terms_of};
 
-use crate::delivering::{asks, deliver};
+use crate::delivering::{Context, asks, deliver};
+use crate::ports::Ports;
 use crate::stop::Stop;
 use entity_model::Delivery;
 use event_line::{DeliveryFault, delivery};
@@ -29,36 +30,43 @@ use wq_io::{Lines, Sink, Source};
 pub fn take_lines<S: Source, R: Revisions, K: Sink>(
     alloc: Global,
     plan: &ReplayOptions<'_>,
-    events: &mut S,
-    revisions: &mut R,
-    out: &mut K,
+    ports: &mut Ports<S, R, K>,
     world: &mut World,
 ) -> Result<(), Stop>
     requires world { world.old.replay ≡ nothing_delivered_within world.old.replay.buffer.horizon }
     requires first { IsByFirst world.old }
-    requires room { world.old.room ≡ terms_of plan.now }
+    requires room { world.old.room ≡ max_terms_of plan.now }
     requires held { HoldsWithin world.old.room world.old }
-    ensures ok { OnOk result (HasTaken (run_of (R.contents revisions.old) plan.now)
-        (moment S.Source R.Revisions K.Sink events.old revisions.old out.old world.old)
-        (moment S.Source R.Revisions K.Sink events.new revisions.new out.new world.new)) }
-    ensures taken { IfSome (S.left events.old) (λ bytes. TakesByNeed (limit_of plan.now) bytes (S.left events.new)) }
-    ensures most { (S.most_faults events.new ≡ S.most_faults events.old) × (K.most_faults out.new ≡ K.most_faults out.old) }
-    ensures later { (S.faults events.old ≤ S.faults events.new) × (K.faults out.old ≤ K.faults out.new) }
+    ensures ok { OnOk result (HasTaken (run_of (R.contents ports.old.revisions) plan.now)
+        (moment S.Source R.Revisions K.Sink ports.old world.old)
+        (moment S.Source R.Revisions K.Sink ports.new world.new)) }
+    ensures err { IfErr result (λ stop. Stopped stop (run_of (R.contents ports.old.revisions) plan.now)
+        (moment S.Source R.Revisions K.Sink ports.old world.old)
+        (moment S.Source R.Revisions K.Sink ports.new world.new)) }
+    ensures taken { IfSome (S.left ports.old.events) (λ bytes. TakesByNeed (max_bytes_of plan.now) bytes (S.left ports.new.events)) }
     ensures room { world.new.room ≡ world.old.room }
     ensures held { HoldsWithin world.old.room world.new }
-    ensures err { IfErr result (λ stop. Stopped stop (run_of (R.contents revisions.old) plan.now)
-        (moment S.Source R.Revisions K.Sink events.old revisions.old out.old world.old)
-        (moment S.Source R.Revisions K.Sink events.new revisions.new out.new world.new)) }
-    ensures source { HasGoneOn R.Revisions revisions.old revisions.new }
+    ensures further { HaveGoneOn S.Source R.Revisions K.Sink ports.old ports.new }
 {
-    let directory = plan.place();
-    let mut lines = Lines::new(plan.limit());
+    let folder = plan.folder();
+    let mut lines = Lines::new(plan.max_bytes());
     let mut line = Vec::new(alloc);
     let mut asked = 0;
-    while let Some(number) = lines.next(events, &mut line)? {
+    while let Some(number) = lines.next(&mut ports.events, &mut line)? {
         let delivery = read_delivery(alloc, line.as_slice(), number)?;
         asked += asks(&delivery);
-        deliver(alloc, directory, asked, &delivery, revisions, out, world)?;
+        let context = Context {
+            alloc,
+            folder,
+            asked,
+        };
+        deliver(
+            &context,
+            &delivery,
+            &mut ports.revisions,
+            &mut ports.out,
+            world,
+        )?;
         drop(delivery); // its memory is free before the next line is read
     }
     Ok(())

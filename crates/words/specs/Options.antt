@@ -3,12 +3,12 @@ use Rattle.std.specs.Prelude.{ℕ, Bool, List, Option, IfSome, unwrap_or, codes}
 use Rattle.words.specs.Items.{Item, is_there, number_in, value_in}
 use Rattle.words.specs.Table.{IsInRange, kind_in, replay_table}
 
--- what is asked for: the place of the revisions, the most bytes of the input, the most terms and the horizon in microseconds, where
+-- what is asked for: the folder of the revisions, the most bytes of the input, the most terms and the horizon in microseconds, where
 -- the words say them, and which sections are printed
 pub record Choices : Type 0 where
-  pub place : Option (List ℕ)
-  pub limit : Option ℕ
-  pub terms : Option ℕ
+  pub folder : Option (List ℕ)
+  pub max_bytes : Option ℕ
+  pub max_terms : Option ℕ
   pub horizon : Option ℕ
   pub export : Bool
   pub state : Bool
@@ -17,26 +17,26 @@ pub record Choices : Type 0 where
 -- what the items ask for
 abbrev pub choices_of : List Item → Choices
 choices_of items = record {
-  place = value_in (codes "--from") items;
-  limit = number_in replay_table (codes "--max-bytes") items;
-  terms = number_in replay_table (codes "--max-terms") items;
+  folder = value_in (codes "--from") items;
+  max_bytes = number_in replay_table (codes "--max-bytes") items;
+  max_terms = number_in replay_table (codes "--max-terms") items;
   horizon = number_in replay_table (codes "--horizon") items;
   export = is_there (codes "--export") items;
   state = is_there (codes "--state") items;
   side = is_there (codes "--side") items;
 }
 
--- the place of the revisions: without `--from` the current folder
-abbrev pub place_of : Choices → List ℕ
-place_of c = unwrap_or c.place (codes ".")
+-- the folder of the revisions: without `--from` the current folder
+abbrev pub folder_of : Choices → List ℕ
+folder_of c = unwrap_or c.folder (codes ".")
 
 -- the most bytes of the input: without `--max-bytes` 1,073,741,824
-abbrev pub limit_of : Choices → ℕ
-limit_of c = unwrap_or c.limit 1073741824
+abbrev pub max_bytes_of : Choices → ℕ
+max_bytes_of c = unwrap_or c.max_bytes 1073741824
 
 -- for how many terms there is room: without `--max-terms` 20,000,000
-abbrev pub terms_of : Choices → ℕ
-terms_of c = unwrap_or c.terms 20000000
+abbrev pub max_terms_of : Choices → ℕ
+max_terms_of c = unwrap_or c.max_terms 20000000
 
 -- the number that an item has, if it has one, is in the range that the table gives it
 abbrev pub IsWithin : List ℕ → Option ℕ → Type 0
@@ -44,4 +44,4 @@ IsWithin name value = IfSome value (IsInRange (kind_in replay_table name))
 
 -- the most bytes, the most terms and the horizon are in their ranges
 abbrev pub IsAllowed : Choices → Type 0
-IsAllowed c = IsWithin (codes "--max-bytes") c.limit × IsWithin (codes "--max-terms") c.terms × IsWithin (codes "--horizon") c.horizon
+IsAllowed c = IsWithin (codes "--max-bytes") c.max_bytes × IsWithin (codes "--max-terms") c.max_terms × IsWithin (codes "--horizon") c.horizon

@@ -3,27 +3,27 @@
 ghost use Rattle.std.specs.Prelude.{◌≡◌, ◌≤◌, ◌^◌, codes, option_map};
 ghost use Rattle.words.specs.Items.{number_in};
 ghost use Rattle.words.specs.Table.{replay_table};
-ghost use Rattle.words.specs.Options.{IsAllowed, IsWithin, choices_of, limit_of, place_of, terms_of};
+ghost use Rattle.words.specs.Options.{IsAllowed, IsWithin, choices_of, max_bytes_of, folder_of, max_terms_of};
 ghost use Rattle.words.specs.declared.table.Command.TheVariants.{Replay};
 
 use crate::items::Request;
 use std::marker::Model;
 
-/// The place of the revisions where the words don't say one.
-const PLACE: &str = ".";
+/// The folder of the revisions where the words don't say one.
+const FOLDER: &str = ".";
 
 /// The most bytes of the input where the words don't say how many.
-const LIMIT: u64 = 1_073_741_824;
+const MAX_BYTES: u64 = 1_073_741_824;
 
 /// For how many terms there is room where the words don't say how many.
-const TERMS: u32 = 20_000_000;
+const MAX_TERMS: u32 = 20_000_000;
 
 /// What a replay is asked for, as the words say it.
 #[derive(Debug, Drop)]
 pub struct ReplayOptions<'a> {
-    place: Option<&'a str>,
-    limit: Option<u64>,
-    terms: Option<u32>,
+    folder: Option<&'a str>,
+    max_bytes: Option<u64>,
+    max_terms: Option<u32>,
     horizon: Option<u64>,
     export: bool,
     state: bool,
@@ -38,16 +38,16 @@ impl<'a> Model for ReplayOptions<'a> {
     ghost Value = { Choices };
 
     ghost view = { λ a. record {
-      place = option_map (λ p. p.now) a.place;
-      limit = a.limit;
-      terms = a.terms;
+      folder = option_map (λ p. p.now) a.folder;
+      max_bytes = a.max_bytes;
+      max_terms = a.max_terms;
       horizon = a.horizon;
       export = a.export;
       state = a.state;
       side = a.side;
     } };
 
-    ghost invariant = { λ a. IsWithin (codes "--max-bytes") a.limit × IsWithin (codes "--max-terms") a.terms × IsWithin (codes "--horizon") a.horizon };
+    ghost invariant = { λ a. IsWithin (codes "--max-bytes") a.max_bytes × IsWithin (codes "--max-terms") a.max_terms × IsWithin (codes "--horizon") a.horizon };
 }
 
 impl<'a> ReplayOptions<'a> {
@@ -57,9 +57,9 @@ impl<'a> ReplayOptions<'a> {
         ensures { result ≡ choices_of items.now.items }
     {
         ReplayOptions {
-            place: items.text("--from"),
-            limit: items.number("--max-bytes"),
-            terms: terms_in(items),
+            folder: items.text("--from"),
+            max_bytes: items.number("--max-bytes"),
+            max_terms: max_terms_in(items),
             horizon: items.number("--horizon"),
             export: items.has("--export"),
             state: items.has("--state"),
@@ -67,30 +67,30 @@ impl<'a> ReplayOptions<'a> {
         }
     }
 
-    /// The place of the revisions.
-    pub fn place(&self) -> &str
-        ensures { result.now ≡ place_of self.now }
+    /// The folder of the revisions.
+    pub fn folder(&self) -> &str
+        ensures { result.now ≡ folder_of self.now }
     {
-        match self.place {
-            Some(place) => place,
-            None => PLACE,
+        match self.folder {
+            Some(folder) => folder,
+            None => FOLDER,
         }
     }
 
     /// The most bytes of the input.
-    pub fn limit(&self) -> u64
-        ensures value { result ≡ limit_of self.now }
+    pub fn max_bytes(&self) -> u64
+        ensures value { result ≡ max_bytes_of self.now }
         ensures bounded { result ≤ 2 ^ 40 }
         ensures within { IsAllowed self.now }
     {
-        self.limit.unwrap_or(LIMIT)
+        self.max_bytes.unwrap_or(MAX_BYTES)
     }
 
     /// For how many terms there is room.
-    pub fn terms(&self) -> u32
-        ensures { result ≡ terms_of self.now }
+    pub fn max_terms(&self) -> u32
+        ensures { result ≡ max_terms_of self.now }
     {
-        self.terms.unwrap_or(TERMS)
+        self.max_terms.unwrap_or(MAX_TERMS)
     }
 
     /// The horizon in microseconds, if there is one.
@@ -123,7 +123,7 @@ impl<'a> ReplayOptions<'a> {
 }
 
 // The most terms that the items say.
-fn terms_in(items: &Request<'_>) -> Option<u32>
+fn max_terms_in(items: &Request<'_>) -> Option<u32>
     requires { items.now.command ≡ Replay }
     ensures value { result ≡ number_in replay_table (codes "--max-terms") items.now.items }
     ensures within { IsWithin (codes "--max-terms") result }

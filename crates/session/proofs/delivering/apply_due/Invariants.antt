@@ -8,7 +8,7 @@ use Rattle.session.proofs.delivering.apply_due.Given as goal
 
 abbrev pub invariant-loop : goal.invariant-loop
 invariant-loop g l =
-    Goes (setting (g.R.Revisions.contents l.fn.revisions) l.directory l.fn.world.room) (mapped_in l.fn.world) (counts g.R.Revisions l.fn.revisions) (counts g.R.Revisions l.revisions) l.fn.world.replay l.world.replay
+    Goes (setting (g.R.Revisions.contents l.fn.revisions) l.folder l.fn.world.room) (mapped_in l.fn.world) (counts g.R.Revisions l.fn.revisions) (counts g.R.Revisions l.revisions) l.fn.world.replay l.world.replay
     × HasGoneOn g.R.Revisions l.fn.revisions l.revisions
     × (l.world.room ≡ l.fn.world.room)
     × KeepsVersion (mapped_in l.fn.world) (mapped_in l.world) l.fn.world.replay.played.records l.world.replay.played.records

@@ -1,13 +1,75 @@
--- What a replay and a drill that ended well leave.
-use Rattle.std.proofs.Common.{◌∙◌, sym, ap, Some}
-use Rattle.session.proofs.Drills.{of_plan}
+-- What a replay and a drill leave, by the plan that was read.
+use Rattle.std.proofs.Common.{◌≡◌, ◌∙◌, sym, ap, Some, refl}
+use Rattle.words.specs.declared.plan.Plan.TheVariants.{Replay, Drill}
+use Rattle.session.specs.declared.status.Status.TheVariants.{Ok as Ended}
+use Rattle.session.specs.Drilling.{DrillEnding}
+use Rattle.session.specs.Headline.{ReplayEnding}
+use Rattle.session.specs.Moment.{moment, run_of, stage, world_at_start}
+use Rattle.session.specs.Remapping.{HoldsWithin}
+use Rattle.session.specs.Room.{room_of}
+use Rattle.drill_replay.specs.Playing.{IsByFirst}
+use Rattle.session.proofs.Ongoing.{none_gone, written_on}
+use Rattle.session.proofs.Plans.{for_choices, for_plan, for_size, no_drill, no_replay, replay_stopped}
 use Rattle.session.proofs.running.run.Goals as goal
 
--- A drill that ended well is that of the words.
-pub returns-in-Ok-drill-clause-drilled : goal.returns-in-Ok-drill-clause-drilled
-returns-in-Ok-drill-clause-drilled g c = λ size plan.
-    of_plan c.in-Some-Drill.size size _ _ _ (ap Some (sym c.in-Some-Drill.field-0-is) ∙ c.in-Some-Drill.ensures.value ∙ plan) c.in-Ok-drill.ensures.ok
+-- ---- a replay that ended well
 
--- A replay that ended well didn't stop.
-pub returns-in-Ok-clause-stopped : goal.returns-in-Ok-clause-stopped
-returns-in-Ok-clause-stopped g c = tt
+pub returns-in-Ok-clause-replay : goal.returns-in-Ok-clause-replay
+returns-in-Ok-clause-replay g c = λ choices plan.
+    for_choices (λ x. ReplayEnding Ended (run_of (g.R.Revisions.contents c.args.ports.now.revisions) x) (moment g.S.Source g.R.Revisions g.K.Sink c.args.ports.now (world_at_start x)) (moment g.S.Source g.R.Revisions g.K.Sink c.replay.new.ports c.replay.new.world))
+    c.in-Some-Replay.options choices (ap Some (sym c.in-Some-Replay.field-0-is) ∙ c.in-Some-Replay.ensures.value ∙ plan) (record { outcome = c.in-Ok.ensures.ok; taken = c.in-Ok.ensures.taken })
+
+pub returns-in-Ok-clause-drill : goal.returns-in-Ok-clause-drill
+returns-in-Ok-clause-drill g c = λ size plan. no_drill _ _ size (ap Some (sym c.in-Some-Replay.field-0-is) ∙ c.in-Some-Replay.ensures.value ∙ plan)
+
+pub returns-in-Ok-clause-room : goal.returns-in-Ok-clause-room
+returns-in-Ok-clause-room g c = λ the plan.
+    for_plan (λ x. (c.replay.new.world.room ≡ room_of x) × HoldsWithin (room_of x) c.replay.new.world)
+    (Replay c.in-Some-Replay.options) the (ap Some (sym c.in-Some-Replay.field-0-is) ∙ c.in-Some-Replay.ensures.value ∙ plan) (c.replay.ensures.room, c.in-Ok.ensures.held)
+
+-- ---- a replay that stopped
+
+pub returns-in-Err-clause-replay : goal.returns-in-Err-clause-replay
+returns-in-Err-clause-replay g c = λ choices plan.
+    for_choices (λ x. ReplayEnding c.status.result (run_of (g.R.Revisions.contents c.args.ports.now.revisions) x) (moment g.S.Source g.R.Revisions g.K.Sink c.args.ports.now (world_at_start x)) (moment g.S.Source g.R.Revisions g.K.Sink c.replay.new.ports c.replay.new.world))
+    c.in-Some-Replay.options choices (ap Some (sym c.in-Some-Replay.field-0-is) ∙ c.in-Some-Replay.ensures.value ∙ plan) (replay_stopped _ _ _ _ _ c.status.ensures.stops c.in-Err.ensures.err c.in-Err.ensures.taken)
+
+pub returns-in-Err-clause-drill : goal.returns-in-Err-clause-drill
+returns-in-Err-clause-drill g c = λ size plan. no_drill _ _ size (ap Some (sym c.in-Some-Replay.field-0-is) ∙ c.in-Some-Replay.ensures.value ∙ plan)
+
+pub returns-in-Err-clause-room : goal.returns-in-Err-clause-room
+returns-in-Err-clause-room g c = λ the plan.
+    for_plan (λ x. (c.replay.new.world.room ≡ room_of x) × HoldsWithin (room_of x) c.replay.new.world)
+    (Replay c.in-Some-Replay.options) the (ap Some (sym c.in-Some-Replay.field-0-is) ∙ c.in-Some-Replay.ensures.value ∙ plan) (c.replay.ensures.room, c.in-Err.ensures.held)
+
+-- ---- a drill that ended well
+
+pub returns-in-Ok-drill-clause-replay : goal.returns-in-Ok-drill-clause-replay
+returns-in-Ok-drill-clause-replay g c = λ choices plan. no_replay _ choices _ (ap Some (sym c.in-Some-Drill.field-0-is) ∙ c.in-Some-Drill.ensures.value ∙ plan)
+
+pub returns-in-Ok-drill-clause-drill : goal.returns-in-Ok-drill-clause-drill
+returns-in-Ok-drill-clause-drill g c = λ size plan.
+    for_size (λ n. DrillEnding Ended n (stage g.R.Revisions g.K.Sink c.args.ports.now.revisions c.args.ports.now.out c.args.world.now) (stage g.R.Revisions g.K.Sink c.args.ports.now.revisions c.drill.new.out c.drill.new.world)
+    × IsByFirst c.drill.new.world × (record c.args.ports.now { out = c.drill.new.out } ≡ record c.args.ports.now { out = c.drill.new.out }))
+    c.in-Some-Drill.size size (ap Some (sym c.in-Some-Drill.field-0-is) ∙ c.in-Some-Drill.ensures.value ∙ plan) (c.in-Ok-drill.ensures.ok, c.in-Ok-drill.ensures.first, refl)
+
+pub returns-in-Ok-drill-clause-room : goal.returns-in-Ok-drill-clause-room
+returns-in-Ok-drill-clause-room g c = λ the plan.
+    for_plan (λ x. (c.drill.new.world.room ≡ room_of x) × HoldsWithin (room_of x) c.drill.new.world)
+    (Drill c.in-Some-Drill.size) the (ap Some (sym c.in-Some-Drill.field-0-is) ∙ c.in-Some-Drill.ensures.value ∙ plan) (c.in-Ok-drill.ensures.room, c.in-Ok-drill.ensures.held)
+
+pub returns-in-Ok-drill-clause-further : goal.returns-in-Ok-drill-clause-further
+returns-in-Ok-drill-clause-further g c = written_on g.S.Source g.R.Revisions g.K.Sink c.args.ports.now c.args.ports.now c.drill.new.out (none_gone g.S.Source g.R.Revisions g.K.Sink _) c.drill.ensures.written
+
+-- ---- a drill that stopped
+
+pub returns-in-Err-drill-clause-replay : goal.returns-in-Err-drill-clause-replay
+returns-in-Err-drill-clause-replay g c = λ choices plan. no_replay _ choices _ (ap Some (sym c.in-Some-Drill.field-0-is) ∙ c.in-Some-Drill.ensures.value ∙ plan)
+
+pub returns-in-Err-drill-clause-room : goal.returns-in-Err-drill-clause-room
+returns-in-Err-drill-clause-room g c = λ the plan.
+    for_plan (λ x. (c.drill.new.world.room ≡ room_of x) × HoldsWithin (room_of x) c.drill.new.world)
+    (Drill c.in-Some-Drill.size) the (ap Some (sym c.in-Some-Drill.field-0-is) ∙ c.in-Some-Drill.ensures.value ∙ plan) (c.drill.ensures.room, c.drill.ensures.held)
+
+pub returns-in-Err-drill-clause-further : goal.returns-in-Err-drill-clause-further
+returns-in-Err-drill-clause-further g c = written_on g.S.Source g.R.Revisions g.K.Sink c.args.ports.now c.args.ports.now c.drill.new.out (none_gone g.S.Source g.R.Revisions g.K.Sink _) c.drill.ensures.written

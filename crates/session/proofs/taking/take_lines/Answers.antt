@@ -3,18 +3,17 @@ use Rattle.std.proofs.Common.{refl, sym, ◌∙◌, arith}
 use Rattle.std.proofs.lemmas.Result.{err_from_is_err_and}
 use Rattle.session.specs.Moment.{Run, moment, run_of}
 use Rattle.session.proofs.Deliveries.{rest_open}
-use Rattle.session.proofs.Due.{gone-on}
+use Rattle.session.proofs.Ongoing.{delivered_on, none_gone, read_on}
 use Rattle.session.proofs.Progress.{delivery_stops, end_reached, fault_stops, line_stops, line_taken, nothing_begun, taken_on}
 use Rattle.session.proofs.Reading.{nothing_left}
 use Rattle.session.proofs.taking.take_lines.Goals as goal
 
 pub loop-line-init : goal.loop-line-init
 loop-line-init g c =
-    let run : Run = run_of (g.R.Revisions.contents c.args.revisions.now) c.args.plan.now in (
-      rw (c.new-lines.ensures, c.limit.ensures.value, c.requires.world, c.requires.first.0, c.requires.first.1) (nothing_begun run _ _ _ _),
-      record { known = refl; faults = omega arith; misses = omega arith; most = refl },
+    let run : Run = run_of (g.R.Revisions.contents c.args.ports.now.revisions) c.args.plan.now in (
+      rw (c.new-lines.ensures, c.max_bytes.ensures.value, c.requires.world, c.requires.first.0, c.requires.first.1) (nothing_begun run _ _ _ _),
+      none_gone g.S.Source g.R.Revisions g.K.Sink _,
       refl,
-      (refl, refl),
       c.requires.held,
     )
 
@@ -42,13 +41,10 @@ returns-in_err-deliver-clause-err g c =
     let line = rw c.in-Some.is at c.in_ok-number.ensures.line in
     let bytes = rw c.in-Some.is at c.in_ok-number.ensures.bytes in
     let delivered = rw c.as_slice.ensures.value at c.in_ok-delivery.ensures.ok in
-    let cuts = rw (c.loop-line.invariant.1.known, c.place-directory.ensures, c.loop-line.invariant.2 ∙ c.requires.room) at c.in_err-deliver.ensures.err in
+    let cuts = rw (c.loop-line.invariant.1.revisions.known, c.folder-folder.ensures, c.loop-line.invariant.2 ∙ c.requires.room) at c.in_err-deliver.ensures.err in
     rw (p.1, p.2) (delivery_stops _ _ _ _ _ c.loop-line.invariant.0 c.next.new.line.items c.next.new.self _ _
-    (moment g.S.Source g.R.Revisions g.K.Sink c.next.new.source c.deliver.new.revisions c.deliver.new.out c.deliver.new.world) c.in_ok-delivery.delivery _
+    (moment g.S.Source g.R.Revisions g.K.Sink (record { events = c.next.new.source; revisions = c.deliver.new.revisions; out = c.deliver.new.out }) c.deliver.new.world) c.in_ok-delivery.delivery _
     (record { first = line; total = c.in_ok-number.ensures.length; takes = bytes; goes = c.in_ok-number.ensures.goes_on; reads = c.next.ensures.reads }) delivered (omega (arith, c.asks-asked.ensures.number)) _ cuts)
-
-pub returns-in_err-deliver-clause-source : goal.returns-in_err-deliver-clause-source
-returns-in_err-deliver-clause-source g c = gone-on g.R.Revisions _ _ _ c.loop-line.invariant.1 c.in_err-deliver.ensures.source
 
 pub loop-line-preserved : goal.loop-line-preserved
 loop-line-preserved g c =
@@ -56,17 +52,16 @@ loop-line-preserved g c =
     let number = rw c.in-Some.is at c.in_ok-number.ensures.number in
     let bytes = rw c.in-Some.is at c.in_ok-number.ensures.bytes in
     let delivered = rw c.as_slice.ensures.value at c.in_ok-delivery.ensures.ok in
-    let takes = rw (c.loop-line.invariant.1.known, c.place-directory.ensures, c.loop-line.invariant.2 ∙ c.requires.room) at c.in_ok-deliver.ensures.ok in
+    let takes = rw (c.loop-line.invariant.1.revisions.known, c.folder-folder.ensures, c.loop-line.invariant.2 ∙ c.requires.room) at c.in_ok-deliver.ensures.ok in
     let one = c.asks-asked.ensures.at_most_one in
     let asked = c.asks-asked.ensures.number in (
       line_taken _ _ _ _ _ c.loop-line.invariant.0 c.next.new.line.items c.next.new.self _ _
-          (moment g.S.Source g.R.Revisions g.K.Sink c.next.new.source c.deliver.new.revisions c.deliver.new.out c.deliver.new.world) c.in_ok-delivery.delivery _
+          (moment g.S.Source g.R.Revisions g.K.Sink (record { events = c.next.new.source; revisions = c.deliver.new.revisions; out = c.deliver.new.out }) c.deliver.new.world) c.in_ok-delivery.delivery _
           (record { first = line; total = c.in_ok-number.ensures.length; takes = bytes; goes = c.in_ok-number.ensures.goes_on; reads = c.next.ensures.reads }) delivered (omega (arith, asked))
           c.in_ok-number.ensures.later (sym number.1 ∙ number.0) c.in_ok-number.ensures.ended (omega (arith, asked, one)) takes,
-      gone-on g.R.Revisions _ _ _ c.loop-line.invariant.1 c.in_ok-deliver.ensures.source,
+      delivered_on g.S.Source g.R.Revisions g.K.Sink _ c.loop-line.ports _ _ _ c.loop-line.invariant.1 c.next.ensures.later c.next.ensures.most c.deliver.ensures.source c.deliver.ensures.written,
       c.deliver.ensures.room ∙ c.loop-line.invariant.2,
-      (c.next.ensures.most ∙ c.loop-line.invariant.3.0, c.deliver.ensures.most ∙ c.loop-line.invariant.3.1),
-      (rw c.loop-line.invariant.2 at c.deliver.ensures.held) c.loop-line.invariant.4,
+      (rw c.loop-line.invariant.2 at c.deliver.ensures.held) c.loop-line.invariant.3,
     )
 
 pub returns-clause-ok : goal.returns-clause-ok
@@ -86,29 +81,17 @@ returns-in_err-delivery-clause-taken g c = taken_on _ _ _ _ _ c.loop-line.invari
 pub returns-in_err-deliver-clause-taken : goal.returns-in_err-deliver-clause-taken
 returns-in_err-deliver-clause-taken g c = taken_on _ _ _ _ _ c.loop-line.invariant.0 c.next.new.self _ _ _ c.next.ensures.reads
 
-pub returns-clause-most : goal.returns-clause-most
-returns-clause-most g c = (c.next.ensures.most ∙ c.loop-line.invariant.3.0, c.loop-line.invariant.3.1)
+pub returns-clause-further : goal.returns-clause-further
+returns-clause-further g c = read_on g.S.Source g.R.Revisions g.K.Sink _ c.loop-line.ports _ c.loop-line.invariant.1 c.next.ensures.later c.next.ensures.most
 
-pub returns-in_err-number-clause-most : goal.returns-in_err-number-clause-most
-returns-in_err-number-clause-most g c = (c.next.ensures.most ∙ c.loop-line.invariant.3.0, c.loop-line.invariant.3.1)
+pub returns-in_err-number-clause-further : goal.returns-in_err-number-clause-further
+returns-in_err-number-clause-further g c = read_on g.S.Source g.R.Revisions g.K.Sink _ c.loop-line.ports _ c.loop-line.invariant.1 c.next.ensures.later c.next.ensures.most
 
-pub returns-in_err-delivery-clause-most : goal.returns-in_err-delivery-clause-most
-returns-in_err-delivery-clause-most g c = (c.next.ensures.most ∙ c.loop-line.invariant.3.0, c.loop-line.invariant.3.1)
+pub returns-in_err-delivery-clause-further : goal.returns-in_err-delivery-clause-further
+returns-in_err-delivery-clause-further g c = read_on g.S.Source g.R.Revisions g.K.Sink _ c.loop-line.ports _ c.loop-line.invariant.1 c.next.ensures.later c.next.ensures.most
 
-pub returns-in_err-deliver-clause-most : goal.returns-in_err-deliver-clause-most
-returns-in_err-deliver-clause-most g c = (c.next.ensures.most ∙ c.loop-line.invariant.3.0, c.deliver.ensures.most ∙ c.loop-line.invariant.3.1)
+pub returns-in_err-deliver-clause-further : goal.returns-in_err-deliver-clause-further
+returns-in_err-deliver-clause-further g c = delivered_on g.S.Source g.R.Revisions g.K.Sink _ c.loop-line.ports _ _ _ c.loop-line.invariant.1 c.next.ensures.later c.next.ensures.most c.deliver.ensures.source c.deliver.ensures.written
 
 pub returns-in_err-deliver-clause-held : goal.returns-in_err-deliver-clause-held
-returns-in_err-deliver-clause-held g c = (rw c.loop-line.invariant.2 at c.deliver.ensures.held) c.loop-line.invariant.4
-
-pub returns-clause-later : goal.returns-clause-later
-returns-clause-later g c = (omega (arith, c.loop-line.invariant.0.earlier, c.next.ensures.later), c.loop-line.invariant.0.at_rest.later)
-
-pub returns-in_err-number-clause-later : goal.returns-in_err-number-clause-later
-returns-in_err-number-clause-later g c = (omega (arith, c.loop-line.invariant.0.earlier, c.next.ensures.later), c.loop-line.invariant.0.at_rest.later)
-
-pub returns-in_err-delivery-clause-later : goal.returns-in_err-delivery-clause-later
-returns-in_err-delivery-clause-later g c = (omega (arith, c.loop-line.invariant.0.earlier, c.next.ensures.later), c.loop-line.invariant.0.at_rest.later)
-
-pub returns-in_err-deliver-clause-later : goal.returns-in_err-deliver-clause-later
-returns-in_err-deliver-clause-later g c = (omega (arith, c.loop-line.invariant.0.earlier, c.next.ensures.later), omega (arith, c.loop-line.invariant.0.at_rest.later, c.deliver.ensures.later))
+returns-in_err-deliver-clause-held g c = (rw c.loop-line.invariant.2 at c.deliver.ensures.held) c.loop-line.invariant.3

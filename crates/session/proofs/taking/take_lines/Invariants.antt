@@ -1,19 +1,18 @@
 -- The lines so far were read, and the world has taken them.
 use Rattle.std.proofs.Common.{◌≡◌, ◌-◌}
 use Rattle.session.specs.Remapping.{HoldsWithin}
-use Rattle.session.specs.Counts.{HasGoneOn}
+use Rattle.session.specs.Counts.{HaveGoneOn}
 use Rattle.session.specs.Moment.{moment, run_of}
 use Rattle.session.proofs.Progress.{Progress}
 use Rattle.session.proofs.taking.take_lines.Given as goal
 
 abbrev pub invariant-loop-line : goal.invariant-loop-line
 invariant-loop-line g l =
-    Progress (run_of (g.R.Revisions.contents l.fn.revisions) l.plan)
-    (moment g.S.Source g.R.Revisions g.K.Sink l.fn.events l.fn.revisions l.fn.out l.fn.world)
-    (moment g.S.Source g.R.Revisions g.K.Sink l.events l.revisions l.out l.world) l.lines l.asked
-    × HasGoneOn g.R.Revisions l.fn.revisions l.revisions
+    Progress (run_of (g.R.Revisions.contents l.fn.ports.revisions) l.plan)
+    (moment g.S.Source g.R.Revisions g.K.Sink l.fn.ports l.fn.world)
+    (moment g.S.Source g.R.Revisions g.K.Sink l.ports l.world) l.lines l.asked
+    × HaveGoneOn g.S.Source g.R.Revisions g.K.Sink l.fn.ports l.ports
     × (l.world.room ≡ l.fn.world.room)
-    × ((g.S.Source.most_faults l.events ≡ g.S.Source.most_faults l.fn.events) × (g.K.Sink.most_faults l.out ≡ g.K.Sink.most_faults l.fn.out))
     × HoldsWithin l.fn.world.room l.world
 
 abbrev pub decreases-loop-line : goal.decreases-loop-line

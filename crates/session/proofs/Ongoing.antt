@@ -1,0 +1,48 @@
+-- Input, source and output go on, one after the other.
+use Rattle.std.proofs.Common.{◌≡◌, ◌∙◌, refl, ◌≤◌, arith}
+use Rattle.wq_io.specs.declared.source.Source.{Ghosts as SourceOf}
+use Rattle.wq_io.specs.declared.sink.Sink.{Ghosts as SinkOf}
+use Rattle.revisions.specs.declared.revisions.Revisions.{Ghosts as RevisionsOf}
+use Rattle.session.specs.declared.ports.Ports.{Ports}
+use Rattle.session.specs.Counts.{HasGoneOn, HasWrittenOn, HaveGoneOn}
+use Rattle.session.proofs.Due.{gone-on}
+
+module _ {S R K : Type 0} (input : SourceOf S) (source : RevisionsOf R) (sink : SinkOf K) where
+  -- nothing was asked yet
+  pub none_gone : (ports : Ports S R K) → HaveGoneOn input source sink ports ports
+  none_gone ports = record {
+    events = record { faults = omega arith; most = refl };
+    revisions = record { known = refl; faults = omega arith; misses = omega arith; most = refl };
+    out = record { faults = omega arith; most = refl };
+  }
+
+  -- the input is read
+  pub read_on : (old now : Ports S R K) (events : S) → HaveGoneOn input source sink old now → input.faults now.events ≤ input.faults events → input.most_faults events ≡ input.most_faults now.events →
+      HaveGoneOn input source sink old (record now { events = events })
+  read_on old now events so_far later most = record {
+    events = record { faults = omega (arith, so_far.events.faults, later); most = most ∙ so_far.events.most };
+    revisions = so_far.revisions;
+    out = so_far.out;
+  }
+
+  -- revisions are fetched
+  pub fetched_on : (old now : Ports S R K) (revisions : R) → HaveGoneOn input source sink old now → HasGoneOn source now.revisions revisions →
+      HaveGoneOn input source sink old (record now { revisions = revisions })
+  fetched_on old now revisions so_far more = record { events = so_far.events; revisions = gone-on source _ _ _ so_far.revisions more; out = so_far.out }
+
+  -- the output is written
+  pub written_on : (old now : Ports S R K) (out : K) → HaveGoneOn input source sink old now → HasWrittenOn sink now.out out → HaveGoneOn input source sink old (record now { out = out })
+  written_on old now out so_far more = record {
+    events = so_far.events;
+    revisions = so_far.revisions;
+    out = record { faults = omega (arith, so_far.out.faults, more.faults); most = more.most ∙ so_far.out.most };
+  }
+
+  -- a line is read and delivered
+  pub delivered_on : (old now : Ports S R K) (events : S) (revisions : R) (out : K) → HaveGoneOn input source sink old now → input.faults now.events ≤ input.faults events → input.most_faults events ≡ input.most_faults now.events →
+      HasGoneOn source now.revisions revisions → HasWrittenOn sink now.out out → HaveGoneOn input source sink old (record { events = events; revisions = revisions; out = out })
+  delivered_on old now events revisions out so_far later most fetched written = record {
+    events = record { faults = omega (arith, so_far.events.faults, later); most = most ∙ so_far.events.most };
+    revisions = gone-on source _ _ _ so_far.revisions fetched;
+    out = record { faults = omega (arith, so_far.out.faults, written.faults); most = written.most ∙ so_far.out.most };
+  }

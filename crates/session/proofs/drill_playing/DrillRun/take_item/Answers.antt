@@ -1,0 +1,122 @@
+-- The deliveries of the item are taken and counted, one after the other.
+use Rattle.std.proofs.Common.{◌≡◌, ◌∙◌, ◌+◌, ◌*◌, ◌++◌, [], ◌∷◌, suc, take, drop, sym, subst, append-nil, arith}
+use Rattle.transcript.specs.Printing.{output}
+use Rattle.drill.specs.Drill.{IsSize, deliveries_of, drill}
+use Rattle.drill_replay.specs.Playing.{IsPartOf}
+use Rattle.drill_replay.proofs.Drills.{part_in}
+use Rattle.drill_replay.proofs.Taking.{cut, few_more, one_more, whole}
+use Rattle.session.specs.DrillPlaying.{HasTakenFirst}
+use Rattle.session.proofs.Deliveries.{rest_open}
+use Rattle.session.proofs.DrillPlaying.{cut_off, first_of, halted_in, leaves_at_rest, leaves_halted, next_of, next_taken, part_at_rest, silent}
+use Rattle.session.proofs.drill_playing.DrillRun.take_item.Goals as goal
+
+pub returns-in_err-list-clause-part : goal.returns-in_err-list-clause-part
+returns-in_err-list-clause-part g c =
+    part_in c.args.self.now.size c.args.done (c.args.done + 1) c.args.world.now.replay (omega arith) (part_at_rest c.args.self.now (drill c.args.done) _ c.args.world.now c.requires.taken)
+
+pub returns-in_err-list-clause-left : goal.returns-in_err-list-clause-left
+returns-in_err-list-clause-left g c =
+    let first = first_of c.args.self.now.size c.args.done (omega (arith, c.requires.next)) in
+    leaves_at_rest c.args.self.now (drill c.args.done) first.0 _ c.args.world.now first.1 c.requires.taken
+
+pub loop-delivery-init : goal.loop-delivery-init
+loop-delivery-init g c = record {
+  size_is = λ i. c.args.self.now.size;
+  taken = subst (λ l. HasTakenFirst c.args.self.now l (output g.K.Sink c.args.out.now) c.args.world.now) (sym (append-nil (drill c.args.done))) c.requires.taken;
+  few = (omega (arith, c.requires.few.0), omega (arith, c.requires.few.1), omega (arith, c.requires.few.2));
+  silent = λ i. output g.K.Sink c.args.out.now;
+}
+
+pub deliver-requires : goal.deliver-requires
+deliver-requires g c = rest_open _ _ _ _ c.loop-delivery.invariant.taken.at_rest
+
+pub refused-requires : goal.refused-requires
+refused-requires g c =
+    let n = c.args.done in
+    let items = c.as_slice-delivery-items.result.now in
+    let i = c.loop-delivery.delivery-index in
+    let d = c.delivery-item.result in
+    let run = c.loop-delivery.self in
+    let are : items ≡ deliveries_of (n + 1) = c.as_slice-delivery-items.ensures ∙ c.in_ok-list.ensures in
+    let rest : drill (n + 1) ≡ (drill n ++ take i items) ++ d ∷ drop (suc i) items = cut n items i d are c.loop-delivery-test.true c.delivery-item.is in
+    let all = next_of run.size n _ (drop (suc i) items) d (omega (arith, c.loop-delivery.invariant.size_is, c.requires.next)) rest in
+    (cut_off run _ all.0 d all.1 [] _ c.loop-delivery.world c.loop-delivery.invariant.taken c.deliver.new.revisions _ c.deliver.new.world (subst (λ k. IsSize k) (sym c.loop-delivery.invariant.size_is) c.requires.size) _ c.in-Err.ensures.err).refused
+
+pub returns-in-Err-clause-part : goal.returns-in-Err-clause-part
+returns-in-Err-clause-part g c =
+    let n = c.args.done in
+    let items = c.as_slice-delivery-items.result.now in
+    let i = c.loop-delivery.delivery-index in
+    let d = c.delivery-item.result in
+    let run = c.loop-delivery.self in
+    let are : items ≡ deliveries_of (n + 1) = c.as_slice-delivery-items.ensures ∙ c.in_ok-list.ensures in
+    let rest : drill (n + 1) ≡ (drill n ++ take i items) ++ d ∷ drop (suc i) items = cut n items i d are c.loop-delivery-test.true c.delivery-item.is in
+    let all = next_of run.size n _ (drop (suc i) items) d (omega (arith, c.loop-delivery.invariant.size_is, c.requires.next)) rest in
+    let halted = cut_off run _ all.0 d all.1 [] _ c.loop-delivery.world c.loop-delivery.invariant.taken c.deliver.new.revisions _ c.deliver.new.world (subst (λ k. IsSize k) (sym c.loop-delivery.invariant.size_is) c.requires.size) _ c.in-Err.ensures.err in
+    subst (λ k. IsPartOf k (drill (n + 1)) c.deliver.new.world.replay) c.loop-delivery.invariant.size_is (halted_in run.size _ (drop (suc i) items) (drill (n + 1)) d _ c.deliver.new.world rest halted)
+
+pub returns-in-Err-clause-left : goal.returns-in-Err-clause-left
+returns-in-Err-clause-left g c =
+    let n = c.args.done in
+    let items = c.as_slice-delivery-items.result.now in
+    let i = c.loop-delivery.delivery-index in
+    let d = c.delivery-item.result in
+    let run = c.loop-delivery.self in
+    let are : items ≡ deliveries_of (n + 1) = c.as_slice-delivery-items.ensures ∙ c.in_ok-list.ensures in
+    let rest : drill (n + 1) ≡ (drill n ++ take i items) ++ d ∷ drop (suc i) items = cut n items i d are c.loop-delivery-test.true c.delivery-item.is in
+    let all = next_of run.size n _ (drop (suc i) items) d (omega (arith, c.loop-delivery.invariant.size_is, c.requires.next)) rest in
+    let halted = cut_off run _ all.0 d all.1 [] _ c.loop-delivery.world c.loop-delivery.invariant.taken c.deliver.new.revisions _ c.deliver.new.world (subst (λ k. IsSize k) (sym c.loop-delivery.invariant.size_is) c.requires.size) _ c.in-Err.ensures.err in
+    leaves_halted run.size _ d _ c.loop-delivery.world c.deliver.new.world halted c.loop-delivery.invariant.taken.room c.loop-delivery.invariant.taken.held c.deliver.ensures.room c.deliver.ensures.held
+
+pub returns-in-Err-clause-silent : goal.returns-in-Err-clause-silent
+returns-in-Err-clause-silent g c =
+    let n = c.args.done in
+    let items = c.as_slice-delivery-items.result.now in
+    let i = c.loop-delivery.delivery-index in
+    let d = c.delivery-item.result in
+    let run = c.loop-delivery.self in
+    let are : items ≡ deliveries_of (n + 1) = c.as_slice-delivery-items.ensures ∙ c.in_ok-list.ensures in
+    let rest : drill (n + 1) ≡ (drill n ++ take i items) ++ d ∷ drop (suc i) items = cut n items i d are c.loop-delivery-test.true c.delivery-item.is in
+    let all = next_of run.size n _ (drop (suc i) items) d (omega (arith, c.loop-delivery.invariant.size_is, c.requires.next)) rest in
+    c.deliver.ensures.silent (silent run _ all.0 d all.1) ∙ c.loop-delivery.invariant.silent
+
+pub loop-delivery-preserved : goal.loop-delivery-preserved
+loop-delivery-preserved g c =
+    let n = c.args.done in
+    let items = c.as_slice-delivery-items.result.now in
+    let i = c.loop-delivery.delivery-index in
+    let d = c.delivery-item.result in
+    let run = c.loop-delivery.self in
+    let are : items ≡ deliveries_of (n + 1) = c.as_slice-delivery-items.ensures ∙ c.in_ok-list.ensures in
+    let rest : drill (n + 1) ≡ (drill n ++ take i items) ++ d ∷ drop (suc i) items = cut n items i d are c.loop-delivery-test.true c.delivery-item.is in
+    let all = next_of run.size n _ (drop (suc i) items) d (omega (arith, c.loop-delivery.invariant.size_is, c.requires.next)) rest in
+    let call = c.in-Ok.ensures in
+    let before = c.loop-delivery.invariant in
+    record {
+      size_is = before.size_is;
+      taken = subst (λ l. HasTakenFirst (record run { pages = c.deliver.new.revisions; counts = c.add.new.self }) l (output g.K.Sink c.deliver.new.out) c.deliver.new.world) (one_more n items i d c.loop-delivery-test.true c.delivery-item.is)
+          (next_taken run _ all.0 d all.1 [] _ c.loop-delivery.world before.taken c.deliver.new.revisions c.add.new.self c.in-Ok.answer (output g.K.Sink c.deliver.new.out) c.deliver.new.world call.source.known call.ok call.answer c.add.ensures call.room call.held);
+      few = few_more c.in-Ok.answer c.loop-delivery.self.counts c.add.new.self (6 * n + i) (6 * n + (i + 1)) c.add.ensures (omega arith) before.few;
+      silent = c.deliver.ensures.silent (silent run _ all.0 d all.1) ∙ before.silent;
+    }
+
+pub returns-clause-taken : goal.returns-clause-taken
+returns-clause-taken g c =
+    let are : c.as_slice-delivery-items.result.now ≡ deliveries_of (c.args.done + 1) = c.as_slice-delivery-items.ensures ∙ c.in_ok-list.ensures in
+    subst (λ l. HasTakenFirst c.loop-delivery.self l (output g.K.Sink c.loop-delivery.out) c.loop-delivery.world)
+    (whole c.args.done c.as_slice-delivery-items.result.now c.loop-delivery.delivery-index are c.loop-delivery-test.false) c.loop-delivery.invariant.taken
+
+pub returns-clause-part : goal.returns-clause-part
+returns-clause-part g c =
+    let are : c.as_slice-delivery-items.result.now ≡ deliveries_of (c.args.done + 1) = c.as_slice-delivery-items.ensures ∙ c.in_ok-list.ensures in
+    let taken = subst (λ l. HasTakenFirst c.loop-delivery.self l (output g.K.Sink c.loop-delivery.out) c.loop-delivery.world)
+    (whole c.args.done c.as_slice-delivery-items.result.now c.loop-delivery.delivery-index are c.loop-delivery-test.false) c.loop-delivery.invariant.taken in
+    subst (λ k. IsPartOf k (drill (c.args.done + 1)) c.loop-delivery.world.replay) c.loop-delivery.invariant.size_is (part_at_rest c.loop-delivery.self _ _ c.loop-delivery.world taken)
+
+pub returns-clause-left : goal.returns-clause-left
+returns-clause-left g c =
+    let are : c.as_slice-delivery-items.result.now ≡ deliveries_of (c.args.done + 1) = c.as_slice-delivery-items.ensures ∙ c.in_ok-list.ensures in
+    let taken = subst (λ l. HasTakenFirst c.loop-delivery.self l (output g.K.Sink c.loop-delivery.out) c.loop-delivery.world)
+    (whole c.args.done c.as_slice-delivery-items.result.now c.loop-delivery.delivery-index are c.loop-delivery-test.false) c.loop-delivery.invariant.taken in
+    let first = first_of c.loop-delivery.self.size (c.args.done + 1) (omega (arith, c.loop-delivery.invariant.size_is, c.requires.next)) in
+    leaves_at_rest c.loop-delivery.self _ first.0 _ c.loop-delivery.world first.1 taken

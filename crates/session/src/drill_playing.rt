@@ -1,0 +1,122 @@
+// The deliveries of a drill are taken as those of a line are, and counted.
+
+ghost use Rattle.std.specs.Prelude.{◌≡◌, ◌+◌, ◌*◌, ◌<◌, IfOk, OnErr, OnOk};
+ghost use Rattle.replay_model.specs.ReplayState.{nothing_delivered};
+ghost use Rattle.transcript.specs.Printing.{Output, output};
+ghost use Rattle.drill.specs.Drill.{IsSize, drill};
+ghost use Rattle.drill_replay.specs.Playing.{Counted, HasBegun, HasFew, IsByFirst, IsPartOf, StandsAtEnd};
+ghost use Rattle.drill_replay.specs.Summary.{drilled};
+ghost use Rattle.session.specs.declared.stop.Stop.TheVariants.{OutOfMemory as Refused};
+ghost use Rattle.session.specs.DrillPlaying.{HasTakenFirst, LeavesDrill};
+
+use crate::delivering::{Context, deliver, take_end};
+use crate::stop::{Stop, Unapplied};
+use drill::{DrillRevisions, deliveries};
+use drill_replay::DrillCounts;
+use rdf_term::OutOfMemory;
+use std::alloc::Global;
+use world::World;
+use wq_io::Sink;
+
+// The folder of a drill's pages, which are the same in every folder.
+const FOLDER: &str = ".";
+
+// A drill that is under way: its size, its pages, and what was counted of it.
+#[derive(Drop)]
+struct DrillRun {
+    alloc: Global,
+    size: u32,
+    pages: DrillRevisions,
+    counts: DrillCounts,
+}
+
+// Takes all deliveries of the drill of this size and the end, and counts. The world has room for 20,000,000 terms.
+pub fn play<K: Sink>(
+    alloc: Global,
+    size: u32,
+    out: &mut K,
+    world: &mut World,
+) -> Result<DrillCounts, OutOfMemory>
+    requires size { IsSize size }
+    requires world { world.old.replay ≡ nothing_delivered }
+    requires first { IsByFirst world.old }
+    requires room { world.old.room ≡ 20000000 }
+    ensures counts { IfOk result (λ counts. Counted (drill size) counts) }
+    ensures ok { OnOk result (world.new.replay ≡ drilled size) }
+    ensures begun { HasBegun size world.new.replay }
+    ensures left { LeavesDrill world.new }
+    ensures silent { output K.Sink out.new ≡ output K.Sink out.old }
+{
+    let pages = DrillRevisions::new(size);
+    let counts = DrillCounts::new();
+    let mut run = DrillRun {
+        alloc,
+        size,
+        pages,
+        counts,
+    };
+    for done in 0..size {
+        run.take_item(done, out, world)?;
+    }
+    run.take_end(world)?;
+    Ok(run.counts)
+}
+
+impl DrillRun {
+    // Takes the deliveries of the item after so many.
+    fn take_item<K: Sink>(
+        &mut self,
+        done: u32,
+        out: &mut K,
+        world: &mut World,
+    ) -> Result<(), OutOfMemory>
+        requires size { IsSize self.old.size }
+        requires next { done < self.old.size }
+        requires taken { HasTakenFirst self.old (drill done) (output K.Sink out.old) world.old }
+        requires few { HasFew self.old.counts (6 * done) }
+        ensures taken { OnOk result (HasTakenFirst self.new (drill (done + 1)) (output K.Sink out.new) world.new) }
+        ensures few { OnOk result (HasFew self.new.counts (6 * (done + 1))) }
+        ensures part { IsPartOf self.old.size (drill (done + 1)) world.new.replay }
+        ensures left { LeavesDrill world.new }
+        ensures silent { output K.Sink out.new ≡ output K.Sink out.old }
+        ensures size { self.new.size ≡ self.old.size }
+    {
+        let context = Context {
+            alloc: self.alloc,
+            folder: FOLDER,
+            asked: 0,
+        };
+        let list = deliveries(self.alloc, done + 1)?;
+        for delivery in list.as_slice() {
+            match deliver(&context, delivery, &mut self.pages, out, world) {
+                Ok(answer) => self.counts.add(answer),
+                Err(stop) => return Err(refused(stop)),
+            }
+        }
+        Ok(())
+    }
+
+    // Takes the end of the deliveries.
+    fn take_end(&mut self, world: &mut World) -> Result<(), OutOfMemory>
+        requires size { IsSize self.old.size }
+        requires taken { (out : Output) × HasTakenFirst self.old (drill self.old.size) out world.old }
+        ensures ok { OnOk result (world.new.replay ≡ drilled self.old.size) }
+        ensures err { OnErr result (StandsAtEnd self.old.size world.new.replay) }
+        ensures left { LeavesDrill world.new }
+        ensures counts { self.new.counts ≡ self.old.counts }
+    {
+        match take_end(FOLDER, &mut self.pages, world) {
+            Ok(()) => Ok(()),
+            Err(Unapplied::OutOfMemory) => Err(OutOfMemory),
+            Err(Unapplied::StoreFull) => unreachable!(),
+        }
+    }
+}
+
+// A delivery of a drill stops for want of memory alone.
+fn refused(stop: Stop) -> OutOfMemory
+    requires { stop ≡ Refused }
+{
+    let _ = stop;
+    OutOfMemory
+}

@@ -1,0 +1,12 @@
+// What a run reads and writes.
+
+/// What a run reads and writes.
+#[derive(Debug, Drop)]
+pub struct Ports<S, R, K> {
+    /// The input, whose lines are the deliveries.
+    pub events: S,
+    /// The revisions of pages.
+    pub revisions: R,
+    /// Where answers and sections go.
+    pub out: K,
+}
