@@ -1,6 +1,6 @@
 // A replica of a producer's triples.
 
-ghost use Rattle.std.specs.Prelude.{◌≡◌, ◌↔◌, ◌+◌, ◌<◌, ◌≤◌, ◌++◌, ◌∷◌, [], ℕ, List, cond, false, Err, IfOk, IsSome, OnErr, OnOk, is_some, Some};
+ghost use Rattle.std.specs.Prelude.{◌≡◌, ◌↔◌, ◌+◌, ◌<◌, ◌≤◌, ◌++◌, ◌∷◌, [], ℕ, List, cond, false, Err, IfOk, IsSome, OnErr, OnOk, is_some, Some, ◌^◌};
 ghost use Rattle.std.specs.BTreeMap.{is_at};
 ghost use Rattle.std.specs.Ordering.{nat_cmp};
 ghost use Rattle.replica.specs.declared.record.PatchRecord.{PatchRecord as TheRecord};
@@ -15,7 +15,7 @@ use std::alloc::Global;
 use std::collections::BTreeMap;
 use std::hash::RandomState;
 use std::marker::Model;
-use triple_store::{Store, StoreFault};
+use triple_store::{Rows, Store, StoreFault};
 
 /// Whether a record is new.
 #[derive(Clone, Copy, Debug, PartialEq, Eq)]
@@ -119,6 +119,7 @@ impl Replica {
         ensures full { result ≡ Err StoreFault.Full → IsFull self.old }
         ensures within { OnOk result (HasRoom self.old) }
         ensures limit { self.new.limit ≡ self.old.limit }
+        ensures small { self.new.applied < 2 ^ 64 }
         ensures err { OnErr result (self.new ≡ self.old) }
     {
         if self.applied == u64::MAX {
@@ -148,5 +149,12 @@ impl Replica {
         ensures { IfOk result (λ set. set ≡ self.now.triples) }
     {
         self.store.all()
+    }
+
+    /// The triples as slices of their texts, without a copy of these.
+    pub fn rows(&self) -> Result<Rows<'_>, OutOfMemory>
+        ensures { IfOk result (λ rows. rows ≡ self.now.triples) }
+    {
+        self.store.rows()
     }
 }
