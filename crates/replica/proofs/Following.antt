@@ -1,14 +1,12 @@
 -- What follows where a record is received, and where one is applied.
-use Rattle.std.proofs.Common.{◌≡◌, ℕ, zero, suc, ◌+◌, ◌^◌, ◌<◌, ◌≤◌, ◌==◌, Bool, true, false, cond, ◌||◌, nat_le, is_some, is_eq, List, [], ◌∷◌, ◌++◌, Option, None, Some, IsSome, IfSome, MatchOption, refl, sym, ◌∙◌, ap, subst, arith, ⊎_elim}
+use Rattle.std.proofs.Common.{◌≡◌, ℕ, zero, suc, ◌+◌, ◌^◌, ◌<◌, ◌≤◌, ◌==◌, Bool, true, false, cond, ◌||◌, nat_le, is_some, is_eq, List, [], ◌∷◌, ◌++◌, Option, None, Some, IsSome, MatchOption, refl, sym, ◌∙◌, ap, subst, arith}
 use Rattle.std.specs.Ordering.{nat_cmp}
 use Rattle.std.specs.BTreeMap.{is_at}
-use Rattle.std.proofs.lemmas.Bool.{cases_lt}
 use Rattle.std.proofs.lemmas.Bool.Decides.{nat_tests}
 use Rattle.rising.proofs.Bools.{or_false_left, or_false_right}
-use Rattle.rdf_term.specs.declared.triple.Triple.{Triple}
 use Rattle.replica.specs.declared.record.PatchRecord.{PatchRecord}
 use Rattle.replica.specs.Record.{IsSound}
-use Rattle.replica.specs.Replica.{Follows, HasRoom, IsFull, IsWaiting, ReplicaState, after, is_known, numbered, patched_if, room_with, waiting_at}
+use Rattle.replica.specs.Replica.{Follows, IsFull, IsWaiting, ReplicaState, after, is_known, numbered, patched_if, room_with, waiting_at}
 
 -- ---- the first record with a number
 
@@ -18,9 +16,6 @@ same_number n = grind (arith, nat_tests)
 equal_numbers : (m n : ℕ) → (m == n) ≡ true → m ≡ n
 equal_numbers m n h = grind (arith, nat_tests)
 
-other_numbers : (m n : ℕ) → n < m → (m == n) ≡ false
-other_numbers m n h = grind (arith, nat_tests)
-
 smaller_numbers : (m n : ℕ) → m < n → (m == n) ≡ false
 smaller_numbers m n h = grind (arith, nat_tests)
 
@@ -29,9 +24,6 @@ at_same m k h = grind (arith, nat_tests)
 
 at_other : (m k : ℕ) → is_eq (nat_cmp m k) ≡ false → (k == m) ≡ false
 at_other m k h = grind (arith, nat_tests)
-
-not_at : (m k : ℕ) → m < k → is_eq (nat_cmp m k) ≡ false
-not_at m k h = grind (arith, nat_tests)
 
 apart_from : (m k : ℕ) → is_eq (nat_cmp m k) ≡ false → m ≤ k → m < k
 apart_from m k h low = grind (arith, nat_tests)
@@ -149,29 +141,6 @@ waiting_with applied item old new high small sound kept before n it is = by (is_
 
 -- ---- a record is applied
 
--- the next one, where it waits
-pub follows_on : (items : List PatchRecord) (old : ReplicaState) (triples : List Triple) (entries : List (ℕ × PatchRecord)) (limit : ℕ) →
-    triples ≡ patched_if old.triples (waiting_at old.waiting (old.applied + 1)) → is_some (waiting_at old.waiting (old.applied + 1)) ≡ true →
-    ((q : ℕ) → waiting_at entries q ≡ cond (is_at (nat_cmp (old.applied + 1)) q) None (waiting_at old.waiting q)) →
-    Follows items old → Follows items (record { triples = triples; applied = old.applied + 1; waiting = entries; limit = limit })
-follows_on items old triples entries limit is there left h = record {
-  triples =
-      is ∙ ap (λ ts. patched_if ts (waiting_at old.waiting (old.applied + 1))) h.triples
-      ∙ ap (patched_if (after items old.applied)) (h.waits (old.applied + 1) (omega arith))
-      ∙ ap (λ k. patched_if (after items old.applied) (numbered k items)) next ∙ ap (after items) (sym next);
-  received = λ k low high. ⊎_elim
-      (λ more. ap is_some (sym (h.waits k more)) ∙ ap (λ j. is_some (waiting_at old.waiting j)) (last k more high) ∙ there)
-      (λ less. h.received k low less)
-      (cases_lt old.applied k);
-  waits = λ k high. left k ∙ ap (λ b. cond b None (waiting_at old.waiting k)) (not_at (old.applied + 1) k high) ∙ h.waits k (omega arith);
-}
-  where
-    next : old.applied + 1 ≡ suc old.applied
-    next = omega arith
-
-    last : (k : ℕ) → old.applied < k → k ≤ old.applied + 1 → k ≡ old.applied + 1
-    last k more high = omega arith
-
 -- what waits then
 pub waiting_without : (applied : ℕ) (old new : List (ℕ × PatchRecord)) →
     ((q : ℕ) → waiting_at new q ≡ cond (is_at (nat_cmp (applied + 1)) q) None (waiting_at old q)) →
@@ -195,10 +164,6 @@ full_is state full = by (waiting_at state.waiting (state.applied + 1)) refl full
     by : (o : Option PatchRecord) → waiting_at state.waiting (state.applied + 1) ≡ o → MatchOption o ⊥ (λ item. state.limit < room_with state.triples item.adds) → IsFull state
     by None is h = absurd h
     by (Some item) is h = record { item = item; waits = is; over = h }
-
--- or there is
-pub has_room : (state : ReplicaState) → IfSome (waiting_at state.waiting (state.applied + 1)) (λ item. room_with state.triples item.adds ≤ state.limit) → HasRoom state
-has_room state room item is = subst (λ o. IfSome o (λ it. room_with state.triples it.adds ≤ state.limit)) is room
 
 -- no record has a number past the last of 64 bits
 pub none_past : (items : List PatchRecord) (state : ReplicaState) (n : ℕ) → 2 ^ 64 ≤ n → state.applied < n → ((k : ℕ) (it : PatchRecord) → waiting_at state.waiting k ≡ Some it → IsWaiting state.applied k it) →
