@@ -127,7 +127,7 @@ module _ {K : Type 0} where
   AreFilled-front [] ys h = tt
   AreFilled-front (x ∷ xs) ys h = (h.0, AreFilled-front xs ys h.1)
 
-  AreFilled-back : (xs ys : List (List K)) → AreFilled (xs ++ ys) → AreFilled ys
+  pub AreFilled-back : (xs ys : List (List K)) → AreFilled (xs ++ ys) → AreFilled ys
   AreFilled-back [] ys h = h
   AreFilled-back (x ∷ xs) ys h = AreFilled-back xs ys h.1
 

@@ -8,7 +8,7 @@ use Rattle.rising.proofs.Rising.{turned}
 use Rattle.block_index.specs.Blocks.{keys_of, AreFilled}
 use Rattle.block_index.specs.Groups.{AreSized, index_of}
 use Rattle.block_index.specs.Search.{first_at, keys_before, keys_from, Below, Begins, IsAfterBlock, IsBeforeBlock, Stands}
-use Rattle.block_index.proofs.Grouped.{blocks_parted, take_blocks, drop_blocks, block_at, index_within, filled_group}
+use Rattle.block_index.proofs.Grouped.{AreFilled-back, there, blocks_parted, take_blocks, drop_blocks, block_at, index_within, filled_group}
 use Rattle.block_index.proofs.Parts.{keys_of-append, AreFilled-drop, blocks_few, filled_at}
 use Rattle.block_index.proofs.Standing.{tail_rising, below_less, Below-append, above_blocks, found_at, before_all}
 
@@ -162,20 +162,13 @@ module _ {K : Type 0} {R : K → K → Ordering} (o : IsTotalOrder R) where
         begins = subst (Begins R k found) (sym (from_is gs g b at l m)) (begins_more R k found (keys_from one b at) (keys_of (keys_of (drop (suc g) gs))) s.begins (beyond rising));
       }
     where
-      later : 0 < length (keys_of (drop (suc g) gs)) → suc g < length gs
-      later h = inner (drop (suc g) gs) (length-drop (suc g) gs) h
-        where
-          inner : (hs : List (List (List K))) → length hs ≡ length gs - suc g → 0 < length (keys_of hs) → suc g < length gs
-          inner [] n h = let none : 0 < length {A = List K} [] = h in absurd (omega arith)
-          inner (x ∷ hs) n h = omega arith
-
       beyond : IsRising R (keys_of (keys_of gs)) → Above R k (keys_of (keys_of (drop (suc g) gs)))
       beyond rising =
           above_blocks o k (keys_of (drop (suc g) gs))
           (filled_drop (suc g) gs filled)
           (tail_rising o (keys_of (get_or gs g [])) _ (tail_rising o (keys_of (keys_of (take g gs))) _ (subst (IsRising R) (keys_parted gs g l) rising)))
           (λ h.
-          let n = later h in
+          let n = there gs (suc g) h in
           let same : next ≡ suc g = omega arith in
           ap (R k) (first_of_all (drop (suc g) gs) (AreFilled-drop (suc g) gs some) (filled_drop (suc g) gs filled) (omega (arith, length-drop (suc g) gs)) k ∙ first_from gs (suc g) n k)
           ∙ ap (λ j. R k (first_at (map keys_of gs) j k)) (sym same)
@@ -184,11 +177,7 @@ module _ {K : Type 0} {R : K → K → Ordering} (o : IsTotalOrder R) where
           filled_drop : (n : ℕ) (hs : List (List (List K))) → AreFilled (keys_of hs) → AreFilled (keys_of (drop n hs))
           filled_drop zero hs h = h
           filled_drop (suc n) [] h = tt
-          filled_drop (suc n) (x ∷ hs) h = filled_drop n hs (back x (keys_of hs) h)
-            where
-              back : (xs ys : List (List K)) → AreFilled (xs ++ ys) → AreFilled ys
-              back [] ys h = h
-              back (x ∷ xs) ys h = back xs ys h.1
+          filled_drop (suc n) (x ∷ hs) h = filled_drop n hs (AreFilled-back x (keys_of hs) h)
 
   -- a group whose first key ties with k
   pub at_group : (k : K) (gs : List (List (List K))) (g : ℕ) → AreFilled {K = List K} gs → AreFilled (keys_of gs) → IsRising R (keys_of (keys_of gs)) → g < length (map keys_of gs) → ((d : K) → R k (first_at (map keys_of gs) g d) ≡ Equal) → Stands R k (keys_of gs) (index_of gs g 0) 0 true
@@ -206,14 +195,10 @@ module _ {K : Type 0} {R : K → K → Ordering} (o : IsTotalOrder R) where
   before_groups k gs next some filled rising none before =
       before_all o k (keys_of gs) filled rising
       (λ h.
-      let n = there gs h in
+      let n = there gs 0 h in
       ap (R k) (first_of_all gs some filled n k)
       ∙ ap (λ j. R k (first_at (map keys_of gs) j k)) (sym none)
       ∙ before k (omega (arith, long_map gs)))
-    where
-      there : (hs : List (List (List K))) → 0 < length (keys_of hs) → 0 < length hs
-      there [] h = let none : 0 < length {A = List K} [] = h in absurd (omega arith)
-      there (x ∷ hs) h = omega arith
 
 -- a position in equal groups
 pub stands_same : {K : Type 0} (R : K → K → Ordering) (k : K) (gs hs : List (List (List K))) (g b at : ℕ) (found is : Bool) → gs ≡ hs → found ≡ is → Stands R k (keys_of gs) (index_of gs g b) at found → Stands R k (keys_of hs) (index_of hs g b) at is
