@@ -11,7 +11,11 @@ LONGEST_LINE, GREATEST_REVISION, GREATEST_NUMBER = 65_536, 2**64 - 1, 2**32 - 1
 FORMS = ["kind", "watermark", "ask", "mapping"]
 KINDS = ["edit", "delete", "undelete", "reconcile"]
 # What other programs and the wiki call the same thing.
-ALIASES = {"rev": ["revision", "rev_id", "revid", "lastrevid"], "entity": ["id", "title", "page_title", "item"], "time": ["timestamp", "dt", "date", "modified"]}
+ALIASES = {
+    "rev": ["revision", "rev_id", "revid", "lastrevid"],
+    "entity": ["id", "title", "page_title", "item"],
+    "time": ["timestamp", "dt", "date", "modified"],
+}
 KIND_ALIASES = {"create": "edit", "new": "edit", "update": "edit", "remove": "delete", "restore": "undelete", "reconciliation": "reconcile"}
 TIME = re.compile(r"([0-9]{4})-([0-9]{2})-([0-9]{2})T([0-9]{2}):([0-9]{2}):([0-9]{2})(?:\.[0-9]{1,6})?Z")
 IN_BRACKETS = r'(?:[^\x00-\x20<>"{}|^`\\]|\\u[0-9a-fA-F]{4}|\\U[0-9a-fA-F]{8})*'

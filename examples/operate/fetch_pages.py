@@ -23,25 +23,24 @@ from progress import Progress
 API_CONTENT = {"prop": "revisions", "rvprop": "content", "rvslots": "main"}
 
 
-def wanted(files):
-    """The revisions whose pages a run may ask for, each with its entity."""
-    revisions = {}
-    for file in files:
+def wanted_of(name):
+    """The revisions whose pages the events of a file need, each with its entity."""
+    with sys.stdin.buffer if name == "-" else open(name, "rb") as file:
         for number, line in enumerate(lines_of(file), 1):
             if refusal := refusal_of(line):
-                print(f"fetch_pages.py: {file.name}: line {number}: {refusal}", file=sys.stderr)
+                print(f"fetch_pages.py: {name}: line {number}: {refusal}", file=sys.stderr)
                 continue
             event = json.loads(line)
             if event.get("kind") in ("edit", "undelete") or (event.get("kind") == "reconcile" and event["mode"] == "kept"):
-                revisions.setdefault(event["rev"], event["entity"])
-    return revisions
+                yield event["rev"], event["entity"]
 
 
-def is_page_of(body, entity):
-    """Whether the bytes are a page of the entity, by the wiki's wrapping or without it."""
+def is_page_of(body, entity, revision):
+    """Whether the bytes are a page of the entity at the revision, in the wiki's wrapping or without it."""
     try:
         value = json.loads(body)
-        return entity in value["entities"] if "entities" in value else entity in (value.get("id"), value.get("entity"))
+        page = value["entities"].get(entity, {}) if "entities" in value else value
+        return entity in (page.get("id"), page.get("entity")) and page.get("lastrevid", revision) == revision
     except (ValueError, TypeError, AttributeError):
         return False
 
@@ -49,14 +48,14 @@ def is_page_of(body, entity):
 def fetch(revision, entity, arguments):
     """The bytes of a revision's page."""
     body = wiki.get(f"{arguments.site}/wiki/Special:EntityData/{entity}.json?revision={revision}", arguments)
-    if is_page_of(body, entity):
+    if is_page_of(body, entity, revision):
         return body
     try:
         slot = wiki.ask(arguments, revids=revision, **API_CONTENT)["pages"][0]["revisions"][0]["slots"]["main"]
         body = slot["content"].encode()
     except (KeyError, IndexError):
         raise wiki.Unanswered("another page, and the revision's text isn't public") from None
-    if not is_page_of(body, entity):
+    if not is_page_of(body, entity, revision):
         raise wiki.Unanswered("another page")
     return body
 
@@ -107,7 +106,7 @@ def read_arguments():
     wiki.add_arguments(parser)
     parser.add_argument("--into", required=True, metavar="FOLDER", help="the folder of the pages, as --from of wdq names it")
     parser.add_argument("--at-once", type=int, default=4, metavar="N", help="how many requests at a time; without it, 4")
-    parser.add_argument("events", nargs="+", type=argparse.FileType("rb"), metavar="EVENTS", help="event files; - is standard input")
+    parser.add_argument("events", nargs="+", metavar="EVENTS", help="event files; - is standard input")
     return parser.parse_args()
 
 
@@ -115,12 +114,13 @@ def main():
     arguments = read_arguments()
     try:
         os.makedirs(arguments.into, exist_ok=True)
-        counts = take_all(wanted(arguments.events), arguments)
+        counts = take_all(dict(wanted for name in arguments.events for wanted in wanted_of(name)), arguments)
     except OSError as error:
         print(f"fetch_pages.py: {error}", file=sys.stderr)
         return 2
     except KeyboardInterrupt:
-        return 130
+        # At once, without waiting for the pauses of requests that are under way.
+        os._exit(130)
     print("fetch_pages.py: " + (", ".join(f"{counts[name]} {name}" for name in sorted(counts)) or "no revision is needed"), file=sys.stderr)
     return 0 if set(counts) <= {"fetched", "there already"} else 1
 

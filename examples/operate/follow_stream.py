@@ -130,7 +130,7 @@ class Batches:
         self.place = self.folder / "place"
         kept = json.loads(self.place.read_text()) if self.place.exists() else {}
         self.last_id, self.seen, self.number = kept.get("last_id"), kept.get("seen", ""), kept.get("batch", 0)
-        self.number = max([self.number, *(int(path.stem) for path in self.folder.glob("[0-9]*.jsonl"))])
+        self.number = max([self.number, *(int(path.stem) for path in self.folder.glob("*.jsonl") if path.stem.isdecimal())])
         self.delay = datetime.timedelta(seconds=arguments.delay)
         self.lines = []
 

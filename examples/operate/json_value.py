@@ -75,7 +75,7 @@ def explain_syntax(text, error):
     if start.endswith(","):
         return Refusal("NotJson", "a comma behind the value", "an event file is no JSON list: one object a line without commas")
     if start in ("[", "]", "{", "}"):
-        return Refusal("NotJson", f"only a bracket, {start}", "write each object on one line: jq -c .[] for a list, jq -c . for objects over several lines")
+        return Refusal("NotJson", f"only a bracket, {start}", "write each object on one line, by jq -c . or, of a list, jq -c .[]")
     if error.msg == "Extra data":
         return Refusal("NotJson", f"more than one value (column {error.pos + 1})", "write one object a line: jq -c .")
     return Refusal("NotJson", f"{error.msg[0].lower()}{error.msg[1:]} (column {error.pos + 1})", "write it as JSON, as jq -c does")
@@ -88,7 +88,7 @@ def read_json(line):
         text = line.decode()
         value = json.loads(text, parse_int=read_number, parse_float=read_number, parse_constant=refuse_constant)
     except UnicodeDecodeError as error:
-        raise Refusal("NotJson", f"byte {error.start + 1} isn't UTF-8", "turn the file into UTF-8: iconv -f LATIN1 -t UTF-8, or whatever it is in") from None
+        raise Refusal("NotJson", f"byte {error.start + 1} isn't UTF-8", "turn the file into UTF-8, as iconv -f LATIN1 -t UTF-8 does") from None
     except json.JSONDecodeError as error:
         raise explain_syntax(text, error) from None
     except RecursionError:

@@ -21,6 +21,7 @@ import os
 import pathlib
 import re
 import sys
+import zlib
 
 from event_lines import refusal_of
 from progress import Progress
@@ -117,7 +118,7 @@ def main():
         os.makedirs(arguments.into, exist_ok=True)
         with open_dump(arguments.dump) as lines:
             counts = load(lines, arguments, sys.stdout)
-    except (OSError, EOFError) as error:
+    except (OSError, EOFError, zlib.error) as error:
         print(f"load_dump.py: {arguments.dump}: {error}", file=sys.stderr)
         return 1
     print("load_dump.py: " + (", ".join(f"{kind} {counts[kind]}" for kind in sorted(counts)) or "no entity"), file=sys.stderr)

@@ -75,7 +75,9 @@ told "follow_stream.py is killed after $first batches and goes on: $(tail -1 "$w
 
 jq -R -c -f ../feed/events.jq < "$work/wiki/stream.txt" | sort -u > "$work/changes.jsonl"
 cat "$work"/batches/0*.jsonl | grep '"kind"' | sort -u | cmp -s - "$work/changes.jsonl"
-told "its batches have each of the stream's $(wc -l < "$work/changes.jsonl") events, over $(grep -c 'connects again' "$work/said.txt") broken connections" $?
+taken=$?
+breaks=$(grep -c 'connects again' "$work/said.txt")
+told "its batches have each of the stream's $(wc -l < "$work/changes.jsonl") events, over $breaks broken connections" $taken
 
 # --- Pages, a replay, and what is in doubt ---
 
@@ -88,12 +90,14 @@ told "wdq refuses no line of it" $?
 told "fetch_pages.py fetches what there is: $(tail -1 "$work/said.txt")" $?
 
 "$wdq" replay --from "$work/pages" --state --side < "$work/events.jsonl" > "$work/first.txt"
+last=$(ls "$work/batches" | grep '^[0-9]*\.jsonl$' | tail -1)
+now=$work/batches/${last%.jsonl}-now.jsonl
 in_doubt=$(sh ../feed/doubtful.sh < "$work/first.txt" | wc -l)
-[ "$in_doubt" -gt 0 ] && ./reconcile.py "$@" --site "$site" "$work/first.txt" > "$work/now.jsonl" 2> "$work/said.txt" &&
-  [ "$(wc -l < "$work/now.jsonl")" -eq "$in_doubt" ] && grep -q '"deleted"' "$work/now.jsonl"
+[ "$in_doubt" -gt 0 ] && ./reconcile.py "$@" --site "$site" "$work/first.txt" > "$now" 2> "$work/said.txt" &&
+  [ "$(wc -l < "$now")" -eq "$in_doubt" ] && grep -q '"deleted"' "$now"
 told "reconcile.py asks for $in_doubt entities in doubt: $(tail -1 "$work/said.txt")" $?
 
-cat "$work/now.jsonl" >> "$work/events.jsonl"
+cat "$work/dump.jsonl" "$work"/batches/0*.jsonl > "$work/events.jsonl"
 ./fetch_pages.py "$@" --site "$site" --into "$work/pages" "$work/events.jsonl" 2>/dev/null
 "$wdq" replay --from "$work/pages" --export --side < "$work/events.jsonl" > "$work/second.txt"
 ! grep '^# side [a-z-]* open' "$work/second.txt"

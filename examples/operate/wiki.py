@@ -30,13 +30,13 @@ def add_arguments(parser):
     parser.add_argument("--agent", type=agent, required=True, metavar="TEXT", help='who asks, as "mirror/1.0 (jane@example.org)"')
     parser.add_argument("--site", default=SITE, metavar="URL", help=f"the wiki; without it, {SITE}")
     parser.add_argument("--tries", type=int, default=6, metavar="N", help="how often a request is made where the wiki is busy; without it, 6")
-    parser.add_argument("--pause", type=float, default=1.0, metavar="SECONDS", help="the first pause, each further one is twice as long; without it, 1")
+    parser.add_argument("--pause", type=float, default=1.0, metavar="SECONDS", help="the first pause, which doubles; without it, 1")
 
 
 def pause_after(error, pause):
     """How long to wait: what the wiki asks for, or this pause."""
     asked = error.headers.get("Retry-After", "") if isinstance(error, urllib.error.HTTPError) else ""
-    return min(max(float(asked) if asked.isdecimal() else 0, pause), LONGEST_PAUSE)
+    return max(float(asked) if asked.isdecimal() else 0, min(pause, LONGEST_PAUSE))
 
 
 def get(url, arguments):
