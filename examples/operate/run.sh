@@ -10,7 +10,9 @@ for needed in python3 jq; do
   command -v $needed >/dev/null || { echo "passed over: $needed is missing"; exit 0; }
 done
 python3 -c 'import sys; sys.exit(sys.version_info < (3, 9))' || { echo "passed over: Python is older than 3.9"; exit 0; }
-wdq=$(readlink -f "${WDQ:-../../wdq}")
+# Run once, ./wdq builds the program where needed; the program itself starts faster.
+[ -n "$WDQ" ] || ../../wdq drill --size 1 >/dev/null || exit 2
+wdq=$(readlink -f "${WDQ:-../../crates/wdq/out/wdq}")
 work=$(mktemp -d) || exit 2
 server=
 follower=
