@@ -47,7 +47,7 @@ mkdir "$work/batches"
 ./made_up_wiki.py "$work/wiki" > "$work/address" &
 server=$!
 waits=0
-while [ ! -s "$work/address" ] && [ $waits -lt 100 ]; do sleep 0.1; waits=$((waits + 1)); done
+while [ ! -s "$work/address" ] && [ $waits -lt 300 ]; do sleep 0.1; waits=$((waits + 1)); done
 site=$(cat "$work/address")
 began=$(cat "$work/wiki/began")
 set -- --agent "try/1.0 (nobody@example.org)" --pause 0.05
@@ -65,14 +65,14 @@ told "its three parts are the whole, and each page has the bytes of the dump" $?
 
 # --- The stream, killed once ---
 
-./follow_stream.py "$@" --stream "$site/stream" --into "$work/batches" --since "$began" --events 20 --idle 3 2> "$work/said.txt" &
+./follow_stream.py "$@" --stream "$site/stream" --into "$work/batches" --since "$began" --events 20 --idle 5 2> "$work/said.txt" &
 follower=$!
 waits=0
-while [ ! -e "$work/batches/000003.jsonl" ] && [ $waits -lt 200 ]; do sleep 0.05; waits=$((waits + 1)); done
-kill -9 $follower
+while [ ! -e "$work/batches/000003.jsonl" ] && [ $waits -lt 600 ]; do sleep 0.05; waits=$((waits + 1)); done
+kill -9 $follower 2>/dev/null
 wait $follower 2>/dev/null
 first=$(ls "$work/batches" | grep -c jsonl)
-./follow_stream.py "$@" --stream "$site/stream" --into "$work/batches" --since "$began" --events 20 --idle 1 2>> "$work/said.txt"
+./follow_stream.py "$@" --stream "$site/stream" --into "$work/batches" --since "$began" --events 20 --idle 5 2>> "$work/said.txt"
 told "follow_stream.py is killed after $first batches and goes on: $(tail -1 "$work/said.txt")" $?
 
 jq -R -c -f ../feed/events.jq < "$work/wiki/stream.txt" | sort -u > "$work/changes.jsonl"
