@@ -90,7 +90,7 @@ def verdict_of_lines(lines):
 def main():
     if len(sys.argv) < 3 or sys.argv[1] in ("-h", "--help"):
         print(__doc__)
-        return 2
+        return 0 if sys.argv[1:2] in (["-h"], ["--help"]) else 2
     program = sys.argv[1]
     inputs = list(dict.fromkeys(text for path in sys.argv[2:] for text in inputs_of(path)))
     lines = list(dict.fromkeys(line for text in inputs for line in lines_of(io.BytesIO(text))))

@@ -249,7 +249,7 @@ class Answers(http.server.BaseHTTPRequestHandler):
 def main():
     if len(sys.argv) != 2 or sys.argv[1] in ("-h", "--help"):
         print(__doc__)
-        return 2
+        return 0 if sys.argv[1:2] in (["-h"], ["--help"]) else 2
     chance = random.Random(1)
     history = History(chance)
     stream = stream_of(history, chance)
