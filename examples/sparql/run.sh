@@ -78,11 +78,12 @@ try_escapes() {
   ./updates.py < "$work/escapes.records" | grep '^<urn:line' | cmp -s - "$work/written.txt"
   told "$(wc -l < "$work/escapes.txt") escapes as SPARQL wants them" $?
   refused > "$work/refused.txt"
+  taken=0
   while read -r object; do
     printf '# patch 1 +1 -0\n<urn:s> <urn:p> %s .\n' "$object" | ./updates.py > "$work/none.txt" 2>/dev/null
-    [ $? -eq 1 ] && [ ! -s "$work/none.txt" ] || told "$object is refused" 1
+    [ $? -eq 1 ] && [ ! -s "$work/none.txt" ] || { taken=1 && echo "not refused: $object"; }
   done < "$work/refused.txt"
-  told "$(wc -l < "$work/refused.txt") lines refused that are no triples" 0
+  told "$(wc -l < "$work/refused.txt") lines refused that are no triples" $taken
 }
 
 # --- The streams: NAME.records and NAME.export ---
@@ -90,6 +91,7 @@ try_escapes() {
 make_stream() {
   "$wdq" replay --from "$2" --export < "$3" | grep -v '^#' > "$work/$1.export"
   ./records.py --ask < "$3" | "$wdq" replay --from "$2" --export | ./records.py > "$work/$1.records"
+  [ -s "$work/$1.export" ] || { echo "not as expected: wdq printed no export of $1"; exit 2; }
   echo "stream $1: $(grep -c '^# patch' "$work/$1.records") records, $(grep -vc '^#' "$work/$1.records") lines, $(wc -l < "$work/$1.export") triples at the end"
 }
 
@@ -166,8 +168,10 @@ try_stream() {
   "start_$1"
   records=$(grep -c '^# patch' "$work/$2.records")
   begun=$(date +%s%N)
-  ./updates.py $words --batch "$3" < "$work/$2.records" && [ "$(./updates.py --post "$url" --number)" = "$records" ] && "same_$1" "$work/$2.export"
-  told "$1 holds the export of $2, records joined by $3: $((records * 1000000000 / ($(date +%s%N) - begun))) records a second" $?
+  ./updates.py $words --batch "$3" < "$work/$2.records"
+  took=$(($(date +%s%N) - begun))
+  [ "$(./updates.py --post "$url" --number)" = "$records" ] && "same_$1" "$work/$2.export"
+  told "$1 holds the export of $2: records $records, joined by $3, $((records * 1000000000 / took)) a second" $?
   stop
 }
 

@@ -12,12 +12,13 @@ counts the triples of each value in an SQLite file, and a value goes with its la
 on other globes, long numbers and IRIs) are sent as texts of the datatype <urn:wdq:unread>. Without its file, read the stream from record 1: the
 records that the store has are then only counted.
 
-Statuses: 0 all records are applied; 1 a line is no part of a record; 2 the words are wrong; 3 the store failed or can't be reached;
-4 the record after the last one applied is missing, or the file of counts is ahead of the store.
+Statuses: 0 all records are applied; 1 a line is no part of a record; 2 the words are wrong; 3 the store or the file of counts failed or
+can't be reached; 4 the record after the last one applied is missing, or the counts are of another stream or ahead of the store.
 """
 
 import argparse
 import decimal
+import http.client
 import json
 import re
 import sqlite3
@@ -47,7 +48,7 @@ TO_ESCAPE = re.compile(r'\\[uU]?|["\x00-\x1f\x7f]')
 ESCAPES = {"\\": "\\\\", '"': '\\"', "\t": "\\t", "\b": "\\b", "\n": "\\n", "\r": "\\r", "\f": "\\f"}
 
 WHOLE_NUMBER = re.compile(r"[+-]?[0-9]+")
-DECIMAL_NUMBER = re.compile(r"[+-]?(?:[0-9]+(?:\.([0-9]*))?|\.([0-9]+))")
+DECIMAL_NUMBER = re.compile(r"[+-]?(?:[0-9]+(?:\.[0-9]*)?|\.[0-9]+)")
 DOUBLE_NUMBER = re.compile(r"[+-]?(?:[0-9]+(?:\.[0-9]*)?|\.[0-9]+)(?:[eE][+-]?[0-9]+)?")
 POINT = re.compile(rf"point ?\(({DOUBLE_NUMBER.pattern}) ({DOUBLE_NUMBER.pattern})\)", re.IGNORECASE)
 EXACT = decimal.Context(prec=400)
@@ -189,7 +190,7 @@ def canonical_number(literal):
     if kind == "integer" and WHOLE_NUMBER.fullmatch(text):
         # 64 bits with a sign.
         return (number_of(text), str(int(text))) if len(text) < 99 and -(2**63) < int(text) < 2**63 else None
-    if kind == "decimal" and (match := DECIMAL_NUMBER.fullmatch(text)) and len(text) < 300:
+    if kind == "decimal" and DECIMAL_NUMBER.fullmatch(text) and len(text) < 300:
         value = EXACT.create_decimal(number_of(text))
         # 40 digits, at most 15 of them behind the point.
         fits = abs(value) < 10**25 and value.as_tuple().exponent >= -15
@@ -227,11 +228,13 @@ class Counts:
 
     def __init__(self, path):
         self.base = sqlite3.connect(path, isolation_level=None)
+        # A second process with this file fails.
+        self.base.execute("PRAGMA locking_mode = EXCLUSIVE")
+        self.base.execute("BEGIN IMMEDIATE")
         self.base.execute("CREATE TABLE IF NOT EXISTS counts (value TEXT PRIMARY KEY, triples INTEGER, sent TEXT) WITHOUT ROWID")
         self.base.execute("CREATE TABLE IF NOT EXISTS stream (number INTEGER)")
         self.base.execute("INSERT INTO stream SELECT 0 WHERE NOT EXISTS (SELECT 1 FROM stream)")
         self.number = self.base.execute("SELECT number FROM stream").fetchone()[0]
-        self.base.execute("BEGIN")
 
     def change(self, triple, is_added):
         """Counts a triple that comes or goes, and gives the line to insert or delete, or None where the store stays as it is."""
@@ -254,7 +257,7 @@ class Counts:
         """Writes what was counted, up to the record of this number."""
         self.base.execute("UPDATE stream SET number = ?", (number,))
         self.base.execute("COMMIT")
-        self.base.execute("BEGIN")
+        self.base.execute("BEGIN IMMEDIATE")
         self.number = number
 
 
@@ -275,7 +278,7 @@ def write_update(changes, number, graph):
 
 
 class Printer:
-    """Prints the updates; the number of the last record applied is said by --after."""
+    """Prints the updates; --after says the number of the last record applied, or the counts do."""
 
     def __init__(self, after):
         self.after = after
@@ -299,29 +302,34 @@ class Store:
         return max((int(row["number"]["value"]) for row in self.select(f"SELECT ?number WHERE {{ {NUMBER_PATTERN} }}")), default=0)
 
     def select(self, query):
-        url = f"{self.query_url}?{urllib.parse.urlencode({'query': query})}"
-        answer = self.open(urllib.request.Request(url, headers={"Accept": "application/sparql-results+json"}))
-        return json.loads(answer)["results"]["bindings"]
+        answer = self.open(f"{self.query_url}?{urllib.parse.urlencode({'query': query})}", None, {"Accept": "application/sparql-results+json"})
+        try:
+            return json.loads(answer)["results"]["bindings"]
+        except (ValueError, LookupError, TypeError):
+            raise Stopped(3, "the store didn't answer a query in JSON; --query takes the URL of its queries") from None
 
     def send(self, update):
-        self.open(urllib.request.Request(self.update_url, update.encode(), {"Content-Type": "application/sparql-update"}))
+        self.open(self.update_url, update.encode(), {"Content-Type": "application/sparql-update"})
 
-    def open(self, request):
+    def open(self, url, body, headers):
         try:
-            with urllib.request.urlopen(request, timeout=600) as answer:
+            with urllib.request.urlopen(urllib.request.Request(url, body, headers), timeout=600) as answer:
                 return answer.read()
         except urllib.error.HTTPError as fault:
             raise Stopped(3, f"the store answered {fault.code}: {fault.read(300).decode(errors='replace')}") from None
-        except (OSError, ValueError) as fault:
+        except (OSError, ValueError, http.client.HTTPException) as fault:
             raise Stopped(3, f"the store can't be reached: {fault}") from None
 
 
 def apply(records, target, counts, batch, graph):
     """Applies the records after the last one that the target has, so many to an update, and gives the number of the last."""
+    counted = counts.number if counts else None
     applied = target.applied()
-    last = counts.number if counts else applied
+    if applied is None:
+        applied = counted or 0
+    last = applied if counted is None else counted
     if last > applied:
-        raise Stopped(4, f"the counts are at record {last}, and the store only at {applied}: bring back a store or counts of one time")
+        raise Stopped(4, f"the counts are at record {last} and the store only at {applied}: restore both as they were at one time")
     changes, size = {}, 0
     for record in records:
         if record.number <= last:
@@ -366,7 +374,7 @@ def read_words():
     parser.add_argument("--counts", metavar="FILE", help="the file of counts, for stores that spell values their own way")
     parser.add_argument("--post", metavar="URL", help="where the store takes updates; without it they are printed")
     parser.add_argument("--query", metavar="URL", help="where the store takes queries; without it that of --post")
-    parser.add_argument("--after", metavar="N", type=at_least(0), help="without --post: the number of the last record applied (0)")
+    parser.add_argument("--after", metavar="N", type=at_least(0), help="without --post: the number of the last record applied (0, or that of the counts)")
     parser.add_argument("--number", action="store_true", help="print the number that the store has, and end")
     words = parser.parse_args()
     if words.graph and NO_IRI_CHARACTER.search(words.graph):
@@ -378,7 +386,7 @@ def read_words():
 
 def main():
     words = read_words()
-    target = Store(words.post, words.query or words.post) if words.post else Printer(words.after or 0)
+    target = Store(words.post, words.query or words.post) if words.post else Printer(words.after)
     try:
         if words.number:
             print(target.applied())
@@ -391,6 +399,8 @@ def main():
     except (sqlite3.Error, BrokenPipeError) as fault:
         print(f"updates.py: {fault}", file=sys.stderr)
         return 3
+    except KeyboardInterrupt:
+        return 130
     return 0
 
 
