@@ -228,8 +228,10 @@ class Counts:
 
     def __init__(self, path):
         self.base = sqlite3.connect(path, isolation_level=None)
-        # A second process with this file fails.
+        # A second process with this file fails. Without power the last counts may be lost; they are made again from the records.
         self.base.execute("PRAGMA locking_mode = EXCLUSIVE")
+        self.base.execute("PRAGMA journal_mode = WAL")
+        self.base.execute("PRAGMA synchronous = NORMAL")
         self.base.execute("BEGIN IMMEDIATE")
         self.base.execute("CREATE TABLE IF NOT EXISTS counts (value TEXT PRIMARY KEY, triples INTEGER, sent TEXT) WITHOUT ROWID")
         self.base.execute("CREATE TABLE IF NOT EXISTS stream (number INTEGER)")
@@ -272,8 +274,9 @@ def write_update(changes, number, graph):
         for start in range(0, len(lines), MOST_IN_BLOCK):
             block = "\n".join(lines[start:start + MOST_IN_BLOCK])
             parts.append(f"{word} DATA {{ GRAPH <{graph}> {{\n{block}\n}} }}" if graph else f"{word} DATA {{\n{block}\n}}")
-    parts.append(f"DELETE WHERE {{ {NUMBER_PATTERN} }}")
+    # At each moment the greatest number is that of the last record applied.
     parts.append(f"INSERT DATA {{ {NUMBER_PATTERN.replace('?number', str(number))} }}")
+    parts.append(f"DELETE {{ {NUMBER_PATTERN} }} WHERE {{ {NUMBER_PATTERN} FILTER (?number < {number}) }}")
     return f"# update {number}\n" + " ;\n".join(parts) + "\n"
 
 
@@ -322,7 +325,7 @@ class Store:
 
 
 def apply(records, target, counts, batch, graph):
-    """Applies the records after the last one that the target has, so many to an update, and gives the number of the last."""
+    """Applies the records after the last one that the target has, so many to an update."""
     counted = counts.number if counts else None
     applied = target.applied()
     if applied is None:
@@ -348,7 +351,6 @@ def apply(records, target, counts, batch, graph):
             changes, size = {}, 0
     if size:
         finish(changes, last, applied, target, counts, graph)
-    return last
 
 
 def finish(changes, last, applied, target, counts, graph):
@@ -370,7 +372,7 @@ def at_least(least):
 def read_words():
     parser = argparse.ArgumentParser(description=__doc__, formatter_class=argparse.RawDescriptionHelpFormatter)
     parser.add_argument("--graph", metavar="IRI", default="", help="the graph of the triples; without it the default graph")
-    parser.add_argument("--batch", metavar="N", type=at_least(1), default=1, help="how many records are joined into one update (1)")
+    parser.add_argument("--batch", metavar="N", type=at_least(1), default=1, help="how many records are joined into one update, at the end fewer (1)")
     parser.add_argument("--counts", metavar="FILE", help="the file of counts, for stores that spell values their own way")
     parser.add_argument("--post", metavar="URL", help="where the store takes updates; without it they are printed")
     parser.add_argument("--query", metavar="URL", help="where the store takes queries; without it that of --post")
