@@ -4,8 +4,9 @@
     edits.py --size 2000 --pages FOLDER > EVENTS
 
 The pages of 40 items are edited in turn, and now and then one is deleted. Behind each event stands a watermark. Each edit changes one
-part of a page: its label, amounts, time or point. Amounts change between `+5`, `+5.00`, `5.0` and others, some of them at once on one page; labels have characters that need escapes; there are dates before
-Christ, points on the Earth and on Mars, and numbers too long for 64 bits.
+part of a page: its label, amounts, time or point. Amounts change between `+5`, `+5.00`, `5.0` and others, some of them at once on one
+page; labels have characters that need escapes; there are dates before Christ, points on the Earth and on Mars, and numbers too long for
+64 bits.
 """
 
 import argparse
@@ -15,7 +16,8 @@ import pathlib
 
 ITEMS = 40
 AMOUNTS = ["+5", "+5.00", "5.0", "-7", "-7.10", "+0.50", "123456789012345678901234567890.5", "+99999999999999999999"]
-LABELS = ["plain", 'a "quote"', "back\\slash", "two\nlines", "tab\there", "typed \\n and \\u0041", "ends \\", "naïve 東京 😀", "\\U", "a\rb\x01c"]
+LABELS = ["plain", 'a "quote"', "back\\slash", "two\nlines", "tab\there", "typed \\n and \\u0041", "ends \\",
+          "naïve 東京 😀", "\\U", "a\rb\x01c"]
 YEARS = ["+1952-03-11", "-0044-03-15", "+0044-03-15", "-13798000000-00-00", "+2024-02-29"]
 GLOBES = ["Q2", "Q2", "Q2", "Q111"]
 ENTITY = "http://www.wikidata.org/entity/"
@@ -24,7 +26,8 @@ ENTITY = "http://www.wikidata.org/entity/"
 def statement(item, property_id, index, kind, value):
     snak = {"snaktype": "value", "property": property_id, "datavalue": {"type": kind, "value": value}}
     source = {"snaktype": "value", "property": "P9", "datavalue": {"type": "string", "value": f"source {item % 3}"}}
-    return {"mainsnak": snak, "id": f"Q{item}${property_id}-{index}", "rank": "normal", "references": [{"hash": f"{item % 3}", "snaks": {"P9": [source]}}]}
+    references = [{"hash": f"{item % 3}", "snaks": {"P9": [source]}}]
+    return {"mainsnak": snak, "id": f"Q{item}${property_id}-{index}", "rank": "normal", "references": references}
 
 
 def page(item, step):
@@ -34,7 +37,8 @@ def page(item, step):
     amounts = [AMOUNTS[(amount_turn + shift) % len(AMOUNTS)] for shift in range(amount_turn % 4)]
     time = {"time": YEARS[time_turn % len(YEARS)] + "T00:00:00Z", "timezone": 0, "before": 0, "after": 0, "precision": 11,
             "calendarmodel": ENTITY + "Q1985727"}
-    point = {"latitude": item / 4, "longitude": point_turn / 8, "altitude": None, "precision": 0.0001, "globe": ENTITY + GLOBES[point_turn % len(GLOBES)]}
+    point = {"latitude": item / 4, "longitude": point_turn / 8, "altitude": None, "precision": 0.0001,
+             "globe": ENTITY + GLOBES[point_turn % len(GLOBES)]}
     claims = {
         "P1": [statement(item, "P1", index, "quantity", {"amount": amount, "unit": "1"}) for index, amount in enumerate(amounts)],
         "P2": [statement(item, "P2", 0, "globecoordinate", point)],

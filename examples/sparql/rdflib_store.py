@@ -15,10 +15,7 @@ try:
     import rdflib
     import rdflib.plugins.sparql.parser as sparql_parser
 except ImportError:
-    sys.exit("rdflib_store.py: python3-rdflib is missing")
-
-rdflib.NORMALIZE_LITERALS = False
-rdflib.plugins.sparql.SPARQL_DEFAULT_GRAPH_UNION = False
+    rdflib = None
 
 CHARACTERS = {"t": "\t", "b": "\b", "n": "\n", "r": "\r", "f": "\f"}
 
@@ -28,7 +25,12 @@ def unescaped(text):
     return re.sub(r"\\(.)", lambda match: CHARACTERS.get(match[1], match[1]), text)
 
 
-sparql_parser.decodeUnicodeEscape = unescaped
+def make_store():
+    """An empty store that keeps literals as they are spelled, and whose default graph is a graph of its own."""
+    rdflib.NORMALIZE_LITERALS = False
+    rdflib.plugins.sparql.SPARQL_DEFAULT_GRAPH_UNION = False
+    sparql_parser.decodeUnicodeEscape = unescaped
+    return rdflib.Dataset()
 
 
 class Handler(http.server.BaseHTTPRequestHandler):
@@ -83,8 +85,11 @@ def literal_text(literal):
 def main():
     parser = argparse.ArgumentParser(description=__doc__, formatter_class=argparse.RawDescriptionHelpFormatter)
     parser.add_argument("--port", type=int, default=0, help="the port; without it a free one")
-    server = http.server.HTTPServer(("127.0.0.1", parser.parse_args().port), Handler)
-    server.store = rdflib.Dataset()
+    words = parser.parse_args()
+    if rdflib is None:
+        sys.exit("rdflib_store.py: python3-rdflib is missing")
+    server = http.server.HTTPServer(("127.0.0.1", words.port), Handler)
+    server.store = make_store()
     print(f"http://127.0.0.1:{server.server_port}/", flush=True)
     server.serve_forever()
 

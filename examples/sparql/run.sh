@@ -72,8 +72,10 @@ TABLE
 
 try_escapes() {
   escapes > "$work/escapes.txt"
-  awk -F ' [|] ' -v size="$(wc -l < "$work/escapes.txt")" 'BEGIN { print "# patch 1 +" size " -0" } { print "<urn:line:" NR "> <urn:p> " $1 " ." }' \
-    "$work/escapes.txt" > "$work/escapes.records"
+  {
+    echo "# patch 1 +$(wc -l < "$work/escapes.txt") -0"
+    awk -F ' [|] ' '{ print "<urn:line:" NR "> <urn:p> " $1 " ." }' "$work/escapes.txt"
+  } > "$work/escapes.records"
   awk -F ' [|] ' '{ print "<urn:line:" NR "> <urn:p> " $2 " ." }' "$work/escapes.txt" > "$work/written.txt"
   ./updates.py < "$work/escapes.records" | grep '^<urn:line' | cmp -s - "$work/written.txt"
   told "$(wc -l < "$work/escapes.txt") escapes as SPARQL wants them" $?
@@ -81,7 +83,7 @@ try_escapes() {
   taken=0
   while read -r object; do
     printf '# patch 1 +1 -0\n<urn:s> <urn:p> %s .\n' "$object" | ./updates.py > "$work/none.txt" 2>/dev/null
-    [ $? -eq 1 ] && [ ! -s "$work/none.txt" ] || { taken=1 && echo "not refused: $object"; }
+    if [ $? -ne 1 ] || [ -s "$work/none.txt" ]; then taken=1; echo "not refused: $object"; fi
   done < "$work/refused.txt"
   told "$(wc -l < "$work/refused.txt") lines refused that are no triples" $taken
 }
@@ -92,7 +94,8 @@ make_stream() {
   "$wdq" replay --from "$2" --export < "$3" | grep -v '^#' > "$work/$1.export"
   ./records.py --ask < "$3" | "$wdq" replay --from "$2" --export | ./records.py > "$work/$1.records"
   [ -s "$work/$1.export" ] || { echo "not as expected: wdq printed no export of $1"; exit 2; }
-  echo "stream $1: $(grep -c '^# patch' "$work/$1.records") records, $(grep -vc '^#' "$work/$1.records") lines, $(wc -l < "$work/$1.export") triples at the end"
+  changes=$(grep -vc '^#' "$work/$1.records")
+  echo "stream $1: $(grep -c '^# patch' "$work/$1.records") records of $changes changes, $(wc -l < "$work/$1.export") triples at the end"
 }
 
 make_streams() {
@@ -111,17 +114,22 @@ make_streams() {
 
 start_rdflib() {
   ./rdflib_store.py > "$work/url" & store=$!
-  until [ -s "$work/url" ]; do kill -0 $store || exit 2; sleep 0.2; done
+  until [ -s "$work/url" ]; do kill -0 "$store" || exit 2; sleep 0.2; done
   url=$(cat "$work/url")
   words="--post $url"
 }
 
 same_rdflib() {
-  /usr/bin/python3 -c 'import sys, urllib.request; sys.stdout.buffer.write(urllib.request.urlopen(sys.argv[1]).read())' "$url" | cmp -s - "$1"
+  /usr/bin/python3 -c 'import sys, urllib.request as r; sys.stdout.buffer.write(r.urlopen(sys.argv[1]).read())' "$url" > "$work/stored.txt"
+  cmp -s "$work/stored.txt" "$1"
 }
 
 free_port() {
   /usr/bin/python3 -c 'import socket; s = socket.socket(); s.bind(("127.0.0.1", 0)); print(s.getsockname()[1])'
+}
+
+isql() {
+  isql-vt "127.0.0.1:$port" dba dba "EXEC=$1;"
 }
 
 start_virtuoso() {
@@ -147,7 +155,7 @@ ServerPort = 127.0.0.1:$http
 ResultSetMaxRows = 10000000
 INI
   (cd "$work/virtuoso" && exec virtuoso-t -f +configfile virtuoso.ini > started.txt 2>&1) & store=$!
-  until isql-vt "127.0.0.1:$port" dba dba 'EXEC=GRANT SPARQL_UPDATE TO "SPARQL";' 2>/dev/null | grep -q Done; do kill -0 $store || exit 2; sleep 0.5; done
+  until isql 'GRANT SPARQL_UPDATE TO "SPARQL"' 2>/dev/null | grep -q Done; do kill -0 "$store" || exit 2; sleep 0.5; done
   url=http://127.0.0.1:$http/sparql
   words="--post $url --graph urn:wdq:triples --counts $work/counts.db"
   rm -f "$work/counts.db"
@@ -175,9 +183,11 @@ try_stream() {
   stop
 }
 
-# Kills updates.py once the store has this record, and sets `reached` to the number that the store has then.
+# Kills updates.py once the store has record $1, and sets `reached` to the number that the store has then. It gets the first $2 hundredths
+# of the lines alone, so that the rest is left to do on a slow machine too.
 kill_behind() {
-  ./updates.py $words --batch 20 < "$work/edits.records" & consumer=$!
+  head -n $(($(wc -l < "$work/edits.records") * $2 / 100)) "$work/edits.records" > "$work/begin.records"
+  ./updates.py $words --batch 20 < "$work/begin.records" 2>/dev/null & consumer=$!
   until reached=$(./updates.py --post "$url" --number) && [ "$reached" -ge "$1" ]; do kill -0 $consumer 2>/dev/null || break; done
   kill -9 $consumer 2>/dev/null
   wait $consumer 2>/dev/null
@@ -186,19 +196,20 @@ kill_behind() {
 
 try_killed() {
   "start_$1"
-  kill_behind $((size / 4))
+  kill_behind $((size / 4)) 50
   first=$reached
-  kill_behind $((size / 2))
+  kill_behind $((size / 2)) 75
   # A lost file of counts is made anew from the records.
   rm -f "$work/counts.db"*
-  ./updates.py $words < "$work/edits.records" && [ "$reached" -lt "$(grep -c '^# patch' "$work/edits.records")" ] && "same_$1" "$work/edits.export"
+  records=$(grep -c '^# patch' "$work/edits.records")
+  ./updates.py $words < "$work/edits.records" && [ "$reached" -lt "$records" ] && "same_$1" "$work/edits.export"
   told "$1 holds the export of edits, updates.py killed at records $first and $reached" $?
   stop
 }
 
 try_escapes_in() {
   "start_$1"
-  ./updates.py $words < "$work/escapes.records" && ./compare.py --query "$url" ${2:+--graph "$2"} < "$work/written.txt" > "$work/compared.txt"
+  ./updates.py $words < "$work/escapes.records" && ./compare.py --query "$url" --graph "$2" < "$work/written.txt" > "$work/compared.txt"
   told "$1 reads the escapes back" $?
   stop
 }
@@ -211,7 +222,7 @@ try_spellings() {
   printf "# patch 3 +0 -1\n$five" +5.00 > "$work/3"
   start_virtuoso
   for mode in "--graph urn:plain" "--graph urn:counted --counts $work/spellings.db"; do
-    isql-vt "127.0.0.1:$port" dba dba 'EXEC=SPARQL CLEAR GRAPH <urn:wdq:stream>;' >/dev/null
+    isql 'SPARQL CLEAR GRAPH <urn:wdq:stream>' > /dev/null
     held=
     for step in 1 2 3; do
       ./updates.py --post "$url" $mode < "$work/$step" || held=failed
@@ -227,7 +238,7 @@ try_spellings() {
 try_escapes
 make_streams
 if /usr/bin/python3 -c 'import rdflib' 2>/dev/null; then
-  try_escapes_in rdflib
+  try_escapes_in rdflib ""
   for stream in $streams; do try_stream rdflib "$stream" 1; done
   try_killed rdflib
 else

@@ -9,8 +9,8 @@ that a store took in part is sent again whole, which does no harm: it only says 
 
 --counts is for stores that spell numbers, points and language tags their own way, so that two triples of the stream are one there. It
 counts the triples of each value in an SQLite file, and a value goes with its last triple. Objects that such stores refuse or cut (points
-on other globes, long numbers and IRIs) are sent as texts of the datatype <urn:wdq:unread>. Without its file, read the stream from record 1: the
-records that the store has are then only counted.
+on other globes, long numbers and IRIs) are sent as texts of the datatype <urn:wdq:unread>. Records that the store has and the file
+doesn't are only counted, so where the file is lost, read the stream from record 1.
 
 Statuses: 0 all records are applied; 1 a line is no part of a record; 2 the words are wrong; 3 the store or the file of counts failed or
 can't be reached; 4 the record after the last one applied is missing, or the counts are of another stream or ahead of the store.
@@ -305,7 +305,8 @@ class Store:
         return max((int(row["number"]["value"]) for row in self.select(f"SELECT ?number WHERE {{ {NUMBER_PATTERN} }}")), default=0)
 
     def select(self, query):
-        answer = self.open(f"{self.query_url}?{urllib.parse.urlencode({'query': query})}", None, {"Accept": "application/sparql-results+json"})
+        url = f"{self.query_url}?{urllib.parse.urlencode({'query': query})}"
+        answer = self.open(url, None, {"Accept": "application/sparql-results+json"})
         try:
             return json.loads(answer)["results"]["bindings"]
         except (ValueError, LookupError, TypeError):
@@ -372,11 +373,12 @@ def at_least(least):
 def read_words():
     parser = argparse.ArgumentParser(description=__doc__, formatter_class=argparse.RawDescriptionHelpFormatter)
     parser.add_argument("--graph", metavar="IRI", default="", help="the graph of the triples; without it the default graph")
-    parser.add_argument("--batch", metavar="N", type=at_least(1), default=1, help="how many records are joined into one update, at the end fewer (1)")
+    parser.add_argument("--batch", metavar="N", type=at_least(1), default=1, help="join N records into one update, at the end fewer (1)")
     parser.add_argument("--counts", metavar="FILE", help="the file of counts, for stores that spell values their own way")
     parser.add_argument("--post", metavar="URL", help="where the store takes updates; without it they are printed")
     parser.add_argument("--query", metavar="URL", help="where the store takes queries; without it that of --post")
-    parser.add_argument("--after", metavar="N", type=at_least(0), help="without --post: the number of the last record applied (0, or that of the counts)")
+    parser.add_argument("--after", metavar="N", type=at_least(0),
+                        help="without --post: the number of the last record applied (0, or that of the counts)")
     parser.add_argument("--number", action="store_true", help="print the number that the store has, and end")
     words = parser.parse_args()
     if words.graph and NO_IRI_CHARACTER.search(words.graph):
