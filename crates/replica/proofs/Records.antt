@@ -9,7 +9,7 @@ use Rattle.std.proofs.lemmas.Grind.{flat_map-append}
 use Rattle.rising.specs.Rising.{IsRising, has}
 use Rattle.rising.proofs.Bools.{equal}
 use Rattle.rising.proofs.Rising.{Above-weaken, has-append}
-use Rattle.rdf_term.specs.declared.memory.OutOfMemory.{OutOfMemory}
+use Rattle.base.specs.declared.memory.OutOfMemory.{OutOfMemory}
 use Rattle.rdf_term.specs.declared.triple.Triple.{Triple}
 use Rattle.rdf_term.specs.Append.{Appends}
 use Rattle.rdf_term.specs.Order.{triple_cmp, triple_cmp-total}
