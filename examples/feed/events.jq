@@ -1,9 +1,10 @@
 # From the public stream of page changes (server-sent events, mediawiki.page_change.v1) to event lines:
 #   jq -R -c -f events.jq < stream.txt
-# Items and properties of Wikidata alone. A move or a change of visibility leaves the newest revision as it is, so it gives no line.
+# Items and properties of Wikidata alone, and no canary events, which only test the stream. A move or a change of visibility leaves the
+# newest revision as it is, so it gives no line.
 # wdq takes up to six digits of a second; further ones are cut off.
 select(startswith("data: ")) | .[6:] | fromjson?
-| select(.wiki_id == "wikidatawiki" and (.page.namespace_id == 0 or .page.namespace_id == 120))
+| select(.meta.domain != "canary" and .wiki_id == "wikidatawiki" and (.page.namespace_id == 0 or .page.namespace_id == 120))
 | {create: "edit", edit: "edit", delete: "delete", undelete: "undelete"}[.page_change_kind] as $kind
 | select($kind)
 | {

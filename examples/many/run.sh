@@ -35,10 +35,10 @@ echo "one replay of $(grep -c '"kind"' "$work/events.jsonl") events: $(grep '^# 
 jq -R -r --argjson parts 3 -f route.jq < "$work/events.jsonl" |
   awk -F '\t' -v work="$work" '{ print substr($0, length($1) + 2) > (work "/part-" $1 ".jsonl") }'
 for part in 0 1 2; do
-  "$wdq" replay --from "$work/pages" --export < "$work/part-$part.jsonl" | sed '1,/^# export/d' > "$work/export-$part.txt"
+  "$wdq" replay --from "$work/pages" --export < "$work/part-$part.jsonl" | awk '/^# export/ { is_export = 1; next } is_export' > "$work/export-$part.txt"
 done
 sort -m -u "$work"/export-?.txt > "$work/merged.txt"
-sed '1,/^# export/d' "$work/whole.txt" | grep -v '^#' | cmp -s - "$work/merged.txt"
+awk '/^# export/ { is_export = 1; next } is_export' "$work/whole.txt" | grep -v '^#' | cmp -s - "$work/merged.txt"
 told "the exports of 3 parts, routed by jq and merged by sort" $?
 
 /usr/bin/python3 -c 'import distributed' 2>/dev/null || { echo "passed over: the steps with Dask, python3-distributed is missing"; exit $failed; }

@@ -1,0 +1,211 @@
+#!/usr/bin/env python3
+"""Follows Wikidata's stream of page changes, and cuts it into event files, each closed by a watermark.
+
+    ./follow_stream.py --agent "mirror/1.0 (jane@example.org)" --into batches --since 2024-05-01T10:00:00Z
+
+The files are 000001.jsonl, 000002.jsonl and so on; one after the other they are an event file. A file is whole or not there. The file
+`place` beside them has the id of the last event that they hold: run again, the script goes on behind it. Where it was killed between the
+two, some events come again, which wdq counts once. Where the connection breaks it connects again, after growing pauses.
+
+Items and properties of Wikidata alone are taken, as examples/feed/events.jq takes them. A watermark follows the greatest time so far by
+--delay seconds.
+"""
+
+import argparse
+import datetime
+import http.client
+import json
+import os
+import pathlib
+import queue
+import re
+import sys
+import threading
+import time
+import urllib.error
+import urllib.parse
+import urllib.request
+
+import wiki
+from event_lines import refusal_of
+from fetch_pages import save
+from progress import Progress
+
+STREAM = "https://stream.wikimedia.org/v2/stream/mediawiki.page_change.v1"
+KINDS = {"create": "edit", "edit": "edit", "delete": "delete", "undelete": "undelete"}
+SECONDS_OF_SILENCE = 60
+
+
+def messages(lines):
+    """The messages of server-sent events, each with the last id so far. A message that is cut off is none."""
+    data, last_id = [], None
+    for line in lines:
+        if not line.endswith(b"\n"):
+            return
+        name, _, value = line.decode(errors="replace").rstrip("\r\n").partition(":")
+        value = value.removeprefix(" ")
+        if name == "data":
+            data.append(value)
+        elif name == "id":
+            last_id = value
+        elif not name and not value and data:
+            yield "\n".join(data), last_id
+            data = []
+
+
+def event_of(message):
+    """The event of a message, or None where it is no change of an item or a property."""
+    change = json.loads(message)
+    if change.get("meta", {}).get("domain") == "canary" or change.get("wiki_id") != "wikidatawiki" or change["page"]["namespace_id"] not in (0, 120):
+        return None
+    kind = KINDS.get(change["page_change_kind"])
+    if kind is None:
+        return None
+    moment = re.sub(r"(\.[0-9]{6})[0-9]+Z$", r"\1Z", change["dt"])
+    return {"kind": kind, "entity": change["page"]["page_title"].removeprefix("Property:"), "rev": change["revision"]["rev_id"], "time": moment}
+
+
+def line_of(message):
+    """The event line of a message, or None; what wdq would refuse is named and left out."""
+    try:
+        event = event_of(message)
+    except (ValueError, KeyError, TypeError, AttributeError) as error:
+        print(f"follow_stream.py: no page change ({error!r}): {message[:100]}", file=sys.stderr)
+        return None
+    line = json.dumps(event, separators=(",", ":"))
+    if event and (refusal := refusal_of(line.encode())):
+        print(f"follow_stream.py: left out: {line}: {refusal}", file=sys.stderr)
+        return None
+    return line if event else None
+
+
+class Reader(threading.Thread):
+    """Reads the stream for ever, and puts each message into a queue. It ends at an answer that no pause mends."""
+
+    def __init__(self, arguments, last_id):
+        super().__init__(daemon=True)
+        self.arguments, self.last_id = arguments, last_id
+        self.queue = queue.Queue(10_000)
+
+    def request(self):
+        words = {"since": self.arguments.since} if self.arguments.since and not self.last_id else {}
+        headers = {"User-Agent": self.arguments.agent, "Accept": "text/event-stream"}
+        if self.last_id:
+            headers["Last-Event-ID"] = self.last_id
+        return urllib.request.Request(self.arguments.stream + ("?" + urllib.parse.urlencode(words) if words else ""), headers=headers)
+
+    def read_once(self):
+        """Reads until the connection ends; says whether anything came."""
+        is_any = False
+        with urllib.request.urlopen(self.request(), timeout=SECONDS_OF_SILENCE) as lines:
+            for message, last_id in messages(lines):
+                is_any = True
+                self.last_id = last_id or self.last_id
+                self.queue.put((message, self.last_id))
+        return is_any
+
+    def run(self):
+        pause = self.arguments.pause
+        while True:
+            is_any, before = False, self.last_id
+            try:
+                is_any = self.read_once()
+            except (OSError, http.client.HTTPException) as error:
+                is_any = self.last_id != before
+                if isinstance(error, urllib.error.HTTPError) and error.code not in wiki.BUSY:
+                    self.queue.put((None, f"status {error.code}"))
+                    return
+                print(f"follow_stream.py: {error}", file=sys.stderr)
+            pause = self.arguments.pause if is_any else min(2 * pause, wiki.LONGEST_PAUSE)
+            print(f"follow_stream.py: the connection ended; connects again after {pause:g} s", file=sys.stderr)
+            time.sleep(pause)
+
+
+class Batches:
+    """The files of events, and the place in the stream behind them."""
+
+    def __init__(self, arguments):
+        self.folder = pathlib.Path(arguments.into)
+        self.folder.mkdir(parents=True, exist_ok=True)
+        self.place = self.folder / "place"
+        kept = json.loads(self.place.read_text()) if self.place.exists() else {}
+        self.last_id, self.seen, self.number = kept.get("last_id"), kept.get("seen", ""), kept.get("batch", 0)
+        self.number = max([self.number, *(int(path.stem) for path in self.folder.glob("*.jsonl") if path.stem.isdecimal())])
+        self.delay = datetime.timedelta(seconds=arguments.delay)
+        self.lines = []
+
+    def add(self, line):
+        self.lines.append(line)
+        # Times in whole seconds have all digits in front, so that their texts are in the order of the times.
+        self.seen = max(self.seen, json.loads(line)["time"][:19])
+
+    def close(self, last_id):
+        """Writes the events so far as a file that a watermark closes, and then the place."""
+        if self.lines:
+            mark = datetime.datetime.fromisoformat(self.seen) - self.delay
+            self.lines.append(json.dumps({"watermark": mark.isoformat() + "Z"}))
+            self.number += 1
+            save(self.folder / f"{self.number:06}.jsonl", "".join(line + "\n" for line in self.lines).encode())
+            self.lines = []
+        place = {"last_id": last_id, "seen": self.seen, "batch": self.number}
+        save(self.place, json.dumps(place).encode())
+
+
+def follow(arguments, batches):
+    """Cuts the stream into batches until there are enough of them, or nothing comes any more."""
+    reader = Reader(arguments, batches.last_id)
+    reader.start()
+    first, count, last_id = batches.number, 0, batches.last_id
+    start = heard = time.monotonic()
+    with Progress("changes") as progress:
+        while not arguments.batches or batches.number - first < arguments.batches:
+            now = time.monotonic()
+            if len(batches.lines) >= arguments.events or (batches.lines and now - start >= arguments.seconds):
+                batches.close(last_id)
+            elif arguments.idle and now - heard >= arguments.idle:
+                batches.close(last_id)
+                return
+            try:
+                message, told = reader.queue.get(timeout=0.1)
+            except queue.Empty:
+                continue
+            if message is None:
+                raise wiki.Unanswered(told)
+            heard, last_id, count = time.monotonic(), told, count + 1
+            if line := line_of(message):
+                start = start if batches.lines else heard
+                batches.add(line)
+            progress.show(count)
+
+
+def read_arguments():
+    parser = argparse.ArgumentParser(description=__doc__, formatter_class=argparse.RawDescriptionHelpFormatter)
+    parser.add_argument("--agent", type=wiki.agent, required=True, metavar="TEXT", help='who asks, as "mirror/1.0 (jane@example.org)"')
+    parser.add_argument("--into", required=True, metavar="FOLDER", help="where the event files and the place are written")
+    parser.add_argument("--since", metavar="TIME", help="where to begin, if there is no place yet; without it, now")
+    parser.add_argument("--seconds", type=float, default=60, metavar="S", help="a batch ends after so many seconds; without it, 60")
+    parser.add_argument("--events", type=int, default=10_000, metavar="N", help="or with so many events; without it, 10000")
+    parser.add_argument("--delay", type=int, default=10, metavar="S", help="how many seconds late an event may come; without it, 10")
+    parser.add_argument("--batches", type=int, metavar="N", help="end after so many batches")
+    parser.add_argument("--idle", type=float, metavar="S", help="end when nothing has come for so many seconds")
+    parser.add_argument("--pause", type=float, default=1.0, metavar="S", help="the pause before connecting again, which grows; without it, 1")
+    parser.add_argument("--stream", default=STREAM, metavar="URL", help=f"the stream; without it, {STREAM}")
+    return parser.parse_args()
+
+
+def main():
+    arguments = read_arguments()
+    try:
+        batches = Batches(arguments)
+        follow(arguments, batches)
+    except (OSError, ValueError, wiki.Unanswered) as error:
+        print(f"follow_stream.py: {error}", file=sys.stderr)
+        return 1
+    except KeyboardInterrupt:
+        return 130
+    print(f"follow_stream.py: batch {batches.number} is the last one", file=sys.stderr)
+    return 0
+
+
+if __name__ == "__main__":
+    sys.exit(main())

@@ -1,0 +1,266 @@
+#!/usr/bin/env python3
+"""A made-up Wikidata on the loopback address, to try the scripts of this folder without the network.
+
+    ./made_up_wiki.py FOLDER
+
+It writes into FOLDER, serves until it is ended, and prints its address when it is ready. Of the wiki's answers it has the stream of page
+changes, pages by revision, and the API's `info` and `revisions`. It is as awkward as the real one may be: changes come out of order, late
+and again, connections are cut, and it is busy at times. In FOLDER are
+
+    dump.json.gz   a dump, begun in the middle of the history and taken while it went on
+    began          when that was
+    stream.txt     the stream from there on, in one piece
+    now.jsonl      an edit for each page that exists at the end: what a store should hold
+    now            the pages of these
+"""
+
+import collections
+import gzip
+import http.server
+import json
+import pathlib
+import random
+import sys
+import threading
+import time
+import urllib.parse
+
+ITEMS, PROPERTIES, CHANGES, DUMP_AT, DUMP_TAKES = 60, 5, 500, 200, 20
+CUT_EVERY, CUTS = 60, 4
+
+
+def time_of(index):
+    """The time of a change, three seconds after the one before it."""
+    return time.strftime("%Y-%m-%dT%H:%M:%SZ", time.gmtime(1714557600 + 3 * index))
+
+
+def claims(entity, revision):
+    """A statement with an amount and a reference, which other entities share."""
+    amount = {"type": "quantity", "value": {"amount": f"+{revision % 7}.50", "unit": "1"}}
+    source = {"snaktype": "value", "property": "P2", "datavalue": {"type": "string", "value": f"source {revision % 3}"}}
+    snak = {"snaktype": "value", "property": "P1", "datavalue": amount}
+    reference = {"hash": str(revision % 3), "snaks": {"P2": [source]}}
+    return {"P1": [{"mainsnak": snak, "type": "statement", "id": f"{entity}$1", "rank": "normal", "references": [reference]}]}
+
+
+class History:
+    """What happened: the changes, the page of each revision, and what stands at the end."""
+
+    def __init__(self, chance):
+        self.entities = [f"Q{number}" for number in range(1, ITEMS + 1)] + [f"P{number}" for number in range(1, PROPERTIES + 1)]
+        self.changes, self.pages, self.newest, self.state = [], {}, {}, {}
+        self.taken = {}
+        for index in range(CHANGES):
+            self.change(index, chance)
+            if index < DUMP_AT + DUMP_TAKES:
+                # Each entity goes into the dump at a moment of its own.
+                for entity, revision in self.newest.items():
+                    if index <= DUMP_AT + hash_of(entity) % DUMP_TAKES:
+                        self.taken[entity] = revision if self.state[entity] == "kept" else None
+
+    def change(self, index, chance):
+        entity = chance.choice(self.entities)
+        while self.state.get(entity) == "deleted" and chance.random() < 0.8:
+            entity = chance.choice(self.entities)
+        revision = 1000 + index
+        state = self.state.get(entity, "none")
+        may_merge = index > DUMP_AT + DUMP_TAKES and entity.startswith("Q") and int(entity[1:]) > ITEMS // 2
+        kind = {"none": "create", "deleted": "undelete"}.get(state) or ("delete" if chance.random() < 0.08 else "edit")
+        if kind == "delete":
+            revision = self.newest[entity]
+        elif kind == "edit" and may_merge and chance.random() < 0.2:
+            self.pages[revision] = (entity, {"entity": entity, "redirect": f"Q{chance.randint(1, ITEMS // 2)}"})
+        else:
+            self.pages[revision] = (entity, self.page(entity, revision, index))
+        self.newest[entity] = revision
+        self.state[entity] = "deleted" if kind == "delete" else "kept"
+        self.changes.append((kind, entity, revision, time_of(index)))
+
+    def page(self, entity, revision, index):
+        page = {"type": "item" if entity.startswith("Q") else "property", "id": entity}
+        page["labels"] = {"en": {"language": "en", "value": f"{entity} at {revision}"}}
+        page["claims"] = claims(entity, revision)
+        if entity.startswith("P"):
+            page["datatype"] = "quantity"
+        return {**page, "lastrevid": revision, "modified": time_of(index)}
+
+
+def hash_of(entity):
+    return sum(entity.encode()) * 7
+
+
+def title(entity):
+    return entity if entity.startswith("Q") else f"Property:{entity}"
+
+
+def message(kind, page_title, revision, moment, wiki="wikidatawiki", domain="www.wikidata.org"):
+    """A change as the stream tells it."""
+    namespace = {"P": 120, "L": 146}.get(page_title[0], 0)
+    page = {"page_title": page_title, "namespace_id": namespace, "is_redirect": False}
+    head = {"$schema": "/mediawiki/page/change/1.2.0", "meta": {"domain": domain}, "wiki_id": wiki}
+    return {**head, "page_change_kind": kind, "dt": moment, "page": page, "revision": {"rev_id": revision}}
+
+
+def stream_of(history, chance):
+    """The messages in the order in which they come: some late, some twice, and some of other pages."""
+    arrivals = []
+    for index, (kind, entity, revision, moment) in enumerate(history.changes):
+        moment = moment.replace("Z", ".123456789Z") if index % 5 == 0 else moment
+        told = message(kind, title(entity), revision, moment)
+        is_late = index % 29 == 3 or (kind == "delete" and index > CHANGES - 100)
+        lag = 40 if is_late else chance.randint(0, 3)
+        arrivals.append((index + lag, told))
+        if index % 17 == 0:
+            arrivals.append((index + lag + 5, told))
+        if index % 11 == 0:
+            arrivals.append((index, message("edit", "Berlin", revision, moment, "dewiki", "de.wikipedia.org")))
+            arrivals.append((index, message("edit", "Lexeme:L1", revision, moment)))
+            arrivals.append((index, message("move", title(entity), revision, moment)))
+            arrivals.append((index, message("edit", title(entity), 1, moment, domain="canary")))
+    arrivals.sort(key=lambda arrival: arrival[0])
+    return [told for _, told in arrivals]
+
+
+def sse(index, told):
+    """A message as a server-sent event."""
+    place = json.dumps([{"topic": "made-up", "partition": 0, "offset": index}])
+    return f"event: message\nid: {place}\ndata: {json.dumps(told)}\n\n".encode()
+
+
+def write_folder(folder, history, stream):
+    """Writes the files that the scripts' results are compared with."""
+    rows = [json.dumps(history.pages[revision][1]) for revision in history.taken.values() if revision]
+    lexeme = '{"type":"lexeme","id":"L1","lastrevid":9,"modified":"2024-05-01T10:00:00Z"}'
+    with gzip.open(folder / "dump.json.gz", "wt") as file:
+        file.write("[\n" + ",\n".join([lexeme, *rows]) + "\n]\n")
+    began = time_of(DUMP_AT)
+    (folder / "began").write_text(began)
+    first = first_since(stream, began)
+    (folder / "stream.txt").write_bytes(b"".join(sse(index, told) for index, told in enumerate(stream) if index >= first))
+    (folder / "now").mkdir()
+    with open(folder / "now.jsonl", "w") as file:
+        for entity, revision in history.newest.items():
+            if history.state[entity] == "kept":
+                print(json.dumps({"kind": "edit", "entity": entity, "rev": revision, "time": time_of(0)}), file=file)
+                (folder / "now" / f"{revision}.json").write_text(json.dumps(history.pages[revision][1]))
+
+
+def first_since(stream, moment):
+    """The index of the first message from a time on."""
+    return next(index for index, told in enumerate(stream) if told["dt"] >= moment)
+
+
+class Wiki(http.server.ThreadingHTTPServer):
+    """The server, and what it remembers: how often each address was asked for, and how many connections it has cut."""
+
+    def __init__(self, history, stream):
+        super().__init__(("127.0.0.1", 0), Answers)
+        self.history, self.stream = history, stream
+        self.asked, self.cuts, self.lock = collections.Counter(), 0, threading.Lock()
+
+
+class Answers(http.server.BaseHTTPRequestHandler):
+    def log_message(self, *_):
+        pass
+
+    def do_GET(self):
+        url = urllib.parse.urlsplit(self.path)
+        words = {key: values[0] for key, values in urllib.parse.parse_qs(url.query).items()}
+        with self.server.lock:
+            self.server.asked[self.path] += 1
+            times = self.server.asked[self.path]
+        if "@" not in self.headers.get("User-Agent", ""):
+            self.send_error(403, "name yourself")
+        elif url.path == "/stream":
+            self.send_stream(words)
+        elif url.path == "/w/api.php":
+            self.send_json({"batchcomplete": True, "query": self.query(words)})
+        elif url.path.startswith("/wiki/Special:EntityData/"):
+            self.send_page(int(words["revision"]), times)
+        else:
+            self.send_error(404)
+
+    def send_json(self, value, more=0):
+        body = json.dumps(value).encode()
+        self.send_response(200)
+        self.send_header("Content-Length", str(len(body) + more))
+        self.end_headers()
+        self.wfile.write(body)
+
+    def send_page(self, revision, times):
+        """A page by its revision; a redirect's is its target's. At first it may be busy, cut off, or not there yet."""
+        history = self.server.history
+        entity, page = history.pages[revision]
+        if history.state[entity] == "deleted" or (revision % 17 == 0 and times == 1):
+            self.send_error(404)
+        elif revision % 7 == 0 and times == 1:
+            self.send_error(503)
+        elif revision % 11 == 0 and times == 1:
+            self.send_response(429)
+            self.send_header("Retry-After", "0")
+            self.end_headers()
+        else:
+            target = page.get("redirect")
+            if target:
+                entity, page = target, {"type": "item", "id": target}
+            self.send_json({"entities": {entity: page}}, more=10 if revision % 13 == 0 and times == 1 else 0)
+
+    def query(self, words):
+        """The API's answer: what pages there are now, or the text of a revision."""
+        history = self.server.history
+        if words["prop"] == "revisions":
+            entity, page = history.pages[int(words["revids"])]
+            return {"pages": [{"title": title(entity), "revisions": [{"slots": {"main": {"content": json.dumps(page)}}}]}]}
+        pages = []
+        for name in words["titles"].split("|")[:50]:
+            entity = name.removeprefix("Property:")
+            is_kept = history.state.get(entity) == "kept"
+            pages.append({"title": name, "lastrevid": history.newest[entity]} if is_kept else {"title": name, "missing": True})
+        return {"pages": pages}
+
+    def send_stream(self, words):
+        """The stream behind the last event's id, or from a time on; the first connections are cut in the middle of a message."""
+        server, last = self.server, self.headers.get("Last-Event-ID")
+        first = json.loads(last)[0]["offset"] + 1 if last else first_since(server.stream, words.get("since", ""))
+        self.send_response(200)
+        self.send_header("Content-Type", "text/event-stream")
+        self.end_headers()
+        self.wfile.write(b":ok\n\n")
+        for index in range(first, len(server.stream)):
+            text = sse(index, server.stream[index])
+            with server.lock:
+                is_cut = index >= first + CUT_EVERY and server.cuts < CUTS
+                server.cuts += is_cut
+            self.wfile.write(text[: len(text) // 2] if is_cut else text)
+            if is_cut:
+                return
+            time.sleep(0.002)
+        while True:
+            time.sleep(0.2)
+            self.wfile.write(b":heartbeat\n\n")
+
+    def handle(self):
+        try:
+            super().handle()
+        except (BrokenPipeError, ConnectionResetError):
+            pass
+
+
+def main():
+    if len(sys.argv) != 2 or sys.argv[1] in ("-h", "--help"):
+        print(__doc__)
+        return 0 if sys.argv[1:2] in (["-h"], ["--help"]) else 2
+    chance = random.Random(1)
+    history = History(chance)
+    stream = stream_of(history, chance)
+    folder = pathlib.Path(sys.argv[1])
+    folder.mkdir(parents=True, exist_ok=True)
+    write_folder(folder, history, stream)
+    server = Wiki(history, stream)
+    print(f"http://127.0.0.1:{server.server_port}", flush=True)
+    server.serve_forever()
+    return 0
+
+
+if __name__ == "__main__":
+    sys.exit(main())
