@@ -123,7 +123,7 @@ pub fn parts_together_have_what_the_whole_has()
 
 /// What splits entities is a partition: a set of entities and all others, each replied to as the whole; the parts that numbers give,
 /// whatever each of them is replied; and so the parts that an entity's number gives modulo their count. Where the numbers have no
-/// greatest, a triple is still in the whole exactly where it is in one part.
+/// greatest, a triple is still in the whole exactly where it is in some part.
 pub fn splits_by_entity_are_partitions()
     ensures two { (replies : Replies) (contains : EntityId → Bool) →
         IsPartition replies (record { contains = contains; replies = replies } ∷ record { contains = λ x. not (contains x); replies = replies } ∷ []) }

@@ -13,7 +13,7 @@ use std::alloc::Global;
 use std::marker::Model;
 use wq_io::FailingCalls;
 
-/// The bytes of one revision at a place.
+/// The bytes of one revision: `place` is the folder that they are fetched from, and `rev` the number of the revision, from 1.
 #[derive(Debug, Drop)]
 pub struct RevisionBytes {
     pub place: Text,

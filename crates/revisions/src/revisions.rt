@@ -45,7 +45,8 @@ pub trait Revisions {
     // the most calls that ever fail, where it is told; calls don't change it
     ghost most_faults: { Self → Option ℕ };
 
-    /// The bytes of revision `rev` at `place`.
+    /// The bytes of revision `rev` in the folder `place`. `Missing` says that nothing is there, `Failed` that the call to the outside failed,
+    /// and `OutOfMemory` that a request for memory was refused.
     fn fetch(&mut self, alloc: Global, place: &str, rev: u64) -> Result<Vec<u8>, NoRevision>
         ensures told { contents self.new ≡ contents self.old }
         ensures called { calls self.new ≡ counted (calls self.old) }

@@ -30,7 +30,7 @@ pub fn lines_read_back()
     ensures reads_back { (line : Line) → IsFit line → line_of (line_text line) ≡ Some line }
 {}
 
-/// The lines of a snapshot, and their bytes, are read as what was saved. No shorter front of the lines or of the bytes is read as anything.
+/// The lines of a snapshot, and their bytes, are read as what was saved. No shorter prefix of the lines or of the bytes is read as anything.
 pub fn snapshots_read_back()
     ensures lines { (s : Saved) → IsAtRest s.state.buffer → saved_in (lines_of s) ≡ Some s }
     ensures bytes { (s : Saved) → IsAtRest s.state.buffer → IsFitSaved s → saved_in_bytes (file_text s) ≡ Some s }

@@ -1,4 +1,13 @@
-//! A snapshot: the state of a replay between two lines of its input, as JSON lines.
+//! A snapshot: the state of a replay between two lines of its input, as JSON lines. The program doesn't write one yet.
+//!
+//! The lines come in this order: the head, each event that is remembered, each entry of the side output, the record of each entity with the
+//! page that it holds, and the number of the lines before the last.
+//!
+//! `{"asks":0,"horizon":null,"mapping":1,"mark":null,"patches":0,"snapshot":1}`
+//! `{"entity":"Q1","kind":"edit","micros":0,"rev":5}`
+//! `{"entry":"late","event":{..}}`
+//! `{"entity":"Q1","held":{"page":"..","rev":5},"reconciled":null,"rev":5,"state":"kept"}`
+//! `{"end":4}`
 //!
 //! `line` has what one line says. `text` writes a line and reads it back, by `writing` and `reading`, through `serde_json`.
 //! `laws` says what holds of the format: what is written is read back, and a file that was cut off is refused.

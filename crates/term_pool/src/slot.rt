@@ -3,5 +3,6 @@
 /// A term of a pool. As long as the term is there it keeps its number, which no other term has.
 #[derive(Clone, Copy, Debug, PartialEq, Eq)]
 pub struct Slot {
+    /// Its number in the pool, from 0.
     pub number: u32,
 }

@@ -22,7 +22,8 @@ pub struct Keys {
     walk: Vec<u32>,
 }
 
-/// The keys of one owner, borrowed.
+/// The keys of one owner, borrowed: `rising` has each key once, in rising order, and `walk` the index in it of each triple, in the order in
+/// which the owner's triples came.
 #[derive(Clone, Copy, Debug)]
 pub struct KeySlices<'a> {
     pub rising: &'a [Key],

@@ -105,8 +105,11 @@ impl Lines {
         }
     }
 
-    /// Puts the next line without its line feed into `line` and answers its number, from 1; None is the end of the
+    /// Puts the next line without its line feed into `line` and answers its number, from 1; `None` is the end of the
     /// input. A last line without line feed is a line. The source is the one of the calls before.
+    ///
+    /// `ReadFault` comes where a read failed, `TooLong` at the first byte past the limit of the input, `LineLong` at the first byte past the
+    /// limit of a line, whichever is judged first, and `OutOfMemory` where the line can't be held. After a fault the reader isn't asked again.
     pub fn next<S: Source>(
         &mut self,
         source: &mut S,

@@ -37,7 +37,8 @@ pub trait Sink {
     // the most calls that ever fail, where it is told; calls don't change it
     ghost most_faults: { Self → Option ℕ };
 
-    /// Takes bytes from the front of `bytes`, at least one, and answers their number.
+    /// Takes bytes from the front of `bytes`, at least one, and answers their number. After a fault none was taken: `Failed` says that the
+    /// call to the outside failed, and `OutOfMemory` that a request for memory was refused.
     fn write(&mut self, bytes: &[u8]) -> Result<usize, NoWrite>
         requires { 0 < length bytes.now }
         ensures bound { IfOk result (λ n. (0 < n) × (n ≤ length bytes.now)) }

@@ -24,7 +24,8 @@ pub trait Source {
     // the most calls that ever fail, where it is told; calls don't change it
     ghost most_faults: { Self → Option ℕ };
 
-    /// Moves bytes into the front of `buf` and answers their number; 0 is the end.
+    /// Moves bytes into the front of `buf` and answers their number; 0 is the end. `Failed` says that the call to the outside failed; no byte
+    /// was moved then.
     fn read(&mut self, buf: &mut [u8]) -> Result<usize, Failed>
         requires { 0 < length buf.old }
         ensures bound { IfOk result (λ n. n ≤ length buf.new) }
