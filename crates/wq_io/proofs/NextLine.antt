@@ -15,7 +15,7 @@ pub record Going (start now : Reading) (left_start left : Option (List ℕ)) (li
   pub front : unread start left_start ≡ before_known line (unread now left)
   pub in_line : IsOneLine line
   pub short : length line ≤ start.max_line
-  pub others : now ≡ record start { held = now.held; consumed = start.consumed + length line; ended = now.ended }
+  pub others : now ≡ record start { held = now.held; consumed = start.consumed + length line; ended = now.ended; failed = true }
   pub sound : IsSound now
   pub counted : start.given ≤ start.consumed
   pub ended : now.ended ≡ true → IsAtEnd left
@@ -162,8 +162,8 @@ going_gives start now next after left_start left left_next line line_now faults_
 
 -- a line that is counted takes nothing
 pub line_counted : (start after : Reading) (left_start left : Option (List ℕ)) (read_start read : Option LastRead) (number : ℕ) →
-    ReadsAsNeeded start after left_start left read_start read → IsSound (record after { given = number }) →
-    ReadsAsNeeded start (record after { given = number }) left_start left read_start read
+    ReadsAsNeeded start after left_start left read_start read → IsSound (record after { given = number; failed = false }) →
+    ReadsAsNeeded start (record after { given = number; failed = false }) left_start left read_start read
 line_counted start after left_start left read_start read number reads sound = record {
   before = reads.before;
   last = reads.last;
@@ -178,9 +178,9 @@ line_counted start after left_start left read_start read number reads sound = re
 -- nor does the last line, where there is one
 pub last_counted : (number : Option ℕ) (start next after : Reading) (left_start left : Option (List ℕ)) (read_start read : Option LastRead) →
     ReadsAsNeeded start next left_start left read_start read →
-    MatchOption number (after ≡ next) (λ n. (n ≡ next.given + 1) × (after ≡ record next { given = next.given + 1 })) → IsSound after →
+    MatchOption number (after ≡ record next { failed = false }) (λ n. (n ≡ next.given + 1) × (after ≡ record next { given = next.given + 1; failed = false })) → IsSound after →
     ReadsAsNeeded start after left_start left read_start read
-last_counted None start next after left_start left read_start read reads is sound = rw is reads
+last_counted None start next after left_start left read_start read reads is sound = rw is (line_counted start next left_start left read_start read next.given reads (rw is at sound))
 last_counted (Some n) start next after left_start left read_start read reads is sound =
     rw is.1 (line_counted start next left_start left read_start read (next.given + 1) reads (rw is.1 at sound))
 

@@ -135,9 +135,22 @@ impl Lines {
         ensures most { S.most_faults source.new ≡ S.most_faults source.old }
         ensures refused { IsErr result → self.new.failed ≡ true }
     {
-        let outcome = self.next_line(source, line);
-        self.failed = outcome.is_err();
-        outcome
+        let _ = &self.given;
+        self.set_failed(true); // until a line or the end is given
+        line.clear();
+        loop {
+            if !self.has_byte(source)? {
+                self.set_failed(false);
+                return Ok(self.last_line(line));
+            }
+            if self.is_at_limit() {
+                return Err(LineFault::TooLong);
+            }
+            if self.take_held(line)? {
+                self.set_failed(false);
+                return Ok(Some(self.count_line()));
+            }
+        }
     }
 
     /// The number of bytes that were taken from the source.
@@ -147,44 +160,13 @@ impl Lines {
         self.consumed + (self.end - self.start) as u64
     }
 
-    // The next line, or the fault, without a note of the fault.
-    fn next_line<S: Source>(
-        &mut self,
-        source: &mut S,
-        line: &mut Vec<u8>,
-    ) -> Result<Option<u64>, LineFault>
-        requires going { self.old.failed ≡ false }
-        requires ended { self.old.ended ≡ true → IsAtEnd (S.left source.old) }
-        ensures line { IfOk result (λ number.
-            GivesLine (unread self.old (S.left source.old)) (unread self.new (S.left source.new)) number line.new.items) }
-        ensures bytes { IfOk result (λ number. IfSome number (λ _.
-            TakesBytes self.new.ended (unread self.old (S.left source.old)) (unread self.new (S.left source.new)) line.new.items)) }
-        ensures number { IfOk result (λ number. MatchOption number (self.new.given ≡ self.old.given)
-            (λ n. (n ≡ self.old.given + 1) × (n ≡ self.new.given))) }
-        ensures length { OnOk result
-            (input_length self.new (S.left source.new) ≡ input_length self.old (S.left source.old)) }
-        ensures goes_on { OnOk result (GoesOn self.old self.new line.new.items) }
-        ensures ended { OnOk result (self.new.ended ≡ true → IsAtEnd (S.left source.new)) }
-        ensures later { S.faults source.old ≤ S.faults source.new }
-        ensures cause { IfErr result (λ fault.
-            HasCause fault self.old (S.left source.old) (S.faults source.old) (S.faults source.new)) }
-        ensures leaves { IfErr result (λ fault. Leaves fault self.old (S.left source.old) (S.left source.new)) }
-        ensures reads { ReadsAsNeeded self.old self.new (S.left source.old) (S.left source.new) (S.last source.old) (S.last source.new) }
-        ensures most { S.most_faults source.new ≡ S.most_faults source.old }
+    // Notes whether the reader refuses to go on.
+    fn set_failed(&mut self, failed: bool)
+        ensures noted { self.new ≡ record self.old { failed = failed } }
+        ensures sound { IsSound self.new }
     {
         let _ = &self.given;
-        line.clear();
-        loop {
-            if !self.has_byte(source)? {
-                return Ok(self.last_line(line));
-            }
-            if self.is_at_limit() {
-                return Err(LineFault::TooLong);
-            }
-            if self.take_held(line)? {
-                return Ok(Some(self.count_line()));
-            }
-        }
+        self.failed = failed;
     }
 
     // Whether no byte is held.

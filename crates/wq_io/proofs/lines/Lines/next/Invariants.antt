@@ -2,7 +2,7 @@
 use Rattle.std.proofs.Common.{◌+◌, ◌-◌, ◌*◌, length}
 use Rattle.wq_io.specs.Lines.{taken}
 use Rattle.wq_io.proofs.NextLine.{Going}
-use Rattle.wq_io.proofs.lines.Lines.next_line.Given as goal
+use Rattle.wq_io.proofs.lines.Lines.next.Given as goal
 
 abbrev pub invariant-loop-self : goal.invariant-loop-self
 invariant-loop-self g l =

@@ -6,7 +6,7 @@ use Rattle.wq_io.specs.Lines.{Reading}
 use Rattle.wq_io.specs.Taking.{HasByte, IsEnded, Takes}
 use Rattle.wq_io.proofs.NextLine.{at_end, cause_of, going_gives, going_on, going_stops, last_counted, line_bytes, line_counted, line_ended}
 use Rattle.std.proofs.Common.{true, false, refl}
-use Rattle.wq_io.proofs.lines.Lines.next_line.Goals as goal
+use Rattle.wq_io.proofs.lines.Lines.next.Goals as goal
 
 pub returns-in_err-take_held-clause-cause : goal.returns-in_err-take_held-clause-cause
 returns-in_err-take_held-clause-cause g c =
@@ -29,7 +29,7 @@ returns-then-not-branch-clause-line g c =
     let going = c.loop-self.invariant in
     let line : List ℕ = c.loop-self.line.items in
     let ended : IsEnded c.loop-self.self c.has_byte.new.self left_loop left = rw c.if-not-branch.true at c.in_ok-has_byte.ensures.reads in
-    let held : c.last_line.new.self.held ≡ [] = c.last_line.ensures.held ∙ ap (λ (r : Reading). r.held) ended.others ∙ ended.empty in
+    let held : c.last_line.new.self.held ≡ [] = c.last_line.ensures.held ∙ ap (λ (r : Reading). r.held) c.set_failed-then-not-branch.ensures.noted ∙ ap (λ (r : Reading). r.held) ended.others ∙ ended.empty in
     let front = going.front ∙ ap (λ (h : List ℕ). before_known line (before_known h left_loop)) ended.empty ∙ ap (λ (l : Option (List ℕ)). before_known line (before_known [] l)) (sym ended.told) in
     let end : IsAtEnd left = rw ended.told ended.at_end in
     rw held (at_end _ left line c.last_line.result front end going.in_line c.last_line.ensures.none)
@@ -42,7 +42,7 @@ returns-then-branch-clause-line g c =
     let has : HasByte c.loop-self.self c.has_byte.new.self (g.S.Source.left c.loop-self.source) left = rw c.if-not-branch.false at c.in_ok-has_byte.ensures.reads in
     let takes : Takes c.has_byte.new.self c.take_held.new.self line c.take_held.new.line.items true = rw c.if-branch.true at c.in_ok-take_held.ensures.takes in
     let front = going.front ∙ ap (λ (u : Option (List ℕ)). before_known line u) (sym has.same) in
-    rw (takes.line, c.count_line.ensures.counted) (line_ended _ left line takes.moved c.has_byte.new.self.held c.take_held.new.self.held front takes.held going.in_line takes.in_line)
+    rw (takes.line, c.count_line.ensures.counted, c.set_failed-then-branch.ensures.noted) (line_ended _ left line takes.moved c.has_byte.new.self.held c.take_held.new.self.held front takes.held going.in_line takes.in_line)
 
 pub returns-then-branch-clause-bytes : goal.returns-then-branch-clause-bytes
 returns-then-branch-clause-bytes g c =
@@ -52,7 +52,7 @@ returns-then-branch-clause-bytes g c =
     let has : HasByte c.loop-self.self c.has_byte.new.self (g.S.Source.left c.loop-self.source) left = rw c.if-not-branch.false at c.in_ok-has_byte.ensures.reads in
     let takes : Takes c.has_byte.new.self c.take_held.new.self line c.take_held.new.line.items true = rw c.if-branch.true at c.in_ok-take_held.ensures.takes in
     let front = going.front ∙ ap (λ (u : Option (List ℕ)). before_known line u) (sym has.same) in
-    rw (takes.line, c.count_line.ensures.counted) (line_bytes _ _ left line takes.moved c.has_byte.new.self.held c.take_held.new.self.held front takes.held going.in_line takes.in_line)
+    rw (takes.line, c.count_line.ensures.counted, c.set_failed-then-branch.ensures.noted) (line_bytes _ _ left line takes.moved c.has_byte.new.self.held c.take_held.new.self.held front takes.held going.in_line takes.in_line)
 
 pub returns-in_err-has_byte-clause-reads : goal.returns-in_err-has_byte-clause-reads
 returns-in_err-has_byte-clause-reads g c =
@@ -65,7 +65,7 @@ returns-then-is_at_limit-clause-reads g c =
 pub returns-then-not-branch-clause-reads : goal.returns-then-not-branch-clause-reads
 returns-then-not-branch-clause-reads g c =
     last_counted _ _ _ _ _ _ _ _ (going_stops _ _ _ _ _ _ _ _ _ _ _ _ _ _ c.loop-self.invariant c.has_byte.ensures.by_need c.has_byte.ensures.others c.has_byte.ensures.sound)
-    c.last_line.ensures.number c.last_line.ensures.sound
+    (rw c.set_failed-then-not-branch.ensures.noted at c.last_line.ensures.number) c.last_line.ensures.sound
 
 pub returns-in_err-take_held-clause-reads : goal.returns-in_err-take_held-clause-reads
 returns-in_err-take_held-clause-reads g c =
@@ -77,7 +77,7 @@ returns-then-branch-clause-reads g c =
     let line : List ℕ = c.loop-self.line.items in
     let takes : Takes c.has_byte.new.self c.take_held.new.self line c.take_held.new.line.items true = rw c.if-branch.true at c.in_ok-take_held.ensures.takes in
     let reads = going_gives _ _ _ _ _ _ _ _ _ _ _ _ _ _ _ _ c.loop-self.invariant c.has_byte.ensures.by_need c.has_byte.ensures.others takes in
-    rw c.count_line.ensures.counted (line_counted _ _ _ _ _ _ _ reads (rw c.count_line.ensures.counted at c.count_line.ensures.sound))
+    rw (c.count_line.ensures.counted, c.set_failed-then-branch.ensures.noted) (line_counted _ _ _ _ _ _ _ reads (rw (c.count_line.ensures.counted, c.set_failed-then-branch.ensures.noted) at c.count_line.ensures.sound))
 
 pub loop-self-preserved : goal.loop-self-preserved
 loop-self-preserved g c =
