@@ -23,6 +23,7 @@ install_files() {
 }
 
 remove_files() {
+  [ -e "$prefix/bin/wdq" ] || refuse "nothing is installed below $prefix" 1
   (cd "$prefix" && rm -f "${files[@]}") || refuse "the files below $prefix can't be removed; perhaps: sudo ./install.sh --remove $prefix" 1
   [ ! -d "$prefix/libexec/wdq" ] || rmdir "$prefix/libexec/wdq" || exit 1
   echo "removed ${files[*]} below $prefix"

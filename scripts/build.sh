@@ -53,13 +53,21 @@ count_jobs() {
   echo $((jobs < 1 ? 1 : jobs))
 }
 
-# Counts in `proved` the crates that are proved by the log, and says how far the build is: at a terminal on one line that is written over,
-# elsewhere on a line each minute.
+# Whether each crate below the program has the mark that rt leaves of a library that it built, and takes away before it builds one.
+is_built_below() {
+  local crate
+  for crate in "${order[@]}"; do
+    [ "$crate" = wdq ] || [ -e "$here/crates/$crate/out/rlib/stamp" ] || return 1
+  done
+}
+
+# Counts in `finished` the crates that rt is done with by the log, and says how far the build is: at a terminal on one line that is written
+# over, elsewhere on a line each minute.
 tell_progress() {
   local minutes=$((SECONDS / 60)) unit=minutes text
   [ "$minutes" != 1 ] || unit=minute
-  proved=$(awk '$1 == "==" && $2 != "summary" && NF == 2 && !($2 in seen) { seen[$2]; n++ } END { print n + 0 }' "$log")
-  text="wdq: $proved of ${#order[@]} crates, $minutes $unit"
+  finished=$(awk '$1 == "==" && $2 != "summary" && NF == 2 && !($2 in seen) { seen[$2]; n++ } END { print n + 0 }' "$log")
+  text="wdq: $finished of ${#order[@]} crates, $minutes $unit"
   if [ -t 2 ]; then
     printf '\r%s' "$text" >&2
   elif [ "$minutes" != "$told" ]; then
@@ -85,7 +93,7 @@ interrupt_build() {
 }
 
 # Runs rt with these words in the program's crate, with its output in the log, and says how far it is. A check of all crates ends
-# where the program alone is left, since `rt run` proves and links it at once.
+# where all is built but the program, since `rt run` proves and links it at once.
 run_rt() {
   (cd "$here/crates/wdq" && exec rt "$@") </dev/null >>"$log" 2>&1 &
   builder=$!
@@ -94,7 +102,7 @@ run_rt() {
   trap 'interrupt_build HUP' HUP
   while kill -0 "$builder" 2>/dev/null; do
     tell_progress
-    if [ "$1 $proved" = "all $((${#order[@]} - 1))" ]; then
+    if [ "$1 $finished" = "all $((${#order[@]} - 1))" ] && is_built_below; then
       kill "$builder" 2>/dev/null
       wait "$builder" 2>/dev/null
       return 0
@@ -129,7 +137,7 @@ give_up_build() {
 }
 
 build() {
-  local begun jobs proved told=none
+  local begun jobs finished told=none
   begun=$(date +%s.%N)
   command -v rt >/dev/null 2>&1 || give_up "the Rattle toolchain's command 'rt' is not on PATH; README.md names the kit"
   jobs=$(count_jobs) || give_up "WDQ_JOBS is a number from 1 to 9999, and not '$WDQ_JOBS'"

@@ -46,7 +46,7 @@ def rows_of(page, head):
 
 def facts():
     """Each fact of the manual that the man page has to have, and where the manual says it."""
-    for cells in rows_of("USAGE.md", "Item"):
+    for cells in rows_of("USAGE.md", "Option"):
         yield cells[0].strip("`").split()[0], "an option"
         span = re.search(r"from ([\d,]+) to ([\d,]+)", cells[1])
         if span:

@@ -1,6 +1,6 @@
 #!/usr/bin/env bash
 # Tries ./wdq and ./install.sh over stand-ins for the program and for the toolchain's rt, in files and in terminals, which `script`
-# (util-linux) makes. It proves and builds nothing, and takes some twenty seconds. Its last line counts what passed.
+# (util-linux) makes. It proves and builds nothing, and takes half a minute. Its last line counts what passed.
 top=$(cd "$(dirname "$(readlink -f "${BASH_SOURCE[0]}")")/.." && pwd) || exit 2
 room=$(mktemp -d) || exit 2
 trap 'rm -rf "$room"' EXIT
@@ -32,11 +32,16 @@ esac
 exit "$STAND_IN_STATUS"
 END
 
-# rt writes its words down. As RT_FAILS says, a crate isn't proved, a check is killed for memory, or the build sleeps.
+# rt writes its words down, and leaves its marks of built libraries. As RT_FAILS says, a crate isn't proved (crate, last: said at once,
+# or only at the end), a check is killed for memory, or the build sleeps.
 cat >"$room/bin/rt" <<'END'
 #!/usr/bin/env bash
 echo "$*" >>"${ROOM:?}/calls"
 [ "${PWD##*/}" = wdq ] || exit 2
+build() {
+  mkdir -p "../$1/out/rlib"
+  touch "../$1/out/rlib/stamp"
+}
 case "$1 ${RT_FAILS-}" in
   'run '*)
     mkdir -p out
@@ -45,6 +50,14 @@ case "$1 ${RT_FAILS-}" in
     ;;
   'all crate')
     printf '== lower\nfine\n== upper\nlost at this line\n== wdq\n== summary\nlower: ok\nupper: failed (1)\nwdq: not run, since upper failed\n'
+    exit 1
+    ;;
+  'all last')
+    build lower
+    rm -rf ../upper/out
+    printf '== lower\n== upper\nlost at this line\n'
+    sleep 1.5
+    printf '== summary\nlower: ok\nupper: failed (1)\nwdq: not run, since upper failed\n'
     exit 1
     ;;
   'all memory')
@@ -58,6 +71,8 @@ case "$1 ${RT_FAILS-}" in
     exec sleep 60
     ;;
 esac
+build lower
+build upper
 printf '== lower\n== upper\n'
 sleep 1.5
 printf '== wdq\n== summary\n3 of 3 crates ok\n'
@@ -180,7 +195,7 @@ replay --from|--from lacks its value, a folder
 replay --from --export|--from lacks its value, a folder
 replay --from=|--from lacks its value, a folder
 replay --from ''|--from lacks its value, a folder
-replay --from -x|the folder '-x' is named './-x' here
+replay --from -x|a value doesn't begin with '-': write './-x'
 replay --max-terms|--max-terms lacks its value, a number from 1 to 4294967295
 replay --max-terms 0|--max-terms takes a number from 1 to 4294967295, in digits without a leading zero, and not '0'
 replay --max-terms 4294967296|--max-terms takes a number from 1 to 4294967295
@@ -190,8 +205,8 @@ replay --max-bytes -1|--max-bytes takes a number from 0 to 1099511627776
 replay --max-bytes 1e6|--max-bytes takes a number from 0 to 1099511627776
 replay --horizon 9223372036854775808|--horizon takes a number from 0 to 9223372036854775807
 replay --export=yes|--export takes no value
-replay --export --export|--export stands there twice
-replay --from a --from=b|--from stands there twice
+replay --export --export|--export is given twice
+replay --from a --from=b|--from is given twice
 drill|drill lacks --size N
 drill 10|'10' is no option of drill; did you mean --size 10?
 drill --size 0|--size takes a number from 1 to 200000
@@ -211,6 +226,8 @@ unset STAND_IN_STATUS
 
 in_terminal "'$checkout/wdq' replay --export --from page < events.jsonl"
 shows 'no folder' $'wdq: there is no folder \'page\', so each revision will be missing\n{"kind"'
+in_terminal "'$checkout/wdq' replay --export --from events.jsonl < events.jsonl"
+shows 'a file as folder' $'wdq: \'events.jsonl\' is no folder, so each revision will be failed\n{"kind"'
 in_terminal "'$checkout/wdq' replay --export --from=pages < events.jsonl"
 wants 'a folder' '{"kind":"edit"}' "$shown"
 in_terminal "'$checkout/wdq' replay --export"
@@ -263,6 +280,9 @@ wants 'WDQ_JOBS is no number' "70 wdq: WDQ_JOBS is a number from 1 to 9999, and 
 RT_FAILS=crate "$checkout/wdq" replay </dev/null >out 2>err
 wants 'a crate is not proved' $'70 == upper\nlost at this line\nwdq: upper could not be built; the whole log is build.log' "$? $(tail -n 3 err)"
 drop_program
+RT_FAILS=last "$checkout/wdq" replay </dev/null >out 2>err
+wants 'the last crate below the program is not proved' $'70 == upper\nlost at this line\nwdq: upper could not be built; the whole log is build.log' "$? $(tail -n 3 err)"
+drop_program
 RT_FAILS=memory WDQ_JOBS=2 "$checkout/wdq" replay </dev/null >out 2>err
 wants 'memory ran out' $'0 all check --jobs 2\nall check --jobs 1\nrun -- replay' "$? $(cat "$room/calls")"
 drop_program
@@ -296,6 +316,10 @@ rm "$room/prefix/libexec/wdq/wdq"
 wants 'a program that is gone' 70 "$?"
 "$checkout/install.sh" --remove "$room/prefix" >out 2>err
 wants 'a removal' "0 " "$? $(cd "$room/prefix" && find . -type f)"
+"$checkout/install.sh" --remove "$room/prefix" >out 2>err
+wants 'a removal of nothing' "1 install.sh: nothing is installed below $room/prefix" "$? $(cat out err)"
+"$checkout/install.sh" --remove "$room/nowhere" >out 2>err
+wants 'a removal where no folder is' "1 install.sh: nothing is installed below $room/nowhere" "$? $(cat out err)"
 for words in --prefix '--remove --remove' 'a b' "''"; do
   eval "'$checkout/install.sh' $words" >out 2>err
   wants "install.sh $words" '2 install.sh: the words are [--remove] [PREFIX]' "$? $(cat err)"

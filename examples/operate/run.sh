@@ -71,7 +71,7 @@ waits=0
 while [ ! -e "$work/batches/000003.jsonl" ] && [ $waits -lt 600 ]; do sleep 0.05; waits=$((waits + 1)); done
 kill -9 $follower 2>/dev/null
 wait $follower 2>/dev/null
-first=$(ls "$work/batches" | grep -c jsonl)
+first=$(find "$work/batches" -name '*.jsonl' | wc -l)
 ./follow_stream.py "$@" --stream "$site/stream" --into "$work/batches" --since "$began" --events 20 --idle 5 2>> "$work/said.txt"
 told "follow_stream.py is killed after $first batches and goes on: $(tail -1 "$work/said.txt")" $?
 
@@ -92,8 +92,8 @@ told "wdq refuses no line of it" $?
 told "fetch_pages.py fetches what there is: $(tail -1 "$work/said.txt")" $?
 
 "$wdq" replay --from "$work/pages" --state --side < "$work/events.jsonl" > "$work/first.txt"
-last=$(ls "$work/batches" | grep '^[0-9]*\.jsonl$' | tail -1)
-now=$work/batches/${last%.jsonl}-now.jsonl
+last=$(find "$work/batches" -name '*[0-9].jsonl' | sort | tail -1)
+now=${last%.jsonl}-now.jsonl
 in_doubt=$(sh ../feed/doubtful.sh < "$work/first.txt" | wc -l)
 [ "$in_doubt" -gt 0 ] && ./reconcile.py "$@" --site "$site" "$work/first.txt" > "$now" 2> "$work/said.txt" &&
   [ "$(wc -l < "$now")" -eq "$in_doubt" ] && grep -q '"deleted"' "$now"

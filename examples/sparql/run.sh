@@ -5,8 +5,9 @@
 # `wdq replay --export` prints. Then the 2,000 edits again, with updates.py killed in the middle and started again. The stores are rdflib
 # (Debian's python3-rdflib) and Virtuoso (virtuoso-opensource-7), each started here on the loopback address and stopped at the end. What
 # is missing is named, and its steps are passed over. Needs jq for the stream of examples/feed. Ends with 1 where a step went wrong.
+# shellcheck disable=SC2059,SC2086,SC2317 # words are split, formats have triples, and steps are called by name.
 cd "$(dirname "$0")" || exit 2
-case ${1-} in '') ;; *) sed -n '2,/^cd /s/^# \{0,1\}//p' run.sh; [ "$1" = -h ]; exit ;; esac
+case ${1-} in '') ;; *) sed -n '2,7s/^# \{0,1\}//p' run.sh; [ "$1" = -h ]; exit ;; esac
 wdq=$(readlink -f "${WDQ:-../../wdq}")
 work=$(mktemp -d) || exit 2
 store=

@@ -145,8 +145,9 @@ impl World {
 
     /// Applies the least due event: its entity's state is set, and where the new state is of a page that is there at a
     /// revision that isn't held, this revision is fetched once, and mapped by the version in force. After a fault nothing has
-    /// changed, but that a fetch may have been made. `Full` is said exactly where its triples, with those of all that is held,
-    /// have more terms than there is room for. What is held has room, before and after.
+    /// changed, but that a fetch may have been made. Over a source that tells its contents, `Full` is said exactly where the triples
+    /// of the page that is fetched, with those of all that is held, have more terms than there is room for, unless memory is refused;
+    /// over another one it says only that some document of the entity has no room. What is held has room, before and after.
     pub fn apply_next<R: Revisions>(
         &mut self,
         revisions: &mut R,
