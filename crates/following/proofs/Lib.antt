@@ -1,0 +1,4 @@
+pub mod Reading
+pub mod Received
+pub mod RecordLines
+pub mod Taken

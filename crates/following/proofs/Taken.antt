@@ -1,0 +1,145 @@
+-- How far the taking of lines has come, and what follows where it goes on, stops or ends.
+use Rattle.std.proofs.Common.{refl, sym, subst, ◌∙◌, ap, ⊎_elim, ◌≡◌, ◌⊎◌, ℕ, ◌+◌, ◌≤◌, true, false, List, [], ◌∷◌, ◌++◌, length, Option, None, Some, IfSome, IsTrue, ◌↔◌, arith, true≢false}
+use Rattle.wq_io.specs.Streams.{IsAtEnd, Rose}
+use Rattle.wq_io.specs.Lines.{HasCause as HasLineCause, IsSound, Leaves, Reading, fresh, lines, unread}
+use Rattle.wq_io.specs.declared.lines.LineFault.{LineFault}
+use Rattle.wq_io.specs.declared.lines.LineFault.TheVariants.{ReadFault as NotRead, TooLong as PastLimit, LineLong as OverLong, OutOfMemory as NoMemory}
+use Rattle.replica.specs.declared.reader.Begun.{Begun}
+use Rattle.replica.specs.declared.reader.PatchFault.{PatchFault}
+use Rattle.replica.specs.declared.reader.PatchFault.TheVariants.{Head as NoHead, Triple as NoTriple, Order as OutOfOrder, OutOfMemory as Starved}
+use Rattle.replica.specs.declared.record.PatchRecord.{PatchRecord}
+use Rattle.replica.specs.Reader.{HasCause, lines_of as lines_begun}
+use Rattle.replica.specs.Replica.{ReplicaState, nothing_received}
+use Rattle.following.specs.declared.stop.FollowStop.{FollowStop}
+use Rattle.following.specs.declared.stop.FollowStop.TheVariants.{BadLine, StoreFull}
+use Rattle.following.specs.declared.stop.RecordCause.TheVariants.{Short}
+use Rattle.following.specs.Input.{Input}
+use Rattle.following.specs.Reading.{AreLinesOf, AreRecords, EndsInside, HasRead, longest_line}
+use Rattle.following.specs.Stop.{IsHalted, StopsAtLine, stop_of_line, stop_of_record}
+use Rattle.following.specs.Taking.{HasApplied, HasTaken, TakesLine}
+use Rattle.following.proofs.Reading.{HasLimits, IsNextLine, all_counted, all_read, bad_line, begins, nothing_read, over_long, past_limit, read_more, whole_read}
+use Rattle.following.proofs.Received.{none_applied}
+
+-- the lines so far were read, are those of records, and the replica took these
+pub record Progress (limit : ℕ) (before now : Input) (reader : Reading) (begun : Option Begun) (state : ReplicaState) (count : ℕ) : Type 0 where
+  pub done : List (List ℕ)
+  pub items : List PatchRecord
+  pub read : HasRead before.left reader now.left done
+  pub are : AreLinesOf done items begun
+  pub applied : HasApplied items state
+  pub limits : HasLimits limit reader
+  pub sound : IsSound reader
+  pub going : reader.failed ≡ false
+  pub ended : reader.ended ≡ true → IsAtEnd now.left
+  pub earlier : before.faults ≤ now.faults
+  pub count_is : count ≡ reader.given
+
+-- before the first line
+pub nothing_taken : (limit : ℕ) (input : Input) (state : ReplicaState) → state ≡ nothing_received state.limit → Progress limit input input (fresh limit longest_line) None state 0
+nothing_taken limit input state new = record {
+  done = [];
+  items = [];
+  read = nothing_read limit input.left;
+  are = record { are = refl; sound = tt; unfinished = tt };
+  applied = subst (HasApplied []) (sym new) (none_applied state.limit);
+  limits = record { bytes = refl; line = refl };
+  sound = record { within = omega arith; counted = omega arith; bounded = omega arith; buffered = omega arith };
+  going = refl;
+  ended = λ never. cc;
+  earlier = omega arith;
+  count_is = refl;
+}
+
+rose_since : (first before now : ℕ) → first ≤ before → Rose before now → Rose first now
+rose_since first before now earlier rose = omega (arith, rose)
+
+module _ (limit : ℕ) (before now : Input) (reader : Reading) (begun : Option Begun) (state : ReplicaState) (count : ℕ) (so_far : Progress limit before now reader begun state count) where
+  -- a fault of the reader of lines
+  pub fault_stops : (fault : LineFault) (room : ℕ) (input : Input) → HasLineCause fault reader now.left now.faults input.faults → Leaves fault reader now.left input.left → IsHalted (stop_of_line fault) limit room before input
+  fault_stops NotRead room input cause leaves = record {
+    rose = rose_since before.faults now.faults input.faults so_far.earlier cause;
+    items = so_far.items;
+    begun = begun;
+    whole = whole_read limit reader now.left so_far.done so_far.items begun so_far.limits so_far.sound so_far.are before.left input.left so_far.read leaves;
+  }
+  fault_stops PastLimit room input cause leaves = past_limit limit reader now.left so_far.done so_far.items begun so_far.limits so_far.sound so_far.are before.left so_far.read cause
+  fault_stops (OverLong number) room input cause leaves = over_long limit reader now.left so_far.done so_far.items begun so_far.limits so_far.sound so_far.are before.left number so_far.read cause.0 cause.1
+  fault_stops NoMemory room input cause leaves = tt
+
+  -- at the end all lines were taken, if no record lacks lines
+  pub end_reached : (input : Input) → (IsTrue false ↔ (lines_begun begun ≡ [] → ⊥)) → IsAtEnd input.left → IsAtEnd (unread reader now.left) → HasTaken limit before input state
+  end_reached input inside read at_end = record {
+    items = so_far.items;
+    read = read;
+    are = all_read limit reader now.left so_far.done so_far.items None so_far.limits so_far.sound (by begun inside so_far.are) before.left so_far.read at_end;
+    applied = so_far.applied;
+  }
+    where
+      by : (o : Option Begun) → (IsTrue false ↔ (lines_begun o ≡ [] → ⊥)) → AreLinesOf so_far.done so_far.items o → AreLinesOf so_far.done so_far.items None
+      by None inside are = are
+      by (Some b) inside are = absurd (true≢false (sym (inside.1 (λ none. cc))))
+
+  -- a record lacks lines there
+  pub cut_off : (input : Input) (room number : ℕ) → (lines_begun begun ≡ [] → ⊥) → IsAtEnd (unread reader now.left) → number ≡ count + 1 → IsHalted (BadLine number Short) limit room before input
+  cut_off input room number inside at_end next = by begun inside so_far.are
+    where
+      next_is : number ≡ reader.given + 1
+      next_is = next ∙ ap (λ n. n + 1) so_far.count_is
+
+      ends : (b : Begun) → (o : Option (List ℕ)) → IfSome o (λ bytes. AreRecords limit bytes so_far.items (Some b)) → IfSome o (λ bytes. number ≡ length (lines bytes) + 1) → IfSome o (λ bytes. EndsInside limit bytes number)
+      ends b None are counted = tt
+      ends b (Some bytes) are counted = record { items = so_far.items; begun = b; are = are; counted = counted }
+
+      by : (o : Option Begun) → (lines_begun o ≡ [] → ⊥) → AreLinesOf so_far.done so_far.items o → IfSome before.left (λ bytes. EndsInside limit bytes number)
+      by None some are = absurd (some refl)
+      by (Some b) some are =
+          ends b before.left (all_read limit reader now.left so_far.done so_far.items (Some b) so_far.limits so_far.sound are before.left so_far.read at_end)
+          (all_counted limit reader now.left so_far.done so_far.items (Some b) so_far.limits so_far.sound are before.left number so_far.read at_end next_is)
+
+  module _ (line : List ℕ) (next : Reading) (input : Input) (is : IsNextLine line reader next now.left input.left) (further : Option Begun) where
+    -- the reader of records refused the line
+    record_stops : (fault : PatchFault) (room number : ℕ) → number ≡ reader.given + 1 → HasCause fault begun line → IsHalted (stop_of_record number fault) limit room before input
+    record_stops NoHead room number counted cause = bad_line limit reader now.left so_far.done so_far.items begun so_far.limits so_far.sound so_far.are line next input.left is before.left number NoHead so_far.read counted cause
+    record_stops NoTriple room number counted cause = bad_line limit reader now.left so_far.done so_far.items begun so_far.limits so_far.sound so_far.are line next input.left is before.left number NoTriple so_far.read counted cause
+    record_stops OutOfOrder room number counted cause = bad_line limit reader now.left so_far.done so_far.items begun so_far.limits so_far.sound so_far.are line next input.left is before.left number OutOfOrder so_far.read counted cause
+    record_stops Starved room number counted cause = tt
+
+    read_now : next.given ≡ reader.given + 1 → HasRead before.left next input.left (so_far.done ++ line ∷ [])
+    read_now given = read_more limit reader now.left so_far.done so_far.items begun so_far.limits so_far.sound so_far.are line next input.left is before.left so_far.read given
+
+    limits_now : HasLimits limit next
+    limits_now = record { bytes = is.goes.limit ∙ so_far.limits.bytes; line = is.goes.longest ∙ so_far.limits.line }
+
+    -- a line isn't taken
+    pub line_stops : (stop : FollowStop) (room number : ℕ) → state.limit ≡ room → number ≡ reader.given + 1 → next.given ≡ reader.given + 1 → StopsAtLine stop number line begun further state → IsHalted stop limit room before input
+    line_stops stop room number same counted given why = subst (λ n. IsHalted stop limit n before input) same (⊎_elim
+        (λ bad. subst (λ s. IsHalted s limit state.limit before input) (sym bad.1) (record_stops bad.0 state.limit number counted bad.2))
+        (⊎_elim
+        (λ full. let over = full.1 so_far.items so_far.done so_far.are so_far.applied in
+        subst (λ s. IsHalted s limit state.limit before input) (sym full.0) (record {
+          items = over.0;
+          begun = further;
+          first = begins limit next input.left (so_far.done ++ line ∷ []) over.0 further limits_now is.goes.sound over.1 before.left (read_now given);
+          full = over.2;
+        }))
+        (λ refused. subst (λ s. IsHalted s limit state.limit before input) (sym refused) tt))
+        why)
+
+    -- a line is taken
+    pub line_taken : (after : ReplicaState) (number : ℕ) → number ≡ next.given → next.given ≡ reader.given + 1 → now.faults ≤ input.faults → (next.ended ≡ true → IsAtEnd input.left) → TakesLine line begun further state after →
+        Progress limit before input next further after number
+    line_taken after number counted given later ended takes =
+        let taken = takes so_far.items so_far.done so_far.are so_far.applied in
+        record {
+          done = so_far.done ++ line ∷ [];
+          items = taken.0;
+          read = read_now given;
+          are = taken.1;
+          applied = taken.2;
+          limits = limits_now;
+          sound = is.goes.sound;
+          going = is.goes.going;
+          ended = ended;
+          earlier = omega (arith, so_far.earlier, later);
+          count_is = counted;
+        }

@@ -1,0 +1,55 @@
+-- The start, a fault of the reader, a line that isn't taken, and the end.
+use Rattle.std.proofs.Common.{refl, sym, subst, ◌∙◌, arith}
+use Rattle.std.proofs.lemmas.Result.{err_from_is_err_and}
+use Rattle.following.specs.Input.{input}
+use Rattle.following.specs.Stop.{IsHalted}
+use Rattle.following.proofs.Reading.{nothing_left}
+use Rattle.following.proofs.Taken.{Progress, cut_off, end_reached, fault_stops, line_stops, line_taken, nothing_taken}
+use Rattle.following.proofs.taking.take_records.Goals as goal
+
+pub loop-line-init : goal.loop-line-init
+loop-line-init g c = (
+  rw (c.with_limit-lines.ensures, c.new-reader.ensures) (nothing_taken c.args.max_bytes (input g.S.Source c.args.events.now) _ c.requires.new),
+  refl,
+  refl,
+)
+
+pub returns-in_err-number-clause-err : goal.returns-in_err-number-clause-err
+returns-in_err-number-clause-err g c =
+    let p = err_from_is_err_and c.from_residual.result c.from_residual.ensures.1 in
+    rw (p.1, p.2) (fault_stops _ _ _ _ _ _ _ c.loop-line.invariant.0 _ _ (input g.S.Source c.next.new.source) c.in_err-number.ensures.cause c.in_err-number.ensures.leaves)
+
+pub returns-in_err-take_line-clause-err : goal.returns-in_err-take_line-clause-err
+returns-in_err-take_line-clause-err g c =
+    let p = err_from_is_err_and c.from_residual-in_err-take_line.result c.from_residual-in_err-take_line.ensures.1 in
+    let line = rw c.in-Some.is at c.in_ok-number.ensures.line in
+    let number = rw c.in-Some.is at c.in_ok-number.ensures.number in
+    let bytes = rw c.in-Some.is at c.in_ok-number.ensures.bytes in
+    let why = rw c.as_slice.ensures.value at c.in_err-take_line.ensures.err in
+    rw (p.1, p.2)
+    (line_stops _ _ _ _ _ _ _ c.loop-line.invariant.0 c.next.new.line.items c.next.new.self (input g.S.Source c.next.new.source)
+    (record { first = line; total = c.in_ok-number.ensures.length; takes = bytes; goes = c.in_ok-number.ensures.goes_on }) _ _ _ _ c.loop-line.invariant.1 number.0 (sym number.1 ∙ number.0) why)
+
+pub loop-line-preserved : goal.loop-line-preserved
+loop-line-preserved g c =
+    let line = rw c.in-Some.is at c.in_ok-number.ensures.line in
+    let number = rw c.in-Some.is at c.in_ok-number.ensures.number in
+    let bytes = rw c.in-Some.is at c.in_ok-number.ensures.bytes in
+    let takes = rw c.as_slice.ensures.value at c.in_ok-take_line.ensures.ok in (
+      line_taken _ _ _ _ _ _ _ c.loop-line.invariant.0 c.next.new.line.items c.next.new.self (input g.S.Source c.next.new.source)
+          (record { first = line; total = c.in_ok-number.ensures.length; takes = bytes; goes = c.in_ok-number.ensures.goes_on }) _ _ _ number.1 (sym number.1 ∙ number.0) c.next.ensures.later
+          c.in_ok-number.ensures.ended takes,
+      c.take_line.ensures.limit ∙ c.loop-line.invariant.1,
+      c.next.ensures.most ∙ c.loop-line.invariant.2,
+    )
+
+pub returns-clause-ok : goal.returns-clause-ok
+returns-clause-ok g c =
+    let line = rw c.in_default.is at c.in_ok-number.ensures.line in
+    end_reached _ _ _ _ _ _ _ c.loop-line.invariant.0 (input g.S.Source c.next.new.source) (rw c.if-inside.false at c.inside.ensures.answer) (nothing_left c.next.new.self.held _ (rw line.1 line.0)) line.0
+
+pub returns-then-inside-clause-err : goal.returns-then-inside-clause-err
+returns-then-inside-clause-err g c =
+    let line = rw c.in_default.is at c.in_ok-number.ensures.line in
+    let some = rw c.if-inside.true at c.inside.ensures.answer in
+    cut_off _ _ _ _ _ _ _ c.loop-line.invariant.0 (input g.S.Source c.next.new.source) c.args.replica.now.limit _ (some.0 refl) line.0 refl
