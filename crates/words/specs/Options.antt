@@ -1,7 +1,7 @@
--- What a replay is asked for.
+-- What a replay and a follower are asked for.
 use Rattle.std.specs.Prelude.{ℕ, Bool, List, Option, IfSome, unwrap_or, codes}
 use Rattle.words.specs.Items.{Item, is_there, number_in, value_in}
-use Rattle.words.specs.Table.{IsInRange, kind_in, replay_table}
+use Rattle.words.specs.Table.{IsInRange, follow_table, kind_in, replay_table}
 
 -- what is asked for: the folder of the revisions, the most bytes of the input, the most terms and the horizon in microseconds, where
 -- the words say them, and which sections are printed
@@ -45,3 +45,16 @@ IsWithin name value = IfSome value (IsInRange (kind_in replay_table name))
 -- the most bytes, the most terms and the horizon are in their ranges
 abbrev pub IsAllowed : Choices → Type 0
 IsAllowed c = IsWithin (codes "--max-bytes") c.max_bytes × IsWithin (codes "--max-terms") c.max_terms × IsWithin (codes "--horizon") c.horizon
+
+-- what a follower is asked for: the most bytes of the input, where the words say them, and whether its triples are printed
+pub record FollowChoices : Type 0 where
+  pub max_bytes : Option ℕ
+  pub export : Bool
+
+-- what its items ask for
+abbrev pub follow_choices_of : List Item → FollowChoices
+follow_choices_of items = record { max_bytes = number_in follow_table (codes "--max-bytes") items; export = is_there (codes "--export") items }
+
+-- the most bytes of a follower's input: without `--max-bytes` 1,073,741,824
+abbrev pub follow_max_bytes_of : FollowChoices → ℕ
+follow_max_bytes_of c = unwrap_or c.max_bytes 1073741824

@@ -1,13 +1,13 @@
 -- What the words after the program's name ask for.
-use Rattle.std.specs.Prelude.{ℕ, ◌≤◌, cond, List, [], ◌∷◌, Option, None, Some, codes, option_map}
+use Rattle.std.specs.Prelude.{ℕ, ◌≤◌, cond, List, [], ◌∷◌, Option, None, Some, codes, option_map, IfSome}
 use Rattle.std.specs.Option.{option_and_then}
 use Rattle.words.specs.declared.table.Command.{Command}
-use Rattle.words.specs.declared.table.Command.TheVariants.{Replay as ToReplay, Drill as ToDrill}
+use Rattle.words.specs.declared.table.Command.TheVariants.{Replay as ToReplay, Drill as ToDrill, Follow as ToFollow}
 use Rattle.words.specs.Table.{Entry, command_named, drill_table, table_of}
 use Rattle.words.specs.Items.{Item, are_items, items_of, number_in}
-use Rattle.words.specs.Options.{IsAllowed, choices_of}
+use Rattle.words.specs.Options.{IsAllowed, choices_of, follow_choices_of}
 use Rattle.words.specs.declared.plan.Plan.{Plan}
-use Rattle.words.specs.declared.plan.Plan.TheVariants.{Replay, Drill}
+use Rattle.words.specs.declared.plan.Plan.TheVariants.{Replay, Drill, Follow}
 
 -- the greatest size of a drill
 abbrev pub greatest_size : ℕ
@@ -21,6 +21,7 @@ understood table words = cond (are_items table (items_of table words)) (Some (it
 abbrev pub asked : Command → List Item → Option Plan
 asked ToReplay items = Some (Replay (choices_of items))
 asked ToDrill items = option_map Drill (number_in drill_table (codes "--size") items)
+asked ToFollow items = Some (Follow (follow_choices_of items))
 
 -- the plan that the words are: a command, and then items of its table in any order, each at most once
 abbrev pub plan_of : List (List ℕ) → Option Plan
@@ -31,3 +32,4 @@ plan_of (word ∷ words) = option_and_then (λ command. option_and_then (asked c
 abbrev pub IsSized : Plan → Type 0
 IsSized (Replay choices) = IsAllowed choices
 IsSized (Drill size) = (1 ≤ size) × (size ≤ greatest_size)
+IsSized (Follow choices) = IfSome choices.max_bytes (λ n. n ≤ 1099511627776)

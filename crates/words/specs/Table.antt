@@ -5,7 +5,7 @@ use Rattle.words.specs.Numbers.{number_between}
 use Rattle.words.specs.declared.table.ValueKind.{ValueKind}
 use Rattle.words.specs.declared.table.ValueKind.TheVariants.{Flag, Text, Number}
 use Rattle.words.specs.declared.table.Command.{Command}
-use Rattle.words.specs.declared.table.Command.TheVariants.{Replay, Drill}
+use Rattle.words.specs.declared.table.Command.TheVariants.{Replay, Drill, Follow}
 
 -- an item that a command has: its name, and the kind of its value
 pub record Entry : Type 0 where
@@ -18,12 +18,13 @@ entry name kind = record { name = name; kind = kind }
 
 -- the commands
 abbrev pub commands : List Command
-commands = Replay ∷ Drill ∷ []
+commands = Replay ∷ Drill ∷ Follow ∷ []
 
 -- the name of a command
 abbrev pub name_of : Command → List ℕ
 name_of Replay = codes "replay"
 name_of Drill = codes "drill"
+name_of Follow = codes "follow"
 
 -- the command with this name
 abbrev pub command_named : List ℕ → Option Command
@@ -45,10 +46,15 @@ replay_table =
 abbrev pub drill_table : List Entry
 drill_table = entry (codes "--size") (Number 1 200000) ∷ []
 
+-- the items of a follower
+abbrev pub follow_table : List Entry
+follow_table = entry (codes "--max-bytes") (Number 0 1099511627776) ∷ entry (codes "--export") Flag ∷ []
+
 -- the items of a command
 abbrev pub table_of : Command → List Entry
 table_of Replay = replay_table
 table_of Drill = drill_table
+table_of Follow = follow_table
 
 -- the kind of the value of the item with this name, if the table has one
 abbrev pub kind_in : List Entry → List ℕ → Option ValueKind

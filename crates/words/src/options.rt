@@ -1,10 +1,10 @@
-// What a replay is asked for.
+// What a replay and a follower are asked for.
 
 ghost use Rattle.std.specs.Prelude.{◌≡◌, ◌≤◌, ◌^◌, codes, option_map};
 ghost use Rattle.words.specs.Items.{number_in};
 ghost use Rattle.words.specs.Table.{replay_table};
-ghost use Rattle.words.specs.Options.{IsAllowed, IsWithin, choices_of, max_bytes_of, folder_of, max_terms_of};
-ghost use Rattle.words.specs.declared.table.Command.TheVariants.{Replay};
+ghost use Rattle.words.specs.Options.{IsAllowed, IsWithin, choices_of, follow_choices_of, follow_max_bytes_of, max_bytes_of, folder_of, max_terms_of};
+ghost use Rattle.words.specs.declared.table.Command.TheVariants.{Replay, Follow};
 
 use crate::items::Request;
 use std::marker::Model;
@@ -130,4 +130,50 @@ fn max_terms_in(items: &Request<'_>) -> Option<u32>
 {
     let terms = items.number("--max-terms")?;
     Some(terms as u32)
+}
+
+/// What a follower is asked for, as the words say it.
+#[derive(Debug, Drop)]
+pub struct FollowOptions {
+    max_bytes: Option<u64>,
+    export: bool,
+}
+
+impl Model for FollowOptions {
+    ghost use Rattle.std.specs.Prelude.{◌≤◌, IfSome};
+    ghost use Rattle.words.specs.Options.{FollowChoices};
+
+    ghost Value = { FollowChoices };
+
+    ghost view = { λ a. record { max_bytes = a.max_bytes; export = a.export } };
+
+    ghost invariant = { λ a. IfSome a.max_bytes (λ n. n ≤ 1099511627776) };
+}
+
+impl FollowOptions {
+    /// What the items after `follow` ask for.
+    pub fn of_items(items: &Request<'_>) -> FollowOptions
+        requires { items.now.command ≡ Follow }
+        ensures { result ≡ follow_choices_of items.now.items }
+    {
+        FollowOptions {
+            max_bytes: items.number("--max-bytes"),
+            export: items.has("--export"),
+        }
+    }
+
+    /// The most bytes of the input.
+    pub fn max_bytes(&self) -> u64
+        ensures value { result ≡ follow_max_bytes_of self.now }
+        ensures bounded { result ≤ 2 ^ 40 }
+    {
+        self.max_bytes.unwrap_or(MAX_BYTES)
+    }
+
+    /// Whether the triples are printed at the end.
+    pub fn export(&self) -> bool
+        ensures { result ≡ self.now.export }
+    {
+        self.export
+    }
 }

@@ -4,7 +4,7 @@ ghost use Rattle.std.specs.Prelude.{◌≡◌, map, string_bytes, IfSome};
 ghost use Rattle.words.specs.Plan.{IsSized, asked, plan_of};
 
 use crate::items::Request;
-use crate::options::ReplayOptions;
+use crate::options::{FollowOptions, ReplayOptions};
 use crate::table::Command;
 
 /// What a person asked for.
@@ -14,6 +14,8 @@ pub enum Plan<'a> {
     Replay(ReplayOptions<'a>),
     /// To replay deliveries and pages that are made from this number, and to print a summary.
     Drill(u32),
+    /// To rebuild a producer's triples from records of their changes.
+    Follow(FollowOptions),
 }
 
 /// The plan that the words are: a command, and then items of its table in any order, each at most once; a drill has its size.
@@ -38,5 +40,6 @@ fn asked<'a>(request: &Request<'a>) -> Option<Plan<'a>>
             let size = request.number("--size")?;
             Some(Plan::Drill(size as u32))
         }
+        Command::Follow => Some(Plan::Follow(FollowOptions::of_items(request))),
     }
 }

@@ -1,7 +1,7 @@
 // The commands, and the table of each: the names of its items, with the kinds of their values.
 
 ghost use Rattle.std.specs.Prelude.{◌≡◌};
-ghost use Rattle.words.specs.Table.{command_named, drill_table, has_value, kind_in, replay_table, table_of};
+ghost use Rattle.words.specs.Table.{command_named, drill_table, follow_table, has_value, kind_in, replay_table, table_of};
 
 /// What an item has as its value.
 #[derive(Clone, Copy, Debug, PartialEq, Eq)]
@@ -21,6 +21,8 @@ pub enum Command {
     Replay,
     /// To replay deliveries and pages that are made from a number.
     Drill,
+    /// To rebuild a producer's triples from records of their changes.
+    Follow,
 }
 
 impl Command {
@@ -31,6 +33,7 @@ impl Command {
         match word {
             "replay" => Some(Command::Replay),
             "drill" => Some(Command::Drill),
+            "follow" => Some(Command::Follow),
             _ => None,
         }
     }
@@ -42,6 +45,7 @@ impl Command {
         match self {
             Command::Replay => replay_kind(name),
             Command::Drill => drill_kind(name),
+            Command::Follow => follow_kind(name),
         }
     }
 }
@@ -68,6 +72,17 @@ fn drill_kind(name: &str) -> Option<ValueKind>
 {
     match name {
         "--size" => Some(ValueKind::Number(1, 200_000)),
+        _ => None,
+    }
+}
+
+// The items of a follower.
+fn follow_kind(name: &str) -> Option<ValueKind>
+    ensures { result ≡ kind_in follow_table name.now }
+{
+    match name {
+        "--max-bytes" => Some(ValueKind::Number(0, 1_099_511_627_776)),
+        "--export" => Some(ValueKind::Flag),
         _ => None,
     }
 }
