@@ -1,4 +1,4 @@
-//! What a replay prints: the answer to a question, and the sections after the end, written to a sink.
+//! What a replay prints: the answer to a question, and the sections after the end, written to a sink; a follower prints with the same calls.
 //!
 //! What the bytes are is said by the definitions of `replay_model`; this crate writes them, or a prefix of them. `sections`
 //! has the answer and the sections; `triples`, `states` and `entries` print the parts, `lines` makes a line's text, and `write`
@@ -12,5 +12,5 @@ mod states;
 mod triples;
 mod write;
 
-pub use sections::{Sections, print_answer, print_closing};
-pub use write::{Unwritten, print_lines};
+pub use sections::{Sections, print_answer, print_closing, print_triples};
+pub use write::{Unwritten, print_lines, write_all};

@@ -17,6 +17,7 @@ use crate::triples::print_section;
 use crate::write::Unwritten;
 use rdf_term::Pattern;
 use std::alloc::Global;
+use triple_store::Rows;
 use world::World;
 use wq_io::Sink;
 
@@ -83,8 +84,22 @@ fn print_export<K: Sink>(
         return Ok(());
     }
     let rows = world.rows()?;
+    print_triples(alloc, &rows, out)
+}
+
+/// Prints the section of an export: how many triples there are, and the line of each.
+///
+/// # Errors
+/// The output could not be written, or memory was refused: then a prefix of the section was written, and nothing else.
+pub fn print_triples<K: Sink>(
+    alloc: Global,
+    rows: &Rows<'_>,
+    out: &mut K,
+) -> Result<(), Unwritten>
+    ensures { Prints (export_section rows.now) (output K.Sink out.old) (output K.Sink out.new) result }
+{
     let head = export_line(alloc, rows.len())?;
-    print_section(alloc, head.as_str(), &rows, out)
+    print_section(alloc, head.as_str(), rows, out)
 }
 
 // Prints the section of the states, where it is wanted.

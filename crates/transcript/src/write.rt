@@ -24,8 +24,11 @@ impl From<OutOfMemory> for Unwritten {
     }
 }
 
-// Writes all bytes, the rest of them where the sink took a part.
-pub(crate) fn write_all<K: Sink>(bytes: &[u8], out: &mut K) -> Result<(), Unwritten>
+/// Writes all bytes, the rest of them where the sink took a part.
+///
+/// # Errors
+/// The output could not be written, or memory was refused: then a prefix of the bytes was written, and nothing else.
+pub fn write_all<K: Sink>(bytes: &[u8], out: &mut K) -> Result<(), Unwritten>
     ensures { Prints bytes.now (output K.Sink out.old) (output K.Sink out.new) result }
 {
     let mut rest = bytes;
