@@ -1,3 +1,4 @@
+pub mod Ended
 pub mod Reading
 pub mod Received
 pub mod RecordLines

@@ -2,7 +2,6 @@
 use Rattle.std.proofs.Common.{◌≡◌, ℕ, zero, suc, ◌+◌, ◌<◌, ◌≤◌, ◌==◌, Bool, true, false, cond, nat_lt, is_some, List, [], ◌∷◌, ◌++◌, Option, None, Some, IfSome, IsSome, Result, Err, inl, inr, refl, sym, ◌∙◌, ap, subst, arith}
 use Rattle.std.proofs.lemmas.Bool.Decides.{nat_tests}
 use Rattle.replica.specs.declared.record.PatchRecord.{PatchRecord}
-use Rattle.replica.specs.Laws.{IsGreatest}
 use Rattle.replica.specs.Replica.{Follows, HasRoom, IsFull, ReplicaState, after, nothing_received, numbered, patched_if, room_with}
 use Rattle.replica.proofs.Following.{follows_nothing}
 use Rattle.term_pool.specs.declared.fault.PoolFault.{PoolFault}

@@ -1,5 +1,5 @@
 -- How far the taking of lines has come, and what follows where it goes on, stops or ends.
-use Rattle.std.proofs.Common.{refl, sym, subst, ◌∙◌, ap, ⊎_elim, ◌≡◌, ◌⊎◌, ℕ, ◌+◌, ◌≤◌, true, false, List, [], ◌∷◌, ◌++◌, length, Option, None, Some, IfSome, IsTrue, ◌↔◌, arith, true≢false}
+use Rattle.std.proofs.Common.{refl, sym, subst, ◌∙◌, ap, ⊎_elim, ◌≡◌, ℕ, ◌+◌, ◌≤◌, true, false, List, [], ◌∷◌, ◌++◌, length, Option, None, Some, IfSome, IsTrue, ◌↔◌, arith, true≢false}
 use Rattle.wq_io.specs.Streams.{IsAtEnd, Rose}
 use Rattle.wq_io.specs.Lines.{HasCause as HasLineCause, IsSound, Leaves, Reading, fresh, lines, unread}
 use Rattle.wq_io.specs.declared.lines.LineFault.{LineFault}
@@ -11,7 +11,7 @@ use Rattle.replica.specs.declared.record.PatchRecord.{PatchRecord}
 use Rattle.replica.specs.Reader.{HasCause, lines_of as lines_begun}
 use Rattle.replica.specs.Replica.{ReplicaState, nothing_received}
 use Rattle.following.specs.declared.stop.FollowStop.{FollowStop}
-use Rattle.following.specs.declared.stop.FollowStop.TheVariants.{BadLine, StoreFull}
+use Rattle.following.specs.declared.stop.FollowStop.TheVariants.{BadLine}
 use Rattle.following.specs.declared.stop.RecordCause.TheVariants.{Short}
 use Rattle.following.specs.Input.{Input}
 use Rattle.following.specs.Reading.{AreLinesOf, AreRecords, EndsInside, HasRead, longest_line}

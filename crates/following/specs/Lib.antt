@@ -1,3 +1,4 @@
+pub mod Following
 pub mod Input
 pub mod Reading
 pub mod Stop

@@ -11,6 +11,8 @@ use Rattle.replica.specs.Reader.{HasCause}
 use Rattle.replica.specs.Replica.{ReplicaState}
 use Rattle.term_pool.specs.declared.fault.PoolFault.{PoolFault}
 use Rattle.term_pool.specs.declared.fault.PoolFault.TheVariants.{Full, OutOfMemory as Unfed}
+use Rattle.transcript.specs.declared.write.Unwritten.{Unwritten}
+use Rattle.transcript.specs.declared.write.Unwritten.TheVariants.{WriteFault as NotWritten, OutOfMemory as Refused}
 use Rattle.following.specs.declared.stop.RecordCause.{RecordCause}
 use Rattle.following.specs.declared.stop.RecordCause.TheVariants.{LineLong, Head, Triple, Order, Short}
 use Rattle.following.specs.declared.stop.FollowStop.{FollowStop}
@@ -37,6 +39,11 @@ stop_of_record number Starved = OutOfMemory
 abbrev pub stop_of_store : PoolFault → FollowStop
 stop_of_store Full = StoreFull
 stop_of_store Unfed = OutOfMemory
+
+-- why a follower stopped where not all was written
+abbrev pub stop_of_unwritten : Unwritten → FollowStop
+stop_of_unwritten NotWritten = WriteFault
+stop_of_unwritten Refused = OutOfMemory
 
 -- why the line with this number is refused
 abbrev pub IsRefused : RecordCause → ℕ → List ℕ → ℕ → Type 0

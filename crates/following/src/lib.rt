@@ -1,10 +1,13 @@
 //! Follows a producer's triples by the records of their changes, which are read from an input.
 //!
-//! `taking` takes the lines of the input, and the records that they are; `stop` is why a follower stopped.
+//! `follow` is the whole command but for its words: `following` has it. `taking` takes the lines of the input, and the records that they
+//! are; `printing` prints what a follower has then; `stop` is why it stopped.
 #![tactic(auto)]
 
+mod following;
+mod printing;
 mod stop;
 mod taking;
 
+pub use following::follow;
 pub use stop::{FollowStop, RecordCause};
-pub use taking::take_records;

@@ -6,6 +6,7 @@ ghost use Rattle.following.specs.declared.stop.FollowStop.TheVariants.{OutOfMemo
 
 use rdf_term::OutOfMemory;
 use replica::{PatchFault, ReplicaFault};
+use transcript::Unwritten;
 use wq_io::LineFault;
 
 /// Why a line of records is refused.
@@ -74,6 +75,20 @@ impl From<ReplicaFault> for FollowStop {
         match fault {
             ReplicaFault::Full => FollowStop::StoreFull,
             ReplicaFault::OutOfMemory => FollowStop::OutOfMemory,
+        }
+    }
+}
+
+impl From<Unwritten> for FollowStop {
+    ghost use Rattle.std.specs.Prelude.{◌≡◌};
+    ghost use Rattle.following.specs.Stop.{stop_of_unwritten};
+
+    ghost from_gives = { λ why stop. stop ≡ stop_of_unwritten why };
+
+    fn from(why: Unwritten) -> FollowStop {
+        match why {
+            Unwritten::WriteFault => FollowStop::WriteFault,
+            Unwritten::OutOfMemory => FollowStop::OutOfMemory,
         }
     }
 }

@@ -1,5 +1,5 @@
 -- What was received is received still, and what was applied had room.
-use Rattle.std.proofs.Common.{◌≡◌, ◌-◌, ◌^◌, ℕ, List}
+use Rattle.std.proofs.Common.{◌≡◌, ◌-◌, ◌^◌, List}
 use Rattle.replica.specs.declared.record.PatchRecord.{PatchRecord}
 use Rattle.following.specs.Taking.{HasReceived}
 use Rattle.following.proofs.taking.apply_due.Given as goal

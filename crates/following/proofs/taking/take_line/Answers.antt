@@ -1,5 +1,5 @@
 -- The line ends a record, or is within one.
-use Rattle.std.proofs.Common.{◌≡◌, inl, inr, ⊎_elim, ◌++◌, ◌∷◌, []}
+use Rattle.std.proofs.Common.{inl, inr, ⊎_elim, ◌++◌, ◌∷◌, []}
 use Rattle.std.proofs.lemmas.Result.{IfErr-weaker, on_ok_weaker}
 use Rattle.following.proofs.RecordLines.{ends_record, within_record}
 use Rattle.following.proofs.taking.take_line.Goals as goal

@@ -1,10 +1,9 @@
 -- The start, a fault of the reader, a line that isn't taken, and the end.
-use Rattle.std.proofs.Common.{refl, sym, subst, ◌∙◌, arith}
+use Rattle.std.proofs.Common.{refl, sym, ◌∙◌}
 use Rattle.std.proofs.lemmas.Result.{err_from_is_err_and}
 use Rattle.following.specs.Input.{input}
-use Rattle.following.specs.Stop.{IsHalted}
 use Rattle.following.proofs.Reading.{nothing_left}
-use Rattle.following.proofs.Taken.{Progress, cut_off, end_reached, fault_stops, line_stops, line_taken, nothing_taken}
+use Rattle.following.proofs.Taken.{cut_off, end_reached, fault_stops, line_stops, line_taken, nothing_taken}
 use Rattle.following.proofs.taking.take_records.Goals as goal
 
 pub loop-line-init : goal.loop-line-init

@@ -1,0 +1,33 @@
+-- What a follower leaves at its end.
+use Rattle.std.proofs.Common.{◌≡◌, Ok, Err, inr, refl, ap, subst}
+use Rattle.replica.specs.Replica.{ReplicaState, after}
+use Rattle.transcript.specs.declared.write.Unwritten.{Unwritten}
+use Rattle.transcript.specs.Printing.{Prints}
+use Rattle.words.specs.Options.{FollowChoices, follow_max_bytes_of}
+use Rattle.following.specs.Following.{Ending, HasFollowed, Moment, Stopped, follower_limit, replica_text}
+use Rattle.following.specs.Stop.{stop_of_unwritten}
+use Rattle.following.specs.Taking.{HadRoom, HasTaken}
+
+module _ (choices : FollowChoices) (before now : Moment) (state : ReplicaState) (taken : HasTaken (follow_max_bytes_of choices) before.input now.input state) (limit : state.limit ≡ follower_limit) where
+  followed : HasFollowed choices taken.items state.applied before.input now.input
+  followed = record {
+    read = taken.read;
+    are = taken.are;
+    greatest = taken.applied.greatest;
+    roomed = subst (λ n. HadRoom n taken.items state.applied) limit taken.applied.received.roomed;
+  }
+
+  text_is : replica_text choices.export state.applied state.triples ≡ replica_text choices.export state.applied (after taken.items state.applied)
+  text_is = ap (replica_text choices.export state.applied) taken.applied.received.follows.triples
+
+  -- all was printed
+  pub ended : Prints (replica_text choices.export state.applied state.triples) before.output now.output (Ok tt) → Ending choices before now
+  ended prints =
+      let printed = subst (λ text. Prints text before.output now.output (Ok tt)) text_is prints in
+      record { items = taken.items; applied = state.applied; followed = followed; printed = printed.outcome }
+
+  -- not all was printed
+  pub broken_off : (why : Unwritten) → Prints (replica_text choices.export state.applied state.triples) before.output now.output (Err why) → Stopped (stop_of_unwritten why) choices before now
+  broken_off why prints =
+      let printed = subst (λ text. Prints text before.output now.output (Err why)) text_is prints in
+      inr (why, refl, record { items = taken.items; applied = state.applied; followed = followed; cut_short = printed.outcome })

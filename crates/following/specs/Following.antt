@@ -1,0 +1,67 @@
+-- What a follower prints, and what it leaves.
+use Rattle.std.specs.Prelude.{◌≡◌, ◌⊎◌, ℕ, Bool, cond, List, [], ◌++◌, None, IfSome, codes, decimal}
+use Rattle.wq_io.specs.Streams.{IsAtEnd, after_known}
+use Rattle.wq_io.specs.declared.source.Source.{Ghosts as SourceOf}
+use Rattle.wq_io.specs.declared.sink.Sink.{Ghosts as SinkOf}
+use Rattle.rdf_term.specs.declared.triple.Triple.{Triple}
+use Rattle.replica.specs.declared.record.PatchRecord.{PatchRecord}
+use Rattle.replica.specs.Laws.{IsGreatest}
+use Rattle.replica.specs.Replica.{after}
+use Rattle.replay_model.specs.Transcript.{export_section}
+use Rattle.transcript.specs.declared.write.Unwritten.{Unwritten}
+use Rattle.transcript.specs.Printing.{IsCutShort, Output, output}
+use Rattle.words.specs.Options.{FollowChoices, follow_max_bytes_of}
+use Rattle.following.specs.declared.stop.FollowStop.{FollowStop}
+use Rattle.following.specs.Input.{Input, input}
+use Rattle.following.specs.Reading.{AreRecords}
+use Rattle.following.specs.Stop.{IsHalted, stop_of_unwritten}
+use Rattle.following.specs.Taking.{HadRoom}
+
+-- the line `# replica <applied>`
+unfoldable pub replica_line : ℕ → List ℕ
+replica_line applied = codes "# replica " ++ decimal applied ++ codes "\n"
+
+-- what is printed at the end: how many records were applied, and, where it is asked for, the section of the triples
+abbrev pub replica_text : Bool → ℕ → List Triple → List ℕ
+replica_text export applied triples = replica_line applied ++ cond export (export_section triples) []
+
+-- for how many different terms a follower has room
+abbrev pub follower_limit : ℕ
+follower_limit = 20000000
+
+-- what stands at a moment
+pub record Moment : Type 0 where
+  pub input : Input
+  pub output : Output
+
+-- the moment that these are
+abbrev pub moment : {S K : Type 0} → SourceOf S → SinkOf K → S → K → Moment
+moment source sink events out = record { input = input source events; output = output sink out }
+
+-- the whole input was read and its lines are those of these records; the number is the greatest such that those up to it are there,
+-- and there was room for them
+pub record HasFollowed (choices : FollowChoices) (items : List PatchRecord) (applied : ℕ) (before now : Input) : Type 0 where
+  pub read : IsAtEnd now.left
+  pub are : IfSome before.left (λ bytes. AreRecords (follow_max_bytes_of choices) bytes items None)
+  pub greatest : IsGreatest items applied
+  pub roomed : HadRoom follower_limit items applied
+
+-- a follower ended well: the triples after these records were printed, if they were asked for
+pub record Ending (choices : FollowChoices) (before now : Moment) : Type 0 where
+  pub items : List PatchRecord
+  pub applied : ℕ
+  pub followed : HasFollowed choices items applied before.input now.input
+  pub printed : now.output.bytes ≡ after_known before.output.bytes (replica_text choices.export applied (after items applied))
+
+-- all records were followed, and then a prefix of what is printed was written, and nothing else
+pub record BrokenOff (why : Unwritten) (choices : FollowChoices) (before now : Moment) : Type 0 where
+  pub items : List PatchRecord
+  pub applied : ℕ
+  pub followed : HasFollowed choices items applied before.input now.input
+  pub cut_short : IsCutShort why (replica_text choices.export applied (after items applied)) before.output now.output
+
+-- a follower stopped before it printed anything, or while it printed
+abbrev pub Stopped : FollowStop → FollowChoices → Moment → Moment → Type 0
+Stopped stop choices before now =
+    (IsHalted stop (follow_max_bytes_of choices) follower_limit before.input now.input × (now.output.bytes ≡ before.output.bytes))
+    ⊎ ((why : Unwritten) × (stop ≡ stop_of_unwritten why) × BrokenOff why choices before now)

@@ -1,0 +1,46 @@
+// A follower: it takes the records of its input, and prints what it has then.
+
+ghost use Rattle.std.specs.Prelude.{◌≤◌, ◌≡◌, IfErr, OnOk};
+ghost use Rattle.following.specs.Following.{Ending, Stopped, moment};
+
+use crate::printing::print_replica;
+use crate::stop::FollowStop;
+use crate::taking::take_records;
+use replica::Replica;
+use std::alloc::Global;
+use std::hash::RandomState;
+use words::FollowOptions;
+use wq_io::{Sink, Source};
+
+/// For how many different terms a follower has room.
+const TERMS_LIMIT: u32 = 20_000_000;
+
+/// Reads records from `events`, as `replica::PatchReader` does; each is received as soon as its last line was read, and then all that
+/// are due are applied, before the next line is read. At the end of the input it writes `# replica N`, the number of records that were
+/// applied, and, where the options ask for it, a line `# export: COUNT triples` and the line of each triple in N-Triples.
+///
+/// Terms are found by hashes under `keys`.
+///
+/// # Errors
+/// Why it stopped. Before the end of the input nothing is written.
+pub fn follow<S: Source, K: Sink>(
+    alloc: Global,
+    keys: RandomState,
+    options: &FollowOptions,
+    events: &mut S,
+    out: &mut K,
+) -> Result<(), FollowStop>
+    ensures ok { OnOk result (Ending options.now (moment S.Source K.Sink events.old out.old) (moment S.Source K.Sink events.new out.new)) }
+    ensures err { IfErr result (λ stop. Stopped stop options.now (moment S.Source K.Sink events.old out.old) (moment S.Source K.Sink events.new out.new)) }
+    ensures later { S.faults events.old ≤ S.faults events.new }
+    ensures most { S.most_faults events.new ≡ S.most_faults events.old }
+    ensures written { K.faults out.old ≤ K.faults out.new }
+    ensures most_written { K.most_faults out.new ≡ K.most_faults out.old }
+{
+    let mut replica = Replica::new(alloc, keys, TERMS_LIMIT)?;
+    take_records(alloc, options.max_bytes(), events, &mut replica)?;
+    match print_replica(alloc, &replica, options.export(), out) {
+        Ok(()) => Ok(()),
+        Err(why) => Err(FollowStop::from(why)),
+    }
+}
