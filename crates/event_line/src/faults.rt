@@ -30,6 +30,14 @@ pub enum LineCause {
     Pattern,
     /// `mapping` isn't the whole number 1 or 2, written in digits alone.
     Mapping,
+    /// A record of changes has to begin here, and the line is no first line of one. It is no cause of an event file, nor are those below.
+    Head,
+    /// A triple of a record has to stand here, and the line isn't the canonical text of one.
+    Triple,
+    /// The triple isn't greater than the one before it in its part of the record, or stands in both parts.
+    Order,
+    /// The input ends inside a record.
+    Short,
 }
 
 /// Why a line gave no delivery.

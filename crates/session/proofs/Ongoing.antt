@@ -38,6 +38,11 @@ module _ {S R K : Type 0} (input : SourceOf S) (source : RevisionsOf R) (sink : 
     out = record { faults = omega (arith, so_far.out.faults, more.faults); most = more.most ∙ so_far.out.most };
   }
 
+  -- records are followed
+  pub followed_on : (ports : Ports S R K) (events : S) (out : K) → input.faults ports.events ≤ input.faults events → input.most_faults events ≡ input.most_faults ports.events → HasWrittenOn sink ports.out out →
+      HaveGoneOn input source sink ports (record ports { events = events; out = out })
+  followed_on ports events out later most written = record { events = record { faults = later; most = most }; revisions = (none_gone ports).revisions; out = written }
+
   -- a line is read and delivered
   pub delivered_on : (old now : Ports S R K) (events : S) (revisions : R) (out : K) → HaveGoneOn input source sink old now → input.faults now.events ≤ input.faults events → input.most_faults events ≡ input.most_faults now.events →
       HasGoneOn source now.revisions revisions → HasWrittenOn sink now.out out → HaveGoneOn input source sink old (record { events = events; revisions = revisions; out = out })

@@ -1,10 +1,12 @@
--- What a replay and a drill leave, by the plan that the words are.
+-- What a replay, a drill and a follower leave, by the plan that the words are.
 use Rattle.std.proofs.Common.{◌≡◌, subst, ℕ, Some, IfSome}
-use Rattle.words.specs.Options.{Choices, max_bytes_of}
+use Rattle.following.specs.Following.{Moment as FollowMoment}
+use Rattle.words.specs.Options.{Choices, FollowChoices, max_bytes_of}
 use Rattle.words.specs.declared.plan.Plan.{Plan}
-use Rattle.words.specs.declared.plan.Plan.TheVariants.{Replay, Drill}
+use Rattle.words.specs.declared.plan.Plan.TheVariants.{Replay, Drill, Follow}
 use Rattle.session.specs.declared.status.Status.{Status}
 use Rattle.session.specs.declared.stop.Stop.{Stop}
+use Rattle.session.specs.Following.{FollowEnding, FollowStopped}
 use Rattle.session.specs.Headline.{ReplayEnding, Stopped}
 use Rattle.session.specs.Moment.{Moment, Run}
 use Rattle.session.specs.Reading.{TakesByNeed}
@@ -31,6 +33,27 @@ no_drill P choices size same = cc
 
 pub no_replay : (P : Type 0) (choices : Choices) (size : ℕ) → Some (Drill size) ≡ Some (Replay choices) → P
 no_replay P choices size same = cc
+
+pub for_follow : (P : FollowChoices → Type 0) (read choices : FollowChoices) → Some (Follow read) ≡ Some (Follow choices) → P read → P choices
+for_follow P read choices same p =
+    let is : read ≡ choices = cc in
+    subst P is p
+
+pub replay_no_follow : (P : Type 0) (read : Choices) (choices : FollowChoices) → Some (Replay read) ≡ Some (Follow choices) → P
+replay_no_follow P read choices same = cc
+
+pub drill_no_follow : (P : Type 0) (size : ℕ) (choices : FollowChoices) → Some (Drill size) ≡ Some (Follow choices) → P
+drill_no_follow P size choices same = cc
+
+pub follow_no_replay : (P : Type 0) (read : FollowChoices) (choices : Choices) → Some (Follow read) ≡ Some (Replay choices) → P
+follow_no_replay P read choices same = cc
+
+pub follow_no_drill : (P : Type 0) (read : FollowChoices) (size : ℕ) → Some (Follow read) ≡ Some (Drill size) → P
+follow_no_drill P read size same = cc
+
+-- a follower that stopped
+pub follow_stopped : (status : Status) (stop : Stop) (choices : FollowChoices) (before now : FollowMoment) → stop_of status ≡ Some stop → FollowStopped stop choices before now → FollowEnding status choices before now
+follow_stopped status stop choices before now is stopped = rw is stopped
 
 -- a replay that stopped
 pub replay_stopped : (status : Status) (stop : Stop) (run : Run) (before now : Moment) → stop_of status ≡ Some stop → Stopped stop run before now →

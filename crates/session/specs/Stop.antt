@@ -2,9 +2,14 @@
 use Rattle.std.specs.Prelude.{Option, None, Some}
 use Rattle.wq_io.specs.declared.lines.LineFault.{LineFault}
 use Rattle.wq_io.specs.declared.lines.LineFault.TheVariants.{ReadFault as NotRead, TooLong as PastLimit, LineLong as OverLong, OutOfMemory as NoMemory}
-use Rattle.event_line.specs.declared.faults.LineCause.TheVariants.{LineLong}
+use Rattle.event_line.specs.declared.faults.LineCause.{LineCause}
+use Rattle.event_line.specs.declared.faults.LineCause.TheVariants.{LineLong, Head, Triple, Order, Short}
 use Rattle.transcript.specs.declared.write.Unwritten.{Unwritten}
 use Rattle.transcript.specs.declared.write.Unwritten.TheVariants.{WriteFault as NotWritten, OutOfMemory as Refused}
+use Rattle.following.specs.declared.stop.RecordCause.{RecordCause}
+use Rattle.following.specs.declared.stop.RecordCause.TheVariants.{LineLong as RecordLong, Head as NoHead, Triple as NoTriple, Order as OutOfOrder, Short as CutOff}
+use Rattle.following.specs.declared.stop.FollowStop.{FollowStop}
+use Rattle.following.specs.declared.stop.FollowStop.TheVariants.{BadLine as BadRecord, ReadFault as NotFollowed, WriteFault as NotPrinted, TooLong as OverLimit, StoreFull as NoPlace, OutOfMemory as Unfed}
 use Rattle.session.specs.declared.stop.Stop.{Stop}
 use Rattle.session.specs.declared.stop.Unapplied.{Unapplied}
 use Rattle.session.specs.declared.stop.Unapplied.TheVariants.{StoreFull as NoRoom, OutOfMemory as Starved}
@@ -29,6 +34,23 @@ stop_of_unwritten Refused = OutOfMemory
 abbrev pub stop_of_unapplied : Unapplied → Stop
 stop_of_unapplied NoRoom = StoreFull
 stop_of_unapplied Starved = OutOfMemory
+
+-- why a line of records is refused, as a cause of a line
+abbrev pub cause_of_record : RecordCause → LineCause
+cause_of_record RecordLong = LineLong
+cause_of_record NoHead = Head
+cause_of_record NoTriple = Triple
+cause_of_record OutOfOrder = Order
+cause_of_record CutOff = Short
+
+-- why a run stopped where a follower did
+abbrev pub stop_of_follow : FollowStop → Stop
+stop_of_follow (BadRecord number cause) = BadLine number (cause_of_record cause)
+stop_of_follow NotFollowed = ReadFault
+stop_of_follow NotPrinted = WriteFault
+stop_of_follow OverLimit = TooLong
+stop_of_follow NoPlace = StoreFull
+stop_of_follow Unfed = OutOfMemory
 
 -- why a run with this status stopped, if it was begun and stopped
 abbrev pub stop_of : Status → Option Stop

@@ -5,22 +5,26 @@ ghost use Rattle.replay_model.specs.ReplayState.{nothing_delivered};
 ghost use Rattle.drill_replay.specs.Playing.{IsByFirst};
 ghost use Rattle.session.specs.Counts.{HaveGoneOn};
 ghost use Rattle.session.specs.Drilling.{DrillEnding};
+ghost use Rattle.session.specs.Following.{FollowEnding};
 ghost use Rattle.session.specs.Headline.{ReplayEnding};
 ghost use Rattle.session.specs.Moment.{moment, run_of, stage, world_at_start};
 ghost use Rattle.session.specs.Remapping.{HoldsWithin};
 ghost use Rattle.session.specs.Room.{room_of};
-ghost use Rattle.words.specs.Options.{Choices};
+ghost use Rattle.following.specs.Following.{moment as follow_moment};
+ghost use Rattle.words.specs.Options.{Choices, FollowChoices};
 ghost use Rattle.words.specs.Plan.{plan_of};
 ghost use Rattle.words.specs.declared.plan.Plan.{Plan as ThePlan};
-ghost use Rattle.words.specs.declared.plan.Plan.TheVariants.{Replay, Drill};
+ghost use Rattle.words.specs.declared.plan.Plan.TheVariants.{Replay, Drill, Follow};
 
 use crate::drilling::drill;
+use crate::following::follow_records;
 use crate::ports::Ports;
 use crate::replaying::replay;
 use crate::status::Status;
 use crate::stop::Stop;
 use revisions::Revisions;
 use std::alloc::Global;
+use std::hash::RandomState;
 use words::{Plan, read_plan};
 use world::World;
 use wq_io::{Sink, Source};
@@ -29,10 +33,13 @@ use wq_io::{Sink, Source};
 /// held anew where a line changes the mapping, and prints at the end what the words ask for; a drill replays
 /// deliveries and pages that are made from its size, and prints its summary.
 ///
-/// `words` are those after the program's name; `world` has taken nothing yet and has no horizon; a run begins with the first version of
+/// A follower reads records of changes, and prints how many of them were applied and, where the words ask for it, the triples then.
+///
+/// `words` are those after the program's name; terms of records are found by hashes under `keys`; `world` has taken nothing yet and has no horizon; a run begins with the first version of
 /// the mapping, whichever is in force in it.
 pub fn run<S: Source, R: Revisions, K: Sink>(
     alloc: Global,
+    keys: RandomState,
     words: &[String],
     ports: &mut Ports<S, R, K>,
     world: &mut World,
@@ -57,6 +64,13 @@ pub fn run<S: Source, R: Revisions, K: Sink>(
         (stage R.Revisions K.Sink ports.new.revisions ports.new.out world.new)
         × IsByFirst world.new × (ports.new ≡ record ports.old { out = ports.new.out }) }
 
+    // A follower ends well, or stops for a cause. It fetches nothing, and the world stays empty.
+    ensures follow { (choices : FollowChoices) → plan_of (map (λ w. string_bytes w) words.now) ≡ Some (Follow choices) →
+        FollowEnding result choices
+        (follow_moment S.Source K.Sink ports.old.events ports.old.out)
+        (follow_moment S.Source K.Sink ports.new.events ports.new.out)
+        × (ports.new ≡ record ports.old { events = ports.new.events; out = ports.new.out }) × (world.new ≡ record world.old { room = 20000000 }) }
+
     // However a run ends, the world is left with the room of the plan, and what it holds has this room.
     ensures room { (plan : ThePlan) → plan_of (map (λ w. string_bytes w) words.now) ≡ Some plan →
         (world.new.room ≡ room_of plan) × HoldsWithin (room_of plan) world.new }
@@ -76,5 +90,11 @@ pub fn run<S: Source, R: Revisions, K: Sink>(
             Ok(()) => Status::Ok,
             Err(why) => Stop::from(why).status(),
         },
+        Some(Plan::Follow(options)) => {
+            match follow_records(alloc, keys, &options, ports, world) {
+                Ok(()) => Status::Ok,
+                Err(stop) => stop.status(),
+            }
+        }
     }
 }

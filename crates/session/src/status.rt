@@ -14,7 +14,7 @@ pub enum Status {
     Ok,
     /// The words are not understood; nothing was read or written.
     BadWords,
-    /// The line with this number, from 1, is no delivery.
+    /// The line with this number, from 1, is refused.
     BadLine(u64, LineCause),
     /// The input could not be read.
     ReadFault,
@@ -22,7 +22,7 @@ pub enum Status {
     WriteFault,
     /// The input has more bytes than it may have.
     TooLong,
-    /// There is no room for the terms of a page.
+    /// There is no room for the terms of a page, or of a record.
     StoreFull,
     /// A request for memory was refused.
     OutOfMemory,
@@ -45,7 +45,7 @@ pub fn status_text(alloc: Global, status: &Status) -> Result<Text, OutOfMemory>
     }
 }
 
-// The line on a line that is no delivery.
+// The line on a line that is refused.
 fn bad_line(alloc: Global, number: u64, cause: LineCause) -> Result<Text, OutOfMemory>
     ensures { IfOk result (λ text. text ≡ bad_line_text number cause) }
 {
@@ -85,5 +85,9 @@ fn cause_name(cause: LineCause) -> &'static str
         LineCause::Mode => "Mode",
         LineCause::Pattern => "Pattern",
         LineCause::Mapping => "Mapping",
+        LineCause::Head => "Head",
+        LineCause::Triple => "Triple",
+        LineCause::Order => "Order",
+        LineCause::Short => "Short",
     }
 }

@@ -1,11 +1,12 @@
 // Why a run that was begun stopped.
 
 ghost use Rattle.std.specs.Prelude.{◌≡◌, Some};
-ghost use Rattle.session.specs.Stop.{stop_of};
+ghost use Rattle.session.specs.Stop.{cause_of_record, stop_of};
 ghost use Rattle.session.specs.declared.stop.Stop.TheVariants.{OutOfMemory as Refused};
 
 use crate::status::Status;
 use event_line::LineCause;
+use following::{FollowStop, RecordCause};
 use rdf_term::OutOfMemory;
 use transcript::Unwritten;
 use wq_io::LineFault;
@@ -22,7 +23,7 @@ pub enum Unapplied {
 // Why a run that was begun stopped.
 #[derive(Clone, Copy, Debug, PartialEq, Eq)]
 pub enum Stop {
-    // The line with this number, from 1, is no delivery.
+    // The line with this number, from 1, is refused.
     BadLine(u64, LineCause),
     // The input could not be read.
     ReadFault,
@@ -85,6 +86,37 @@ impl From<LineFault> for Stop {
             LineFault::LineLong(number) => Stop::BadLine(number, LineCause::LineLong),
             LineFault::OutOfMemory => Stop::OutOfMemory,
         }
+    }
+}
+
+impl From<FollowStop> for Stop {
+    ghost use Rattle.std.specs.Prelude.{◌≡◌};
+    ghost use Rattle.session.specs.Stop.{stop_of_follow};
+
+    ghost from_gives = { λ why stop. stop ≡ stop_of_follow why };
+
+    fn from(why: FollowStop) -> Stop {
+        match why {
+            FollowStop::BadLine(number, cause) => Stop::BadLine(number, cause_of_record(cause)),
+            FollowStop::ReadFault => Stop::ReadFault,
+            FollowStop::WriteFault => Stop::WriteFault,
+            FollowStop::TooLong => Stop::TooLong,
+            FollowStop::StoreFull => Stop::StoreFull,
+            FollowStop::OutOfMemory => Stop::OutOfMemory,
+        }
+    }
+}
+
+// Why a line of records is refused, as a cause of a line.
+fn cause_of_record(cause: RecordCause) -> LineCause
+    ensures { result ≡ cause_of_record cause }
+{
+    match cause {
+        RecordCause::LineLong => LineCause::LineLong,
+        RecordCause::Head => LineCause::Head,
+        RecordCause::Triple => LineCause::Triple,
+        RecordCause::Order => LineCause::Order,
+        RecordCause::Short => LineCause::Short,
     }
 }
 

@@ -1,15 +1,18 @@
--- What a replay and a drill leave, by the plan that was read.
+-- What a replay, a drill and a follower leave, by the plan that was read.
 use Rattle.std.proofs.Common.{◌≡◌, ◌∙◌, sym, ap, Some, refl}
-use Rattle.words.specs.declared.plan.Plan.TheVariants.{Replay, Drill}
+use Rattle.words.specs.declared.plan.Plan.TheVariants.{Replay, Drill, Follow}
 use Rattle.session.specs.declared.status.Status.TheVariants.{Ok as Ended}
 use Rattle.session.specs.Drilling.{DrillEnding}
+use Rattle.following.specs.Following.{moment as follow_moment}
+use Rattle.session.specs.Following.{FollowEnding}
 use Rattle.session.specs.Headline.{ReplayEnding}
 use Rattle.session.specs.Moment.{moment, run_of, stage, world_at_start}
 use Rattle.session.specs.Remapping.{HoldsWithin}
 use Rattle.session.specs.Room.{room_of}
+use Rattle.world.specs.WorldState.{WorldState}
 use Rattle.drill_replay.specs.Playing.{IsByFirst}
 use Rattle.session.proofs.Ongoing.{none_gone, written_on}
-use Rattle.session.proofs.Plans.{for_choices, for_plan, for_size, no_drill, no_replay, replay_stopped}
+use Rattle.session.proofs.Plans.{drill_no_follow, follow_no_drill, follow_no_replay, follow_stopped, for_choices, for_follow, for_plan, for_size, no_drill, no_replay, replay_no_follow, replay_stopped}
 use Rattle.session.proofs.running.run.Goals as goal
 
 -- ---- a replay that ended well
@@ -21,6 +24,9 @@ returns-in-Ok-clause-replay g c = λ choices plan.
 
 pub returns-in-Ok-clause-drill : goal.returns-in-Ok-clause-drill
 returns-in-Ok-clause-drill g c = λ size plan. no_drill _ _ size (ap Some (sym c.in-Some-Replay.field-0-is) ∙ c.in-Some-Replay.ensures.value ∙ plan)
+
+pub returns-in-Ok-clause-follow : goal.returns-in-Ok-clause-follow
+returns-in-Ok-clause-follow g c = λ choices plan. replay_no_follow _ _ choices (ap Some (sym c.in-Some-Replay.field-0-is) ∙ c.in-Some-Replay.ensures.value ∙ plan)
 
 pub returns-in-Ok-clause-room : goal.returns-in-Ok-clause-room
 returns-in-Ok-clause-room g c = λ the plan.
@@ -36,6 +42,9 @@ returns-in-Err-clause-replay g c = λ choices plan.
 
 pub returns-in-Err-clause-drill : goal.returns-in-Err-clause-drill
 returns-in-Err-clause-drill g c = λ size plan. no_drill _ _ size (ap Some (sym c.in-Some-Replay.field-0-is) ∙ c.in-Some-Replay.ensures.value ∙ plan)
+
+pub returns-in-Err-clause-follow : goal.returns-in-Err-clause-follow
+returns-in-Err-clause-follow g c = λ choices plan. replay_no_follow _ _ choices (ap Some (sym c.in-Some-Replay.field-0-is) ∙ c.in-Some-Replay.ensures.value ∙ plan)
 
 pub returns-in-Err-clause-room : goal.returns-in-Err-clause-room
 returns-in-Err-clause-room g c = λ the plan.
@@ -53,6 +62,9 @@ returns-in-Ok-drill-clause-drill g c = λ size plan.
     × IsByFirst c.drill.new.world × (record c.args.ports.now { out = c.drill.new.out } ≡ record c.args.ports.now { out = c.drill.new.out }))
     c.in-Some-Drill.size size (ap Some (sym c.in-Some-Drill.field-0-is) ∙ c.in-Some-Drill.ensures.value ∙ plan) (c.in-Ok-drill.ensures.ok, c.in-Ok-drill.ensures.first, refl)
 
+pub returns-in-Ok-drill-clause-follow : goal.returns-in-Ok-drill-clause-follow
+returns-in-Ok-drill-clause-follow g c = λ choices plan. drill_no_follow _ _ choices (ap Some (sym c.in-Some-Drill.field-0-is) ∙ c.in-Some-Drill.ensures.value ∙ plan)
+
 pub returns-in-Ok-drill-clause-room : goal.returns-in-Ok-drill-clause-room
 returns-in-Ok-drill-clause-room g c = λ the plan.
     for_plan (λ x. (c.drill.new.world.room ≡ room_of x) × HoldsWithin (room_of x) c.drill.new.world)
@@ -66,6 +78,9 @@ returns-in-Ok-drill-clause-further g c = written_on g.S.Source g.R.Revisions g.K
 pub returns-in-Err-drill-clause-replay : goal.returns-in-Err-drill-clause-replay
 returns-in-Err-drill-clause-replay g c = λ choices plan. no_replay _ choices _ (ap Some (sym c.in-Some-Drill.field-0-is) ∙ c.in-Some-Drill.ensures.value ∙ plan)
 
+pub returns-in-Err-drill-clause-follow : goal.returns-in-Err-drill-clause-follow
+returns-in-Err-drill-clause-follow g c = λ choices plan. drill_no_follow _ _ choices (ap Some (sym c.in-Some-Drill.field-0-is) ∙ c.in-Some-Drill.ensures.value ∙ plan)
+
 pub returns-in-Err-drill-clause-room : goal.returns-in-Err-drill-clause-room
 returns-in-Err-drill-clause-room g c = λ the plan.
     for_plan (λ x. (c.drill.new.world.room ≡ room_of x) × HoldsWithin (room_of x) c.drill.new.world)
@@ -73,3 +88,41 @@ returns-in-Err-drill-clause-room g c = λ the plan.
 
 pub returns-in-Err-drill-clause-further : goal.returns-in-Err-drill-clause-further
 returns-in-Err-drill-clause-further g c = written_on g.S.Source g.R.Revisions g.K.Sink c.args.ports.now c.args.ports.now c.drill.new.out (none_gone g.S.Source g.R.Revisions g.K.Sink _) c.drill.ensures.written
+
+-- ---- a follower that ended well
+
+pub returns-in-Ok-follow_records-clause-replay : goal.returns-in-Ok-follow_records-clause-replay
+returns-in-Ok-follow_records-clause-replay g c = λ choices plan. follow_no_replay _ _ choices (ap Some (sym c.in-Some-Follow.field-0-is) ∙ c.in-Some-Follow.ensures.value ∙ plan)
+
+pub returns-in-Ok-follow_records-clause-drill : goal.returns-in-Ok-follow_records-clause-drill
+returns-in-Ok-follow_records-clause-drill g c = λ size plan. follow_no_drill _ _ size (ap Some (sym c.in-Some-Follow.field-0-is) ∙ c.in-Some-Follow.ensures.value ∙ plan)
+
+pub returns-in-Ok-follow_records-clause-follow : goal.returns-in-Ok-follow_records-clause-follow
+returns-in-Ok-follow_records-clause-follow g c = λ choices plan.
+    for_follow (λ x. FollowEnding Ended x (follow_moment g.S.Source g.K.Sink c.args.ports.now.events c.args.ports.now.out) (follow_moment g.S.Source g.K.Sink c.follow_records.new.ports.events c.follow_records.new.ports.out)
+    × (c.follow_records.new.ports ≡ record c.args.ports.now { events = c.follow_records.new.ports.events; out = c.follow_records.new.ports.out }) × (c.follow_records.new.world ≡ record c.args.world.now { room = 20000000 }))
+    c.in-Some-Follow.options choices (ap Some (sym c.in-Some-Follow.field-0-is) ∙ c.in-Some-Follow.ensures.value ∙ plan) (c.in-Ok-follow_records.ensures.ok, c.follow_records.ensures.others, c.follow_records.ensures.empty)
+
+pub returns-in-Ok-follow_records-clause-room : goal.returns-in-Ok-follow_records-clause-room
+returns-in-Ok-follow_records-clause-room g c = λ the plan.
+    for_plan (λ x. (c.follow_records.new.world.room ≡ room_of x) × HoldsWithin (room_of x) c.follow_records.new.world)
+    (Follow c.in-Some-Follow.options) the (ap Some (sym c.in-Some-Follow.field-0-is) ∙ c.in-Some-Follow.ensures.value ∙ plan) (ap (λ (w : WorldState). w.room) c.follow_records.ensures.empty, c.follow_records.ensures.held)
+
+-- ---- a follower that stopped
+
+pub returns-in-Err-follow_records-clause-replay : goal.returns-in-Err-follow_records-clause-replay
+returns-in-Err-follow_records-clause-replay g c = λ choices plan. follow_no_replay _ _ choices (ap Some (sym c.in-Some-Follow.field-0-is) ∙ c.in-Some-Follow.ensures.value ∙ plan)
+
+pub returns-in-Err-follow_records-clause-drill : goal.returns-in-Err-follow_records-clause-drill
+returns-in-Err-follow_records-clause-drill g c = λ size plan. follow_no_drill _ _ size (ap Some (sym c.in-Some-Follow.field-0-is) ∙ c.in-Some-Follow.ensures.value ∙ plan)
+
+pub returns-in-Err-follow_records-clause-follow : goal.returns-in-Err-follow_records-clause-follow
+returns-in-Err-follow_records-clause-follow g c = λ choices plan.
+    for_follow (λ x. FollowEnding c.status-in-Err-follow_records.result x (follow_moment g.S.Source g.K.Sink c.args.ports.now.events c.args.ports.now.out) (follow_moment g.S.Source g.K.Sink c.follow_records.new.ports.events c.follow_records.new.ports.out)
+    × (c.follow_records.new.ports ≡ record c.args.ports.now { events = c.follow_records.new.ports.events; out = c.follow_records.new.ports.out }) × (c.follow_records.new.world ≡ record c.args.world.now { room = 20000000 }))
+    c.in-Some-Follow.options choices (ap Some (sym c.in-Some-Follow.field-0-is) ∙ c.in-Some-Follow.ensures.value ∙ plan) (follow_stopped _ _ _ _ _ c.status-in-Err-follow_records.ensures.stops c.in-Err-follow_records.ensures.err, c.follow_records.ensures.others, c.follow_records.ensures.empty)
+
+pub returns-in-Err-follow_records-clause-room : goal.returns-in-Err-follow_records-clause-room
+returns-in-Err-follow_records-clause-room g c = λ the plan.
+    for_plan (λ x. (c.follow_records.new.world.room ≡ room_of x) × HoldsWithin (room_of x) c.follow_records.new.world)
+    (Follow c.in-Some-Follow.options) the (ap Some (sym c.in-Some-Follow.field-0-is) ∙ c.in-Some-Follow.ensures.value ∙ plan) (ap (λ (w : WorldState). w.room) c.follow_records.ensures.empty, c.follow_records.ensures.held)

@@ -1,0 +1,24 @@
+-- The world stays empty, and what the follower leaves.
+use Rattle.std.specs.FinMap.{len-empty}
+use Rattle.replay_model.specs.Play.{nothing_played}
+use Rattle.world.proofs.Rooming.{nothing_held}
+use Rattle.session.proofs.Ongoing.{followed_on}
+use Rattle.session.proofs.following.follow_records.Goals as goal
+
+pub set_room-requires : goal.set_room-requires
+set_room-requires g c = rw c.requires.world (len-empty _ _)
+
+pub returns-in-Err-clause-err : goal.returns-in-Err-clause-err
+returns-in-Err-clause-err g c = record { why = c.in-Err.why; is = c.from.ensures; stopped = c.in-Err.ensures.err }
+
+pub returns-in-Ok-clause-held : goal.returns-in-Ok-clause-held
+returns-in-Ok-clause-held g c = rw (c.set_room.ensures, c.requires.world) (nothing_held _ nothing_played.records _ (len-empty _ _))
+
+pub returns-in-Err-clause-held : goal.returns-in-Err-clause-held
+returns-in-Err-clause-held g c = rw (c.set_room.ensures, c.requires.world) (nothing_held _ nothing_played.records _ (len-empty _ _))
+
+pub returns-in-Ok-clause-further : goal.returns-in-Ok-clause-further
+returns-in-Ok-clause-further g c = followed_on g.S.Source g.R.Revisions g.K.Sink c.args.ports.now _ _ c.follow.ensures.later c.follow.ensures.most (record { faults = c.follow.ensures.written; most = c.follow.ensures.most_written })
+
+pub returns-in-Err-clause-further : goal.returns-in-Err-clause-further
+returns-in-Err-clause-further g c = followed_on g.S.Source g.R.Revisions g.K.Sink c.args.ports.now _ _ c.follow.ensures.later c.follow.ensures.most (record { faults = c.follow.ensures.written; most = c.follow.ensures.most_written })

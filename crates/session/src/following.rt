@@ -1,0 +1,45 @@
+// A follower: the records of the input, and what is printed at their end.
+
+ghost use Rattle.std.specs.Prelude.{◌≡◌, IfErr, OnOk};
+ghost use Rattle.replay_model.specs.ReplayState.{nothing_delivered};
+ghost use Rattle.following.specs.Following.{Ending, moment};
+ghost use Rattle.session.specs.Counts.{HaveGoneOn};
+ghost use Rattle.session.specs.Following.{FollowStopped};
+ghost use Rattle.session.specs.Remapping.{HoldsWithin};
+
+use crate::ports::Ports;
+use crate::stop::Stop;
+use following::follow;
+use revisions::Revisions;
+use std::alloc::Global;
+use std::hash::RandomState;
+use words::FollowOptions;
+use world::World;
+use wq_io::{Sink, Source};
+
+/// For how many terms the world has room, which holds none.
+const ROOM: u32 = 20_000_000;
+
+// Follows the records of the input. Nothing is fetched, and the world stays empty.
+pub fn follow_records<S: Source, R: Revisions, K: Sink>(
+    alloc: Global,
+    keys: RandomState,
+    options: &FollowOptions,
+    ports: &mut Ports<S, R, K>,
+    world: &mut World,
+) -> Result<(), Stop>
+    requires world { world.old.replay ≡ nothing_delivered }
+    ensures ok { OnOk result (Ending options.now (moment S.Source K.Sink ports.old.events ports.old.out) (moment S.Source K.Sink ports.new.events ports.new.out)) }
+    ensures err { IfErr result (λ stop. FollowStopped stop options.now
+        (moment S.Source K.Sink ports.old.events ports.old.out) (moment S.Source K.Sink ports.new.events ports.new.out)) }
+    ensures others { ports.new ≡ record ports.old { events = ports.new.events; out = ports.new.out } }
+    ensures empty { world.new ≡ record world.old { room = 20000000 } }
+    ensures held { HoldsWithin 20000000 world.new }
+    ensures further { HaveGoneOn S.Source R.Revisions K.Sink ports.old ports.new }
+{
+    world.set_room(ROOM);
+    match follow(alloc, keys, options, &mut ports.events, &mut ports.out) {
+        Ok(()) => Ok(()),
+        Err(why) => Err(Stop::from(why)),
+    }
+}
