@@ -30,7 +30,8 @@ pub fn run_over(alloc: Global, keys: RandomState, given: &Given) -> Result<Left>
         out,
     };
     let mut world = World::new(alloc, keys)?;
-    let status = run(alloc, given.words.as_slice(), &mut ports, &mut world);
+    let words = given.words.as_slice();
+    let status = run(alloc, keys, words, &mut ports, &mut world);
     let fetches = ports.revisions.fetches();
     Ok(Left {
         status,
