@@ -1,5 +1,6 @@
 pub mod Anew
 pub mod ByVersion
+pub mod Changing
 pub mod Entries
 pub mod Fit
 pub mod Laying

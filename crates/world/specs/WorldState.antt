@@ -2,6 +2,7 @@
 use Rattle.std.specs.Prelude.{◌≡◌, ℕ, Bool, true, false, cond, List, [], ◌∷◌, Option, None, Some, filter}
 use Rattle.rising.specs.Rising.{has, IsRising}
 use Rattle.rdf_term.specs.declared.triple.Triple.{Triple}
+use Rattle.rdf_term.specs.Order.{triple_cmp}
 use Rattle.entity_model.specs.declared.id.EntityId.{EntityId}
 use Rattle.entity_model.specs.declared.mapping.MappingVersion.{MappingVersion}
 use Rattle.entity_model.specs.declared.mapping.MappingVersion.TheVariants.{One, Two}
@@ -10,8 +11,8 @@ use Rattle.side_output.specs.declared.entry.Entry.{Entry}
 use Rattle.replay_model.specs.Records.{Records, record_of}
 use Rattle.replay_model.specs.Play.{Played}
 use Rattle.replay_model.specs.ReplayState.{ReplayState}
-use Rattle.replay_model.specs.Union.{Meaning, triples_held}
-use Rattle.replay_model.specs.Versions.{holders, is_holder, version_at, with_version}
+use Rattle.replay_model.specs.Union.{Meaning, triples_held, union}
+use Rattle.replay_model.specs.Versions.{holders, is_holder, meaning_by, version_at, with_version}
 use Rattle.world.specs.Meaning.{meaning}
 use Rattle.world.specs.declared.applied.Outcome.{Outcome}
 use Rattle.world.specs.declared.applied.Outcome.TheVariants.{Same, Stored, Dropped, Sided}
@@ -34,6 +35,13 @@ pub record WorldState : Type 0 where
   pub room : ℕ
   pub mapping : MappingVersion
   pub second : List EntityId
+
+-- the triples of all that is held, each by the version that its entity's document is mapped by
+abbrev pub stored_in : HoldingsState → List Triple
+stored_in held = union triple_cmp (meaning_by meaning held.second) held.records
+
+abbrev pub stored_of : WorldState → List Triple
+stored_of w = union triple_cmp (meaning_by meaning w.second) w.replay.played.records
 
 -- these entities, in rising order, hold a document each
 pub record AreHolders (second : List EntityId) (records : Records) : Type 0 where

@@ -1,12 +1,13 @@
-// What the application of an event led to.
+// What the application of an event led to, or the remapping of a page.
 
 ghost use Rattle.std.specs.Prelude.{◌≡◌};
 ghost use Rattle.world.specs.declared.applied.WorldFault.TheVariants.{OutOfMemory as Refused};
 
-use entity_model::Event;
+use entity_model::{EntityId, Event};
 use rdf_term::OutOfMemory;
 use side_output::Cause;
 use thiserror::Error;
+use triple_store::Change;
 
 /// What the application of an event did to what its entity holds.
 #[derive(Clone, Copy, Debug, PartialEq, Eq)]
@@ -26,6 +27,28 @@ pub enum Outcome {
 pub struct Applied {
     pub event: Event,
     pub outcome: Outcome,
+}
+
+/// What the application of an event did to what its entity holds, and what it changed of the stored triples, where that is told.
+#[derive(Debug, Drop)]
+pub struct Effect {
+    pub outcome: Outcome,
+    pub change: Option<Change>,
+}
+
+/// An event that was applied, and what that changed of the stored triples, where it is told. None is told of an application that leaves
+/// the store alone.
+#[derive(Debug, Drop)]
+pub struct Application {
+    pub applied: Applied,
+    pub change: Option<Change>,
+}
+
+/// An entity whose held page was mapped anew, and what that changed of the stored triples, where it is told.
+#[derive(Debug, Drop)]
+pub struct Remapping {
+    pub entity: EntityId,
+    pub change: Option<Change>,
 }
 
 /// Why no event was applied, or no page mapped anew.

@@ -7,64 +7,75 @@ ghost use Rattle.replay_model.specs.Play.{apply as played};
 ghost use Rattle.replay_model.specs.Records.{record_of};
 ghost use Rattle.replay_model.specs.Versions.{meaning_by};
 ghost use Rattle.world.specs.Applying.{outcome_after};
+ghost use Rattle.world.specs.Changing.{Tells};
 ghost use Rattle.world.specs.Fetched.{AreMeant, reply_or_any};
 ghost use Rattle.world.specs.Meaning.{meaning};
 ghost use Rattle.world.specs.Roomed.{HasRoom, Overfills, room_with, triples_of_reply};
-ghost use Rattle.world.specs.WorldState.{AreHolders, played_of, second_after};
+ghost use Rattle.world.specs.WorldState.{AreHolders, played_of, second_after, stored_in};
 
-use crate::applied::Outcome;
+use crate::applied::{Effect, Outcome};
 use crate::fetching::Reply;
 use crate::holdings::Holdings;
 use entity_model::{Event, MappingVersion};
 use side_output::{Entry, Side};
-use triple_store::StoreFault;
+use triple_store::{StoreFault, Telling};
 
-/// Applies an event, with the reply to its fetch where it wants one, whose page is mapped by the version. After a fault nothing has
-/// changed.
-pub fn apply(
-    holdings: &mut Holdings,
-    side: &mut Side,
-    version: MappingVersion,
-    event: Event,
-    reply: Option<Reply>,
-) -> Result<Outcome, StoreFault>
-    requires wanted { is_some reply ≡ standing_wants (standing_after (standing_of (record_of holdings.old.records event.entity)) event) }
-    requires meant { AreMeant version event.entity (standing_after (standing_of (record_of holdings.old.records event.entity)) event).state.rev reply }
-    requires room { HasRoom (meaning_by meaning holdings.old.second) holdings.old.limit holdings.old.records }
-    requires holding { AreHolders holdings.old.second holdings.old.records }
-    ensures applied { OnOk result (played_of holdings.new side.new.entries ≡ played (λ _ _. reply_or_any reply) (played_of holdings.old side.old.entries) event) }
-    ensures limit { holdings.new.limit ≡ holdings.old.limit }
-    ensures second { IfOk result (λ outcome. holdings.new.second ≡ second_after outcome version event.entity holdings.old.second) }
-    ensures outcome { IfOk result (λ outcome.
-        outcome ≡ outcome_after (record_of holdings.old.records event.entity) event (reply_or_any reply)) }
-    ensures full { result ≡ Err Full → Overfills holdings.old version event.entity
-        (standing_after (standing_of (record_of holdings.old.records event.entity)) event).state.rev (reply_or_any reply) }
-    ensures within { OnOk result (room_with (meaning_by meaning holdings.old.second) holdings.old.records
-        (triples_of_reply version event.entity (standing_after (standing_of (record_of holdings.old.records event.entity)) event).state.rev (reply_or_any reply)) ≤ holdings.old.limit) }
-    ensures held { HasRoom (meaning_by meaning holdings.new.second) holdings.new.limit holdings.new.records }
-    ensures holders { AreHolders holdings.new.second holdings.new.records }
-    ensures err { OnErr result (holdings.new ≡ holdings.old) }
-    ensures err_entries { OnErr result (side.new.entries ≡ side.old.entries) }
-{
-    let after = holdings.standing(event.entity).after(&event);
-    if side.make_room().is_err() {
-        return Err(StoreFault::OutOfMemory);
-    }
-    match reply {
-        Some(Ok(page)) => match holdings.hold(event.entity, after, page, version) {
-            Ok(()) => Ok(Outcome::Stored),
-            Err(refused) => Err(refused),
-        },
-        Some(Err(cause)) => match holdings.keep(event.entity, after) {
-            Ok(()) => {
-                let _ = side.push(Entry::Revision(event, after.state.rev, cause));
-                Ok(Outcome::Sided(cause))
-            }
-            Err(_) => Err(StoreFault::OutOfMemory),
-        },
-        None => match holdings.settle(event.entity, after) {
-            Ok(outcome) => Ok(outcome),
-            Err(_) => Err(StoreFault::OutOfMemory),
-        },
+impl Holdings {
+    /// Applies an event, with the reply to its fetch where it wants one, whose page is mapped by the version, and tells what that changed
+    /// of the stored triples, where it is to tell that. After a fault nothing has changed.
+    pub fn apply(
+        &mut self,
+        side: &mut Side,
+        version: MappingVersion,
+        event: Event,
+        reply: Option<Reply>,
+        telling: Telling,
+    ) -> Result<Effect, StoreFault>
+        requires wanted { is_some reply ≡ standing_wants (standing_after (standing_of (record_of self.old.records event.entity)) event) }
+        requires meant { AreMeant version event.entity (standing_after (standing_of (record_of self.old.records event.entity)) event).state.rev reply }
+        requires room { HasRoom (meaning_by meaning self.old.second) self.old.limit self.old.records }
+        requires holding { AreHolders self.old.second self.old.records }
+        ensures applied { OnOk result (played_of self.new side.new.entries ≡ played (λ _ _. reply_or_any reply) (played_of self.old side.old.entries) event) }
+        ensures limit { self.new.limit ≡ self.old.limit }
+        ensures second { IfOk result (λ effect. self.new.second ≡ second_after effect.outcome version event.entity self.old.second) }
+        ensures change { IfOk result (λ effect. Tells telling (stored_in self.old) (stored_in self.new) effect.change) }
+        ensures outcome { IfOk result (λ effect.
+            effect.outcome ≡ outcome_after (record_of self.old.records event.entity) event (reply_or_any reply)) }
+        ensures full { result ≡ Err Full → Overfills self.old version event.entity
+            (standing_after (standing_of (record_of self.old.records event.entity)) event).state.rev (reply_or_any reply) }
+        ensures within { OnOk result (room_with (meaning_by meaning self.old.second) self.old.records
+            (triples_of_reply version event.entity (standing_after (standing_of (record_of self.old.records event.entity)) event).state.rev (reply_or_any reply)) ≤ self.old.limit) }
+        ensures held { HasRoom (meaning_by meaning self.new.second) self.new.limit self.new.records }
+        ensures holders { AreHolders self.new.second self.new.records }
+        ensures err { OnErr result (self.new ≡ self.old) }
+        ensures err_entries { OnErr result (side.new.entries ≡ side.old.entries) }
+    {
+        let after = self.standing(event.entity).after(&event);
+        if side.make_room().is_err() {
+            return Err(StoreFault::OutOfMemory);
+        }
+        match reply {
+            Some(Ok(page)) => match self.hold(event.entity, after, page, version, telling) {
+                Ok(change) => Ok(Effect {
+                    outcome: Outcome::Stored,
+                    change,
+                }),
+                Err(refused) => Err(refused),
+            },
+            Some(Err(cause)) => match self.keep(event.entity, after) {
+                Ok(()) => {
+                    let _ = side.push(Entry::Revision(event, after.state.rev, cause));
+                    Ok(Effect {
+                        outcome: Outcome::Sided(cause),
+                        change: None,
+                    })
+                }
+                Err(_) => Err(StoreFault::OutOfMemory),
+            },
+            None => match self.settle(event.entity, after, telling) {
+                Ok(effect) => Ok(effect),
+                Err(_) => Err(StoreFault::OutOfMemory),
+            },
+        }
     }
 }

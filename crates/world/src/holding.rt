@@ -10,14 +10,15 @@ ghost use Rattle.triple_store.specs.StoreState.{HasKey, IsSound, beside, counts_
 ghost use Rattle.entity_model.specs.declared.mapping.MappingVersion.TheVariants.{One};
 ghost use Rattle.replay_model.specs.Records.{record_of};
 ghost use Rattle.replay_model.specs.Versions.{meaning_by, with_version};
+ghost use Rattle.world.specs.Changing.{Tells};
 ghost use Rattle.world.specs.Fetched.{IsPageOf};
 ghost use Rattle.world.specs.Keeping.{Frees, kept_of, keys_held, piece_at};
 ghost use Rattle.world.specs.Meaning.{meaning};
 ghost use Rattle.world.specs.Roomed.{HasRoom, room_with};
 ghost use Rattle.world.specs.Standing.{unfetched_outcome, unless_deleted};
-ghost use Rattle.world.specs.WorldState.{AreHolders, second_after};
+ghost use Rattle.world.specs.WorldState.{AreHolders, second_after, stored_in};
 
-use crate::applied::Outcome;
+use crate::applied::{Effect, Outcome};
 use crate::fetching::Page;
 use crate::holders::other;
 use crate::holdings::{Holdings, make_room};
@@ -25,18 +26,20 @@ use crate::kept::Kept;
 use entity_model::{EntityId, MappingVersion};
 use entity_state::{Held, Mode, Record, Standing, Table};
 use rdf_term::OutOfMemory;
-use triple_store::{KeySlices, Store, StoreFault};
+use triple_store::{Change, Exchange, KeySlices, Store, StoreFault, Telling};
 
 impl Holdings {
-    /// Sets the record of an entity, which holds this page from now on, by the version that it is mapped by. After a fault
-    /// nothing has changed. `Full` is said where its triples, with those of all that is held, have more terms than there may be.
+    /// Sets the record of an entity, which holds this page from now on, by the version that it is mapped by, and tells what that changed
+    /// of the stored triples, where it is to tell that. After a fault nothing has changed. `Full` is said where its triples, with those of
+    /// all that is held, have more terms than there may be.
     pub fn hold(
         &mut self,
         id: EntityId,
         after: Standing,
         page: Page,
         version: MappingVersion,
-    ) -> Result<(), StoreFault>
+        telling: Telling,
+    ) -> Result<Option<Change>, StoreFault>
         requires { IsPageOf version id after.state.rev page }
         ensures ok { OnOk result (self.new.records ≡ map.insert self.old.records id (record {
           state = after.state;
@@ -44,6 +47,7 @@ impl Holdings {
           reconciled = after.reconciled;
         })) }
         ensures second { OnOk result (self.new.second ≡ with_version version id self.old.second) }
+        ensures change { IfOk result (Tells telling (stored_in self.old) (stored_in self.new)) }
         ensures limit { self.new.limit ≡ self.old.limit }
         ensures err { OnErr result (self.new ≡ self.old) }
         ensures full { result ≡ Err Full → self.old.limit < room_with (meaning_by meaning self.old.second) self.old.records (meaning version id after.state.rev page.bytes) }
@@ -64,15 +68,18 @@ impl Holdings {
             self.holders.take_back(id, version, added);
             return Err(StoreFault::OutOfMemory);
         };
-        match self.store.exchange(keys_of(&self.table, id), &page.triples) {
-            Ok(keys) => {
+        match self
+            .store
+            .exchange_with(keys_of(&self.table, id), &page.triples, telling)
+        {
+            Ok(Exchange { keys, change }) => {
                 let held = Held {
                     revision: after.state.rev,
                     content: Kept { piece, keys },
                 };
                 replace(&mut self.store, &mut self.table, id, after, Some(held));
                 self.holders.remove(id, other(version));
-                Ok(())
+                Ok(change)
             }
             Err(refused) => {
                 self.store.free(piece);
@@ -82,15 +89,22 @@ impl Holdings {
         }
     }
 
-    /// Sets the record of an entity where nothing was fetched. After `OutOfMemory` nothing has changed.
-    pub fn settle(&mut self, id: EntityId, after: Standing) -> Result<Outcome, OutOfMemory>
+    /// Sets the record of an entity where nothing was fetched, and tells what that changed of the stored triples, where it is to tell
+    /// that. After `OutOfMemory` nothing has changed.
+    pub fn settle(
+        &mut self,
+        id: EntityId,
+        after: Standing,
+        telling: Telling,
+    ) -> Result<Effect, OutOfMemory>
         ensures records { OnOk result (self.new.records ≡ map.insert self.old.records id (record {
           state = after.state;
           held = unless_deleted after.state.mode (record_of self.old.records id).held;
           reconciled = after.reconciled;
         })) }
         ensures second { OnOk result ((version : MappingVersion) → self.new.second ≡ second_after (unfetched_outcome after.state.mode) version id self.old.second) }
-        ensures outcome { IfOk result (λ outcome. outcome ≡ unfetched_outcome after.state.mode) }
+        ensures outcome { IfOk result (λ effect. effect.outcome ≡ unfetched_outcome after.state.mode) }
+        ensures change { IfOk result (λ effect. Tells telling (stored_in self.old) (stored_in self.new) effect.change) }
         ensures limit { self.new.limit ≡ self.old.limit }
         ensures err { OnErr result (self.new ≡ self.old) }
         ensures held { HasRoom (meaning_by meaning self.new.second) self.new.limit self.new.records }
@@ -98,12 +112,18 @@ impl Holdings {
     {
         match after.state.mode {
             Mode::Deleted => {
-                self.release(id, after)?;
-                Ok(Outcome::Dropped)
+                let change = self.release(id, after, telling)?;
+                Ok(Effect {
+                    outcome: Outcome::Dropped,
+                    change,
+                })
             }
             Mode::Unknown | Mode::Kept => {
                 self.keep(id, after)?;
-                Ok(Outcome::Same)
+                Ok(Effect {
+                    outcome: Outcome::Same,
+                    change: None,
+                })
             }
         }
     }
@@ -116,6 +136,7 @@ impl Holdings {
           reconciled = after.reconciled;
         })) }
         ensures second { self.new.second ≡ self.old.second }
+        ensures stored { OnOk result (stored_in self.new ≡ stored_in self.old) }
         ensures limit { self.new.limit ≡ self.old.limit }
         ensures err { OnErr result (self.new ≡ self.old) }
         ensures held { HasRoom (meaning_by meaning self.new.second) self.new.limit self.new.records }
@@ -126,25 +147,32 @@ impl Holdings {
         Ok(())
     }
 
-    /// Sets the record of an entity, which holds nothing from now on. After `OutOfMemory` nothing has changed.
-    pub fn release(&mut self, id: EntityId, after: Standing) -> Result<(), OutOfMemory>
+    /// Sets the record of an entity, which holds nothing from now on, and tells what that changed of the stored triples, where it is to
+    /// tell that. After `OutOfMemory` nothing has changed.
+    pub fn release(
+        &mut self,
+        id: EntityId,
+        after: Standing,
+        telling: Telling,
+    ) -> Result<Option<Change>, OutOfMemory>
         ensures records { OnOk result (self.new.records ≡ map.insert self.old.records id (record {
           state = after.state;
           held = None;
           reconciled = after.reconciled;
         })) }
         ensures second { OnOk result (self.new.second ≡ with_version One id self.old.second) }
+        ensures change { IfOk result (Tells telling (stored_in self.old) (stored_in self.new)) }
         ensures limit { self.new.limit ≡ self.old.limit }
         ensures err { OnErr result (self.new ≡ self.old) }
         ensures held { HasRoom (meaning_by meaning self.new.second) self.new.limit self.new.records }
         ensures holders { AreHolders self.new.second self.new.records }
     {
         make_room(&mut self.table, id)?;
-        self.store.release(keys_of(&self.table, id));
+        let change = self.store.release_with(keys_of(&self.table, id), telling)?;
         replace(&mut self.store, &mut self.table, id, after, None);
         self.holders.remove(id, MappingVersion::One);
         self.holders.remove(id, MappingVersion::Two);
-        Ok(())
+        Ok(change)
     }
 }
 

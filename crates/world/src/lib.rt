@@ -24,6 +24,6 @@ mod versions;
 mod views;
 mod world;
 
-pub use applied::{Applied, Outcome, WorldFault};
+pub use applied::{Application, Applied, Outcome, Remapping, WorldFault};
 pub use laws::{meaning_is_by_rules, versions_follow_the_play};
 pub use world::World;

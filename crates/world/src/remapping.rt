@@ -11,10 +11,11 @@ ghost use Rattle.triple_store.specs.StoreState.{beside};
 ghost use Rattle.replay_model.specs.Records.{record_of};
 ghost use Rattle.replay_model.specs.Union.{triples_held};
 ghost use Rattle.replay_model.specs.Versions.{is_holder, meaning_by, with_version};
+ghost use Rattle.world.specs.Changing.{Tells};
 ghost use Rattle.world.specs.Keeping.{held_with, kept_of, piece_at, with_keys};
 ghost use Rattle.world.specs.Meaning.{meaning};
 ghost use Rattle.world.specs.Roomed.{HasRoom, room_with};
-ghost use Rattle.world.specs.WorldState.{AreHolders};
+ghost use Rattle.world.specs.WorldState.{AreHolders, stored_in};
 
 use crate::fetching::texts_in;
 use crate::holders::other;
@@ -26,16 +27,22 @@ use entity_model::{EntityId, MappingVersion};
 use entity_state::{Held, Record, Table};
 use rdf_term::OutOfMemory;
 use std::alloc::Global;
-use triple_store::{Keys, Store, StoreFault};
+use triple_store::{Change, Exchange, Keys, Store, StoreFault, Telling};
 use triple_texts::TripleTexts;
 
 impl Holdings {
-    /// Maps what an entity holds by a version. After a fault nothing has changed. `Full` is said where the new triples, with those of all
-    /// that is held, have more terms than there may be.
-    pub fn remap(&mut self, id: EntityId, version: MappingVersion) -> Result<(), StoreFault>
+    /// Maps what an entity holds by a version, and tells what that changed of the stored triples, where it is to tell that. After a fault
+    /// nothing has changed. `Full` is said where the new triples, with those of all that is held, have more terms than there may be.
+    pub fn remap(
+        &mut self,
+        id: EntityId,
+        version: MappingVersion,
+        telling: Telling,
+    ) -> Result<Option<Change>, StoreFault>
         requires { is_holder self.old.records id ≡ true }
         ensures records { self.new.records ≡ self.old.records }
         ensures second { OnOk result (self.new.second ≡ with_version version id self.old.second) }
+        ensures change { IfOk result (Tells telling (stored_in self.old) (stored_in self.new)) }
         ensures limit { self.new.limit ≡ self.old.limit }
         ensures err { OnErr result (self.new ≡ self.old) }
         ensures full { result ≡ Err Full → self.old.limit < room_with (meaning_by meaning self.old.second) self.old.records
@@ -54,11 +61,14 @@ impl Holdings {
         let Ok(added) = self.holders.add(id, version) else {
             return Err(StoreFault::OutOfMemory);
         };
-        match self.store.exchange(keys_of(&self.table, id), &triples) {
-            Ok(keys) => {
+        match self
+            .store
+            .exchange_with(keys_of(&self.table, id), &triples, telling)
+        {
+            Ok(Exchange { keys, change }) => {
                 set_keys(&mut self.table, id, keys);
                 self.holders.remove(id, other(version));
-                Ok(())
+                Ok(change)
             }
             Err(refused) => {
                 self.holders.take_back(id, version, added);

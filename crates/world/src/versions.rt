@@ -2,17 +2,18 @@
 
 ghost use Rattle.std.specs.Prelude.{◌≡◌, ◌<◌, ◌≤◌, ◌+◌, true, None, IfOk, IfSome, IsErrOf, IsOk, OnErr, OnOk, length};
 ghost use Rattle.replay_model.specs.Versions.{all_by, is_holder, meaning_by};
+ghost use Rattle.world.specs.Changing.{Tells, entity_of};
 ghost use Rattle.world.specs.Meaning.{meaning};
 ghost use Rattle.world.specs.Roomed.{HasRoom, room_with};
-ghost use Rattle.world.specs.WorldState.{AreHolders, first_of, held_version, next_stale, remapped, stale, stale_by, triples_anew, version_in};
+ghost use Rattle.world.specs.WorldState.{AreHolders, first_of, held_version, next_stale, remapped, stale, stale_by, stored_of, triples_anew, version_in};
 ghost use Rattle.world.specs.declared.applied.WorldFault.TheVariants.{Full, Nothing as NothingDue};
 
-use crate::applied::WorldFault;
+use crate::applied::{Remapping, WorldFault};
 use crate::holders::other;
 use crate::holdings::Holdings;
 use crate::world::World;
 use entity_model::{EntityId, MappingVersion};
-use triple_store::StoreFault;
+use triple_store::{StoreFault, Telling};
 
 impl World {
     /// The version of the mapping in force, by which the pages of later applications are mapped.
@@ -69,11 +70,34 @@ impl World {
         ensures something { ¬ (IsErrOf result NothingDue) }
         ensures free { next_stale self.old ≡ None → IsOk result }
     {
-        let Some(id) = self.holdings.next_stale(self.mapping) else {
+        match self.remap_next_with(Telling::Nothing) {
+            Ok(Some(remapping)) => Ok(Some(remapping.entity)),
+            Ok(None) => Ok(None),
+            Err(fault) => Err(fault),
+        }
+    }
+
+    /// Does what `remap_next` does, and where it is to tell the change, tells which triples that made stored and which stored no longer.
+    pub fn remap_next_with(&mut self, telling: Telling) -> Result<Option<Remapping>, WorldFault>
+        ensures ok { OnOk result (self.new ≡ remapped self.old) }
+        ensures entity { IfOk result (λ done. entity_of done ≡ next_stale self.old) }
+        ensures fewer { IfOk result (λ done. IfSome done (λ _. length (stale self.new) + 1 ≡ length (stale self.old))) }
+        ensures change { IfOk result (λ done. IfSome done (λ remapping. Tells telling (stored_of self.old) (stored_of self.new) remapping.change)) }
+        ensures full { IsErrOf result Full → self.old.room
+            < room_with (meaning_by meaning self.old.second) self.old.replay.played.records (triples_anew self.old) }
+        ensures within { OnOk result (room_with (meaning_by meaning self.old.second) self.old.replay.played.records
+            (triples_anew self.old) ≤ self.old.room) }
+        ensures held { HasRoom (meaning_by meaning self.new.second) self.new.room self.new.replay.played.records }
+        ensures holders { AreHolders self.new.second self.new.replay.played.records }
+        ensures err { OnErr result (self.new ≡ self.old) }
+        ensures something { ¬ (IsErrOf result NothingDue) }
+        ensures free { next_stale self.old ≡ None → IsOk result }
+    {
+        let Some(entity) = self.holdings.next_stale(self.mapping) else {
             return Ok(None);
         };
-        match self.holdings.remap(id, self.mapping) {
-            Ok(()) => Ok(Some(id)),
+        match self.holdings.remap(entity, self.mapping, telling) {
+            Ok(change) => Ok(Some(Remapping { entity, change })),
             Err(StoreFault::Full) => Err(WorldFault::Full),
             Err(StoreFault::OutOfMemory) => Err(WorldFault::OutOfMemory),
         }

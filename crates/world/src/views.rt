@@ -5,6 +5,7 @@ ghost use Rattle.std.specs.Option.{option_copied};
 ghost use Rattle.std.specs.FinMap as map;
 ghost use Rattle.entity_json.specs.Document.{unfit_of};
 ghost use Rattle.entity_model.specs.declared.id.EntityId.{EntityId as AnEntity};
+ghost use Rattle.reorder_buffer.specs.Buffered.{first_due};
 ghost use Rattle.replay_model.specs.Entries.{HoldsUnlessOpen, is_open_in};
 ghost use Rattle.replay_model.specs.Records.{record_of};
 ghost use Rattle.replay_model.specs.Replies.{HoldsDocument};
@@ -14,7 +15,7 @@ ghost use Rattle.world.specs.Meaning.{meaning};
 ghost use Rattle.world.specs.Roomed.{room_with};
 
 use crate::world::World;
-use entity_model::EntityId;
+use entity_model::{EntityId, Event};
 use entity_state::State;
 use rdf_term::{List, OutOfMemory};
 use side_output::{Entry, is_open};
@@ -34,6 +35,13 @@ impl World {
         ensures within { result ≤ self.now.room }
     {
         self.holdings.terms()
+    }
+
+    /// The event that is applied next: the least of those that are due. It takes no memory.
+    pub fn next_due(&self) -> Option<Event>
+        ensures { result ≡ first_due self.now.replay.buffer }
+    {
+        self.buffer.least_due()
     }
 
     /// The ids of the entities with a record, in rising order.

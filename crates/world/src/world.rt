@@ -11,16 +11,16 @@ ghost use Rattle.replay_model.specs.Versions.{meaning_by};
 ghost use Rattle.world.specs.Applying.{Applies, IsReply, IsShown, calls_after, outcome_of_reply};
 ghost use Rattle.entity_state.specs.Standing.{standing_after, standing_of, standing_wants};
 ghost use Rattle.entity_state.specs.State.{state_after};
+ghost use Rattle.world.specs.Changing.{Tells};
 ghost use Rattle.world.specs.Fetched.{AreMeant, reply_of, reply_or_any};
 ghost use Rattle.world.specs.Meaning.{meaning};
 ghost use Rattle.world.specs.Roomed.{HasRoom, IsOverfull, room_with};
-ghost use Rattle.world.specs.WorldState.{AreHolders, second_after};
+ghost use Rattle.world.specs.WorldState.{AreHolders, second_after, stored_of};
 ghost use Rattle.entity_model.specs.declared.mapping.MappingVersion.TheVariants.{One};
 ghost use Rattle.world.specs.declared.applied.Outcome.TheVariants.{Stored};
 ghost use Rattle.world.specs.declared.applied.WorldFault.TheVariants.{Full, Nothing as NothingDue};
 
-use crate::applied::{Applied, WorldFault};
-use crate::applying::apply;
+use crate::applied::{Application, Applied, Effect, WorldFault};
 use crate::fetching::{Reply, Wanted, fetch};
 use crate::holdings::Holdings;
 use entity_model::{Event, MappingVersion};
@@ -31,7 +31,7 @@ use side_output::{Entry, Side};
 use std::alloc::Global;
 use std::hash::RandomState;
 use std::marker::Model;
-use triple_store::StoreFault;
+use triple_store::{StoreFault, Telling};
 
 // For how many terms there is room, unless it is set otherwise.
 const ROOM: u32 = 20_000_000;
@@ -42,7 +42,7 @@ const ROOM: u32 = 20_000_000;
 #[derive(Drop)]
 pub struct World {
     alloc: Global,
-    buffer: Buffer,
+    pub(crate) buffer: Buffer,
     pub(crate) side: Side,
     pub(crate) mapping: MappingVersion,
     pub(crate) holdings: Holdings,
@@ -177,20 +177,59 @@ impl World {
         ensures more_misses { R.misses revisions.old ≤ R.misses revisions.new }
         ensures most { R.most_faults revisions.new ≡ R.most_faults revisions.old }
     {
+        match self.apply_next_with(revisions, place, Telling::Nothing) {
+            Ok(done) => Ok(done.applied),
+            Err(fault) => Err(fault),
+        }
+    }
+
+    /// Does what `apply_next` does, and where it is to tell the change, tells which triples that made stored and which stored no longer:
+    /// their lines, which take memory.
+    pub fn apply_next_with<R: Revisions>(
+        &mut self,
+        revisions: &mut R,
+        place: &str,
+        telling: Telling,
+    ) -> Result<Application, WorldFault>
+        ensures applied { IfOk result (λ done. Applies (R.contents revisions.old) place.now self.old.replay self.new.replay done.applied) }
+        ensures room { self.new.room ≡ self.old.room }
+        ensures mapping { self.new.mapping ≡ self.old.mapping }
+        ensures second { IfOk result (λ done.
+            self.new.second ≡ second_after done.applied.outcome self.old.mapping done.applied.event.entity self.old.second) }
+        ensures change { IfOk result (λ done. Tells telling (stored_of self.old) (stored_of self.new) done.change) }
+        ensures within { IfOk result (λ done. done.applied.outcome ≡ Stored → room_with (meaning_by meaning self.old.second) self.old.replay.played.records
+            (triples_held (meaning self.old.mapping) done.applied.event.entity (record_of self.new.replay.played.records done.applied.event.entity).held) ≤ self.old.room) }
+        ensures held { HasRoom (meaning_by meaning self.new.second) self.new.room self.new.replay.played.records }
+        ensures holders { AreHolders self.new.second self.new.replay.played.records }
+        ensures full { IsErrOf result Full → IsOverfull (R.contents revisions.old) place.now self.old }
+        ensures err { OnErr result (self.new ≡ self.old) }
+        ensures nothing { IsErrOf result NothingDue ↔ (first_due self.old.replay.buffer ≡ None) }
+
+        ensures told { R.contents revisions.new ≡ R.contents revisions.old }
+        ensures shown { IfOk result (λ done. IsShown done.applied.outcome
+            (R.misses revisions.old) (R.misses revisions.new) (R.faults revisions.old) (R.faults revisions.new)) }
+        ensures calls { IfOk result (λ done. R.calls revisions.new ≡ calls_after done.applied.outcome (R.calls revisions.old)) }
+        ensures calls_at_fault { IfErr result (λ fault. (R.calls revisions.new ≡ R.calls revisions.old)
+            ⊎ ((fault ≢ NothingDue) × (R.calls revisions.new ≡ counted (R.calls revisions.old)))) }
+        ensures calls_at_full { IsErrOf result Full → R.calls revisions.new ≡ counted (R.calls revisions.old) }
+        ensures more_faults { R.faults revisions.old ≤ R.faults revisions.new }
+        ensures more_misses { R.misses revisions.old ≤ R.misses revisions.new }
+        ensures most { R.most_faults revisions.new ≡ R.most_faults revisions.old }
+    {
         let Some(event) = self.buffer.least_due() else {
             return Err(WorldFault::Nothing);
         };
         let reply = self.reply(revisions, place, &event)?;
-        match apply(
-            &mut self.holdings,
-            &mut self.side,
-            self.mapping,
-            event,
-            reply,
-        ) {
-            Ok(outcome) => {
+        match self
+            .holdings
+            .apply(&mut self.side, self.mapping, event, reply, telling)
+        {
+            Ok(Effect { outcome, change }) => {
                 self.buffer.drop_least();
-                Ok(Applied { event, outcome })
+                Ok(Application {
+                    applied: Applied { event, outcome },
+                    change,
+                })
             }
             Err(StoreFault::Full) => Err(WorldFault::Full),
             Err(StoreFault::OutOfMemory) => Err(WorldFault::OutOfMemory),

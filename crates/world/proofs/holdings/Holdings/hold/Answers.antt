@@ -10,11 +10,12 @@ use Rattle.world.specs.InStep.{AreInStep}
 use Rattle.world.specs.Keeping.{seen}
 use Rattle.world.specs.Meaning.{meaning}
 use Rattle.world.proofs.ByVersion.{moves, undone}
+use Rattle.world.proofs.Changing.{step_tells}
 use Rattle.world.proofs.Moving.{seen_again}
 use Rattle.world.proofs.Replacing.{kept_undone, placed_freed}
 use Rattle.world.proofs.Rooming.{countable_kept, room_is}
 use Rattle.world.proofs.Stepping.{are_holders, has_room, page_seen, page_step}
-use Rattle.world.proofs.holdings.Holdings.hold.Goals.{After-drop-page-5, After-drop-page-in-Ok-exchange-4, After-drop-page-in_default-4, After-drop-page-in_default-place-4, After-drop-page-then-is_err-3}
+use Rattle.world.proofs.holdings.Holdings.hold.Goals.{After-drop-page-5, After-drop-page-in-Ok-exchange_with-4, After-drop-page-in_default-4, After-drop-page-in_default-place-4, After-drop-page-then-is_err-3}
 use Rattle.world.proofs.holdings.Holdings.hold.Goals as goal
 
 -- there is room for a record, and all is as it was
@@ -32,25 +33,25 @@ unplaced c =
     (subst (λ (s : StoreState). AreInStep s c.self.inside.holders c.make_room.new.table.records) (sym c.in_default-place.ensures.err) (rw c.make_room.ensures.records c.self.invariant))
 
 -- the page came
-came : (c : After-drop-page-in-Ok-exchange-4) → AreInStep c.replace.new.store c.remove.new.self c.replace.new.table.records
+came : (c : After-drop-page-in-Ok-exchange_with-4) → AreInStep c.replace.new.store c.remove.new.self c.replace.new.table.records
 came c = rw c.replace.ensures.records
-    (page_step c.self.inside.store c.self.inside.holders c.make_room.new.table.records c.args.id (rw c.make_room.ensures.records c.self.invariant) c.place.new.self c.exchange.new.self c.replace.new.store
-    c.args.after.state c.args.after.reconciled c.args.after.state.rev (record { piece = c.in-Ok-place.piece; keys = c.in-Ok-exchange.keys }) c.args.page.bytes c.args.page.triples c.keys_of.result.rising.now c.args.version
-    (rw c.as_slice.ensures at c.in-Ok-place.ensures.ok) c.place.ensures.kept c.place.ensures.counts c.exchange.ensures.rest.keeps c.exchange.ensures.rest.beside c.replace.ensures.counts c.replace.ensures.kept c.replace.ensures.freed
+    (page_step c.self.inside.store c.self.inside.holders c.make_room.new.table.records c.args.id (rw c.make_room.ensures.records c.self.invariant) c.place.new.self c.exchange_with.new.self c.replace.new.store
+    c.args.after.state c.args.after.reconciled c.args.after.state.rev (record { piece = c.in-Ok-place.piece; keys = c.in-Ok-exchange_with.field-0.keys }) c.args.page.bytes c.args.page.triples c.keys_of.result.rising.now c.args.version
+    (rw c.as_slice.ensures at c.in-Ok-place.ensures.ok) c.place.ensures.kept c.place.ensures.counts c.exchange_with.ensures.rest.keeps c.exchange_with.ensures.rest.beside c.replace.ensures.counts c.replace.ensures.kept c.replace.ensures.freed
     c.remove.new.self (moves c.self.inside.holders c.add.new.self c.remove.new.self c.args.id c.args.version c.other.result c.in-Ok.ensures.ok c.other.ensures c.remove.ensures)
-    c.replace.ensures.sound c.keys_of.ensures c.in-Ok-exchange.ensures.exchanged.ok c.in-Ok-exchange.ensures.exchanged.keys c.requires.meant)
+    c.replace.ensures.sound c.keys_of.ensures c.in-Ok-exchange_with.ensures.exchanged.ok c.in-Ok-exchange_with.ensures.exchanged.keys c.requires.meant)
 
 -- the page was refused
 refused : (c : After-drop-page-5) → AreInStep c.free.new.self c.take_back-in-Err.new.self c.make_room.new.table.records
 refused c =
     subst (λ (i : ByVersion). AreInStep c.free.new.self i c.make_room.new.table.records) (sym (undone c.self.inside.holders c.add.new.self c.take_back-in-Err.new.self c.self.inside.table.records c.args.id c.args.version c.in-Ok.added c.self.invariant.by c.in-Ok.ensures.ok c.in-Ok.ensures.added c.take_back-in-Err.ensures)) (record {
-      kept = kept_undone (meaning_by meaning c.self.inside.holders.second) c.self.inside.store c.place.new.self c.exchange.new.self c.free.new.self c.make_room.new.table.records c.in-Ok-place.piece _
-          (rw c.make_room.ensures.records c.self.invariant.kept) c.in-Ok-place.ensures.ok c.place.ensures.kept c.place.ensures.counts c.exchange.ensures.rest.keeps c.exchange.ensures.rest.beside c.in-Err.ensures.exchanged.err c.free.ensures.sound c.free.ensures.counts c.free.ensures.kept c.free.ensures.freed;
+      kept = kept_undone (meaning_by meaning c.self.inside.holders.second) c.self.inside.store c.place.new.self c.exchange_with.new.self c.free.new.self c.make_room.new.table.records c.in-Ok-place.piece _
+          (rw c.make_room.ensures.records c.self.invariant.kept) c.in-Ok-place.ensures.ok c.place.ensures.kept c.place.ensures.counts c.exchange_with.ensures.rest.keeps c.exchange_with.ensures.rest.beside c.in-Err.ensures.exchanged.err c.free.ensures.sound c.free.ensures.counts c.free.ensures.kept c.free.ensures.freed;
       by = rw c.make_room.ensures.records c.self.invariant.by;
     })
 
-pub exchange-requires-clause-may_come : goal.exchange-requires-clause-may_come
-exchange-requires-clause-may_come c = record {
+pub exchange_with-requires-clause-may_come : goal.exchange_with-requires-clause-may_come
+exchange_with-requires-clause-may_come c = record {
   fit = c.requires.fit;
   countable =
       let few : map.len c.make_room.new.table.records < 18446744073709551615 = omega arith in
@@ -60,14 +61,14 @@ exchange-requires-clause-may_come c = record {
 pub invariant_of-self-in_default-place : goal.invariant_of-self-in_default-place
 invariant_of-self-in_default-place c = unplaced c
 
-pub invariant_of-self-in-Ok-exchange : goal.invariant_of-self-in-Ok-exchange
-invariant_of-self-in-Ok-exchange c = came c
+pub invariant_of-self-in-Ok-exchange_with : goal.invariant_of-self-in-Ok-exchange_with
+invariant_of-self-in-Ok-exchange_with c = came c
 
 pub invariant_of-self-in-Err : goal.invariant_of-self-in-Err
 invariant_of-self-in-Err c =
     subst (λ (i : ByVersion). AreInStep c.free.new.self i c.make_room.new.table.records) (sym (undone c.self.inside.holders c.add.new.self c.take_back-in-Err.new.self c.self.inside.table.records c.args.id c.args.version c.in-Ok.added c.self.invariant.by c.in-Ok.ensures.ok c.in-Ok.ensures.added c.take_back-in-Err.ensures)) (record {
-      kept = kept_undone (meaning_by meaning c.self.inside.holders.second) c.self.inside.store c.place.new.self c.exchange.new.self c.free.new.self c.make_room.new.table.records c.in-Ok-place.piece _
-          (rw c.make_room.ensures.records c.self.invariant.kept) c.in-Ok-place.ensures.ok c.place.ensures.kept c.place.ensures.counts c.exchange.ensures.rest.keeps c.exchange.ensures.rest.beside c.in-Err.ensures.exchanged.err c.free.ensures.sound c.free.ensures.counts c.free.ensures.kept c.free.ensures.freed;
+      kept = kept_undone (meaning_by meaning c.self.inside.holders.second) c.self.inside.store c.place.new.self c.exchange_with.new.self c.free.new.self c.make_room.new.table.records c.in-Ok-place.piece _
+          (rw c.make_room.ensures.records c.self.invariant.kept) c.in-Ok-place.ensures.ok c.place.ensures.kept c.place.ensures.counts c.exchange_with.ensures.rest.keeps c.exchange_with.ensures.rest.beside c.in-Err.ensures.exchanged.err c.free.ensures.sound c.free.ensures.counts c.free.ensures.kept c.free.ensures.freed;
       by = rw c.make_room.ensures.records c.self.invariant.by;
     })
 
@@ -96,29 +97,34 @@ returns-in_default-place-clause-held c = has_room _ _ _ (unplaced c)
 pub returns-in_default-place-clause-holders : goal.returns-in_default-place-clause-holders
 returns-in_default-place-clause-holders c = are_holders _ _ _ (unplaced c)
 
-pub returns-in-Ok-exchange-clause-ok : goal.returns-in-Ok-exchange-clause-ok
-returns-in-Ok-exchange-clause-ok c = rw (← c.self.view_is, ← c.make_room.ensures.records) (ap (seen c.replace.new.store) c.replace.ensures.records
-    ∙ page_seen c.self.inside.store c.self.inside.holders c.make_room.new.table.records c.args.id (rw c.make_room.ensures.records c.self.invariant) c.place.new.self c.exchange.new.self c.replace.new.store
-    c.args.after.state c.args.after.reconciled c.args.after.state.rev (record { piece = c.in-Ok-place.piece; keys = c.in-Ok-exchange.keys }) c.args.page.bytes c.args.page.triples c.keys_of.result.rising.now c.args.version
-    (rw c.as_slice.ensures at c.in-Ok-place.ensures.ok) c.place.ensures.kept c.place.ensures.counts c.exchange.ensures.rest.keeps c.exchange.ensures.rest.beside c.replace.ensures.counts c.replace.ensures.kept c.replace.ensures.freed)
+pub returns-in-Ok-exchange_with-clause-ok : goal.returns-in-Ok-exchange_with-clause-ok
+returns-in-Ok-exchange_with-clause-ok c = rw (← c.self.view_is, ← c.make_room.ensures.records) (ap (seen c.replace.new.store) c.replace.ensures.records
+    ∙ page_seen c.self.inside.store c.self.inside.holders c.make_room.new.table.records c.args.id (rw c.make_room.ensures.records c.self.invariant) c.place.new.self c.exchange_with.new.self c.replace.new.store
+    c.args.after.state c.args.after.reconciled c.args.after.state.rev (record { piece = c.in-Ok-place.piece; keys = c.in-Ok-exchange_with.field-0.keys }) c.args.page.bytes c.args.page.triples c.keys_of.result.rising.now c.args.version
+    (rw c.as_slice.ensures at c.in-Ok-place.ensures.ok) c.place.ensures.kept c.place.ensures.counts c.exchange_with.ensures.rest.keeps c.exchange_with.ensures.rest.beside c.replace.ensures.counts c.replace.ensures.kept c.replace.ensures.freed)
 
-pub returns-in-Ok-exchange-clause-within : goal.returns-in-Ok-exchange-clause-within
-returns-in-Ok-exchange-clause-within c = rw (← c.self.view_is, ← c.make_room.ensures.records)
-    (subst (λ n. n ≤ limit_of c.self.inside.store) (room_is (meaning_by meaning c.self.inside.holders.second) c.self.inside.store c.make_room.new.table.records (rw c.make_room.ensures.records c.self.invariant.kept) _ c.place.ensures.counts c.args.page.triples _ c.requires.meant) (subst (λ l. room_for (counts_in c.place.new.self) c.args.page.triples ≤ l) c.place.ensures.limit c.in-Ok-exchange.ensures.exchanged.within))
+pub returns-in-Ok-exchange_with-clause-within : goal.returns-in-Ok-exchange_with-clause-within
+returns-in-Ok-exchange_with-clause-within c = rw (← c.self.view_is, ← c.make_room.ensures.records)
+    (subst (λ n. n ≤ limit_of c.self.inside.store) (room_is (meaning_by meaning c.self.inside.holders.second) c.self.inside.store c.make_room.new.table.records (rw c.make_room.ensures.records c.self.invariant.kept) _ c.place.ensures.counts c.args.page.triples _ c.requires.meant) (subst (λ l. room_for (counts_in c.place.new.self) c.args.page.triples ≤ l) c.place.ensures.limit c.in-Ok-exchange_with.ensures.exchanged.within))
 
-pub returns-in-Ok-exchange-clause-held : goal.returns-in-Ok-exchange-clause-held
-returns-in-Ok-exchange-clause-held c = has_room _ _ _ (came c)
+pub returns-in-Ok-exchange_with-clause-change : goal.returns-in-Ok-exchange_with-clause-change
+returns-in-Ok-exchange_with-clause-change c = rw (← c.self.view_is)
+    (step_tells c.self.inside.store c.replace.new.store c.self.inside.holders c.remove.new.self c.self.inside.table.records c.replace.new.table.records c.self.invariant (came c)
+    (counts_in c.place.new.self) (counts_in c.exchange_with.new.self) c.place.ensures.counts (sym c.replace.ensures.counts) c.args.telling c.in-Ok-exchange_with.field-0.change c.in-Ok-exchange_with.ensures.exchanged.told)
 
-pub returns-in-Ok-exchange-clause-holders : goal.returns-in-Ok-exchange-clause-holders
-returns-in-Ok-exchange-clause-holders c = are_holders _ _ _ (came c)
+pub returns-in-Ok-exchange_with-clause-held : goal.returns-in-Ok-exchange_with-clause-held
+returns-in-Ok-exchange_with-clause-held c = has_room _ _ _ (came c)
+
+pub returns-in-Ok-exchange_with-clause-holders : goal.returns-in-Ok-exchange_with-clause-holders
+returns-in-Ok-exchange_with-clause-holders c = are_holders _ _ _ (came c)
 
 pub returns-clause-err : goal.returns-clause-err
 returns-clause-err c = rw (← c.self.view_is) (λ i. record {
   records = (seen_again (beside c.self.inside.store) (beside c.free.new.self) c.make_room.new.table.records
-      (placed_freed (beside c.self.inside.store) (beside c.place.new.self) (beside c.exchange.new.self) (beside c.free.new.self) c.in-Ok-place.piece _
-      c.in-Ok-place.ensures.ok c.exchange.ensures.rest.beside c.free.ensures.freed)
+      (placed_freed (beside c.self.inside.store) (beside c.place.new.self) (beside c.exchange_with.new.self) (beside c.free.new.self) c.in-Ok-place.piece _
+      c.in-Ok-place.ensures.ok c.exchange_with.ensures.rest.beside c.free.ensures.freed)
       ∙ ap (seen c.self.inside.store) c.make_room.ensures.records) i;
-  limit = (c.free.ensures.limit ∙ c.exchange.ensures.rest.limit ∙ c.place.ensures.limit) i;
+  limit = (c.free.ensures.limit ∙ c.exchange_with.ensures.rest.limit ∙ c.place.ensures.limit) i;
   second = ap (λ (ids : ByVersion). ids.second) (undone c.self.inside.holders c.add.new.self c.take_back-in-Err.new.self c.self.inside.table.records c.args.id c.args.version c.in-Ok.added c.self.invariant.by c.in-Ok.ensures.ok c.in-Ok.ensures.added c.take_back-in-Err.ensures) i;
 })
 

@@ -4,6 +4,7 @@ use Rattle.replay_model.specs.Versions.{meaning_by}
 use Rattle.world.specs.InStep.{AreInStep}
 use Rattle.world.specs.Keeping.{seen}
 use Rattle.world.specs.Meaning.{meaning}
+use Rattle.world.proofs.Changing.{stored_still}
 use Rattle.world.proofs.Replacing.{stayed_seen}
 use Rattle.world.proofs.Stepping.{are_holders, has_room, stay_step}
 use Rattle.world.proofs.holdings.Holdings.keep.Goals.{After-from_residual, After-keep_record}
@@ -31,6 +32,10 @@ returns-in_err-make_room-clause-holders c = are_holders _ _ _ (before c)
 pub returns-clause-records : goal.returns-clause-records
 returns-clause-records c = rw (← c.self.view_is, ← c.make_room.ensures.records) (ap (seen c.self.inside.store) c.keep_record.ensures
     ∙ stayed_seen (meaning_by meaning c.self.inside.holders.second) c.self.inside.store c.make_room.new.table.records c.args.id c.args.after.state c.args.after.reconciled (rw c.make_room.ensures.records c.self.invariant.kept))
+
+pub returns-clause-stored : goal.returns-clause-stored
+returns-clause-stored c = rw (← c.self.view_is)
+    (stored_still c.self.inside.store c.self.inside.holders c.self.inside.holders c.self.inside.table.records c.keep_record.new.table.records c.self.invariant (after c))
 
 pub returns-clause-held : goal.returns-clause-held
 returns-clause-held c = has_room _ _ _ (after c)

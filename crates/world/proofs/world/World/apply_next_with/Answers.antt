@@ -17,7 +17,7 @@ use Rattle.world.specs.Roomed.{room_with}
 use Rattle.world.specs.WorldState.{played_of}
 use Rattle.world.proofs.Fit.{reply_gives}
 use Rattle.world.proofs.Rooming.{stored_page}
-use Rattle.world.proofs.world.World.apply_next.Goals as goal
+use Rattle.world.proofs.world.World.apply_next_with.Goals as goal
 
 pub invariant_of-self : goal.invariant_of-self
 invariant_of-self g c =
@@ -33,5 +33,8 @@ pub returns-in-Ok-clause-within : goal.returns-in-Ok-clause-within
 returns-in-Ok-clause-within g c = rw (← c.self.view_is) (λ stored.
     subst (λ (ts : List Triple). room_with (meaning_by meaning c.self.inside.holdings.second) c.self.inside.holdings.records ts ≤ c.self.inside.holdings.limit)
     (sym (ap (λ (p : Played). triples_held (meaning c.self.inside.mapping) c.in-Some.event.entity (record_of p.records c.in-Some.event.entity).held) c.in-Ok.ensures.applied
-    ∙ stored_page c.self.inside.mapping c.self.inside.holdings.records c.in-Some.event (reply_or_any c.in_ok-reply.reply) c.in-Ok.outcome c.in-Ok.ensures.outcome stored))
+    ∙ stored_page c.self.inside.mapping c.self.inside.holdings.records c.in-Some.event (reply_or_any c.in_ok-reply.reply) c.in-Ok.field-0.outcome c.in-Ok.ensures.outcome stored))
     c.in-Ok.ensures.within)
+
+pub returns-in-Ok-clause-change : goal.returns-in-Ok-clause-change
+returns-in-Ok-clause-change g c = rw (← c.self.view_is) c.in-Ok.ensures.change

@@ -7,8 +7,8 @@ use Rattle.replay_model.specs.Records.{Records, record_of}
 use Rattle.replay_model.specs.Replies.{HoldsDocument}
 use Rattle.world.specs.WorldState.{stale_by}
 use Rattle.world.proofs.ByVersion.{fewer}
-use Rattle.world.proofs.world.World.remap_next.Goals as goal
-use Rattle.world.proofs.world.World.remap_next.Goals.{in-Ok, in-Err-Full, in-Err-OutOfMemory}
+use Rattle.world.proofs.world.World.remap_next_with.Goals as goal
+use Rattle.world.proofs.world.World.remap_next_with.Goals.{in-Ok, in-Err-Full, in-Err-OutOfMemory}
 
 pub invariant_of-self : goal.invariant_of-self
 invariant_of-self c = (
@@ -23,8 +23,15 @@ returns-clause-fewer c = elim c.match-remap.branch [
   | in-Ok w ↦ rw (w.result-is, ← c.self.view_is)
       (subst (λ (records : Records). length (stale_by c.self.inside.mapping c.remap.new.self.second records) + 1 ≡ length (stale_by c.self.inside.mapping c.self.inside.holdings.second c.self.inside.holdings.records))
       (sym c.remap.ensures.records)
-      (fewer c.self.inside.mapping c.self.inside.holdings.second c.remap.new.self.second c.self.inside.holdings.records (Some c.in-Some.id) c.self.invariant.2.rising
+      (fewer c.self.inside.mapping c.self.inside.holdings.second c.remap.new.self.second c.self.inside.holdings.records (Some c.in-Some.entity) c.self.invariant.2.rising
       (sym c.in-Some.is ∙ c.next_stale.ensures.entity) w.in-Ok.ensures.second))
+  | in-Err-Full w ↦ rw w.result-is tt
+  | in-Err-OutOfMemory w ↦ rw w.result-is tt
+]
+
+pub returns-clause-change : goal.returns-clause-change
+returns-clause-change c = elim c.match-remap.branch [
+  | in-Ok w ↦ rw (w.result-is, ← c.self.view_is) w.in-Ok.ensures.change
   | in-Err-Full w ↦ rw w.result-is tt
   | in-Err-OutOfMemory w ↦ rw w.result-is tt
 ]

@@ -1,0 +1,90 @@
+-- What a step tells is the change of the union.
+use Rattle.std.proofs.Common.{◌≡◌, Bool, true, false, not, ◌&&◌, List, [], ◌∷◌, length, Option, Some, None, refl, sym, ◌∙◌, ap, subst, arith}
+use Rattle.std.specs.FinMap as map
+use Rattle.rising.specs.Rising.{IsRising, difference, has}
+use Rattle.rising.proofs.Bools.{clash}
+use Rattle.rising.proofs.Filtering.{has-difference}
+use Rattle.rising.proofs.Rising.{has_itself, same_rising}
+use Rattle.rdf_term.specs.declared.triple.Triple.{Triple}
+use Rattle.rdf_term.specs.Order.{triple_cmp, triple_cmp-total}
+use Rattle.rdf_term.proofs.Texts.{triple_cmp-IsAntisymmetric}
+use Rattle.triple_store.specs.declared.telling.Change.{Change}
+use Rattle.triple_store.specs.declared.telling.Telling.{Telling}
+use Rattle.triple_store.specs.declared.telling.Telling.TheVariants.{Nothing, Change as TheChange}
+use Rattle.triple_store.specs.Counts.{Counts}
+use Rattle.triple_store.specs.StoreState.{StoreState, counts_in}
+use Rattle.triple_store.specs.Telling.{AreLinesOf, TellsIf}
+use Rattle.replay_model.specs.Union.{union}
+use Rattle.replay_model.specs.Versions.{meaning_by}
+use Rattle.world.specs.Changing.{IsChangeOf, Tells}
+use Rattle.world.specs.Holders.{ByVersion}
+use Rattle.world.specs.InStep.{AreInStep}
+use Rattle.world.specs.Keeping.{KeptRecords, seen}
+use Rattle.world.specs.Meaning.{meaning}
+use Rattle.world.proofs.Rooming.{stored_union}
+
+-- the stored triples are those that are counted
+tells : (telling : Telling) (old new : Counts) (before after : List Triple) → map.keys old ≡ before → map.keys new ≡ after → (change : Option Change) → TellsIf telling old new change → Tells telling before after change
+tells Nothing old new before after was is None told = λ asked. cc
+tells Nothing old new before after was is (Some change) told = absurd told
+tells TheChange old new before after was is None told = absurd told
+tells TheChange old new before after was is (Some change) told = (
+  refl,
+  record {
+    came = subst (AreLinesOf change.came) (ap (λ ts. difference triple_cmp ts (map.keys old)) is ∙ ap (difference triple_cmp after) was) told.came;
+    gone = subst (AreLinesOf change.gone) (ap (λ ts. difference triple_cmp ts (map.keys new)) was ∙ ap (difference triple_cmp before) is) told.gone;
+  },
+)
+
+-- what the store tells is the change of the union, where it is in step with the records before and after
+pub step_tells : (s s2 : StoreState) (ids ids2 : ByVersion) (kept kept2 : KeptRecords) → AreInStep s ids kept → AreInStep s2 ids2 kept2
+    → (old new : Counts) → old ≡ counts_in s → new ≡ counts_in s2 → (telling : Telling) (change : Option Change) → TellsIf telling old new change
+    → Tells telling (union triple_cmp (meaning_by meaning ids.second) (seen s kept)) (union triple_cmp (meaning_by meaning ids2.second) (seen s2 kept2)) change
+step_tells s s2 ids ids2 kept kept2 h k old new was is telling change told = tells telling old new _ _
+    (ap (λ (counts : Counts). map.keys counts) was ∙ stored_union (meaning_by meaning ids.second) s kept h.kept)
+    (ap (λ (counts : Counts). map.keys counts) is ∙ stored_union (meaning_by meaning ids2.second) s2 kept2 k.kept)
+    change told
+
+-- where the store stays as it was, so does the union
+pub stored_still : (s : StoreState) (ids ids2 : ByVersion) (kept kept2 : KeptRecords) → AreInStep s ids kept → AreInStep s ids2 kept2
+    → union triple_cmp (meaning_by meaning ids2.second) (seen s kept2) ≡ union triple_cmp (meaning_by meaning ids.second) (seen s kept)
+stored_still s ids ids2 kept kept2 h k =
+    sym (stored_union (meaning_by meaning ids2.second) s kept2 k.kept) ∙ stored_union (meaning_by meaning ids.second) s kept h.kept
+
+-- ---- a change without lines
+
+no_lines : (ts : List Triple) → length ts ≡ 0 → ts ≡ []
+no_lines [] none = refl
+no_lines (t ∷ ts) none = absurd (omega arith)
+
+none_in : (ts : List Triple) → ((t : Triple) → has triple_cmp t ts ≡ false) → ts ≡ []
+none_in [] none = refl
+none_in (t ∷ ts) none = clash (has_itself triple_cmp-total t ts) (none t)
+
+both_ways : (a b : Bool) → (not a && b) ≡ false → (not b && a) ≡ false → b ≡ a
+both_ways true true more fewer = refl
+both_ways true false more fewer = sym fewer
+both_ways false true more fewer = more
+both_ways false false more fewer = refl
+
+not_both : (a : Bool) → (not a && a) ≡ false
+not_both true = refl
+not_both false = refl
+
+module _ (before after : List Triple) (change : Change) (is : IsChangeOf before after change) where
+  -- where neither side has a line, the stored triples are as they were
+  pub without_lines : IsRising triple_cmp before → IsRising triple_cmp after → change.came.count ≡ 0 → change.gone.count ≡ 0 → after ≡ before
+  without_lines rises rises_after none_came none_gone =
+      let came : difference triple_cmp after before ≡ [] = no_lines _ (sym is.came.count ∙ none_came) in
+      let gone : difference triple_cmp before after ≡ [] = no_lines _ (sym is.gone.count ∙ none_gone) in
+      same_rising triple_cmp-total triple_cmp-IsAntisymmetric after before rises_after rises (λ t. both_ways (has triple_cmp t before) (has triple_cmp t after)
+      (sym (has-difference triple_cmp-total t after before) ∙ ap (has triple_cmp t) came)
+      (sym (has-difference triple_cmp-total t before after) ∙ ap (has triple_cmp t) gone))
+
+  -- and the other way round
+  pub as_it_was : after ≡ before → (change.came.count ≡ 0) × (change.gone.count ≡ 0)
+  as_it_was same =
+      let none : difference triple_cmp before before ≡ [] = none_in _ (λ t. has-difference triple_cmp-total t before before ∙ not_both (has triple_cmp t before)) in (
+        is.came.count ∙ ap (λ ts. length (difference triple_cmp ts before)) same ∙ ap length none,
+        is.gone.count ∙ ap (λ ts. length (difference triple_cmp before ts)) same ∙ ap length none,
+      )
