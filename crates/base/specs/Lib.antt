@@ -1,2 +1,2 @@
 pub mod Append
-pub mod Piece
+pub mod CowText

@@ -60,11 +60,11 @@ impl<T> List<T> {
         self.cells.is_empty()
     }
 
-    /// The item at a place from 0.
-    pub fn get(&self, place: usize) -> Option<&T>
-        ensures { option_copied result ≡ slice_get self.now place }
+    /// The item at an index from 0.
+    pub fn get(&self, index: usize) -> Option<&T>
+        ensures { option_copied result ≡ slice_get self.now index }
     {
-        self.cells.get(place)
+        self.cells.get(index)
     }
 
     /// All items in order.

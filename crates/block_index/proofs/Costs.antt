@@ -2,7 +2,7 @@
 use Rattle.std.proofs.Common.{◌≡◌, ℕ, zero, suc, ◌+◌, ◌-◌, ◌*◌, ◌^◌, ◌<◌, ◌≤◌, sym, subst, arith, ⊎_elim}
 use Rattle.std.proofs.lemmas.Bool.{cases_lt}
 use Rattle.std.proofs.Math.Nat.{pow-suc}
-use Rattle.block_index.specs.Steps.{Within, Left}
+use Rattle.block_index.specs.Steps.{WithinSteps, Left}
 
 -- half of a gap below 2 ^ e is below 2 ^ (e - 1)
 halved : (e gap next : ℕ) → 0 < gap → next + next ≤ gap → gap < 2 ^ e → (0 < e) × (next < 2 ^ (e - 1))
@@ -34,15 +34,15 @@ left_step n start now gap next some half left = (
 )
 
 -- a search that has ended was within its bound
-pub left_end : (n start now gap : ℕ) → Left n start now gap → Within n 0 start now
+pub left_end : (n start now gap : ℕ) → Left n start now gap → WithinSteps n 0 start now
 left_end n start now gap left = (left.0, λ d below. let so_far = (left.1 d below).0 in omega arith)
 
 -- and so was one that ends with the next step
-pub left_found : (n start now gap : ℕ) → 0 < gap → Left n start now gap → Within n 0 start (now + 1)
+pub left_found : (n start now gap : ℕ) → 0 < gap → Left n start now gap → WithinSteps n 0 start (now + 1)
 left_found n start now gap some left = let then = left_step n start now gap 0 some (omega arith) left in left_end n start (now + 1) 0 then
 
 -- a search of the blocks, and one of a block's keys after it
-pub both : (blocks keys all before between after : ℕ) → blocks ≤ all → keys ≤ 128 → Within blocks 0 before between → Within keys 0 between after → Within all 8 before after
+pub both : (blocks keys all before between after : ℕ) → blocks ≤ all → keys ≤ 128 → WithinSteps blocks 0 before between → WithinSteps keys 0 between after → WithinSteps all 8 before after
 both blocks keys all before between after few small first second = (
   let a = first.0 in let b = second.0 in omega arith,
   λ d below.
@@ -51,11 +51,11 @@ both blocks keys all before between after few small first second = (
       omega arith,
 )
 
-pub one : (blocks all before after : ℕ) → blocks ≤ all → Within blocks 0 before after → Within all 8 before after
+pub one : (blocks all before after : ℕ) → blocks ≤ all → WithinSteps blocks 0 before after → WithinSteps all 8 before after
 one blocks all before after few first = (first.0, λ d below. let a = first.1 d (omega arith) in omega arith)
 
 -- a search of a group's blocks from the second on, and one of a block's keys from the second on after it
-pub in_group : (blocks keys before between after : ℕ) → keys ≤ 128 → Within (blocks - 1) 0 before between → Within (keys - 1) 0 between after → Within (blocks - 1) 7 before after
+pub in_group : (blocks keys before between after : ℕ) → keys ≤ 128 → WithinSteps (blocks - 1) 0 before between → WithinSteps (keys - 1) 0 between after → WithinSteps (blocks - 1) 7 before after
 in_group blocks keys before between after small first second = (
   let a = first.0 in let b = second.0 in omega arith,
   λ d below.
@@ -64,7 +64,7 @@ in_group blocks keys before between after small first second = (
       omega arith,
 )
 
-pub in_block : (blocks before after : ℕ) → Within (blocks - 1) 0 before after → Within (blocks - 1) 7 before after
+pub in_block : (blocks before after : ℕ) → WithinSteps (blocks - 1) 0 before after → WithinSteps (blocks - 1) 7 before after
 in_block blocks before after first = (first.0, λ d below. let a = first.1 d below in omega arith)
 
 -- 64 times a number below 2 ^ d is below 2 ^ (d - 6)
@@ -81,7 +81,7 @@ sixth d g some below =
     (omega arith, subst (λ n. g < 2 ^ n) same h.1)
 
 -- a search of the groups, and one in a group after it
-pub by_groups : (groups blocks all before between after : ℕ) → (1 < groups → 64 * groups ≤ all) → blocks ≤ all → blocks ≤ 128 → Within groups 0 before between → Within (blocks - 1) 7 between after → Within all 8 before after
+pub by_groups : (groups blocks all before between after : ℕ) → (1 < groups → 64 * groups ≤ all) → blocks ≤ all → blocks ≤ 128 → WithinSteps groups 0 before between → WithinSteps (blocks - 1) 7 between after → WithinSteps all 8 before after
 by_groups groups blocks all before between after many few small first second = (
   let a = first.0 in let b = second.0 in omega arith,
   λ d below. ⊎_elim

@@ -2,8 +2,8 @@
 use Rattle.std.specs.Prelude.{ℕ, ◌+◌, ◌-◌, ◌^◌, ◌<◌, ◌≤◌}
 
 -- from `before` to `after` at most as many steps pass as n has binary digits, and some more: each d with n < 2 ^ d bounds the digits
-abbrev pub Within : ℕ → ℕ → ℕ → ℕ → Type 0
-Within n more before after = (before ≤ after) × ((d : ℕ) → n < 2 ^ d → after ≤ before + d + more)
+abbrev pub WithinSteps : ℕ → ℕ → ℕ → ℕ → Type 0
+WithinSteps n more before after = (before ≤ after) × ((d : ℕ) → n < 2 ^ d → after ≤ before + d + more)
 
 -- what is left of a binary search over n places that began at `start`: after the steps till now the gap is below what the digits that are left can count
 abbrev pub Left : ℕ → ℕ → ℕ → ℕ → Type 0

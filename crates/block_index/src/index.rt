@@ -6,7 +6,7 @@ ghost use Rattle.std.specs.Ordering.{eq_by_cmp};
 ghost use Rattle.std.specs.BTreeSet.{insert_key};
 ghost use Rattle.std.specs.Set.{remove_key};
 ghost use Rattle.rising.specs.Rising.{IsRising, has};
-ghost use Rattle.block_index.specs.Steps.{Within};
+ghost use Rattle.block_index.specs.Steps.{WithinSteps};
 ghost use Rattle.block_index.specs.Blocks.{AreFilled, ChangesTwo, keys_between, keys_of};
 
 use crate::edit::{put_in, take_out};
@@ -85,7 +85,7 @@ impl<K: Ranked> BlockIndex<K> {
     /// has binary digits, and 8 more.
     pub fn find<L: Ledger>(&self, key: K, steps: &mut Steps<L>) -> bool
         ensures answer { result ≡ has K.cmp key (keys_of self.now) }
-        ensures cost { Within (length (keys_of self.now)) 8 steps.old steps.new }
+        ensures cost { WithinSteps (length (keys_of self.now)) 8 steps.old steps.new }
     {
         locate(&self.groups, &key, steps).found
     }
@@ -99,7 +99,7 @@ impl<K: Ranked> BlockIndex<K> {
         ensures same { IfOk result (λ added. OnFalse added (self.new ≡ self.old)) }
         ensures blocks { OnOk result (ChangesTwo self.old self.new) }
         ensures err { OnErr result (self.new ≡ self.old) }
-        ensures cost { Within (length (keys_of self.old)) 8 steps.old steps.new }
+        ensures cost { WithinSteps (length (keys_of self.old)) 8 steps.old steps.new }
     {
         let position = locate(&self.groups, &key, steps);
         if position.found {
@@ -120,7 +120,7 @@ impl<K: Ranked> BlockIndex<K> {
         ensures keys { keys_of self.new ≡ remove_key (eq_by_cmp K.cmp key) (keys_of self.old) }
         ensures same { OnFalse result (self.new ≡ self.old) }
         ensures blocks { ChangesTwo self.old self.new }
-        ensures cost { Within (length (keys_of self.old)) 8 steps.old steps.new }
+        ensures cost { WithinSteps (length (keys_of self.old)) 8 steps.old steps.new }
     {
         let position = locate(&self.groups, &key, steps);
         if !position.found {
@@ -140,7 +140,7 @@ impl<K: Ranked> BlockIndex<K> {
         steps: &mut Steps<L>,
     ) -> Result<List<K>, OutOfMemory>
         ensures keys { IfOk result (λ keys. keys ≡ keys_between K.cmp from to (keys_of self.now)) }
-        ensures cost { IfOk result (λ keys. Within (length (keys_of self.now)) (9 + length keys) steps.old steps.new) }
+        ensures cost { IfOk result (λ keys. WithinSteps (length (keys_of self.now)) (9 + length keys) steps.old steps.new) }
         ensures forward { steps.old ≤ steps.new }
     {
         let groups = self.groups.as_slice();

@@ -2,7 +2,7 @@
 
 ghost use Rattle.std.specs.Prelude.{◌-◌, ◌<◌, ◌≤◌, length, map};
 ghost use Rattle.rising.specs.Rising.{IsRising};
-ghost use Rattle.block_index.specs.Steps.{Within};
+ghost use Rattle.block_index.specs.Steps.{WithinSteps};
 ghost use Rattle.block_index.specs.Blocks.{AreFilled, keys_of};
 ghost use Rattle.block_index.specs.Groups.{AreGroups, IsInside, index_of};
 ghost use Rattle.block_index.specs.Search.{EndsAt, EndsAtBlock, IsAfter, IsAfterBlock, Stands};
@@ -42,7 +42,7 @@ fn search<K: Ranked, L: Ledger>(
     requires within { start ≤ length keys.now }
     requires above { IsAfter K.cmp key.now keys.now start }
     ensures ends { EndsAt K.cmp key.now keys.now start result }
-    ensures cost { Within (length keys.now - start) 0 steps.old steps.new }
+    ensures cost { WithinSteps (length keys.now - start) 0 steps.old steps.new }
 {
     let mut low = start;
     let mut high = keys.len();
@@ -68,7 +68,7 @@ fn search_blocks<K: Ranked, L: Ledger>(
     requires within { start ≤ length blocks.now }
     requires above { IsAfterBlock K.cmp key.now blocks.now start }
     ensures ends { EndsAtBlock K.cmp key.now blocks.now start result }
-    ensures cost { Within (length blocks.now - start) 0 steps.old steps.new }
+    ensures cost { WithinSteps (length blocks.now - start) 0 steps.old steps.new }
 {
     let mut low = start;
     let mut high = blocks.len();
@@ -92,7 +92,7 @@ fn search_groups<K: Ranked, L: Ledger>(
     requires some { AreFilled groups.now }
     requires filled { AreFilled (keys_of groups.now) }
     ensures ends { EndsAtBlock K.cmp key.now (map keys_of groups.now) 0 result }
-    ensures cost { Within (length groups.now) 0 steps.old steps.new }
+    ensures cost { WithinSteps (length groups.now) 0 steps.old steps.new }
 {
     let mut low = 0;
     let mut high = groups.len();
@@ -118,7 +118,7 @@ fn locate_in<K: Ranked, L: Ledger>(
     requires rising { IsRising K.cmp (keys_of blocks.now) }
     requires above { IsAfterBlock K.cmp key.now blocks.now 1 }
     ensures stands { Stands K.cmp key.now blocks.now result.block result.at result.found }
-    ensures cost { Within (length blocks.now - 1) 7 steps.old steps.new }
+    ensures cost { WithinSteps (length blocks.now - 1) 7 steps.old steps.new }
 {
     let next = match search_blocks(blocks, 1, key, steps) {
         Ok(block) => {
@@ -152,7 +152,7 @@ pub fn locate<K: Ranked, L: Ledger>(groups: &[Group<K>], key: &K, steps: &mut St
     requires rising { IsRising K.cmp (keys_of (keys_of groups.now)) }
     ensures stands { Stands K.cmp key.now (keys_of groups.now) (index_of groups.now result.group result.block) result.at result.found }
     ensures inside { 0 < length groups.now → IsInside groups.now result.group result.block }
-    ensures cost { Within (length (keys_of (keys_of groups.now))) 8 steps.old steps.new }
+    ensures cost { WithinSteps (length (keys_of (keys_of groups.now))) 8 steps.old steps.new }
 {
     let next = match search_groups(groups, key, steps) {
         Ok(group) => {

@@ -44,11 +44,11 @@ pub fn differing(
     }
     let expected = split_lines(alloc, expected)?;
     let found = split_lines(alloc, found)?;
-    let place = equal_lines(expected.as_slice(), found.as_slice());
-    let number = place.saturating_add(1);
-    let expected = line_at(alloc, expected.as_slice(), place)?;
+    let index = equal_lines(expected.as_slice(), found.as_slice());
+    let number = index.saturating_add(1);
+    let expected = line_at(alloc, expected.as_slice(), index)?;
     let expected = expected.as_str();
-    let found = line_at(alloc, found.as_slice(), place)?;
+    let found = line_at(alloc, found.as_slice(), index)?;
     let found = found.as_str();
     Ok(Some(format!(in alloc;
         "     {what}, line {number}\n     expected {expected}\n     found    {found}"
@@ -60,9 +60,9 @@ fn equal_lines(a: &[&[u8]], b: &[&[u8]]) -> usize {
     a.iter().zip(b).take_while(|pair| pair.0 == pair.1).count()
 }
 
-// The line at a place, or that there is none.
-fn line_at(alloc: Global, lines: &[&[u8]], place: usize) -> Result<String> {
-    match lines.get(place) {
+// The line at an index, or that there is none.
+fn line_at(alloc: Global, lines: &[&[u8]], index: usize) -> Result<String> {
+    match lines.get(index) {
         Some(line) => printable(alloc, line),
         None => Ok(String::from_str(alloc, "nothing more")?),
     }

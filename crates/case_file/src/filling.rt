@@ -10,8 +10,8 @@ pub const MARKS: [&str; 9] = ["$1", "$2", "$3", "$4", "$5", "$6", "$7", "$8", "$
 /// A text with another in place of each mark.
 pub fn replaced(alloc: Global, whole: &str, mark: &str, text: &str) -> Result<String> {
     let mut made = String::new(alloc);
-    for (place, part) in whole.split(mark).enumerate() {
-        if place > 0 {
+    for (index, part) in whole.split(mark).enumerate() {
+        if index > 0 {
             made.push_str(text)?;
         }
         made.push_str(part)?;

@@ -17,10 +17,10 @@ pub struct Given {
     pub failing_fetches: Vec<u64>,
 }
 
-/// The page of a revision at a place.
+/// The page of a revision in a folder.
 #[derive(Drop)]
 pub struct Page {
-    pub place: String,
+    pub folder: String,
     pub rev: u64,
     pub bytes: Vec<u8>,
 }
@@ -132,16 +132,16 @@ fn push_pages(alloc: Global, last: &str, lines: &str, pages: &mut Vec<Page>) -> 
     Ok(())
 }
 
-// A page, its revision, and its place where that isn't `.`. The line feed at its end is none of its bytes.
+// A page, its revision, and its folder where that isn't `.`. The line feed at its end is none of its bytes.
 fn page_in(alloc: Global, words: &str, lines: &str) -> Result<Page> {
-    let (rev, place) = words.split_once(" at ").unwrap_or((words, "."));
+    let (rev, folder) = words.split_once(" at ").unwrap_or((words, "."));
     let rev = rev.parse().context("a page's revision")?;
-    let place = String::from_str(alloc, place)?;
+    let folder = String::from_str(alloc, folder)?;
     let mut bytes = bytes_of(alloc, lines)?;
     if bytes.as_slice().ends_with(b"\n") {
         bytes.pop();
     }
-    Ok(Page { place, rev, bytes })
+    Ok(Page { folder, rev, bytes })
 }
 
 // The bytes of a call, 4,096 where the case doesn't say, and the calls that fail.

@@ -44,8 +44,8 @@ impl Case {
 /// The cases of a file.
 pub fn cases_of(alloc: Global, file: &str, text: &str) -> Result<Vec<Case>> {
     let mut cases = Vec::new(alloc);
-    for (place, line) in text.lines().enumerate() {
-        let number = place.saturating_add(1);
+    for (index, line) in text.lines().enumerate() {
+        let number = index.saturating_add(1);
         take_line(alloc, &mut cases, file, line).context(format_args!(
             "{file}.case, line {number}"
         ))?;

@@ -161,8 +161,8 @@ fn push_repeated(alloc: Global, bytes: &mut Vec<u8>, rest: &str) -> Result<()> {
 
 // A text, with the bytes of its escapes and the IRIs of its prefixes.
 fn push_text(bytes: &mut Vec<u8>, text: &str) -> Result<()> {
-    for (place, part) in text.split("\\x").enumerate() {
-        if place == 0 {
+    for (index, part) in text.split("\\x").enumerate() {
+        if index == 0 {
             push_prefixed(bytes, part)?;
         } else {
             push_escaped(bytes, part)?;
@@ -180,12 +180,12 @@ fn push_escaped(bytes: &mut Vec<u8>, part: &str) -> Result<()> {
 
 // Appends a text, with what each prefix stands for.
 fn push_prefixed(bytes: &mut Vec<u8>, text: &str) -> Result<()> {
-    for (place, part) in text.split('<').enumerate() {
-        if place > 0 {
+    for (index, part) in text.split('<').enumerate() {
+        if index > 0 {
             push_str(bytes, "<")?;
         }
         match part.split_once(':') {
-            Some((prefix, rest)) if place > 0 => push_name(bytes, part, prefix, rest)?,
+            Some((prefix, rest)) if index > 0 => push_name(bytes, part, prefix, rest)?,
             _ => push_str(bytes, part)?,
         }
     }

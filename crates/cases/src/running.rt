@@ -79,10 +79,10 @@ fn entries(alloc: Global, pages: &[Page]) -> Result<List<RevisionBytes>> {
 
 // A page with memory of its own.
 fn entry(alloc: Global, page: &Page) -> Result<RevisionBytes> {
-    let place = Text::new(alloc, page.place.as_str())?;
+    let folder = Text::new(alloc, page.folder.as_str())?;
     let bytes = Vec::from_slice(alloc, page.bytes.as_slice())?;
     Ok(RevisionBytes {
-        place,
+        place: folder,
         rev: page.rev,
         bytes: List::from_vec(bytes),
     })

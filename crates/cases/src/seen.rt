@@ -53,13 +53,13 @@ fn record(alloc: Global, world: &World, id: EntityId) -> Result<String> {
 // The entries of the side output, as the program prints them.
 pub fn side(alloc: Global, world: &World) -> Result<String> {
     let mut lines = String::new(alloc);
-    for place in 0..world.side_len() {
-        let stands = if world.side_open(place) {
+    for index in 0..world.side_len() {
+        let stands = if world.side_open(index) {
             "open"
         } else {
             "closed"
         };
-        if let Some(entry) = world.side(place) {
+        if let Some(entry) = world.side(index) {
             let line = entry_line(alloc, entry, stands)?;
             lines.push_str(line.as_str())?;
         }

@@ -5,8 +5,8 @@ use Rattle.entity_model.specs.declared.id.EntityId.{EntityId}
 use Rattle.entity_model.specs.declared.id.IdKind.TheVariants.{Q}
 use Rattle.entity_model.specs.declared.event.Kind.{Kind}
 use Rattle.entity_model.specs.declared.event.Kind.TheVariants.{Edit, Delete}
-use Rattle.entity_model.specs.declared.delivery.Delivery.{Delivery}
-use Rattle.entity_model.specs.declared.delivery.Delivery.TheVariants.{Event as Told, Watermark}
+use Rattle.delivery.specs.declared.Delivery.{Delivery}
+use Rattle.delivery.specs.declared.Delivery.TheVariants.{Event as Told, Watermark}
 
 -- the sizes that a drill has, and the numbers of its items
 abbrev pub IsSize : ℕ → Type 0
@@ -39,12 +39,12 @@ late_edit i =
     if i % 10 == 0 then Watermark (time_at (2 * i)) ∷ event Edit i (2 * i - 1) (2 * i - 3) ∷ [] else []
 
 -- the deliveries of an item
-abbrev pub deliveries_of : ℕ → List Delivery
-deliveries_of i = edits i ++ deletion i ++ late_edit i
+abbrev pub item_deliveries : ℕ → List Delivery
+item_deliveries i = edits i ++ deletion i ++ late_edit i
 
 -- the deliveries of the drill of a size: those of the items from 1 to the size, in turn
 abbrev pub drill : ℕ → List Delivery
-drill size = flat_map deliveries_of (range_with_len 1 size)
+drill size = flat_map item_deliveries (range_with_len 1 size)
 
 -- the page of an item up to its last brace: its id and its label
 unfoldable pub page_front : ℕ → List ℕ

@@ -59,7 +59,7 @@ impl DrillRevisions {
 }
 
 impl Revisions for DrillRevisions {
-    ghost contents = { λ s. Some (λ place. contents_of s.size) };
+    ghost contents = { λ s. Some (λ folder. contents_of s.size) };
 
     ghost calls = { λ s. s.calls };
 

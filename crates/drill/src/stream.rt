@@ -1,10 +1,11 @@
 // The deliveries of an item.
 
 ghost use Rattle.std.specs.Prelude.{◌≡◌, ◌++◌, IfOk, OnOk};
-ghost use Rattle.drill.specs.Drill.{IsSize, deletion, deliveries_of, edits, event, late_edit, time_at};
+ghost use Rattle.drill.specs.Drill.{IsSize, deletion, item_deliveries, edits, event, late_edit, time_at};
 
 use base::{List, OutOfMemory};
-use entity_model::{Delivery, EntityId, Event, IdKind, Kind};
+use delivery::Delivery;
+use entity_model::{EntityId, Event, IdKind, Kind};
 use std::alloc::Global;
 
 /// What is delivered of the item with this number, in order: its later edit, its earlier edit, and the later
@@ -12,7 +13,7 @@ use std::alloc::Global;
 /// Each revision is as many seconds after 1970-01-01T00:00:00Z as its number says, but a late edit's is two less.
 pub fn deliveries(alloc: Global, number: u32) -> Result<List<Delivery>, OutOfMemory>
     requires { IsSize number }
-    ensures { IfOk result (λ list. list ≡ deliveries_of number) }
+    ensures { IfOk result (λ list. list ≡ item_deliveries number) }
 {
     let mut list = edits(alloc, number)?;
     push_deletion(&mut list, number)?;

@@ -89,8 +89,8 @@ module _ (S : List Statement → Type 0) (t : Tree) (has : HasLabel S t) where
 
   page_labelled : (p : Page) → IsPage t p → IsLabelledPage S p.document
   page_labelled p h =
-      let place : h.place ≡ t = subst (λ o. StandsAt o t h.place) has.alone h.stands in
-      document_labelled p.id p.document (subst (λ u. IsDocument u p.id p.document) place h.holds)
+      let page_tree : h.page_tree ≡ t = subst (λ o. StandsAt o t h.page_tree) has.alone h.stands in
+      document_labelled p.id p.document (subst (λ u. IsDocument u p.id p.document) page_tree h.holds)
 
 earlier_has : (i : ℕ) → HasLabel HasNone (earlier_tree i)
 unfolding page labels

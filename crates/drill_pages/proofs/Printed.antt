@@ -6,7 +6,7 @@ use Rattle.std.proofs.lemmas.Bool.Decides.{nat_tests}
 use Rattle.std.proofs.lemmas.Fmt.{decimal_by_steps}
 use Rattle.std.proofs.lemmas.Str.{encode_ascii}
 use Rattle.json_spell.specs.Number.{EachPasses}
-use Rattle.json_spell.specs.Text.{unescaped, is_unescaped, AreChars, all_spelled, all_meant, IsString}
+use Rattle.json_spell.specs.Text.{unescaped, is_unescaped, AreChars, all_spelled, all_utf8, IsString}
 use Rattle.json_spell.specs.Tree.{Tree, null, boolean, number, string, array, object, Trees, no_trees, tree, Pairs, no_pairs, pair}
 use Rattle.json_spell.specs.Grammar.{AreMembers, AreMoreMembers, AreMoreValues, AreValues, IsMember, IsValue, Reads, Spaced}
 use Rattle.json_spell.specs.Runs.{is_plain}
@@ -46,9 +46,9 @@ spelled-of : (xs : List ℕ) → IsPlain xs → all_spelled (map unescaped xs) �
 spelled-of [] h = refl
 spelled-of (x ∷ xs) h = rw (encode_ascii x (plain-low x h.0), spelled-of xs h.1) refl
 
-meant-of : (xs : List ℕ) → IsPlain xs → all_meant (map unescaped xs) ≡ xs
-meant-of [] h = refl
-meant-of (x ∷ xs) h = rw (encode_ascii x (plain-low x h.0), meant-of xs h.1) refl
+all_utf8-of : (xs : List ℕ) → IsPlain xs → all_utf8 (map unescaped xs) ≡ xs
+all_utf8-of [] h = refl
+all_utf8-of (x ∷ xs) h = rw (encode_ascii x (plain-low x h.0), all_utf8-of xs h.1) refl
 
 -- a plain text between quotation marks
 abbrev quoted : List ℕ → List ℕ
@@ -59,7 +59,7 @@ quoted-string xs h = record {
   chars = map unescaped xs;
   are_chars = chars-of xs h;
   text_is = ap quoted (sym (spelled-of xs h));
-  content_is = sym (meant-of xs h);
+  content_is = sym (all_utf8-of xs h);
 }
 
 -- ---- trees

@@ -5,8 +5,8 @@ use Rattle.rising.proofs.Filtering.{has-filter}
 use Rattle.rising.proofs.Rising.{has-sorted}
 use Rattle.entity_model.specs.declared.event.Event.{Event}
 use Rattle.entity_model.specs.Event.{event_cmp, event_cmp_same, event_cmp_total}
-use Rattle.entity_model.specs.declared.delivery.Delivery.{Delivery}
-use Rattle.entity_model.specs.declared.delivery.Delivery.TheVariants.{Event as Told, Watermark, Ask, Mapping}
+use Rattle.delivery.specs.declared.Delivery.{Delivery}
+use Rattle.delivery.specs.declared.Delivery.TheVariants.{Event as Told, Watermark, Ask, Mapping}
 use Rattle.reorder_buffer.specs.declared.taken.Taken.{Taken}
 use Rattle.reorder_buffer.specs.declared.taken.Taken.TheVariants.{New, Repeat, Late}
 use Rattle.reorder_buffer.specs.Watermarks.{reached}

@@ -2,14 +2,14 @@
 use Rattle.std.proofs.Common.{◌≡◌, ◌∙◌, refl, sym, ap, subst, inl, inr, ℕ, zero, suc, ◌+◌, ◌-◌, ◌%◌, ◌<◌, ◌≤◌, ◌==◌, Bool, true, false, cond, List, [], ◌∷◌, ◌++◌, append_assoc, append-nil, length, length-append, Option, None, Some, ⊎_elim, arith}
 use Rattle.std.specs.List.{flat_map, range_with_len}
 use Rattle.std.proofs.lemmas.List.Concat.{flat_map-append}
-use Rattle.entity_model.specs.declared.delivery.Delivery.{Delivery}
+use Rattle.delivery.specs.declared.Delivery.{Delivery}
 use Rattle.entity_model.specs.declared.event.Event.{Event}
 use Rattle.reorder_buffer.specs.Buffered.{first_due}
 use Rattle.rising.proofs.FirstPassing.{shorter_without}
 use Rattle.replay_model.specs.Play.{Replies}
 use Rattle.replay_model.specs.ReplayState.{ReplayState, after_applying, after_due, after_end, after_next, after_some, following, nothing_delivered}
 use Rattle.replay_model.proofs.Following.{after_due-none, after_due-some, following-end}
-use Rattle.drill.specs.Drill.{deletion, deliveries_of, drill, edits, late_edit}
+use Rattle.drill.specs.Drill.{deletion, item_deliveries, drill, edits, late_edit}
 use Rattle.drill_replay.specs.Playing.{HasBegun, IsPartOf, StandsBetween, StandsWithin}
 use Rattle.drill_replay.specs.Summary.{drilled, replies_of}
 
@@ -28,11 +28,11 @@ range_more a (suc n) j is =
     ap (range_with_len a) longer ∙ ap (λ l. a ∷ l) (range_more (a + 1) n j next)
 
 -- the drill with one item more
-pub drill-next : (n : ℕ) → drill (n + 1) ≡ drill n ++ deliveries_of (n + 1)
+pub drill-next : (n : ℕ) → drill (n + 1) ≡ drill n ++ item_deliveries (n + 1)
 drill-next n =
     let next : 1 + n ≡ n + 1 = omega arith in
-    ap (flat_map deliveries_of) (range_more 1 n (n + 1) next) ∙ flat_map-append deliveries_of (range_with_len 1 n) ((n + 1) ∷ [])
-    ∙ ap (λ l. drill n ++ l) (append-nil (deliveries_of (n + 1)))
+    ap (flat_map item_deliveries) (range_more 1 n (n + 1) next) ∙ flat_map-append item_deliveries (range_with_len 1 n) ((n + 1) ∷ [])
+    ∙ ap (λ l. drill n ++ l) (append-nil (item_deliveries (n + 1)))
 
 -- the deliveries of the items after so many
 pub rest_of : (m k : ℕ) → (rest : List Delivery) × (drill (m + k) ≡ drill m ++ rest)
@@ -42,8 +42,8 @@ rest_of m zero =
 rest_of m (suc k) =
     let before = rest_of m k in
     let same : m + suc k ≡ m + k + 1 = omega arith in (
-      before.0 ++ deliveries_of (m + k + 1),
-      ap drill same ∙ drill-next (m + k) ∙ ap (λ l. l ++ deliveries_of (m + k + 1)) before.1 ∙ append_assoc (drill m) before.0 (deliveries_of (m + k + 1)),
+      before.0 ++ item_deliveries (m + k + 1),
+      ap drill same ∙ drill-next (m + k) ∙ ap (λ l. l ++ item_deliveries (m + k + 1)) before.1 ∙ append_assoc (drill m) before.0 (item_deliveries (m + k + 1)),
     )
 
 -- a part of the first deliveries is a part of all
@@ -78,9 +78,9 @@ at_most true xs n low = low
 at_most false xs n low = omega arith
 
 -- an item has at most six deliveries
-pub few_deliveries : (i : ℕ) → length (deliveries_of i) ≤ 6
+pub few_deliveries : (i : ℕ) → length (item_deliveries i) ≤ 6
 few_deliveries i =
-    let joined : length (deliveries_of i) ≡ length (edits i) + length (deletion i) + length (late_edit i) =
+    let joined : length (item_deliveries i) ≡ length (edits i) + length (deletion i) + length (late_edit i) =
     length-append (edits i ++ deletion i) (late_edit i) ∙ ap (λ n. n + length (late_edit i)) (length-append (edits i) (deletion i)) in
     let deleted : length (deletion i) ≤ 1 = at_most (i % 5 == 0) _ 1 (omega arith) in
     let late : length (late_edit i) ≤ 2 = at_most (i % 10 == 0) _ 2 (omega arith) in

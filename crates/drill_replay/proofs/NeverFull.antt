@@ -3,7 +3,7 @@ use Rattle.std.proofs.Common.{◌≡◌, ◌∙◌, refl, sym, ap, subst, inl, �
 use Rattle.std.proofs.lemmas.List.Elements.{filter_map-append}
 use Rattle.rising.proofs.Bools.{clash}
 use Rattle.entity_json.specs.Document.{unfit_of}
-use Rattle.entity_model.specs.declared.delivery.Delivery.{Delivery}
+use Rattle.delivery.specs.declared.Delivery.{Delivery}
 use Rattle.entity_model.specs.declared.event.Event.{Event}
 use Rattle.entity_model.specs.declared.mapping.MappingVersion.TheVariants.{One}
 use Rattle.entity_model.specs.Event.{event_cmp}
@@ -69,9 +69,9 @@ no_number : (a b c : ℕ) → a < b → b ≤ c → c ≤ a → ⊥
 no_number a b c over within enough = omega (arith, over, within, enough)
 
 -- no page that is due is too much
-pub never_over : (size room : ℕ) (world : ReplayState) (e : Event) (bytes : Bytes) → IsSize size → HasBegun size world → 20_000_000 ≤ room → first_due world.buffer ≡ Some e → is_fetching world e ≡ true
-    → contents_of size (revision_wanted world e) ≡ Some bytes → room < room_with (meaning_by meaning []) world.played.records (meaning One e.entity (revision_wanted world e) bytes) → ⊥
-never_over size room world e bytes is_size begun enough due wanted there over =
+pub never_over : (size limit : ℕ) (world : ReplayState) (e : Event) (bytes : Bytes) → IsSize size → HasBegun size world → 20_000_000 ≤ limit → first_due world.buffer ≡ Some e → is_fetching world e ≡ true
+    → contents_of size (revision_wanted world e) ≡ Some bytes → limit < room_with (meaning_by meaning []) world.played.records (meaning One e.entity (revision_wanted world e) bytes) → ⊥
+never_over size limit world e bytes is_size begun enough due wanted there over =
     let among = begun_named size world begun in
     no_number _ _ _ over
     (fits (contents_of size) (drill size) world.played.records One [] (inl refl) (λ x h. clash h refl) (λ x. (among.pages x).held) e.entity (revision_wanted world e) bytes

@@ -10,8 +10,8 @@ use Rattle.rdf_term.specs.declared.term.Term.{Term}
 use Rattle.rdf_term.specs.declared.triple.Triple.{Triple}
 use Rattle.rdf_term.specs.Order.{term_cmp-total}
 use Rattle.rdf_term.proofs.Texts.{term_cmp-IsAntisymmetric}
-use Rattle.entity_model.specs.declared.delivery.Delivery.{Delivery}
-use Rattle.entity_model.specs.declared.delivery.Delivery.TheVariants.{Watermark}
+use Rattle.delivery.specs.declared.Delivery.{Delivery}
+use Rattle.delivery.specs.declared.Delivery.TheVariants.{Watermark}
 use Rattle.entity_model.specs.declared.event.Event.{Event}
 use Rattle.entity_model.specs.declared.event.Kind.TheVariants.{Delete, Edit}
 use Rattle.entity_model.specs.declared.id.EntityId.{EntityId}
@@ -22,7 +22,7 @@ use Rattle.triple_store.proofs.Distinct.{fewer}
 use Rattle.world.specs.Meaning.{meaning}
 use Rattle.told_pages.specs.Told.{keeps_page, page_events, terms_by, terms_there, triples_there, versions_told}
 use Rattle.told_pages.proofs.Gathered.{giver_of, in_either, in_front, in_rest}
-use Rattle.drill.specs.Drill.{IsSize, contents_of, deletion, deliveries_of, drill, earlier_page, edits, event, item, late_edit, later_page, page_of, time_at}
+use Rattle.drill.specs.Drill.{IsSize, contents_of, deletion, item_deliveries, drill, earlier_page, edits, event, item, late_edit, later_page, page_of, time_at}
 use Rattle.drill_pages.proofs.Covered.{Covered, distinct_few}
 use Rattle.drill_pages.proofs.Meant.{earlier_few, later_few}
 use Rattle.drill_replay.proofs.Versions.{no_versions}
@@ -65,7 +65,7 @@ of_late false i e never = absurd never
 either_events : (e : Event) (ds more : List Delivery) → In e (events (ds ++ more)) → In e (events ds) ⊎ In e (events more)
 either_events e ds more there = in_either e (events ds) (events more) (subst (In e) (filter_map-append event_of ds more) there)
 
-of_item : (i : ℕ) (e : Event) → In e (events (deliveries_of i)) → IsOf e i
+of_item : (i : ℕ) (e : Event) → In e (events (item_deliveries i)) → IsOf e i
 of_item i e there = ⊎_elim
     (λ front. ⊎_elim (of_edits i e) (of_deletion (i % 5 == 0) i e) (either_events e (edits i) (deletion i) front))
     (of_late (i % 10 == 0) i e)
@@ -78,14 +78,14 @@ record IsOfOne (a n : ℕ) (e : Event) : Type 0 where
   high : number < a + n
   is_of : IsOf e number
 
-of_one : (a n : ℕ) (e : Event) → In e (events (flat_map deliveries_of (range_with_len a n))) → IsOfOne a n e
+of_one : (a n : ℕ) (e : Event) → In e (events (flat_map item_deliveries (range_with_len a n))) → IsOfOne a n e
 of_one a zero e there = absurd there
 of_one a (suc n) e there = ⊎_elim
     (λ first. record { number = a; low = omega arith; high = omega arith; is_of = of_item a e first })
     (λ others.
     let one = of_one (a + 1) n e others in
     record { number = one.number; low = omega (arith, one.low); high = omega (arith, one.high); is_of = one.is_of })
-    (either_events e (deliveries_of a) (flat_map deliveries_of (range_with_len (a + 1) n)) there)
+    (either_events e (item_deliveries a) (flat_map item_deliveries (range_with_len (a + 1) n)) there)
 
 -- ---- pages
 

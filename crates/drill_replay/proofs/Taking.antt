@@ -2,10 +2,10 @@
 use Rattle.std.proofs.Common.{◌≡◌, ◌∙◌, sym, ap, subst, ℕ, suc, ◌+◌, ◌<◌, ◌≤◌, List, [], ◌∷◌, ◌++◌, Option, None, append_assoc, add-one, drop-cons, length, get_or, take, drop}
 use Rattle.std.proofs.Math.Seq.{take-suc}
 use Rattle.std.proofs.lemmas.List.{take-append-drop, take_all}
-use Rattle.entity_model.specs.declared.delivery.Delivery.{Delivery}
+use Rattle.delivery.specs.declared.Delivery.{Delivery}
 use Rattle.reorder_buffer.specs.declared.taken.Taken.{Taken}
 use Rattle.replay_model.specs.ReplayState.{ReplayState, following}
-use Rattle.drill.specs.Drill.{deliveries_of, drill}
+use Rattle.drill.specs.Drill.{item_deliveries, drill}
 use Rattle.drill_replay.specs.declared.counts.DrillCounts.{DrillCounts}
 use Rattle.drill_replay.specs.Playing.{Counted, HasFew, answer_of, with_answer}
 use Rattle.drill_replay.specs.Summary.{replies_of}
@@ -20,14 +20,14 @@ module _ (n : ℕ) (items : List Delivery) (i : ℕ) where
       ∙ ap (λ l. drill n ++ l) (ap (λ x. take i items ++ x ∷ []) is ∙ sym (take-suc items i d within) ∙ sym (ap (λ k. take k items) (add-one i)))
 
   -- those that are left
-  pub cut : (d : Delivery) → items ≡ deliveries_of (n + 1) → i < length items → d ≡ get_or items i d → drill (n + 1) ≡ (drill n ++ take i items) ++ d ∷ drop (suc i) items
+  pub cut : (d : Delivery) → items ≡ item_deliveries (n + 1) → i < length items → d ≡ get_or items i d → drill (n + 1) ≡ (drill n ++ take i items) ++ d ∷ drop (suc i) items
   cut d are within is =
       drill-next n
       ∙ ap (λ l. drill n ++ l) (sym are ∙ sym (take-append-drop i items) ∙ ap (λ l. take i items ++ l) (drop-cons items i d within ∙ ap (λ x. x ∷ drop (suc i) items) (sym is)))
       ∙ sym (append_assoc (drill n) (take i items) (d ∷ drop (suc i) items))
 
   -- none is left
-  pub whole : items ≡ deliveries_of (n + 1) → length items ≤ i → drill n ++ take i items ≡ drill (n + 1)
+  pub whole : items ≡ item_deliveries (n + 1) → length items ≤ i → drill n ++ take i items ≡ drill (n + 1)
   whole are past = ap (λ l. drill n ++ l) (take_all i items past ∙ are) ∙ sym (drill-next n)
 
   -- the next is counted

@@ -3,13 +3,13 @@ use Rattle.std.proofs.Common.{◌≡◌, ◌∙◌, refl, sym, ap, ℕ, ◌-◌,
 use Rattle.std.specs.List.{flat_map, last_or, range_with_len}
 use Rattle.std.proofs.lemmas.List.Elements.{filter_map-append}
 use Rattle.rising.proofs.Pushes.{first_empty}
-use Rattle.entity_model.specs.declared.delivery.Delivery.{Delivery}
-use Rattle.entity_model.specs.declared.delivery.Delivery.TheVariants.{Watermark}
+use Rattle.delivery.specs.declared.Delivery.{Delivery}
+use Rattle.delivery.specs.declared.Delivery.TheVariants.{Watermark}
 use Rattle.entity_model.specs.declared.event.Kind.TheVariants.{Delete, Edit}
 use Rattle.entity_model.specs.declared.mapping.MappingVersion.TheVariants.{One}
 use Rattle.replay_model.specs.Acceptance.{mapping_of, version_in_force}
 use Rattle.replay_model.specs.Transcript.{pattern_of}
-use Rattle.drill.specs.Drill.{deliveries_of, drill, edits, event, time_at}
+use Rattle.drill.specs.Drill.{item_deliveries, drill, edits, event, time_at}
 
 no_version : (fifth tenth : Bool) (i : ℕ) →
     filter_map mapping_of (edits i ++ (if fifth then event Delete i (2 * i) (2 * i) ∷ [] else []) ++ (if tenth then Watermark (time_at (2 * i)) ∷ event Edit i (2 * i - 1) (2 * i - 3) ∷ [] else [])) ≡ []
@@ -18,11 +18,11 @@ no_version true false i = refl
 no_version false true i = refl
 no_version false false i = refl
 
-pub no_versions : (items : List ℕ) → filter_map mapping_of (flat_map deliveries_of items) ≡ []
+pub no_versions : (items : List ℕ) → filter_map mapping_of (flat_map item_deliveries items) ≡ []
 no_versions [] = refl
 no_versions (i ∷ items) =
-    filter_map-append mapping_of (deliveries_of i) (flat_map deliveries_of items)
-    ∙ ap (λ vs. vs ++ filter_map mapping_of (flat_map deliveries_of items)) (no_version (i % 5 == 0) (i % 10 == 0) i)
+    filter_map-append mapping_of (item_deliveries i) (flat_map item_deliveries items)
+    ∙ ap (λ vs. vs ++ filter_map mapping_of (flat_map item_deliveries items)) (no_version (i % 5 == 0) (i % 10 == 0) i)
     ∙ no_versions items
 
 -- nor does a first part of one
@@ -47,11 +47,11 @@ no_question true false i = refl
 no_question false true i = refl
 no_question false false i = refl
 
-no_questions : (items : List ℕ) → filter_map pattern_of (flat_map deliveries_of items) ≡ []
+no_questions : (items : List ℕ) → filter_map pattern_of (flat_map item_deliveries items) ≡ []
 no_questions [] = refl
 no_questions (i ∷ items) =
-    filter_map-append pattern_of (deliveries_of i) (flat_map deliveries_of items)
-    ∙ ap (λ ps. ps ++ filter_map pattern_of (flat_map deliveries_of items)) (no_question (i % 5 == 0) (i % 10 == 0) i)
+    filter_map-append pattern_of (item_deliveries i) (flat_map item_deliveries items)
+    ∙ ap (λ ps. ps ++ filter_map pattern_of (flat_map item_deliveries items)) (no_question (i % 5 == 0) (i % 10 == 0) i)
     ∙ no_questions items
 
 -- a first part of a drill asks nothing

@@ -1,8 +1,8 @@
 -- How far a drill has come.
 use Rattle.std.specs.Prelude.{◌≡◌, ◌⊎◌, ℕ, ◌+◌, ◌≤◌, List, [], ◌∷◌, ◌++◌, Option, None, Some, length}
 use Rattle.entity_model.specs.declared.mapping.MappingVersion.TheVariants.{One}
-use Rattle.entity_model.specs.declared.delivery.Delivery.{Delivery}
-use Rattle.entity_model.specs.declared.delivery.Delivery.TheVariants.{Event as Told, Watermark, Ask, Mapping}
+use Rattle.delivery.specs.declared.Delivery.{Delivery}
+use Rattle.delivery.specs.declared.Delivery.TheVariants.{Event as Told, Watermark, Ask, Mapping}
 use Rattle.reorder_buffer.specs.Buffered.{Buffered, answer_to}
 use Rattle.reorder_buffer.specs.declared.taken.Taken.{Taken}
 use Rattle.reorder_buffer.specs.declared.taken.Taken.TheVariants.{New, Repeat, Late}
@@ -68,4 +68,4 @@ HasBegun size world = IsPartOf size (drill size) world ⊎ StandsAtEnd size worl
 
 -- version One of the mapping is in force, and all that is held is mapped by it
 abbrev pub IsByFirst : WorldState → Type 0
-IsByFirst world = (world.mapping ≡ One) × (world.second ≡ [])
+IsByFirst world = (world.mapping ≡ One) × (world.by_two ≡ [])

@@ -66,8 +66,8 @@ abbrev pub digest_line : List ℕ → List ℕ
 digest_line digest = codes "# export " ++ encode_lower digest ++ codes "\n"
 
 -- the lines of a summary
-abbrev pub lines_of : Summary → List (List ℕ)
-lines_of s =
+abbrev pub summary_lines : Summary → List (List ℕ)
+summary_lines s =
     number_line (codes "drill") s.size
     ∷ number_line (codes "deliveries") s.deliveries
     ∷ number_line (codes "accepted") s.accepted

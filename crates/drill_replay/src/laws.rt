@@ -1,7 +1,7 @@
 // What holds of the deliveries of a drill. Each law is the contract of a function that does nothing.
 
 ghost use Rattle.std.specs.Prelude.{◌≡◌, ◌≤◌, ◌++◌, ℕ, List};
-ghost use Rattle.entity_model.specs.declared.delivery.Delivery.{Delivery};
+ghost use Rattle.delivery.specs.declared.Delivery.{Delivery};
 ghost use Rattle.entity_model.specs.declared.mapping.MappingVersion.{MappingVersion};
 ghost use Rattle.replay_model.specs.Acceptance.{version_in_force};
 ghost use Rattle.triple_store.specs.Room.{distinct};

@@ -8,7 +8,7 @@ ghost use Rattle.world.specs.Meaning.{meaning};
 ghost use Rattle.md5.specs.Md5.{md5};
 ghost use Rattle.drill.specs.Drill.{drill};
 ghost use Rattle.drill_replay.specs.Playing.{Counted, IsByFirst};
-ghost use Rattle.drill_replay.specs.Summary.{digest_line, drilled, kept_in, lines_of, number_line, summary_of, triple_lines};
+ghost use Rattle.drill_replay.specs.Summary.{digest_line, drilled, kept_in, summary_lines, number_line, summary_of, triple_lines};
 
 use crate::counts::DrillCounts;
 use entity_state::Mode;
@@ -58,7 +58,7 @@ pub fn summarize(
 
 /// The seven lines of a summary, each with its line feed.
 pub fn summary_lines(alloc: Global, summary: &Summary) -> Result<Vec<String>, OutOfMemory>
-    ensures { IfOk result (λ lines. map (λ line. string_bytes line) lines.items ≡ lines_of summary.now) }
+    ensures { IfOk result (λ lines. map (λ line. string_bytes line) lines.items ≡ summary_lines summary.now) }
 {
     let mut lines = Vec::new(alloc);
     lines.push(number_line(alloc, "drill", u64::from(summary.size))?)?;
@@ -99,9 +99,9 @@ fn digest(alloc: Global, rows: &Rows<'_>) -> Result<[u8; 16], OutOfMemory>
 {
     let mut hasher = Md5::new();
     let mut line = Vec::new(alloc);
-    for place in 0..rows.len() {
+    for index in 0..rows.len() {
         line.clear();
-        rows.write(place, &mut line)?;
+        rows.write(index, &mut line)?;
         hasher.update(line.as_slice());
     }
     Ok(hasher.finalize())

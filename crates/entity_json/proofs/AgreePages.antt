@@ -21,7 +21,7 @@ use Rattle.entity_json.specs.Pages.{page_type, HasDatatype, HasLinks, IsEntity, 
 use Rattle.entity_json.specs.Reading.Terms.{labels_at, aliases_at}
 use Rattle.entity_json.specs.Reading.Statements.{statements_at}
 use Rattle.entity_json.specs.Reading.Links.{badge_of, badges_at, link_of, link_step, links_at}
-use Rattle.entity_json.specs.Reading.Pages.{kind_of_type, page_kind, datatype_by_kind, links_by_kind, entity_of, entity_page, redirect_page, page_by, page_at, place_by, place_of, page_of}
+use Rattle.entity_json.specs.Reading.Pages.{kind_of_type, page_kind, datatype_by_kind, links_by_kind, entity_of, entity_page, redirect_page, page_by, page_at, page_tree_by, page_tree_of, page_of}
 use Rattle.entity_json.proofs.Agree.{Agree, Walks, put_walks, optional_list-sound, optional_list-complete, map-sound, map-complete}
 use Rattle.entity_json.proofs.AgreeLeaves.{same-from_test, id_at-sound, id_at-complete, id_of_kind-sound, id_of_kind-complete, optional_text_at-sound, optional_text_at-complete}
 use Rattle.entity_json.proofs.AgreeTagged.{labels-sound, labels-complete, aliases-sound, aliases-complete}
@@ -204,29 +204,29 @@ page_at-complete t id (Redirect y) h =
     ap (λ m. page_by m t) there.1.0 ∙ rw (source, target) refl
 
 -- where the page stands
-place-sound : (m : Option Tree) (tree t : Tree) → place_by m tree ≡ Some t → StandsAt m tree t
-place-sound None tree t e = sym (some_is e)
-place-sound (Some es) tree t e = e
+page_tree-sound : (m : Option Tree) (tree t : Tree) → page_tree_by m tree ≡ Some t → StandsAt m tree t
+page_tree-sound None tree t e = sym (some_is e)
+page_tree-sound (Some es) tree t e = e
 
-place-complete : (m : Option Tree) (tree t : Tree) → StandsAt m tree t → place_by m tree ≡ Some t
-place-complete None tree t h = ap Some (sym h)
-place-complete (Some es) tree t h = h
+page_tree-complete : (m : Option Tree) (tree t : Tree) → StandsAt m tree t → page_tree_by m tree ≡ Some t
+page_tree-complete None tree t h = ap Some (sym h)
+page_tree-complete (Some es) tree t h = h
 
 page-sound : (tree : Tree) (page : Page) → page_of tree ≡ Some page → IsPage tree page
-unfolding page_of place_of
+unfolding page_of page_tree_of
 page-sound tree page e =
-    let place = bind_some (place_by (member_of (codes "entities") tree) tree) _ e in
+    let page_tree = bind_some (page_tree_by (member_of (codes "entities") tree) tree) _ e in
     record {
-      place = place.0;
-      stands = place-sound (member_of (codes "entities") tree) tree place.0 place.1.0;
-      holds = page_at-sound place.0 page place.1.1;
+      page_tree = page_tree.0;
+      stands = page_tree-sound (member_of (codes "entities") tree) tree page_tree.0 page_tree.1.0;
+      holds = page_at-sound page_tree.0 page page_tree.1.1;
     }
 
 page-complete : (tree : Tree) (page : Page) → IsPage tree page → page_of tree ≡ Some page
-unfolding page_of place_of
+unfolding page_of page_tree_of
 page-complete tree page h =
-    ap (λ o. o >>= page_at) (place-complete (member_of (codes "entities") tree) tree h.place h.stands)
-    ∙ page_at-complete h.place page.id page.document h.holds
+    ap (λ o. o >>= page_at) (page_tree-complete (member_of (codes "entities") tree) tree h.page_tree h.stands)
+    ∙ page_at-complete h.page_tree page.id page.document h.holds
 
 -- the reading of pages gives exactly the page that a tree is
 pub page_agrees : Agree page_of IsPage

@@ -20,7 +20,7 @@ use Rattle.entity_model.specs.EntityId.{entity_cmp, entity_cmp_total, entity_cmp
 use Rattle.entity_model.specs.Document.{IsSmall}
 use Rattle.entity_json.specs.declared.page.Page.{Page}
 use Rattle.entity_json.specs.Reading.Pages.{page_of}
-use Rattle.entity_json.specs.Document.{page_limit, tree_of, own_document, document_in, outcome_of, document_by, unfit_by, document_of, unfit_of}
+use Rattle.entity_json.specs.Document.{page_limit, tree_of, own_document, document_in, document_or_cause, document_by, unfit_by, document_of, unfit_of}
 use Rattle.entity_json.specs.Pages.{IsPage}
 use Rattle.entity_json.specs.Unfit.{HasTree, HasPage, HasDocument, IsUnfit}
 use Rattle.entity_json.proofs.AgreePages.{page_agrees}
@@ -82,12 +82,12 @@ any_outcome x bytes true e = let long : 8388608 < length bytes = grind (arith, n
 any_outcome x bytes false e = let short : length bytes ≤ 8388608 = grind (arith, nat_tests) in short_outcome x bytes short (is_deep_text bytes) refl
 
 -- what is computed is so
-outcome-sound : (x : EntityId) (bytes : List ℕ) → IsOutcome x bytes (outcome_of x bytes)
-unfolding outcome_of
+outcome-sound : (x : EntityId) (bytes : List ℕ) → IsOutcome x bytes (document_or_cause x bytes)
+unfolding document_or_cause
 outcome-sound x bytes = any_outcome x bytes (nat_lt page_limit (length bytes)) refl
 
 -- and what is so is computed
-page_outcome : (x : EntityId) (bytes : List ℕ) (page : Page) → HasPage bytes page → outcome_of x bytes ≡ own_document x (Some page)
+page_outcome : (x : EntityId) (bytes : List ℕ) (page : Page) → HasPage bytes page → document_or_cause x bytes ≡ own_document x (Some page)
 page_outcome x bytes page h =
     outcome-read x bytes h.tree h.has_tree.not_large h.has_tree.not_deep h.has_tree.reads ∙ ap (own_document x) (page_agrees.complete h.tree page h.is_page)
 
@@ -95,7 +95,7 @@ no_page_of : (t : Tree) (o : Option Page) → page_of t ≡ o → ((page : Page)
 no_page_of t None e not_one = refl
 no_page_of t (Some page) e not_one = absurd (not_one page (page_agrees.sound t page e))
 
-outcome-complete : (x : EntityId) (bytes : List ℕ) (r : Result Document Unfit) → IsOutcome x bytes r → outcome_of x bytes ≡ r
+outcome-complete : (x : EntityId) (bytes : List ℕ) (r : Result Document Unfit) → IsOutcome x bytes r → document_or_cause x bytes ≡ r
 outcome-complete x bytes (Ok document) h =
     page_outcome x bytes (record { id = x; document = document }) h ∙ ap (λ t. cond t (Ok document) (Err Foreign)) (itself x)
 outcome-complete x bytes (Err Large) h = outcome-large x bytes h
@@ -120,14 +120,14 @@ unfit_by-is (Err w) why e = ap Err (some_is e)
 -- the document of an entity is that of its page
 pub documents : (x : EntityId) (bytes : List ℕ) (document : Document) → (document_of x bytes ≡ Some document) ↔ HasDocument x bytes document
 documents x bytes document = (
-  λ e. subst (IsOutcome x bytes) (document_by-is (outcome_of x bytes) document e) (outcome-sound x bytes),
+  λ e. subst (IsOutcome x bytes) (document_by-is (document_or_cause x bytes) document e) (outcome-sound x bytes),
   λ h. ap document_by (outcome-complete x bytes (Ok document) h),
 )
 
 -- the cause is the first that applies
 pub causes : (x : EntityId) (bytes : List ℕ) (why : Unfit) → (unfit_of x bytes ≡ Some why) ↔ IsUnfit x bytes why
 causes x bytes why = (
-  λ e. subst (IsOutcome x bytes) (unfit_by-is (outcome_of x bytes) why e) (outcome-sound x bytes),
+  λ e. subst (IsOutcome x bytes) (unfit_by-is (document_or_cause x bytes) why e) (outcome-sound x bytes),
   λ h. ap unfit_by (outcome-complete x bytes (Err why) h),
 )
 

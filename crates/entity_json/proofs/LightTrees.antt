@@ -8,7 +8,7 @@ use Rattle.json_spell.proofs.Names.{names_weight}
 use Rattle.json_spell.proofs.Opened.{some_is}
 use Rattle.entity_model.specs.Value.{optional_length}
 use Rattle.entity_json.specs.Leaves.{◌>>=◌, text_of, number_of, items_of, list_of}
-use Rattle.entity_json.specs.Maps.{has_key, entries, map_of, sole, only_of}
+use Rattle.entity_json.specs.Maps.{has_key, entries, map_of, only_value, only_of}
 use Rattle.entity_json.specs.Members.{HasOptionalText}
 use Rattle.entity_json.specs.Joined.{numbered, Joined, One, InList, InOptionalList, InMap}
 
@@ -51,10 +51,10 @@ entries-light : (n : ℕ) (ps : Pairs) → members_weight ps ≤ n → All (Ligh
 entries-light n no_pairs l = All-nil (Light {K = List ℕ} n)
 entries-light n (pair k t ps) l = entry-light n k t (entries ps) (has_key k ps) (omega arith) (entries-light n ps (omega arith))
 
-sole-light : (n : ℕ) (es : List (List ℕ × Tree)) (t : Tree) → All (Light n) es → sole es ≡ Some t → weight t ≤ n
-sole-light n [] t l e = absurd cc
-sole-light n (x ∷ []) t l e = let light : weight x.1 ≤ n = All-head (Light n) x [] l in omega (arith, ap weight (some_is e))
-sole-light n (x ∷ y ∷ es) t l e = absurd cc
+only_value-light : (n : ℕ) (es : List (List ℕ × Tree)) (t : Tree) → All (Light n) es → only_value es ≡ Some t → weight t ≤ n
+only_value-light n [] t l e = absurd cc
+only_value-light n (x ∷ []) t l e = let light : weight x.1 ≤ n = All-head (Light n) x [] l in omega (arith, ap weight (some_is e))
+only_value-light n (x ∷ y ∷ es) t l e = absurd cc
 
 -- the value of an object's only key
 pub only_of-light : (n : ℕ) (u t : Tree) → weight u ≤ n → only_of u ≡ Some t → weight t ≤ n
@@ -63,7 +63,7 @@ only_of-light n (boolean b) t l e = absurd cc
 only_of-light n (number c) t l e = absurd cc
 only_of-light n (string c) t l e = absurd cc
 only_of-light n (array ts) t l e = absurd cc
-only_of-light n (object ps) t l e = sole-light n (entries ps) t (entries-light n ps l) e
+only_of-light n (object ps) t l e = only_value-light n (entries ps) t (entries-light n ps l) e
 
 map_of-light : (n : ℕ) (o : Option Tree) (es : List (List ℕ × Tree)) → weight_there o ≤ n → map_of o ≡ Some es → All (Light n) es
 map_of-light n None es l e = All-same (Light n) es [] (sym (some_is e)) (All-nil (Light n))

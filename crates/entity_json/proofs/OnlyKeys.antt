@@ -7,7 +7,7 @@ use Rattle.std.proofs.lemmas.List.{map-append}
 use Rattle.json_spell.specs.declared.json.Member.{Member}
 use Rattle.json_spell.specs.Tree.{Tree, Pairs, object}
 use Rattle.json_spell.specs.View.{json_view, member_view, pairs_of}
-use Rattle.entity_json.specs.Maps.{has_key, has_other_key, entries, sole, only_of}
+use Rattle.entity_json.specs.Maps.{has_key, has_other_key, entries, only_value, only_of}
 use Rattle.entity_json.proofs.LastMembers.{member_view-is}
 
 -- members, and one behind them
@@ -61,15 +61,15 @@ has-other q k (p ∷ xs) t differ e =
     (λ r. ap (λ b. not (bytes_eq p.0 k) || b) (has-other q k xs t differ r) ∙ or_true (not (bytes_eq p.0 k)))
     (or_cases (bytes_eq p.0 q) (has_key q (with_last xs k t)) e)
 
-pub two-keys : (xs : List (List ℕ × Tree)) (k : List ℕ) (t : Tree) → has_other_key k (pairs_of xs) ≡ true → sole (entries (with_last xs k t)) ≡ None
+pub two-keys : (xs : List (List ℕ × Tree)) (k : List ℕ) (t : Tree) → has_other_key k (pairs_of xs) ≡ true → only_value (entries (with_last xs k t)) ≡ None
 two-keys [] k t e = absurd cc
 two-keys (p ∷ xs) k t e = at (has_key p.0 (with_last xs k t)) refl (λ more. two-keys xs k t more)
   where
-    at : (b : Bool) → has_key p.0 (with_last xs k t) ≡ b → (has_other_key k (pairs_of xs) ≡ true → sole (entries (with_last xs k t)) ≡ None)
-        → sole (cond b (entries (with_last xs k t)) ((p.0, p.1) ∷ entries (with_last xs k t))) ≡ None
+    at : (b : Bool) → has_key p.0 (with_last xs k t) ≡ b → (has_other_key k (pairs_of xs) ≡ true → only_value (entries (with_last xs k t)) ≡ None)
+        → only_value (cond b (entries (with_last xs k t)) ((p.0, p.1) ∷ entries (with_last xs k t))) ≡ None
     at true h behind =
         behind (⊎_elim (λ l. has-other p.0 k xs t (fails (bytes_eq p.0 k) l) h) (λ r. r) (or_cases (not (bytes_eq p.0 k)) (has_other_key k (pairs_of xs)) e))
-    at false h behind = let s = some-entry xs k t in ap (λ es. sole ((p.0, p.1) ∷ es)) s.2
+    at false h behind = let s = some-entry xs k t in ap (λ es. only_value ((p.0, p.1) ∷ es)) s.2
 
 -- the same of the members of an object
 last-is : (items before : List Member) (m : Member) → items ≡ before ++ m ∷ [] → pairs_of (map member_view items) ≡ with_last (map member_view before) m.key.now (json_view m.value)
@@ -79,11 +79,11 @@ last-is items before m e =
 pub only-none : (t : Tree) (items before : List Member) (m : Member) (key : List ℕ) (b : Bool) → t ≡ object (pairs_of (map member_view items)) → items ≡ before ++ m ∷ [] → key ≡ m.key.now
     → b ≡ has_other_key key (pairs_of (map member_view before)) → b ≡ true → only_of t ≡ None
 only-none t items before m key b t_is e same b_is more =
-    ap only_of t_is ∙ ap (λ ps. sole (entries ps)) (last-is items before m e)
+    ap only_of t_is ∙ ap (λ ps. only_value (entries ps)) (last-is items before m e)
     ∙ two-keys (map member_view before) m.key.now (json_view m.value) (ap (λ k. has_other_key k (pairs_of (map member_view before))) (sym same) ∙ sym b_is ∙ more)
 
 pub only-some : (t : Tree) (items before : List Member) (m : Member) (key : List ℕ) (b : Bool) → t ≡ object (pairs_of (map member_view items)) → items ≡ before ++ m ∷ [] → key ≡ m.key.now
     → b ≡ has_other_key key (pairs_of (map member_view before)) → b ≡ false → only_of t ≡ Some (json_view m.value)
 only-some t items before m key b t_is e same b_is none =
-    ap only_of t_is ∙ ap (λ ps. sole (entries ps)) (last-is items before m e)
-    ∙ ap sole (one-key (map member_view before) m.key.now (json_view m.value) (ap (λ k. has_other_key k (pairs_of (map member_view before))) (sym same) ∙ sym b_is ∙ none))
+    ap only_of t_is ∙ ap (λ ps. only_value (entries ps)) (last-is items before m e)
+    ∙ ap only_value (one-key (map member_view before) m.key.now (json_view m.value) (ap (λ k. has_other_key k (pairs_of (map member_view before))) (sym same) ∙ sym b_is ∙ none))

@@ -10,7 +10,7 @@ use Rattle.json_spell.proofs.Complete.{text-sound, text-complete}
 use Rattle.entity_model.specs.declared.id.EntityId.{EntityId}
 use Rattle.entity_model.specs.declared.unfit.Unfit.TheVariants.{Large, Deep, NotJson}
 use Rattle.entity_json.specs.Leaves.{◌>>=◌}
-use Rattle.entity_json.specs.Document.{page_limit, tree_alone, tree_of, document_in, outcome_of}
+use Rattle.entity_json.specs.Document.{page_limit, tree_alone, tree_of, document_in, document_or_cause}
 
 -- the tree is the one that the grammar reads
 pub tree-read : (bytes : List ℕ) (t : Tree) → Reads bytes t → tree_of bytes ≡ Some t
@@ -34,26 +34,26 @@ pub tree-none : (bytes : List ℕ) → ((t : Tree) → ¬ (Reads bytes t)) → t
 tree-none bytes unread = tree-none-by bytes (tree_of bytes) refl unread
 
 -- the ways of an outcome
-pub outcome-large : (x : EntityId) (bytes : List ℕ) → page_limit < length bytes → outcome_of x bytes ≡ Err Large
-unfolding outcome_of
+pub outcome-large : (x : EntityId) (bytes : List ℕ) → page_limit < length bytes → document_or_cause x bytes ≡ Err Large
+unfolding document_or_cause
 outcome-large x bytes long = let test : nat_lt page_limit (length bytes) ≡ true = grind (arith, nat_tests) in rw test refl
 
-pub outcome-deep : (x : EntityId) (bytes : List ℕ) → length bytes ≤ page_limit → IsDeep bytes → outcome_of x bytes ≡ Err Deep
-unfolding outcome_of
+pub outcome-deep : (x : EntityId) (bytes : List ℕ) → length bytes ≤ page_limit → IsDeep bytes → document_or_cause x bytes ≡ Err Deep
+unfolding document_or_cause
 outcome-deep x bytes short is =
     let test : nat_lt page_limit (length bytes) ≡ false = grind (arith, nat_tests) in
     let scan = scan-deep bytes is in
     rw (test, scan) refl
 
-pub outcome-shallow : (x : EntityId) (bytes : List ℕ) → length bytes ≤ page_limit → ¬ (IsDeep bytes) → outcome_of x bytes ≡ document_in x (tree_of bytes)
-unfolding outcome_of
+pub outcome-shallow : (x : EntityId) (bytes : List ℕ) → length bytes ≤ page_limit → ¬ (IsDeep bytes) → document_or_cause x bytes ≡ document_in x (tree_of bytes)
+unfolding document_or_cause
 outcome-shallow x bytes short low =
     let test : nat_lt page_limit (length bytes) ≡ false = grind (arith, nat_tests) in
     let scan = scan-shallow bytes low in
     rw (test, scan) refl
 
-pub outcome-unread : (x : EntityId) (bytes : List ℕ) → length bytes ≤ page_limit → ¬ (IsDeep bytes) → ((t : Tree) → ¬ (Reads bytes t)) → outcome_of x bytes ≡ Err NotJson
+pub outcome-unread : (x : EntityId) (bytes : List ℕ) → length bytes ≤ page_limit → ¬ (IsDeep bytes) → ((t : Tree) → ¬ (Reads bytes t)) → document_or_cause x bytes ≡ Err NotJson
 outcome-unread x bytes short low unread = outcome-shallow x bytes short low ∙ ap (document_in x) (tree-none bytes unread)
 
-pub outcome-read : (x : EntityId) (bytes : List ℕ) (t : Tree) → length bytes ≤ page_limit → ¬ (IsDeep bytes) → Reads bytes t → outcome_of x bytes ≡ document_in x (Some t)
+pub outcome-read : (x : EntityId) (bytes : List ℕ) (t : Tree) → length bytes ≤ page_limit → ¬ (IsDeep bytes) → Reads bytes t → document_or_cause x bytes ≡ document_in x (Some t)
 outcome-read x bytes t short low reads = outcome-shallow x bytes short low ∙ ap (document_in x) (tree-read bytes t reads)

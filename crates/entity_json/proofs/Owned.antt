@@ -34,4 +34,4 @@ own_document t x (Redirect y) h = tt
 pub document_owned : (x : EntityId) (bytes : List ℕ) (document : Document) → document_of x bytes ≡ Some document → IsDocumentOf x document
 document_owned x bytes document e =
     let h = (documents x bytes document).0 e in
-    own_document h.is_page.place x document h.is_page.holds
+    own_document h.is_page.page_tree x document h.is_page.holds

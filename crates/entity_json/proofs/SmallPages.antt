@@ -253,13 +253,13 @@ document-small : (t : Tree) (id : EntityId) (document : Document) → weight t �
 document-small t id (AnEntity x) l h = entity-small t x l h.1
 document-small t id (Redirect y) l h = tt
 
-place-light : (o : Option Tree) (tree t : Tree) → weight_there o ≤ 8388608 → weight tree ≤ 8388608 → StandsAt o tree t → weight t ≤ 8388608
-place-light None tree t m l h = omega (arith, ap weight h)
-place-light (Some es) tree t m l h = only_of-light 8388608 es t m h
+page_tree-light : (o : Option Tree) (tree t : Tree) → weight_there o ≤ 8388608 → weight tree ≤ 8388608 → StandsAt o tree t → weight t ≤ 8388608
+page_tree-light None tree t m l h = omega (arith, ap weight h)
+page_tree-light (Some es) tree t m l h = only_of-light 8388608 es t m h
 
 -- a page of a light tree has a small document
 pub page_small : (tree : Tree) (page : Page) → weight tree ≤ 8388608 → IsPage tree page → IsSmall page.document
 page_small tree page l h =
-    let light : weight h.place ≤ 8388608 =
-    place-light (member_of (codes "entities") tree) tree h.place (omega (arith, member-light (codes "entities") tree)) l h.stands in
-    document-small h.place page.id page.document light h.holds
+    let light : weight h.page_tree ≤ 8388608 =
+    page_tree-light (member_of (codes "entities") tree) tree h.page_tree (omega (arith, member-light (codes "entities") tree)) l h.stands in
+    document-small h.page_tree page.id page.document light h.holds

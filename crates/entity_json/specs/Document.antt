@@ -37,8 +37,8 @@ document_in x None = Err NotJson
 document_in x (Some tree) = own_document x (page_of tree)
 
 -- the document of the entity that the bytes are, or the first cause for which they are none
-unfoldable pub outcome_of : EntityId → List ℕ → Result Document Unfit
-outcome_of x bytes =
+unfoldable pub document_or_cause : EntityId → List ℕ → Result Document Unfit
+document_or_cause x bytes =
     cond (nat_lt page_limit (length bytes)) (Err Large)
     (cond (is_deep_text bytes) (Err Deep)
     (document_in x (tree_of bytes)))
@@ -55,8 +55,8 @@ unfit_by (Err unfit) = Some unfit
 
 -- the document that the bytes are
 abbrev pub document_of : EntityId → List ℕ → Option Document
-document_of x bytes = document_by (outcome_of x bytes)
+document_of x bytes = document_by (document_or_cause x bytes)
 
 -- why the bytes are no document of x, or None where they are one
 abbrev pub unfit_of : EntityId → List ℕ → Option Unfit
-unfit_of x bytes = unfit_by (outcome_of x bytes)
+unfit_of x bytes = unfit_by (document_or_cause x bytes)

@@ -39,10 +39,10 @@ abbrev pub map_at : List ℕ → Tree → Option (List (List ℕ × Tree))
 map_at name t = map_of (member_of name t)
 
 -- the value of a map's only entry
-abbrev pub sole : List (List ℕ × Tree) → Option Tree
-sole [] = None
-sole (entry ∷ []) = Some entry.1
-sole (entry ∷ other ∷ rest) = None
+abbrev pub only_value : List (List ℕ × Tree) → Option Tree
+only_value [] = None
+only_value (entry ∷ []) = Some entry.1
+only_value (entry ∷ other ∷ rest) = None
 
 -- the value of an object's only key
 abbrev pub only_of : Tree → Option Tree
@@ -51,4 +51,4 @@ only_of (boolean b) = None
 only_of (number spelling) = None
 only_of (string text) = None
 only_of (array trees) = None
-only_of (object members) = sole (entries members)
+only_of (object members) = only_value (entries members)

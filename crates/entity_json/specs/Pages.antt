@@ -57,6 +57,6 @@ StandsAt (Some entities) tree t = only_of entities ≡ Some t
 
 -- the page that a tree is; tree and page are objects, as nothing else has members
 pub record IsPage (tree : Tree) (page : Page) : Type 0 where
-  pub place : Tree
-  pub stands : StandsAt (member_of (codes "entities") tree) tree place
-  pub holds : IsDocument place page.id page.document
+  pub page_tree : Tree
+  pub stands : StandsAt (member_of (codes "entities") tree) tree page_tree
+  pub holds : IsDocument page_tree page.id page.document

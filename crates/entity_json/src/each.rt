@@ -26,11 +26,11 @@ pub trait ItemReader<'a, T: Drop> {
     fn read(
         &self,
         alloc: Global,
-        place: usize,
+        index: usize,
         json: &Json<'_, 'a>,
         out: &mut List<T>,
     ) -> Result<(), PartFault>
-        ensures { Makes result out.new (reads self.now (place, json_view json.now) out.old) };
+        ensures { Makes result out.new (reads self.now (index, json_view json.now) out.old) };
 }
 
 // Reads one entry of a map, and puts what it is at the end of `out`.
@@ -55,8 +55,8 @@ pub fn each_item<'a, T: Drop, R: ItemReader<'a, T>>(
 ) -> Result<(), PartFault>
     ensures { Makes result out.new (steps (R.reads reader.now) (numbered 0 (map json_view items.now)) out.old) }
 {
-    for (place, json) in items.iter().enumerate() {
-        reader.read(alloc, place, json, out)?;
+    for (index, json) in items.iter().enumerate() {
+        reader.read(alloc, index, json, out)?;
     }
     Ok(())
 }

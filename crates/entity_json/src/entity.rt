@@ -10,7 +10,7 @@ use crate::links::links_at;
 use crate::part::PartFault;
 use crate::statements::statements_at;
 use crate::terms::{aliases_at, labels_at};
-use base::{List, Piece};
+use base::{CowText, List};
 use entity_model::{Entity, IdKind, Link};
 use json_spell::Json;
 use std::alloc::Global;
@@ -41,7 +41,7 @@ fn datatype_by_kind<'a>(
     alloc: Global,
     kind: IdKind,
     json: &Json<'_, 'a>,
-) -> Result<Option<Piece<'a>>, PartFault>
+) -> Result<Option<CowText<'a>>, PartFault>
     ensures { Finds result (datatype_by_kind kind (json_view json.now)) }
 {
     match kind {

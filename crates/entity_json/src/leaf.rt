@@ -8,7 +8,7 @@ ghost use Rattle.entity_json.specs.Finds.{Finds, FindsBy};
 ghost use Rattle.entity_json.specs.Leaves.{text_of, number_of, list_of, text_at, number_at, id_at, optional_text_at, nullable_number_at, optional_list_at, id_of_kind, id_of_kind_at};
 
 use crate::part::PartFault;
-use base::{Piece, Text};
+use base::{CowText, Text};
 use entity_model::{EntityId, IdKind};
 use json_spell::Json;
 use std::alloc::Global;
@@ -38,12 +38,12 @@ pub fn text_of<'m>(json: &'m Json<'_, '_>) -> Result<&'m str, PartFault>
 }
 
 // A copy of a text, which borrows it where it is a part of the page.
-pub fn copy_text<'a>(alloc: Global, json: &Json<'_, 'a>) -> Result<Piece<'a>, PartFault>
+pub fn copy_text<'a>(alloc: Global, json: &Json<'_, 'a>) -> Result<CowText<'a>, PartFault>
     ensures { Finds result (text_of (json_view json.now)) }
 {
     match json {
-        Json::Str(text) => Ok(Piece::borrowed(text)),
-        Json::Made(text) => Ok(Piece::owned(Text::new(alloc, text)?)),
+        Json::Str(text) => Ok(CowText::borrowed(text)),
+        Json::Made(text) => Ok(CowText::owned(Text::new(alloc, text)?)),
         _ => Err(PartFault::Shape),
     }
 }
@@ -70,7 +70,7 @@ pub fn copy_text_at<'a>(
     alloc: Global,
     json: &Json<'_, 'a>,
     name: &str,
-) -> Result<Piece<'a>, PartFault>
+) -> Result<CowText<'a>, PartFault>
     ensures { Finds result (text_at name.now (json_view json.now)) }
 {
     copy_text(alloc, member_at(json, name)?)
@@ -94,10 +94,10 @@ pub fn number_at<'a>(json: &Json<'_, 'a>, name: &str) -> Result<&'a str, PartFau
 }
 
 // The member with the name that is a number, as a part of the page.
-pub fn copy_number_at<'a>(json: &Json<'_, 'a>, name: &str) -> Result<Piece<'a>, PartFault>
+pub fn copy_number_at<'a>(json: &Json<'_, 'a>, name: &str) -> Result<CowText<'a>, PartFault>
     ensures { Finds result (number_at name.now (json_view json.now)) }
 {
-    Ok(Piece::borrowed(number_at(json, name)?))
+    Ok(CowText::borrowed(number_at(json, name)?))
 }
 
 // A copy of the member with the name that is a text and may be missing.
@@ -105,7 +105,7 @@ pub fn optional_text_at<'a>(
     alloc: Global,
     json: &Json<'_, 'a>,
     name: &str,
-) -> Result<Option<Piece<'a>>, PartFault>
+) -> Result<Option<CowText<'a>>, PartFault>
     ensures { Finds result (optional_text_at name.now (json_view json.now)) }
 {
     match json.get(name) {
@@ -118,12 +118,12 @@ pub fn optional_text_at<'a>(
 pub fn nullable_number_at<'a>(
     json: &Json<'_, 'a>,
     name: &str,
-) -> Result<Option<Piece<'a>>, PartFault>
+) -> Result<Option<CowText<'a>>, PartFault>
     ensures { Finds result (nullable_number_at name.now (json_view json.now)) }
 {
     match json.get(name) {
         None | Some(Json::Null) => Ok(None),
-        Some(value) => Ok(Some(Piece::borrowed(number_of(value)?))),
+        Some(value) => Ok(Some(CowText::borrowed(number_of(value)?))),
     }
 }
 

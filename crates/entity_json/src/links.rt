@@ -28,7 +28,7 @@ impl<'a> ItemReader<'a, EntityId> for BadgeReader {
     fn read(
         &self,
         _alloc: Global,
-        _place: usize,
+        _index: usize,
         json: &Json<'_, 'a>,
         out: &mut List<EntityId>,
     ) -> Result<(), PartFault> {

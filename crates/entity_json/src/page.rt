@@ -2,7 +2,7 @@
 
 ghost use Rattle.json_spell.specs.View.{json_view};
 ghost use Rattle.entity_json.specs.Finds.{Finds, FindsBy};
-ghost use Rattle.entity_json.specs.Reading.Pages.{entity_page, redirect_page, page_at, place_of, page_of};
+ghost use Rattle.entity_json.specs.Reading.Pages.{entity_page, redirect_page, page_at, page_tree_of, page_of};
 
 use crate::entity::entity_of;
 use crate::leaf::id_at;
@@ -58,9 +58,9 @@ fn page_at<'a>(alloc: Global, json: &Json<'_, 'a>) -> Result<Page<'a>, PartFault
 }
 
 // Where the page stands: the only entity, where entities are there.
-#[tactic(auto, unfolding(crate::specs::Reading::Pages::place_of))]
-fn place_of<'m, 'b, 'a>(json: &'m Json<'b, 'a>) -> Result<&'m Json<'b, 'a>, PartFault>
-    ensures { FindsBy (λ value. json_view value.now) result (place_of (json_view json.now)) }
+#[tactic(auto, unfolding(crate::specs::Reading::Pages::page_tree_of))]
+fn page_tree_of<'m, 'b, 'a>(json: &'m Json<'b, 'a>) -> Result<&'m Json<'b, 'a>, PartFault>
+    ensures { FindsBy (λ value. json_view value.now) result (page_tree_of (json_view json.now)) }
 {
     match json.get("entities") {
         Some(entities) => only_of(entities),
@@ -73,5 +73,5 @@ fn place_of<'m, 'b, 'a>(json: &'m Json<'b, 'a>) -> Result<&'m Json<'b, 'a>, Part
 pub fn page_of<'a>(alloc: Global, json: &Json<'_, 'a>) -> Result<Page<'a>, PartFault>
     ensures { Finds result (page_of (json_view json.now)) }
 {
-    page_at(alloc, place_of(json)?)
+    page_at(alloc, page_tree_of(json)?)
 }

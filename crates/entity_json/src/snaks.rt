@@ -13,7 +13,7 @@ use crate::leaf::{copy_text, id_of_kind, list_of, member_at, text_at};
 use crate::map::map_at;
 use crate::part::PartFault;
 use crate::values::value_of;
-use base::{List, Piece, Text};
+use base::{CowText, List, Text};
 use entity_model::{Content, EntityId, IdKind, Snak};
 use json_spell::{Json, Member};
 use std::alloc::Global;
@@ -45,12 +45,12 @@ fn value_type<'m>(json: &'m Json<'_, '_>) -> &'m str
 
 // The datatype, which may be missing.
 #[tactic(auto, unfolding(crate::specs::Reading::Snaks::datatype_of))]
-fn datatype_of<'a>(alloc: Global, json: &Json<'_, 'a>) -> Result<Piece<'a>, PartFault>
+fn datatype_of<'a>(alloc: Global, json: &Json<'_, 'a>) -> Result<CowText<'a>, PartFault>
     ensures { Finds result (datatype_of (json_view json.now)) }
 {
     match json.get("datatype") {
         Some(datatype) => copy_text(alloc, datatype),
-        None => Ok(Piece::owned(Text::new(alloc, value_type(json))?)),
+        None => Ok(CowText::owned(Text::new(alloc, value_type(json))?)),
     }
 }
 
@@ -120,11 +120,11 @@ impl<'a> ItemReader<'a, Snak<'a>> for SnakReader<'_> {
     fn read(
         &self,
         alloc: Global,
-        place: usize,
+        index: usize,
         json: &Json<'_, 'a>,
         out: &mut List<Snak<'a>>,
     ) -> Result<(), PartFault> {
-        out.push(snak_of(alloc, self.key, self.property, place, json)?)?;
+        out.push(snak_of(alloc, self.key, self.property, index, json)?)?;
         Ok(())
     }
 }

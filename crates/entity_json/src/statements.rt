@@ -11,7 +11,7 @@ use crate::leaf::{copy_text_at, id_of_kind, list_of, member_at, optional_list_at
 use crate::map::map_at;
 use crate::part::PartFault;
 use crate::snaks::{snak_of, snaks_at};
-use base::{List, Piece, are_alphanumeric};
+use base::{CowText, List, are_alphanumeric};
 use entity_model::{EntityId, IdKind, Rank, Reference, Snak, Statement};
 use json_spell::{Json, Member};
 use std::alloc::Global;
@@ -58,7 +58,7 @@ impl<'a> ItemReader<'a, Reference<'a>> for ReferenceReader {
     fn read(
         &self,
         alloc: Global,
-        _place: usize,
+        _index: usize,
         json: &Json<'_, 'a>,
         out: &mut List<Reference<'a>>,
     ) -> Result<(), PartFault> {
@@ -95,7 +95,7 @@ fn rank_of(json: &Json<'_, '_>) -> Result<Rank, PartFault>
 
 // The id of a statement, which isn't empty.
 #[tactic(auto, unfolding(crate::specs::Reading::Statements::statement_id))]
-fn statement_id<'a>(alloc: Global, json: &Json<'_, 'a>) -> Result<Piece<'a>, PartFault>
+fn statement_id<'a>(alloc: Global, json: &Json<'_, 'a>) -> Result<CowText<'a>, PartFault>
     ensures { Finds result (statement_id (json_view json.now)) }
 {
     let id = copy_text_at(alloc, json, "id")?;
@@ -156,7 +156,7 @@ impl<'a> ItemReader<'a, Statement<'a>> for StatementReader<'_> {
     fn read(
         &self,
         alloc: Global,
-        _place: usize,
+        _index: usize,
         json: &Json<'_, 'a>,
         out: &mut List<Statement<'a>>,
     ) -> Result<(), PartFault> {

@@ -51,7 +51,7 @@ impl<'a> ItemReader<'a, Tagged<'a>> for AliasReader {
     fn read(
         &self,
         alloc: Global,
-        _place: usize,
+        _index: usize,
         json: &Json<'_, 'a>,
         out: &mut List<Tagged<'a>>,
     ) -> Result<(), PartFault> {

@@ -15,7 +15,7 @@ use crate::leaf::{
 use crate::number::{is_whole, small_of};
 use crate::part::PartFault;
 use crate::terms::tagged_under;
-use base::{Piece, Text};
+use base::{CowText, Text};
 use entity_model::{EntityId, GlobeParts, QuantityParts, TimeParts, Value};
 use json_spell::Json;
 use std::alloc::Global;
@@ -85,11 +85,11 @@ fn numbered_entity(alloc: Global, json: &Json<'_, '_>) -> Result<Text, PartFault
 
 // The id of an entity, by its text where that is there.
 #[tactic(auto, unfolding(crate::specs::Reading::Values::entity_value))]
-fn entity_value<'a>(alloc: Global, json: &Json<'_, 'a>) -> Result<Piece<'a>, PartFault>
+fn entity_value<'a>(alloc: Global, json: &Json<'_, 'a>) -> Result<CowText<'a>, PartFault>
     ensures { Finds result (entity_value (json_view json.now)) }
 {
     let Some(id) = json.get("id") else {
-        return Ok(Piece::owned(numbered_entity(alloc, json)?));
+        return Ok(CowText::owned(numbered_entity(alloc, json)?));
     };
     let text = text_of(id)?;
     if !is_entity_text(text) {

@@ -3,7 +3,7 @@
 use crate::id::EntityId;
 use crate::statement::Statement;
 use crate::value::Tagged;
-use rdf_term::{List, Piece};
+use base::{CowText, List};
 
 /// An item or a property, after Wikibase's JSON format. Lists are in the order of the page.
 #[derive(Debug, Drop)]
@@ -11,9 +11,9 @@ pub struct Entity<'a> {
     /// The id: its letter says which of the two it is.
     pub id: EntityId,
     /// The datatype of a property's values, as `wikibase-item`. An item has none.
-    pub datatype: Option<Piece<'a>>,
+    pub datatype: Option<CowText<'a>>,
     /// When the page was changed last, as `2024-05-01T10:00:00Z`.
-    pub modified: Option<Piece<'a>>,
+    pub modified: Option<CowText<'a>>,
     /// The labels, one for a language.
     pub labels: List<Tagged<'a>>,
     /// The descriptions, one for a language.
@@ -30,9 +30,9 @@ pub struct Entity<'a> {
 #[derive(Debug, Drop)]
 pub struct Link<'a> {
     /// The site's id, as `enwiki`.
-    pub site: Piece<'a>,
+    pub site: CowText<'a>,
     /// The article's title.
-    pub title: Piece<'a>,
+    pub title: CowText<'a>,
     /// The items of the badges that the article has.
     pub badges: List<EntityId>,
 }

@@ -5,8 +5,8 @@ ghost use Rattle.std.specs.Fmt.{decimal};
 ghost use Rattle.std.specs.Ordering.{nat_cmp, on};
 ghost use Rattle.entity_model.specs.IdKind.{id_kind_place, letter_of};
 
+use base::{OutOfMemory, Text};
 use digits::starts_above_zero;
-use rdf_term::{OutOfMemory, Text};
 use std::alloc::Global;
 use std::cmp::Ordering;
 

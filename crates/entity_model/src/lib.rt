@@ -4,7 +4,6 @@
 //! a page is mapped.
 #![tactic(auto)]
 
-mod delivery;
 mod document;
 mod entity;
 mod event;
@@ -15,7 +14,6 @@ mod statement;
 mod unfit;
 mod value;
 
-pub use delivery::Delivery;
 pub use document::Document;
 pub use entity::{Entity, Link};
 pub use event::{Event, Kind};

@@ -2,7 +2,7 @@
 
 use crate::id::EntityId;
 use crate::value::Value;
-use rdf_term::Piece;
+use base::CowText;
 
 /// A property and what is said of its value.
 #[derive(Debug, Drop)]
@@ -12,7 +12,7 @@ pub struct Snak<'a> {
     /// The place from 0 in the list of snaks under its property; 0 for the main snak of a statement.
     pub place: u32,
     /// The datatype of the property's values, as `wikibase-item`; empty where the page doesn't say it.
-    pub datatype: Piece<'a>,
+    pub datatype: CowText<'a>,
     /// What is said of the value.
     pub content: Content<'a>,
 }

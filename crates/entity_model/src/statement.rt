@@ -2,7 +2,7 @@
 
 use crate::id::EntityId;
 use crate::snak::Snak;
-use rdf_term::{List, Piece};
+use base::{CowText, List};
 
 /// How much a statement counts among those of its property.
 #[derive(Clone, Copy, Debug, PartialEq, Eq, PartialOrd, Ord)]
@@ -19,7 +19,7 @@ pub enum Rank {
 #[derive(Debug, Drop)]
 pub struct Statement<'a> {
     /// The statement's id, as `Q42$f078e5b3-f9a8-480e-b7ac-d97778cbbef9`.
-    pub id: Piece<'a>,
+    pub id: CowText<'a>,
     /// The property.
     pub property: EntityId,
     /// The rank.
@@ -36,7 +36,7 @@ pub struct Statement<'a> {
 #[derive(Debug, Drop)]
 pub struct Reference<'a> {
     /// The hash of its snaks, 1 to 64 ASCII letters and digits.
-    pub hash: Piece<'a>,
+    pub hash: CowText<'a>,
     /// What it says of the source.
     pub snaks: List<Snak<'a>>,
 }

@@ -1,14 +1,14 @@
 // The data values of statements.
 
-use rdf_term::Piece;
+use base::CowText;
 
 /// A data value, after Wikibase's JSON format. Numbers are as they are spelled there.
 #[derive(Debug, Drop)]
 pub enum Value<'a> {
     /// An entity, by its id.
-    Entity(Piece<'a>),
+    Entity(CowText<'a>),
     /// A text.
-    Str(Piece<'a>),
+    Str(CowText<'a>),
     /// A point in time.
     Time(TimeParts<'a>),
     /// A number with a unit.
@@ -25,48 +25,48 @@ pub enum Value<'a> {
 #[derive(Debug, Drop)]
 pub struct Tagged<'a> {
     /// The text.
-    pub text: Piece<'a>,
+    pub text: CowText<'a>,
     /// The language's code.
-    pub language: Piece<'a>,
+    pub language: CowText<'a>,
 }
 
 /// The parts of a time.
 #[derive(Debug, Drop)]
 pub struct TimeParts<'a> {
     /// The time, as `+2001-12-31T00:00:00Z`.
-    pub time: Piece<'a>,
+    pub time: CowText<'a>,
     /// How much of the time is known: 9 is a year, 10 a month, 11 a day.
     pub precision: u8,
     /// The precision as it is spelled.
-    pub precision_text: Piece<'a>,
+    pub precision_text: CowText<'a>,
     /// The offset from UTC in minutes, as it is spelled.
-    pub timezone: Piece<'a>,
+    pub timezone: CowText<'a>,
     /// The calendar model, by the IRI of its entity.
-    pub calendar: Piece<'a>,
+    pub calendar: CowText<'a>,
 }
 
 /// The parts of a quantity.
 #[derive(Debug, Drop)]
 pub struct QuantityParts<'a> {
     /// The number.
-    pub amount: Piece<'a>,
+    pub amount: CowText<'a>,
     /// The unit, by the IRI of its entity, or `1` for none.
-    pub unit: Piece<'a>,
+    pub unit: CowText<'a>,
     /// The number's upper bound.
-    pub upper: Option<Piece<'a>>,
+    pub upper: Option<CowText<'a>>,
     /// The number's lower bound.
-    pub lower: Option<Piece<'a>>,
+    pub lower: Option<CowText<'a>>,
 }
 
 /// The parts of a coordinate.
 #[derive(Debug, Drop)]
 pub struct GlobeParts<'a> {
     /// The latitude in degrees, as it is spelled.
-    pub latitude: Piece<'a>,
+    pub latitude: CowText<'a>,
     /// The longitude in degrees, as it is spelled.
-    pub longitude: Piece<'a>,
+    pub longitude: CowText<'a>,
     /// The precision in degrees, as it is spelled.
-    pub precision: Option<Piece<'a>>,
+    pub precision: Option<CowText<'a>>,
     /// The globe, by the IRI of its entity.
-    pub globe: Piece<'a>,
+    pub globe: CowText<'a>,
 }

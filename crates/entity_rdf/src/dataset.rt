@@ -10,7 +10,7 @@ ghost use Rattle.entity_rdf.specs.About.{change_triples, dataset_triples, format
 
 use entity_model::{Entity, EntityId, IdKind, Statement};
 use itoa::Buffer;
-use rdf_term::{OutOfMemory, Piece};
+use rdf_term::{CowText, OutOfMemory};
 use rdf_vocabulary::{Datatype, Predicate, Prefix, Resource};
 use triple_sink::{Setting, TermRef, TripleSink, emit_about, emit_class};
 
@@ -139,7 +139,7 @@ fn emit_link_count<S: TripleSink>(
 fn emit_change<S: TripleSink>(
     setting: Setting,
     dataset: &TermRef<'_>,
-    time: Option<&Piece<'_>>,
+    time: Option<&CowText<'_>>,
     out: &mut S,
 ) -> Result<(), OutOfMemory>
     ensures gains { OnOk result (Gains S.items S.keeps out.old out.new (change_triples (meant dataset.now) (option_copied time.entry))) }

@@ -9,7 +9,7 @@ ghost use Rattle.triple_sink.specs.TermRef.{meant};
 ghost use Rattle.entity_rdf.specs.Property.{capitalized, datatype_triples, is_datatype_char, is_hyphen, other_predicates, predicate_triple, property_triples, type_name, type_triples, value_predicates};
 
 use entity_model::{EntityId, IdKind};
-use rdf_term::{OutOfMemory, Piece};
+use rdf_term::{CowText, OutOfMemory};
 use rdf_vocabulary::{Predicate, Prefix};
 use std::alloc::Global;
 use triple_sink::{Setting, TermRef, TripleSink, emit_about};
@@ -101,7 +101,7 @@ fn emit_type<S: TripleSink>(
 fn emit_datatype<S: TripleSink>(
     setting: Setting,
     entity: &TermRef<'_>,
-    datatype: Option<&Piece<'_>>,
+    datatype: Option<&CowText<'_>>,
     out: &mut S,
 ) -> Result<(), OutOfMemory>
     ensures gains { OnOk result (Gains S.items S.keeps out.old out.new (datatype_triples (meant entity.now) (option_copied datatype.entry))) }
@@ -167,7 +167,7 @@ fn emit_other_predicates<S: TripleSink>(
 pub(crate) fn emit_property<S: TripleSink>(
     setting: Setting,
     id: EntityId,
-    datatype: Option<&Piece<'_>>,
+    datatype: Option<&CowText<'_>>,
     out: &mut S,
 ) -> Result<(), OutOfMemory>
     ensures gains { OnOk result (Gains S.items S.keeps out.old out.new (property_triples id (option_copied datatype.entry))) }

@@ -39,10 +39,10 @@ fn emit_judged<S: TripleSink>(
     ensures stays { S.rest out.new ≡ S.rest out.old }
 {
     let entity = TermRef::Id(Prefix::Wd, id);
-    let mut place = 0;
+    let mut index = 0;
     for statement in statements {
-        emit_statement(setting, &entity, statement, best[place], out)?;
-        place += 1;
+        emit_statement(setting, &entity, statement, best[index], out)?;
+        index += 1;
     }
     Ok(())
 }

@@ -125,11 +125,11 @@ impl<H: Drop> Table<H> {
         self.records.len()
     }
 
-    /// The id at a place from 0.
-    pub fn at(&self, place: usize) -> Option<EntityId>
-        ensures { result ≡ slice_get self.now.places place }
+    /// The id at an index from 0.
+    pub fn at(&self, index: usize) -> Option<EntityId>
+        ensures { result ≡ slice_get self.now.places index }
     {
-        let (id, _) = self.records.get_index(place)?;
+        let (id, _) = self.records.get_index(index)?;
         Some(*id)
     }
 }

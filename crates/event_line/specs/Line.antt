@@ -12,8 +12,8 @@ use Rattle.entity_model.specs.declared.event.Event.{Event}
 use Rattle.entity_model.specs.declared.event.Kind.{Kind}
 use Rattle.entity_model.specs.declared.event.Kind.TheVariants.{Edit, Delete, Undelete, ReconcileDeleted, ReconcileKept}
 use Rattle.entity_model.specs.IdOf.{id_of}
-use Rattle.entity_model.specs.declared.delivery.Delivery.{Delivery}
-use Rattle.entity_model.specs.declared.delivery.Delivery.TheVariants.{Event as Told, Watermark, Ask, Mapping}
+use Rattle.delivery.specs.declared.Delivery.{Delivery}
+use Rattle.delivery.specs.declared.Delivery.TheVariants.{Event as Told, Watermark, Ask, Mapping}
 use Rattle.entity_model.specs.declared.mapping.MappingVersion.{MappingVersion}
 use Rattle.entity_model.specs.declared.mapping.MappingVersion.TheVariants.{One, Two}
 use Rattle.event_line.specs.declared.faults.LineCause.{LineCause}
@@ -91,21 +91,21 @@ event_in json =
     Ok (record { entity = entity; time = time; rev = rev; kind = kind }))))))
 
 -- the event of an object, delivered
-abbrev pub told : Result Event LineCause → Result Delivery LineCause
-told (Ok event) = Ok (Told event)
-told (Err cause) = Err cause
+abbrev pub delivered : Result Event LineCause → Result Delivery LineCause
+delivered (Ok event) = Ok (Told event)
+delivered (Err cause) = Err cause
 
 -- the watermark that an object with `watermark` is, or the cause
 abbrev pub watermark_in : Data → Result Delivery LineCause
 watermark_in json = else_cause Time (time_at (codes "watermark") json) (λ time. Ok (Watermark time))
 
 -- what a text wants at its place: `?` leaves the place free, and any other text is that of a term in N-Triples
-abbrev pub place_of : List ℕ → Option (Option Term)
-place_of text = if bytes_eq text (codes "?") then Some None else option_map Some (term_of text)
+abbrev pub term_wanted_by : List ℕ → Option (Option Term)
+term_wanted_by text = if bytes_eq text (codes "?") then Some None else option_map Some (term_of text)
 
 -- what a value wants at its place; only a text wants anything
-abbrev pub place_in : Data → Option (Option Term)
-place_in json = option_and_then place_of (as_str json)
+abbrev pub wanted_in : Data → Option (Option Term)
+wanted_in json = option_and_then term_wanted_by (as_str json)
 
 -- the pattern of three values, for subject, predicate and object
 abbrev pub pattern_with : Data → Data → Data → Option Pattern
@@ -113,7 +113,7 @@ pattern_with s p o =
     option_and_then (λ subject.
     option_and_then (λ predicate.
     option_map (λ object. record { subject = subject; predicate = predicate; object = object })
-    (place_in o)) (place_in p)) (place_in s)
+    (wanted_in o)) (wanted_in p)) (wanted_in s)
 
 -- the pattern of a list, which has exactly three values
 abbrev pub pattern_in : Items → Option Pattern
@@ -142,7 +142,7 @@ mapping_in mapping = else_cause BadMapping (version_of mapping) (λ version. Ok 
 
 -- what an object delivers by the values of its keys `kind`, `watermark`, `ask` and `mapping`, of which it has exactly one
 abbrev pub by_form : Data → Option Data → Option Data → Option Data → Option Data → Result Delivery LineCause
-by_form json (Some kind) None None None = told (event_in json)
+by_form json (Some kind) None None None = delivered (event_in json)
 by_form json None (Some watermark) None None = watermark_in json
 by_form json None None (Some ask) None = ask_in ask
 by_form json None None None (Some mapping) = mapping_in mapping

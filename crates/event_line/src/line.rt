@@ -3,13 +3,14 @@
 ghost use Rattle.std.specs.Prelude.{◌≡◌, ◌⊎◌, None, Some, MatchResult, IfOk};
 ghost use Rattle.serde_json.specs.View.{view};
 ghost use Rattle.rdf_term.specs.Reader.{read as term_of};
-ghost use Rattle.event_line.specs.Line.{Answers, AnswersPart, data_of, delivery_in, else_cause, event_in, watermark_in, ask_in, mapping_in, version_of, pattern_of, pattern_with, place_in, kind_named, kind_name, entity_of, rev_of, time_at, whole_kind};
+ghost use Rattle.event_line.specs.Line.{Answers, AnswersPart, data_of, delivery_in, else_cause, event_in, watermark_in, ask_in, mapping_in, version_of, pattern_of, pattern_with, wanted_in, kind_named, kind_name, entity_of, rev_of, time_at, whole_kind};
 ghost use Rattle.event_line.specs.declared.faults.DeliveryFault.TheVariants.{Bad as Refused, OutOfMemory as NoMemory};
 ghost use Rattle.event_line.specs.declared.faults.LineCause.TheVariants.{NotJson as NoJson};
 
 use crate::faults::{DeliveryFault, LineCause};
 use crate::time;
-use entity_model::{Delivery, EntityId, Event, Kind, MappingVersion};
+use delivery::Delivery;
+use entity_model::{EntityId, Event, Kind, MappingVersion};
 use rdf_term::{OutOfMemory, Pattern, Term, read_term};
 use serde_json::Value;
 use std::alloc::Global;
@@ -147,15 +148,15 @@ fn pattern_with(
         (pattern_with (view subject.now) (view predicate.now) (view object.now)) Ok) result }
 {
     Ok(Pattern {
-        subject: place(alloc, subject)?,
-        predicate: place(alloc, predicate)?,
-        object: place(alloc, object)?,
+        subject: wanted_term(alloc, subject)?,
+        predicate: wanted_term(alloc, predicate)?,
+        object: wanted_term(alloc, object)?,
     })
 }
 
 /// What a value wants at its place.
-fn place(alloc: Global, value: &Value) -> Result<Option<Term>, DeliveryFault>
-    ensures { AnswersPart (else_cause LineCause.Pattern (place_in (view value.now)) Ok) result }
+fn wanted_term(alloc: Global, value: &Value) -> Result<Option<Term>, DeliveryFault>
+    ensures { AnswersPart (else_cause LineCause.Pattern (wanted_in (view value.now)) Ok) result }
 {
     match value.as_str().ok_or(LineCause::Pattern)? {
         "?" => Ok(None),

@@ -4,7 +4,7 @@ use Rattle.std.proofs.lemmas.Grind.{flat_map-append}
 use Rattle.std.specs.Option.{option_map}
 use Rattle.rising.specs.Rising.{Each}
 use Rattle.wq_io.specs.Streams.{IsAtEnd, before_known}
-use Rattle.wq_io.specs.Lines.{GoesOn, IsLineLong, IsOneLine, IsSound, IsTooLong, Reading, StopsInLine, TakesBytes, before_lines, ended_lines, fresh, input_length, line_feed, lines, lines_of, room, unread, whole_lines}
+use Rattle.wq_io.specs.Lines.{GoesOn, IsLineLong, IsOneLine, IsSound, IsTooLong, Reading, StopsInLine, TakesBytes, before_lines, ended_lines, fresh, input_length, line_feed, lines, input_lines, room, unread, whole_lines}
 use Rattle.wq_io.proofs.LineLists.{whole_lines-ended}
 use Rattle.replica.specs.declared.reader.Begun.{Begun}
 use Rattle.replica.specs.declared.reader.PatchFault.{PatchFault}
@@ -12,7 +12,7 @@ use Rattle.replica.specs.declared.record.PatchRecord.{PatchRecord}
 use Rattle.replica.specs.Reader.{HasCause}
 use Rattle.following.specs.Reading.{AreLinesOf, AreRecords, AreWhole, BeginsWith, HasRead, IsBadLine, IsOverLong, IsPastLimit, longest_line}
 
-same_lines : (limit : ℕ) (left : Option (List ℕ)) → lines_of left ≡ option_map (λ (ls : List (List ℕ)). [] ++ ls) (lines_of (unread (fresh limit longest_line) left))
+same_lines : (limit : ℕ) (left : Option (List ℕ)) → input_lines left ≡ option_map (λ (ls : List (List ℕ)). [] ++ ls) (input_lines (unread (fresh limit longest_line) left))
 same_lines limit None = refl
 same_lines limit (Some bytes) = refl
 
@@ -56,7 +56,7 @@ record Known (bytes : List ℕ) (done : List (List ℕ)) (read : List ℕ) (cons
   read_is : length read ≡ consumed
 
 known_parts : (bytes : List ℕ) (done : List (List ℕ)) (read : List ℕ) (consumed : ℕ) (known : Option (List ℕ)) →
-    Some (lines bytes) ≡ option_map (λ (ls : List (List ℕ)). done ++ ls) (lines_of known) → option_map (λ (u : List ℕ). consumed + length u) known ≡ Some (length bytes) →
+    Some (lines bytes) ≡ option_map (λ (ls : List (List ℕ)). done ++ ls) (input_lines known) → option_map (λ (u : List ℕ). consumed + length u) known ≡ Some (length bytes) →
     Some bytes ≡ before_known read known → Known bytes done read consumed known
 known_parts bytes done read consumed None are total all = cc
 known_parts bytes done read consumed (Some u) are total all =
@@ -94,7 +94,7 @@ Each-push P (y ∷ ys) x all one = (all.0, Each-push P ys x all.1 one)
 
 -- the reader took this line
 pub record IsNextLine (line : List ℕ) (reader next : Reading) (left left_next : Option (List ℕ)) : Type 0 where
-  pub first : lines_of (unread reader left) ≡ before_lines line (lines_of (unread next left_next))
+  pub first : input_lines (unread reader left) ≡ before_lines line (input_lines (unread next left_next))
   pub total : input_length next left_next ≡ input_length reader left
   pub takes : TakesBytes next.ended (unread reader left) (unread next left_next) line
   pub goes : GoesOn reader next line
@@ -211,13 +211,13 @@ module _ (limit : ℕ) (reader : Reading) (left : Option (List ℕ)) (done : Lis
     known_next : (bytes : List ℕ) (read : HasRead (Some bytes) reader left done) → Known bytes (done ++ line ∷ []) (read.read ++ is.takes.moved) next.consumed (unread next left_next)
     known_next bytes read =
         known_parts bytes (done ++ line ∷ []) (read.read ++ is.takes.moved) next.consumed (unread next left_next)
-        (lines_grow (Some (lines bytes)) (lines_of (unread reader left)) (lines_of (unread next left_next)) done line read.are is.first) (is.total ∙ read.total) (bytes_grow (Some bytes) read)
+        (lines_grow (Some (lines bytes)) (input_lines (unread reader left)) (input_lines (unread next left_next)) done line read.are is.first) (is.total ∙ read.total) (bytes_grow (Some bytes) read)
 
     next_bytes : (u v : List ℕ) → unread reader left ≡ Some u → unread next left_next ≡ Some v → u ≡ is.takes.moved ++ v
     next_bytes u v here there = let same : Some u ≡ Some (is.takes.moved ++ v) = sym here ∙ is.takes.front ∙ ap (λ (o : Option (List ℕ)). before_known is.takes.moved o) there in cc
 
     next_lines : (u v : List ℕ) → unread reader left ≡ Some u → unread next left_next ≡ Some v → lines u ≡ line ∷ lines v
-    next_lines u v here there = let same : Some (lines u) ≡ Some (line ∷ lines v) = ap lines_of (sym here) ∙ is.first ∙ ap (λ (o : Option (List ℕ)). before_lines line (lines_of o)) there in cc
+    next_lines u v here there = let same : Some (lines u) ≡ Some (line ∷ lines v) = ap input_lines (sym here) ∙ is.first ∙ ap (λ (o : Option (List ℕ)). before_lines line (input_lines o)) there in cc
 
     -- this line is refused
     pub bad_line : (start : Option (List ℕ)) (number : ℕ) (fault : PatchFault) → HasRead start reader left done → number ≡ reader.given + 1 → HasCause fault begun line →
@@ -245,7 +245,7 @@ module _ (limit : ℕ) (reader : Reading) (left : Option (List ℕ)) (done : Lis
     -- this line was read too
     pub read_more : (start : Option (List ℕ)) → HasRead start reader left done → next.given ≡ reader.given + 1 → HasRead start next left_next (done ++ line ∷ [])
     read_more start read given = record {
-      are = lines_grow (lines_of start) (lines_of (unread reader left)) (lines_of (unread next left_next)) done line read.are is.first;
+      are = lines_grow (input_lines start) (input_lines (unread reader left)) (input_lines (unread next left_next)) done line read.are is.first;
       counted = given ∙ omega (arith, read.counted, length-append done (line ∷ []));
       total = is.total ∙ read.total;
       read = read.read ++ is.takes.moved;

@@ -4,16 +4,16 @@ use Rattle.std.specs.List.{AllByRecursion}
 use Rattle.std.proofs.lemmas.Grind.{flat_map-append}
 use Rattle.replica.specs.declared.reader.Begun.{Begun}
 use Rattle.replica.specs.declared.record.PatchRecord.{PatchRecord}
-use Rattle.replica.specs.Reader.{IsUnfinished, Takes, given, is_whole, left, record_of, lines_of as lines_begun}
+use Rattle.replica.specs.Reader.{IsUnfinished, TakesLine, given, all_read, left, patch_read, lines_read as lines_begun}
 use Rattle.replica.specs.Record.{IsSound, record_lines}
 use Rattle.following.specs.Reading.{AreLinesOf}
 
 -- nothing is left behind the last line of a record
-none_left : (old new : Option Begun) (line : List ℕ) (item : PatchRecord) → Takes old line new (Some item) → lines_begun new ≡ []
+none_left : (old new : Option Begun) (line : List ℕ) (item : PatchRecord) → TakesLine old line new (Some item) → lines_begun new ≡ []
 unfolding given left
-none_left old new line item takes = by (is_whole takes.begun) takes.found_is takes.left_is
+none_left old new line item takes = by (all_read takes.begun) takes.found_is takes.left_is
   where
-    by : (b : Bool) → Some item ≡ cond b (Some (record_of takes.begun)) None → new ≡ cond b None (Some takes.begun) → lines_begun new ≡ []
+    by : (b : Bool) → Some item ≡ cond b (Some (patch_read takes.begun)) None → new ≡ cond b None (Some takes.begun) → lines_begun new ≡ []
     by true found is = ap lines_begun is
     by false found is = cc
 
@@ -34,7 +34,7 @@ module _ (line : List ℕ) (old new : Option Begun) (items : List PatchRecord) (
   }
 
   -- the line ends a record
-  pub ends_record : (item : PatchRecord) → Takes old line new (Some item) → record_lines item ≡ lines_begun old ++ line ∷ [] → IsSound item → AreLinesOf (done ++ line ∷ []) (items ++ item ∷ []) new
+  pub ends_record : (item : PatchRecord) → TakesLine old line new (Some item) → record_lines item ≡ lines_begun old ++ line ∷ [] → IsSound item → AreLinesOf (done ++ line ∷ []) (items ++ item ∷ []) new
   ends_record item takes ends sound = record {
     are = with_line ∙ ap (λ ls. flat_map record_lines items ++ ls) (sym ends ∙ sym (append-nil (record_lines item)))
         ∙ sym (flat_map-append record_lines items (item ∷ []))

@@ -4,11 +4,11 @@ use Rattle.std.specs.Option.{option_map}
 use Rattle.std.specs.List.{AllByRecursion}
 use Rattle.rising.specs.Rising.{Each}
 use Rattle.wq_io.specs.Streams.{before_known}
-use Rattle.wq_io.specs.Lines.{Reading, IsLineLong, IsOneLine, IsTooLong, ended_lines, input_length, lines, lines_of, unread, whole_lines}
+use Rattle.wq_io.specs.Lines.{Reading, IsLineLong, IsOneLine, IsTooLong, ended_lines, input_length, lines, input_lines, unread, whole_lines}
 use Rattle.replica.specs.declared.reader.Begun.{Begun}
 use Rattle.replica.specs.declared.reader.PatchFault.{PatchFault}
 use Rattle.replica.specs.declared.record.PatchRecord.{PatchRecord}
-use Rattle.replica.specs.Reader.{HasCause, IsUnfinished, lines_of as lines_begun}
+use Rattle.replica.specs.Reader.{HasCause, IsUnfinished, lines_read as lines_begun}
 use Rattle.replica.specs.Record.{IsSound, record_lines}
 
 -- the most bytes that a line may have without its line feed: the line of a triple has fewer
@@ -23,7 +23,7 @@ pub record AreLinesOf (lines : List (List ℕ)) (items : List PatchRecord) (begu
 
 -- these lines were read so far; the bytes that went into them stand before those that are unread
 pub record HasRead (start : Option (List ℕ)) (reader : Reading) (left : Option (List ℕ)) (done : List (List ℕ)) : Type 0 where
-  pub are : lines_of start ≡ option_map (λ (ls : List (List ℕ)). done ++ ls) (lines_of (unread reader left))
+  pub are : input_lines start ≡ option_map (λ (ls : List (List ℕ)). done ++ ls) (input_lines (unread reader left))
   pub counted : reader.given ≡ length done
   pub total : input_length reader left ≡ option_map length start
   pub read : List ℕ

@@ -2,7 +2,7 @@
 use Rattle.std.proofs.Common.{◌≡◌, ℕ, Bool, true, false, ◌&&◌, ◌==◌, cond, List, [], ◌∷◌, ◌++◌, Option, Some, None, option_map, ⊎_elim, refl, ap, subst, arith}
 use lib.Utf8.{scalar}
 use Rattle.std.proofs.lemmas.Bool.Decides.{nat_tests}
-use Rattle.json_spell.specs.Text.{Char, short, unicode, surrogates, short_escape, code_unit, is_high_surrogate, is_low_surrogate, surrogate_pair, IsChar, spelled, meant}
+use Rattle.json_spell.specs.Text.{Char, short, unicode, surrogates, short_escape, code_unit, is_high_surrogate, is_low_surrogate, surrogate_pair, IsChar, spelled, code_point}
 use Rattle.json_spell.specs.Reading.{low_half, unicode_at, escape_at}
 use Rattle.json_spell.proofs.Opened.{some_is, bind_some, map_some, chosen, guarded}
 
@@ -12,7 +12,7 @@ pub record Escape (s : List ℕ) (c : ℕ) (rest : List ℕ) : Type 0 where
   pub tail : List ℕ
   pub holds : IsChar char
   pub spells : spelled char ≡ 0x5C ∷ tail
-  pub means : meant char ≡ c
+  pub means : code_point char ≡ c
   pub is : s ≡ tail ++ rest
 
 -- the second half of a surrogate pair

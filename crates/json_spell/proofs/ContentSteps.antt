@@ -4,7 +4,7 @@ use lib.Utf8.{encode}
 use Rattle.std.specs.Str.{is_utf8}
 use Rattle.std.proofs.lemmas.Str.{is_utf8-from_IsUtf8, IsUtf8-nil, len_utf8_bounds, length-encode}
 use Rattle.json_spell.specs.Number.{EachPasses}
-use Rattle.json_spell.specs.Text.{Char, unescaped, short, unicode, surrogates, is_unescaped, surrogate_pair, AreChars, all_spelled, all_meant}
+use Rattle.json_spell.specs.Text.{Char, unescaped, short, unicode, surrogates, is_unescaped, surrogate_pair, AreChars, all_spelled, all_utf8}
 use Rattle.json_spell.specs.Reading.{Parse, read_map, ◌>>=◌, skip, before, escape_at, after_run, run_at, content_by, content, content_at}
 use Rattle.json_spell.proofs.Skips.{skip-le, before-append}
 use Rattle.json_spell.proofs.Chars.{escape-sound, short-complete, unicode-complete, surrogates-complete}
@@ -45,19 +45,19 @@ last-step : (n : ℕ) (r : List ℕ) → content (suc n) (0x22 ∷ r) ≡ Some (
 unfolding content
 last-step n r = empty-run (content n) (0x22 ∷ r) refl
 
-pub content-complete : (n : ℕ) (ps : List Char) (r : List ℕ) → AreChars ps → length ps < n → content n (all_spelled ps ++ 0x22 ∷ r) ≡ Some (all_meant ps, r)
+pub content-complete : (n : ℕ) (ps : List Char) (r : List ℕ) → AreChars ps → length ps < n → content n (all_spelled ps ++ 0x22 ∷ r) ≡ Some (all_utf8 ps, r)
 content-complete zero ps r h l = absurd (omega arith)
 content-complete (suc n) [] r h l = last-step n r
 content-complete (suc n) (unescaped c ∷ ps) r h l =
     let scalar = h.0.0 in
     let behind = content-complete (suc n) ps r h.1 (omega arith) in
-    rw (append_assoc (encode c) (all_spelled ps) (0x22 ∷ r)) (content-past (suc n) c (all_spelled ps ++ 0x22 ∷ r) (all_meant ps) r scalar (unescaped-bytes c h.0.1) behind)
+    rw (append_assoc (encode c) (all_spelled ps) (0x22 ∷ r)) (content-past (suc n) c (all_spelled ps ++ 0x22 ∷ r) (all_utf8 ps) r scalar (unescaped-bytes c h.0.1) behind)
 content-complete (suc n) (short x c ∷ ps) r h l =
-    escape-step n (x ∷ (all_spelled ps ++ 0x22 ∷ r)) c (all_spelled ps ++ 0x22 ∷ r) (all_meant ps) r (short-complete x c (all_spelled ps ++ 0x22 ∷ r) h.0) (content-complete n ps r h.1 (omega arith))
+    escape-step n (x ∷ (all_spelled ps ++ 0x22 ∷ r)) c (all_spelled ps ++ 0x22 ∷ r) (all_utf8 ps) r (short-complete x c (all_spelled ps ++ 0x22 ∷ r) h.0) (content-complete n ps r h.1 (omega arith))
 content-complete (suc n) (unicode a b c d u ∷ ps) r h l =
-    escape-step n (0x75 ∷ a ∷ b ∷ c ∷ d ∷ (all_spelled ps ++ 0x22 ∷ r)) u (all_spelled ps ++ 0x22 ∷ r) (all_meant ps) r (unicode-complete a b c d u (all_spelled ps ++ 0x22 ∷ r) h.0) (content-complete n ps r h.1 (omega arith))
+    escape-step n (0x75 ∷ a ∷ b ∷ c ∷ d ∷ (all_spelled ps ++ 0x22 ∷ r)) u (all_spelled ps ++ 0x22 ∷ r) (all_utf8 ps) r (unicode-complete a b c d u (all_spelled ps ++ 0x22 ∷ r) h.0) (content-complete n ps r h.1 (omega arith))
 content-complete (suc n) (surrogates a b c d u e f g k v ∷ ps) r h l =
-    escape-step n (0x75 ∷ a ∷ b ∷ c ∷ d ∷ 0x5C ∷ 0x75 ∷ e ∷ f ∷ g ∷ k ∷ (all_spelled ps ++ 0x22 ∷ r)) (surrogate_pair u v) (all_spelled ps ++ 0x22 ∷ r) (all_meant ps) r
+    escape-step n (0x75 ∷ a ∷ b ∷ c ∷ d ∷ 0x5C ∷ 0x75 ∷ e ∷ f ∷ g ∷ k ∷ (all_spelled ps ++ 0x22 ∷ r)) (surrogate_pair u v) (all_spelled ps ++ 0x22 ∷ r) (all_utf8 ps) r
     (surrogates-complete a b c d u e f g k v (all_spelled ps ++ 0x22 ∷ r) h.0) (content-complete n ps r h.1 (omega arith))
 
 -- each char takes a byte at least
@@ -68,7 +68,7 @@ length-spelled (short x c ∷ ps) = omega (arith, length-spelled ps)
 length-spelled (unicode a b c d u ∷ ps) = omega (arith, length-spelled ps)
 length-spelled (surrogates a b c d u e f g k v ∷ ps) = omega (arith, length-spelled ps)
 
-pub content_at-complete : (ps : List Char) (r : List ℕ) → AreChars ps → content_at (all_spelled ps ++ 0x22 ∷ r) ≡ Some (all_meant ps, r)
+pub content_at-complete : (ps : List Char) (r : List ℕ) → AreChars ps → content_at (all_spelled ps ++ 0x22 ∷ r) ≡ Some (all_utf8 ps, r)
 unfolding content_at
 content_at-complete ps r h = content-complete (suc (length (all_spelled ps ++ 0x22 ∷ r))) ps r h (omega (arith, length-append (all_spelled ps) (0x22 ∷ r), length-spelled ps))
 

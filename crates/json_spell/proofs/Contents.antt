@@ -8,7 +8,7 @@ use Rattle.std.proofs.lemmas.Str.{IsUtf8-from_is_utf8, is_utf8-from_IsUtf8, IsUt
 use Rattle.std.proofs.lemmas.Bool.{cases_lt}
 use Rattle.std.proofs.lemmas.Bool.Decides.{nat_tests}
 use Rattle.json_spell.specs.Number.{EachPasses}
-use Rattle.json_spell.specs.Text.{Char, unescaped, is_unescaped, spelled, meant, AreChars, all_spelled, all_meant}
+use Rattle.json_spell.specs.Text.{Char, unescaped, is_unescaped, spelled, code_point, AreChars, all_spelled, all_utf8}
 use Rattle.json_spell.specs.Reading.{Parse, read_map, ◌>>=◌, skip, before, escape_at, after_run, run_at, content_by, content, content_at}
 use Rattle.json_spell.proofs.Opened.{some_is, bind_some, map_some, chosen, guarded}
 use Rattle.json_spell.proofs.Skips.{skip-split, before-append}
@@ -19,7 +19,7 @@ pub record Spells (text means : List ℕ) : Type 0 where
   pub chars : List Char
   pub are_chars : AreChars chars
   pub text_is : text ≡ all_spelled chars
-  pub means_is : means ≡ all_meant chars
+  pub means_is : means ≡ all_utf8 chars
 
 -- chars one after another
 spells-append : {s t m n : List ℕ} → Spells s m → Spells t n → Spells (s ++ t) (m ++ n)
@@ -27,7 +27,7 @@ spells-append {s} {t} {m} {n} f g = record {
   chars = f.chars ++ g.chars;
   are_chars = both f.chars f.are_chars;
   text_is = rw (f.text_is, g.text_is) (sym (spelled-append f.chars));
-  means_is = rw (f.means_is, g.means_is) (sym (meant-append f.chars));
+  means_is = rw (f.means_is, g.means_is) (sym (all_utf8-append f.chars));
 }
   where
     both : (ps : List Char) → AreChars ps → AreChars (ps ++ g.chars)
@@ -38,9 +38,9 @@ spells-append {s} {t} {m} {n} f g = record {
     spelled-append [] = refl
     spelled-append (p ∷ ps) = rw (spelled-append ps) (sym (append_assoc (spelled p) (all_spelled ps) (all_spelled g.chars)))
 
-    meant-append : (ps : List Char) → all_meant (ps ++ g.chars) ≡ all_meant ps ++ all_meant g.chars
-    meant-append [] = refl
-    meant-append (p ∷ ps) = rw (meant-append ps) (sym (append_assoc (encode_utf8 (meant p)) (all_meant ps) (all_meant g.chars)))
+    all_utf8-append : (ps : List Char) → all_utf8 (ps ++ g.chars) ≡ all_utf8 ps ++ all_utf8 g.chars
+    all_utf8-append [] = refl
+    all_utf8-append (p ∷ ps) = rw (all_utf8-append ps) (sym (append_assoc (encode_utf8 (code_point p)) (all_utf8 ps) (all_utf8 g.chars)))
 
 -- a run of bytes that stand for themselves is one of characters that do
 each-split : (test : ℕ → Bool) (x y : List ℕ) → EachPasses test (x ++ y) → EachPasses test x × EachPasses test y
@@ -87,7 +87,7 @@ escape-spells s c r e = record {
   chars = e.char ∷ [];
   are_chars = (e.holds, tt);
   text_is = sym e.spells ∙ sym (append-nil (spelled e.char));
-  means_is = ap encode_utf8 (sym e.means) ∙ sym (append-nil (encode_utf8 (meant e.char)));
+  means_is = ap encode_utf8 (sym e.means) ∙ sym (append-nil (encode_utf8 (code_point e.char)));
 }
 
 -- the content of a string up to its closing quotation mark, and what follows

@@ -4,7 +4,7 @@ use lib.Utf8.{encode}
 use Rattle.std.proofs.lemmas.Str.{length-encode, len_utf8_bounds, len_utf8_ascii}
 use Rattle.std.proofs.lemmas.Bool.Decides.{nat_tests}
 use Rattle.json_spell.specs.Tree.{Tree, null, boolean, number, string, array, object, Trees, no_trees, tree, Pairs, no_pairs, pair}
-use Rattle.json_spell.specs.Text.{Char, unescaped, short, unicode, surrogates, short_escape, IsChar, spelled, meant, AreChars, all_spelled, all_meant, IsString}
+use Rattle.json_spell.specs.Text.{Char, unescaped, short, unicode, surrogates, short_escape, IsChar, spelled, code_point, AreChars, all_spelled, all_utf8, IsString}
 use Rattle.json_spell.specs.Grammar.{Spaced, Within, Then, After, IsMember, IsValue, AreValues, AreMoreValues, AreMembers, AreMoreMembers, Reads}
 use Rattle.json_spell.specs.Weight.{weight, values_weight, members_weight}
 use Rattle.json_spell.proofs.Opened.{some_is, chosen}
@@ -32,21 +32,21 @@ short-low x c e =
     none f = cc
 
 -- a char is no shorter than the character that it stands for
-char-weight : (p : Char) → IsChar p → length (encode (meant p)) ≤ length (spelled p)
+char-weight : (p : Char) → IsChar p → length (encode (code_point p)) ≤ length (spelled p)
 char-weight (unescaped c) h = omega arith
 char-weight (short x c) h = omega (arith, length-encode c, len_utf8_ascii c (short-low x c h))
 char-weight (unicode a b c d u) h = let l = (len_utf8_bounds u).1 in omega (arith, length-encode u)
 char-weight (surrogates a b c d u e f g k v) h =
-    let m = meant (surrogates a b c d u e f g k v) in let l = (len_utf8_bounds m).1 in omega (arith, length-encode m)
+    let m = code_point (surrogates a b c d u e f g k v) in let l = (len_utf8_bounds m).1 in omega (arith, length-encode m)
 
-chars-weight : (ps : List Char) → AreChars ps → length (all_meant ps) ≤ length (all_spelled ps)
+chars-weight : (ps : List Char) → AreChars ps → length (all_utf8 ps) ≤ length (all_spelled ps)
 chars-weight [] h = omega arith
 chars-weight (p ∷ ps) h =
-    omega (arith, length-append (encode (meant p)) (all_meant ps), length-append (spelled p) (all_spelled ps), char-weight p h.0, chars-weight ps h.1)
+    omega (arith, length-append (encode (code_point p)) (all_utf8 ps), length-append (spelled p) (all_spelled ps), char-weight p h.0, chars-weight ps h.1)
 
 string-weight : (m x : List ℕ) → IsString m x → length m ≤ length x
 string-weight m x h =
-    let content : length m ≡ length (all_meant h.chars) = ap length h.content_is in
+    let content : length m ≡ length (all_utf8 h.chars) = ap length h.content_is in
     let text : length x ≡ suc (length (all_spelled h.chars ++ 0x22 ∷ [])) = ap length h.text_is in
     omega (arith, chars-weight h.chars h.are_chars, length-append (all_spelled h.chars) (0x22 ∷ []))
 

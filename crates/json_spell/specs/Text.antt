@@ -60,11 +60,11 @@ spelled (unicode a b c d u) = 0x5C ∷ 0x75 ∷ a ∷ b ∷ c ∷ d ∷ []
 spelled (surrogates a b c d u e f g h v) = 0x5C ∷ 0x75 ∷ a ∷ b ∷ c ∷ d ∷ 0x5C ∷ 0x75 ∷ e ∷ f ∷ g ∷ h ∷ []
 
 -- the character that a char stands for
-abbrev pub meant : Char → ℕ
-meant (unescaped c) = c
-meant (short x c) = c
-meant (unicode a b c d u) = u
-meant (surrogates a b c d u e f g h v) = surrogate_pair u v
+abbrev pub code_point : Char → ℕ
+code_point (unescaped c) = c
+code_point (short x c) = c
+code_point (unicode a b c d u) = u
+code_point (surrogates a b c d u e f g h v) = surrogate_pair u v
 
 abbrev pub AreChars : List Char → Type 0
 AreChars [] = Unit {0}
@@ -75,13 +75,13 @@ all_spelled [] = []
 all_spelled (p ∷ ps) = spelled p ++ all_spelled ps
 
 -- the characters of all, in UTF-8
-abbrev pub all_meant : List Char → List ℕ
-all_meant [] = []
-all_meant (p ∷ ps) = encode_utf8 (meant p) ++ all_meant ps
+abbrev pub all_utf8 : List Char → List ℕ
+all_utf8 [] = []
+all_utf8 (p ∷ ps) = encode_utf8 (code_point p) ++ all_utf8 ps
 
 -- string = quotation-mark *char quotation-mark
 pub record IsString (content text : List ℕ) : Type 0 where
   pub chars : List Char
   pub are_chars : AreChars chars
   pub text_is : text ≡ 0x22 ∷ (all_spelled chars ++ 0x22 ∷ [])
-  pub content_is : content ≡ all_meant chars
+  pub content_is : content ≡ all_utf8 chars

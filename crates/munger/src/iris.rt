@@ -45,7 +45,7 @@ pub(crate) fn is_resource(term: &TermRef<'_>, word: Resource) -> bool
 fn is_joined(front: &str, back: &str, text: &str) -> bool
     ensures { result ≡ bytes_eq (front.now ++ back.now) text.now }
 {
-    match after(front.as_bytes(), text.as_bytes()) {
+    match strip_prefix(front.as_bytes(), text.as_bytes()) {
         Some(rest) => back.as_bytes() == rest,
         None => false,
     }
@@ -56,14 +56,14 @@ fn is_joined(front: &str, back: &str, text: &str) -> bool
 fn is_id_behind(front: &str, id: EntityId, text: &str) -> bool
     ensures { result ≡ bytes_eq (front.now ++ id_text id) text.now }
 {
-    match after(front.as_bytes(), text.as_bytes()) {
+    match strip_prefix(front.as_bytes(), text.as_bytes()) {
         Some(rest) => is_id_text(id, rest),
         None => false,
     }
 }
 
 // What follows the front in the text.
-fn after<'a>(front: &[u8], text: &'a [u8]) -> Option<&'a [u8]>
+fn strip_prefix<'a>(front: &[u8], text: &'a [u8]) -> Option<&'a [u8]>
     ensures { MatchOption result ((rest : List ℕ) → text.now ≢ front.now ++ rest) (λ rest. text.now ≡ front.now ++ rest.now) }
 {
     text.strip_prefix(front)

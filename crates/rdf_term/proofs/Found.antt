@@ -9,13 +9,13 @@ use Rattle.rdf_term.specs.declared.content.State.TheVariants.{Between, Backslash
 use Rattle.rdf_term.specs.declared.content.Effect.{Effect}
 use Rattle.rdf_term.specs.declared.content.Effect.TheVariants.{Close, Keep, Put}
 use Rattle.rdf_term.specs.Reader.{step, step_between, step_backslash, step_digits, put_or_refuse, content_of, with_front, follow}
-use Rattle.rdf_term.specs.Written.{closing, stands, letter_char, escaped_char, next_value, IsEscape, IsPiece, IsContent, itself, letter, short, long, nothing, more}
+use Rattle.rdf_term.specs.Written.{closing, stands, letter_char, escaped_char, next_value, IsEscape, IsPiece, IsEscapedText, itself, letter, short, long, nothing, more}
 use lib.Utf8.{encode}
 
 -- the bytes begin with a content and what closes it
 pub record IsRead (e : Enclosure) (xs text rest : List ℕ) : Type 0 where
   pub pieces : List ℕ
-  pub content : IsContent e pieces text
+  pub content : IsEscapedText e pieces text
   pub is : xs ≡ pieces ++ closing e ∷ rest
 
 -- the bytes begin with digits that end an escape, and with what follows it
@@ -89,7 +89,7 @@ module _ (e : Enclosure) (x : ℕ) (xs text rest : List ℕ) (owed : (s : State)
       let same = same_pair [] xs text rest h in
       record {
         pieces = [];
-        content = subst (IsContent e []) same.0 nothing;
+        content = subst (IsEscapedText e []) same.0 nothing;
         is = ap (λ c. c ∷ xs) is ∙ ap (λ l. closing e ∷ l) same.1;
       }
 

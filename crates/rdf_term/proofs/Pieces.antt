@@ -8,7 +8,7 @@ use Rattle.rdf_term.specs.declared.content.Enclosure.TheVariants.{Brackets, Quot
 use Rattle.rdf_term.specs.declared.content.State.TheVariants.{Between, Backslash, Digits}
 use Rattle.rdf_term.specs.declared.content.Effect.TheVariants.{Go, Keep, Put}
 use Rattle.rdf_term.specs.Reader.{step, step_between, step_backslash, content_of, with_front}
-use Rattle.rdf_term.specs.Written.{closing, stands, letter_char, escaped_char, next_value, IsPiece, IsContent, itself, letter, short, long, nothing, more}
+use Rattle.rdf_term.specs.Written.{closing, stands, letter_char, escaped_char, next_value, IsPiece, IsEscapedText, itself, letter, short, long, nothing, more}
 use lib.Utf8.{encode}
 
 pub value_grows : (digits : List ℕ) (value : ℕ) → value ≤ fold next_value value digits
@@ -76,7 +76,7 @@ with_front-Some : (front text rest : List ℕ) → with_front front (Some (text,
 unfolding with_front
 with_front-Some front text rest = refl
 
-pub content_read : (e : Enclosure) (pieces text rest : List ℕ) → IsContent e pieces text → content_of e Between (pieces ++ closing e ∷ rest) ≡ Some (text, rest)
+pub content_read : (e : Enclosure) (pieces text rest : List ℕ) → IsEscapedText e pieces text → content_of e Between (pieces ++ closing e ∷ rest) ≡ Some (text, rest)
 content_read e _ _ rest nothing = closed e rest
 content_read e _ _ rest (more piece meaning pieces text p h) =
     ap (content_of e Between) (append_assoc piece pieces (closing e ∷ rest))

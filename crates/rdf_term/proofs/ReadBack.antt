@@ -11,7 +11,7 @@ use Rattle.rdf_term.specs.declared.term.Term.TheVariants.{Iri, Blank, Plain, Lan
 use Rattle.rdf_term.specs.Fit.{is_fit, xsd_string}
 use Rattle.rdf_term.specs.Grammar.{is_iri, is_iri_char}
 use Rattle.rdf_term.specs.Text.{escaped, term_text}
-use Rattle.rdf_term.specs.Written.{escaped_char, hex_value, IsPiece, IsContent, itself, letter, short, long, nothing, more, IsWritten, iri, blank, plain, lang, typed, literal_of_type}
+use Rattle.rdf_term.specs.Written.{escaped_char, hex_value, IsPiece, IsEscapedText, itself, letter, short, long, nothing, more, IsWritten, iri, blank, plain, lang, typed, literal_of_type}
 use Rattle.rdf_term.specs.Reader.{read}
 use Rattle.rdf_term.proofs.Reading.{reads}
 use Rattle.rdf_term.proofs.Escapes.{kind}
@@ -20,13 +20,13 @@ use Rattle.rdf_term.proofs.HighBytes.{encode_high}
 use Rattle.rdf_term.proofs.IriChars.{is_iri_char-high}
 use lib.Utf8.{encode, scalar}
 
-iri_content : (text : List ℕ) → is_iri text ≡ true → IsContent Brackets text text
+iri_content : (text : List ℕ) → is_iri text ≡ true → IsEscapedText Brackets text text
 iri_content [] h = nothing
 iri_content (x ∷ xs) h =
     let parts = and_parts (is_iri_char x) (is_iri xs) h in
     more (x ∷ []) (x ∷ []) xs xs (itself x parts.0) (iri_content xs parts.1)
 
-escaped_content : (text : List ℕ) → IsContent Quotes (escaped text) text
+escaped_content : (text : List ℕ) → IsEscapedText Quotes (escaped text) text
 escaped_content [] = nothing
 escaped_content (x ∷ xs) = ⊎_elim
     (λ k. rw k.is (more (x ∷ []) (x ∷ []) (escaped xs) xs (itself x (rw (ne_eqb x 34 k.not_quote, ne_eqb x 92 k.not_backslash, ne_eqb x 10 k.not_lf, ne_eqb x 13 k.not_cr) refl)) (escaped_content xs)))
@@ -75,7 +75,7 @@ is_iri-piece _ _ (letter l c h) = cc
 is_iri-piece _ _ (short digits c h) = is_iri-escaped (hex_value digits) c h.number
 is_iri-piece _ _ (long digits c h) = is_iri-escaped (hex_value digits) c h.number
 
-is_iri-content : (pieces text : List ℕ) → IsContent Brackets pieces text → is_iri text ≡ true
+is_iri-content : (pieces text : List ℕ) → IsEscapedText Brackets pieces text → is_iri text ≡ true
 is_iri-content _ _ nothing = refl
 is_iri-content _ _ (more piece meaning pieces text p h) = is_iri-append meaning text (is_iri-piece piece meaning p) (is_iri-content pieces text h)
 

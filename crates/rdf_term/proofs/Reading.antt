@@ -10,7 +10,7 @@ use Rattle.rdf_term.specs.declared.term.Term.TheVariants.{Iri, Blank, Plain, Lan
 use Rattle.rdf_term.specs.Grammar.{is_label, is_tag}
 use Rattle.rdf_term.specs.Reader.{read, content_of, split_ascii, whole, iri_in, behind, blank_in, typed_in, literal_after, literal_with, literal_in, term_after}
 use Rattle.rdf_term.specs.Text.{in_quotes}
-use Rattle.rdf_term.specs.Written.{IsContent, IsWritten, iri, blank, plain, lang, typed, literal_of_type}
+use Rattle.rdf_term.specs.Written.{IsEscapedText, IsWritten, iri, blank, plain, lang, typed, literal_of_type}
 use Rattle.rdf_term.proofs.Pieces.{content_read}
 use Rattle.rdf_term.proofs.Found.{IsRead, read_content}
 
@@ -81,12 +81,12 @@ blank_written rest term h =
     let same = passes (is_label found.value) (Blank found.value) term found.gives in
     subst (IsWritten (95 ∷ rest)) same.1 (subst (λ l. IsWritten (95 ∷ l) (Blank found.value)) (sym (behind_is 58 rest found.value found.is)) (blank found.value same.0))
 
-lang_written : (pieces text tag : List ℕ) (term : Term) → IsContent Quotes pieces text → (if is_tag tag then Some (Lang text tag) else None) ≡ Some term → IsWritten (34 ∷ (pieces ++ 34 ∷ 64 ∷ tag)) term
+lang_written : (pieces text tag : List ℕ) (term : Term) → IsEscapedText Quotes pieces text → (if is_tag tag then Some (Lang text tag) else None) ≡ Some term → IsWritten (34 ∷ (pieces ++ 34 ∷ 64 ∷ tag)) term
 lang_written pieces text tag term content h =
     let same = passes (is_tag tag) (Lang text tag) term h in
     subst (IsWritten (34 ∷ (pieces ++ 34 ∷ 64 ∷ tag))) same.1 (lang pieces text tag content same.0)
 
-typed_written : (pieces text rest : List ℕ) (term : Term) → IsContent Quotes pieces text → typed_in text rest ≡ Some term → IsWritten (34 ∷ (pieces ++ 34 ∷ 94 ∷ rest)) term
+typed_written : (pieces text rest : List ℕ) (term : Term) → IsEscapedText Quotes pieces text → typed_in text rest ≡ Some term → IsWritten (34 ∷ (pieces ++ 34 ∷ 94 ∷ rest)) term
 typed_written pieces text rest term content h =
     let found = maps (literal_of_type text) (option_and_then iri_in (option_and_then (behind 60) (behind 94 rest))) term h in
     let inner = comes iri_in (option_and_then (behind 60) (behind 94 rest)) found.value found.is in
@@ -96,7 +96,7 @@ typed_written pieces text rest term content h =
     subst (IsWritten (34 ∷ (pieces ++ 34 ∷ 94 ∷ rest))) found.gives
     (subst (λ l. IsWritten (34 ∷ (pieces ++ 34 ∷ 94 ∷ l)) (literal_of_type text found.value)) (sym is) (typed pieces text others.pieces found.value content others.content))
 
-by_suffix : (pieces text : List ℕ) (first : ℕ) (rest : List ℕ) (term : Term) → IsContent Quotes pieces text → literal_after text first rest ≡ Some term → IsWritten (in_quotes pieces (first ∷ rest)) term
+by_suffix : (pieces text : List ℕ) (first : ℕ) (rest : List ℕ) (term : Term) → IsEscapedText Quotes pieces text → literal_after text first rest ≡ Some term → IsWritten (in_quotes pieces (first ∷ rest)) term
 by_suffix pieces text first rest term content h = ⊎_elim
     (λ (t : (first == 64) ≡ true). rw (eqb-true first 64 t) (lang_written pieces text rest term content (rw t at h)))
     (λ (f : (first == 64) ≡ false). ⊎_elim
@@ -106,7 +106,7 @@ by_suffix pieces text first rest term content h = ⊎_elim
     (cases_Bool (first == 64))
 
 -- a literal, by what stands behind its closing quote
-suffix_written : (pieces text rest : List ℕ) (term : Term) → IsContent Quotes pieces text → literal_with text rest ≡ Some term → IsWritten (in_quotes pieces rest) term
+suffix_written : (pieces text rest : List ℕ) (term : Term) → IsEscapedText Quotes pieces text → literal_with text rest ≡ Some term → IsWritten (in_quotes pieces rest) term
 suffix_written pieces text [] term content h =
     let same : Plain text ≡ term = cc in
     subst (IsWritten (34 ∷ (pieces ++ 34 ∷ []))) same (plain pieces text content)

@@ -61,10 +61,10 @@ pub data IsPiece (enclosure : Enclosure) : List ℕ → List ℕ → Type 0 wher
   long : (digits : List ℕ) (c : ℕ) → IsEscape enclosure 8 digits c → IsPiece enclosure (92 ∷ 85 ∷ digits) (encode_utf8 c)
 
 -- a content, piece by piece, and the text that it stands for
-pub data IsContent (enclosure : Enclosure) : List ℕ → List ℕ → Type 0 where
-  nothing : IsContent enclosure [] []
-  more : (piece meaning pieces text : List ℕ) → IsPiece enclosure piece meaning → IsContent enclosure pieces text
-      → IsContent enclosure (piece ++ pieces) (meaning ++ text)
+pub data IsEscapedText (enclosure : Enclosure) : List ℕ → List ℕ → Type 0 where
+  nothing : IsEscapedText enclosure [] []
+  more : (piece meaning pieces text : List ℕ) → IsPiece enclosure piece meaning → IsEscapedText enclosure pieces text
+      → IsEscapedText enclosure (piece ++ pieces) (meaning ++ text)
 
 -- the literal of a text and a datatype
 abbrev pub literal_of_type : List ℕ → List ℕ → Term
@@ -72,9 +72,9 @@ literal_of_type text datatype = if bytes_eq datatype xsd_string then Plain text 
 
 -- the whole text is a term's
 pub data IsWritten : List ℕ → Term → Type 0 where
-  iri : (pieces text : List ℕ) → IsContent Brackets pieces text → IsWritten (in_brackets pieces) (Iri text)
+  iri : (pieces text : List ℕ) → IsEscapedText Brackets pieces text → IsWritten (in_brackets pieces) (Iri text)
   blank : (label : List ℕ) → is_label label ≡ true → IsWritten (95 ∷ 58 ∷ label) (Blank label)
-  plain : (pieces text : List ℕ) → IsContent Quotes pieces text → IsWritten (in_quotes pieces []) (Plain text)
-  lang : (pieces text tag : List ℕ) → IsContent Quotes pieces text → is_tag tag ≡ true → IsWritten (in_quotes pieces (64 ∷ tag)) (Lang text tag)
-  typed : (pieces text others datatype : List ℕ) → IsContent Quotes pieces text → IsContent Brackets others datatype
+  plain : (pieces text : List ℕ) → IsEscapedText Quotes pieces text → IsWritten (in_quotes pieces []) (Plain text)
+  lang : (pieces text tag : List ℕ) → IsEscapedText Quotes pieces text → is_tag tag ≡ true → IsWritten (in_quotes pieces (64 ∷ tag)) (Lang text tag)
+  typed : (pieces text others datatype : List ℕ) → IsEscapedText Quotes pieces text → IsEscapedText Brackets others datatype
       → IsWritten (in_quotes pieces (94 ∷ 94 ∷ in_brackets others)) (literal_of_type text datatype)

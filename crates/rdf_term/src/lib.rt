@@ -20,7 +20,7 @@ mod triple;
 mod triple_set;
 mod write;
 
-pub use base::{List, OutOfMemory, Piece, Text};
+pub use base::{CowText, List, OutOfMemory, Text};
 pub use laws::{
     canonical_text_reads_back, reading_is_by_the_grammar, sorted_triples_are_the_triples,
 };

@@ -3,7 +3,7 @@
 ghost use Rattle.std.specs.Prelude.{◌≡◌, IfOk, true};
 ghost use Rattle.rdf_term.specs.Fit.{is_fit};
 ghost use Rattle.rdf_term.specs.Grammar.{is_tag, tagged_of};
-ghost use Rattle.rdf_term.specs.TagReader.{is_end, place_after};
+ghost use Rattle.rdf_term.specs.TagReader.{is_end, tag_state_after};
 
 use crate::term::Term;
 use base::{OutOfMemory, Text};
@@ -27,19 +27,19 @@ pub fn tagged(alloc: Global, text: &str, tag: &str) -> Result<Term, OutOfMemory>
 pub fn is_tag(tag: &[u8]) -> bool
     ensures { result ≡ is_tag tag.now }
 {
-    let mut place = Place::Start;
+    let mut state = TagState::Start;
     for byte in tag {
-        match place.after(*byte) {
-            Some(next) => place = next,
+        match state.after(*byte) {
+            Some(next) => state = next,
             None => return false,
         }
     }
-    place.is_end()
+    state.is_end()
 }
 
 /// Where a reader of a tag stands.
 #[derive(Clone, Copy)]
-pub enum Place {
+pub enum TagState {
     /// Before the first part.
     Start,
     /// In the first part.
@@ -50,15 +50,19 @@ pub enum Place {
     Later,
 }
 
-impl Place {
-    // The place behind the byte, where it may stand here.
-    fn after(self, byte: u8) -> Option<Place>
-        ensures { result ≡ place_after self byte }
+impl TagState {
+    // The state behind the byte, where it may stand here.
+    fn after(self, byte: u8) -> Option<TagState>
+        ensures { result ≡ tag_state_after self byte }
     {
         match self {
-            Place::Start | Place::First if byte.is_ascii_alphabetic() => Some(Place::First),
-            Place::Dash | Place::Later if byte.is_ascii_alphanumeric() => Some(Place::Later),
-            Place::First | Place::Later if byte == b'-' => Some(Place::Dash),
+            TagState::Start | TagState::First if byte.is_ascii_alphabetic() => Some(
+                TagState::First,
+            ),
+            TagState::Dash | TagState::Later if byte.is_ascii_alphanumeric() => Some(
+                TagState::Later,
+            ),
+            TagState::First | TagState::Later if byte == b'-' => Some(TagState::Dash),
             _ => None,
         }
     }
@@ -68,8 +72,8 @@ impl Place {
         ensures { result ≡ is_end self }
     {
         match self {
-            Place::First | Place::Later => true,
-            Place::Start | Place::Dash => false,
+            TagState::First | TagState::Later => true,
+            TagState::Start | TagState::Dash => false,
         }
     }
 }

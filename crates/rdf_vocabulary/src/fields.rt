@@ -6,7 +6,7 @@ ghost use Rattle.rdf_vocabulary.specs.Fields.{field, optional_field, hashed_name
 
 use itoa::Buffer;
 use md5::{Digest, Md5};
-use rdf_term::{OutOfMemory, Piece, Text};
+use rdf_term::{CowText, OutOfMemory, Text};
 use std::alloc::Global;
 
 /// Appends a field: its length in bytes in decimal, `:` and its bytes. After `OutOfMemory` the
@@ -26,7 +26,10 @@ pub fn push_field(text: &str, fields: &mut String) -> Result<(), OutOfMemory>
 
 /// Appends a field that may be missing: `-` stands for a missing one. After `OutOfMemory` the
 /// fields are as they were.
-pub fn push_optional_field(text: Option<&Piece<'_>>, fields: &mut String) -> Result<(), OutOfMemory>
+pub fn push_optional_field(
+    text: Option<&CowText<'_>>,
+    fields: &mut String,
+) -> Result<(), OutOfMemory>
     ensures ok { OnOk result (string_bytes fields.new ≡ string_bytes fields.old ++ optional_field (option_copied text.entry)) }
     ensures err { OnErr result (string_bytes fields.new ≡ string_bytes fields.old) }
 {

@@ -5,7 +5,7 @@ use Rattle.std.proofs.lemmas.List.Elements.{filter_map-append}
 use Rattle.std.proofs.lemmas.List.Concat.{flat_map-append}
 use Rattle.std.proofs.lemmas.List.Sums.{fold-append, fold_push}
 use Rattle.entity_model.specs.declared.event.Event.{Event}
-use Rattle.entity_model.specs.declared.delivery.Delivery.{Delivery}
+use Rattle.delivery.specs.declared.Delivery.{Delivery}
 use Rattle.reorder_buffer.specs.Watermarks.{greater}
 use Rattle.replay_model.specs.Acceptance.{Arrival, arrivals_after, arrivals, event_of, watermark_of, events, mark, event_passing, events_passing}
 use Rattle.replay_model.specs.Play.{Replies, Played, nothing_played, happens, play, fetches_at, fetches}

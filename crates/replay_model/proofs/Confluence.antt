@@ -4,7 +4,7 @@ use Rattle.std.proofs.Common.{◌≡◌, true, List, sym, ◌∙◌, ap, refl, O
 use Rattle.std.specs.declared.cmp.Ordering.{Ordering}
 use Rattle.entity_model.specs.declared.event.Event.{Event}
 use Rattle.entity_model.specs.Event.{event_cmp, event_cmp_total, event_cmp_same}
-use Rattle.entity_model.specs.declared.delivery.Delivery.{Delivery}
+use Rattle.delivery.specs.declared.Delivery.{Delivery}
 use Rattle.entity_model.specs.declared.mapping.MappingVersion.{MappingVersion}
 use Rattle.reorder_buffer.specs.Watermarks.{is_due}
 use Rattle.rising.specs.Rising.{has}

@@ -3,8 +3,8 @@ use Rattle.std.proofs.Common.{◌≡◌, Bool, true, false, not, cond, ◌&&◌,
 use Rattle.std.specs.List.{cons_option}
 use Rattle.std.proofs.lemmas.List.Elements.{filter-append}
 use Rattle.entity_model.specs.declared.event.Event.{Event}
-use Rattle.entity_model.specs.declared.delivery.Delivery.{Delivery}
-use Rattle.entity_model.specs.declared.delivery.Delivery.TheVariants.{Event as Told, Watermark}
+use Rattle.delivery.specs.declared.Delivery.{Delivery}
+use Rattle.delivery.specs.declared.Delivery.TheVariants.{Event as Told, Watermark}
 use Rattle.reorder_buffer.specs.Watermarks.{greater, reached, is_due}
 use Rattle.replay_model.specs.Acceptance.{event_of, watermark_of, events, mark, events_passing, is_repeat, is_accepted, accepted, due}
 use Rattle.replay_model.proofs.Arrivals.{events-push, mark-push, events_passing-push}

@@ -2,8 +2,8 @@
 use Rattle.std.proofs.Common.{◌≡◌, Bool, true, false, not, ℤ, List, [], ◌∷◌, ◌++◌, Option, refl, ◌∙◌, ap, filter, ℕ}
 use Rattle.entity_model.specs.declared.event.Event.{Event}
 use Rattle.entity_model.specs.Event.{event_cmp_total, event_cmp_same}
-use Rattle.entity_model.specs.declared.delivery.Delivery.{Delivery}
-use Rattle.entity_model.specs.declared.delivery.Delivery.TheVariants.{Watermark}
+use Rattle.delivery.specs.declared.Delivery.{Delivery}
+use Rattle.delivery.specs.declared.Delivery.TheVariants.{Watermark}
 use Rattle.reorder_buffer.specs.Watermarks.{is_due}
 use Rattle.rising.proofs.Filtering.{sorted_parts, filter_stronger}
 use Rattle.replay_model.specs.Acceptance.{mark, accepted, is_accepted, due}

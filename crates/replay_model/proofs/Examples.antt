@@ -13,8 +13,8 @@ use Rattle.entity_state.specs.State.{kept, deleted}
 use Rattle.entity_state.specs.Record.{blank}
 use Rattle.side_output.specs.declared.entry.Cause.TheVariants.{Missing, Failed, Unfit as NoDocument}
 use Rattle.side_output.specs.declared.entry.Entry.TheVariants.{Late, Revision}
-use Rattle.entity_model.specs.declared.delivery.Delivery.{Delivery}
-use Rattle.entity_model.specs.declared.delivery.Delivery.TheVariants.{Event as Told, Watermark, Mapping}
+use Rattle.delivery.specs.declared.Delivery.{Delivery}
+use Rattle.delivery.specs.declared.Delivery.TheVariants.{Event as Told, Watermark, Mapping}
 use Rattle.entity_model.specs.declared.mapping.MappingVersion.TheVariants.{One, Two}
 use Rattle.replay_model.specs.Acceptance.{mark, version_in_force, accepted, late, due, known}
 use Rattle.replay_model.specs.Fate.{fate, events_of, in_order}

@@ -10,8 +10,8 @@ use Rattle.entity_model.specs.Event.{event_cmp, event_cmp_total, event_cmp_same}
 use Rattle.side_output.specs.declared.entry.Cause.{Cause}
 use Rattle.side_output.specs.declared.entry.Cause.TheVariants.{Failed}
 use Rattle.rdf_term.specs.declared.pattern.Pattern.{Pattern}
-use Rattle.entity_model.specs.declared.delivery.Delivery.{Delivery}
-use Rattle.entity_model.specs.declared.delivery.Delivery.TheVariants.{Event as Told, Watermark, Ask, Mapping}
+use Rattle.delivery.specs.declared.Delivery.{Delivery}
+use Rattle.delivery.specs.declared.Delivery.TheVariants.{Event as Told, Watermark, Ask, Mapping}
 use Rattle.entity_model.specs.declared.mapping.MappingVersion.{MappingVersion}
 use Rattle.reorder_buffer.specs.Watermarks.{is_due}
 use Rattle.reorder_buffer.specs.Buffered.{answer_to, first_due}
@@ -50,24 +50,24 @@ source_fits unfit contents failed e r = by (has event_cmp e failed)
     by true = tt
     by false = there_fits unfit e.entity (contents r)
 
-start_fits : (unfit : Judgement) (told : Option (ℕ → Option Bytes)) (e : Event) (r : ℕ) → GivesDocument unfit e.entity (start_replies unfit told e r)
+start_fits : (unfit : Judgement) (known : Option (ℕ → Option Bytes)) (e : Event) (r : ℕ) → GivesDocument unfit e.entity (start_replies unfit known e r)
 start_fits unfit None e r = tt
 start_fits unfit (Some contents) e r = source_fits unfit contents [] e r
 
-module _ (unfit : Judgement) (told : Option (ℕ → Option Bytes)) where
+module _ (unfit : Judgement) (known : Option (ℕ → Option Bytes)) where
   -- before the first delivery
-  pub Explained-start : (hz : Option ℕ) → ExplainedAfter hz unfit told [] 0 (nothing_delivered_within hz)
+  pub Explained-start : (hz : Option ℕ) → ExplainedAfter hz unfit known [] 0 (nothing_delivered_within hz)
   Explained-start hz = record {
-    replies = start_replies unfit told;
+    replies = start_replies unfit known;
     rises = tt;
     leads = λ others agree. refl;
     counts = λ others agree. refl;
-    honest = λ contents is q r. ap (λ known. start_replies unfit known q r) is;
-    fit = start_fits unfit told;
+    honest = λ contents is q r. ap (λ given. start_replies unfit given q r) is;
+    fit = start_fits unfit known;
     failed_applied = λ q h. clash h refl;
   }
 
-  module _ (play_of : Replies → ReplayState) (fetches_of : Replies → List Fetch) (made : ℕ) (w : ReplayState) (x : Explained unfit told play_of fetches_of made w) (none : first_due w.buffer ≡ None) where
+  module _ (play_of : Replies → ReplayState) (fetches_of : Replies → List Fetch) (made : ℕ) (w : ReplayState) (x : Explained unfit known play_of fetches_of made w) (none : first_due w.buffer ≡ None) where
     -- where no event is due, the state is the play's, and the fetches are made
     pub Explained-rests : (others : Replies) → AgreeOnApplied w x.replies others → w ≡ play_of others
     Explained-rests others agree = sym (after_due-none others w none) ∙ x.leads others agree
@@ -85,13 +85,13 @@ module _ (unfit : Judgement) (told : Option (ℕ → Option Bytes)) where
     Explained-fetches = Explained-made x.replies (λ q r h. refl)
 
     -- where the contents are told, the play with the source's replies
-    pub Explained-source : (contents : ℕ → Option Bytes) → told ≡ Some contents → w ≡ play_of (source_replies unfit contents (failed_events w.played.side))
+    pub Explained-source : (contents : ℕ → Option Bytes) → known ≡ Some contents → w ≡ play_of (source_replies unfit contents (failed_events w.played.side))
     Explained-source contents is = Explained-rests (source_replies unfit contents (failed_events w.played.side)) (λ q r h. sym (x.honest contents is q r))
 
-    pub Explained-source_fetches : (contents : ℕ → Option Bytes) → told ≡ Some contents → made ≡ length (fetches_of (source_replies unfit contents (failed_events w.played.side)))
+    pub Explained-source_fetches : (contents : ℕ → Option Bytes) → known ≡ Some contents → made ≡ length (fetches_of (source_replies unfit contents (failed_events w.played.side)))
     Explained-source_fetches contents is = Explained-made (source_replies unfit contents (failed_events w.played.side)) (λ q r h. sym (x.honest contents is q r))
 
-  module _ (hz : Option ℕ) (ds : List Delivery) (made : ℕ) (w : ReplayState) (x : ExplainedAfter hz unfit told ds made w) (none : first_due w.buffer ≡ None) where
+  module _ (hz : Option ℕ) (ds : List Delivery) (made : ℕ) (w : ReplayState) (x : ExplainedAfter hz unfit known ds made w) (none : first_due w.buffer ≡ None) where
     following_others : (others : Replies) → AgreeOnApplied w x.replies others → w ≡ following hz others ds
     following_others = Explained-rests (λ replies. following hz replies ds) (λ replies. fetches hz replies ds) made w x none
 
@@ -102,7 +102,7 @@ module _ (unfit : Judgement) (told : Option (ℕ → Option Bytes)) where
     following_itself = following_others x.replies (λ q r h. refl)
 
     -- an event is taken
-    pub Explained-event : (e : Event) → ExplainedAfter hz unfit told (ds ++ Told e ∷ []) made (after_event w e)
+    pub Explained-event : (e : Event) → ExplainedAfter hz unfit known (ds ++ Told e ∷ []) made (after_event w e)
     Explained-event e =
         let is : after_event w e ≡ following hz x.replies (ds ++ Told e ∷ []) = ap (λ v. after_event v e) following_itself ∙ sym (following-delivered hz x.replies ds (Told e)) in
         let not_closed : w.buffer.closed ≡ false = ap (λ (v : ReplayState). v.buffer.closed) following_itself in
@@ -117,7 +117,7 @@ module _ (unfit : Judgement) (told : Option (ℕ → Option Bytes)) where
               let left : length (fetches_due others (after_event w e)) ≡ 0 = ap (λ v. length (fetches_due others v)) (same others agree) ∙ ap length (fetches_due-none others (following hz others (ds ++ Told e ∷ [])) (following-rests hz others (ds ++ Told e ∷ []))) in
               let all : length (fetches hz others (ds ++ Told e ∷ [])) ≡ length (fetches hz others ds) = ap length (fetches-delivered hz others ds (Told e) ∙ append-nil (fetches hz others ds)) in
               omega (arith, made_before others (before others agree));
-          honest = λ contents known q r. x.honest contents known q r ∙ ap (λ fs. source_replies unfit contents fs q r) (sym failed);
+          honest = λ contents given q r. x.honest contents given q r ∙ ap (λ fs. source_replies unfit contents fs q r) (sym failed);
           fit = x.fit;
           failed_applied = λ q h. applied-event w e q not_closed ∙ x.failed_applied q (ap (has event_cmp q) (sym failed) ∙ h);
         }
@@ -134,7 +134,7 @@ module _ (unfit : Judgement) (told : Option (ℕ → Option Bytes)) where
         ∙ following-rests hz x.replies (ds ++ Told e ∷ [])
 
     -- a watermark is taken
-    pub Explained-mark : (m : ℤ) → ExplainedAfter hz unfit told (ds ++ Watermark m ∷ []) made (after_mark w m)
+    pub Explained-mark : (m : ℤ) → ExplainedAfter hz unfit known (ds ++ Watermark m ∷ []) made (after_mark w m)
     Explained-mark m =
         let before : (others : Replies) → AgreeOnApplied (after_mark w m) x.replies others → AgreeOnApplied w x.replies others = λ others agree q r h. agree q r (applied-mark w m q h) in
         record {
@@ -156,7 +156,7 @@ module _ (unfit : Judgement) (told : Option (ℕ → Option Bytes)) where
     mark_replies m = refl
 
     -- a question is asked, which changes nothing
-    pub Explained-ask : (q : Pattern) → ExplainedAfter hz unfit told (ds ++ Ask q ∷ []) made w
+    pub Explained-ask : (q : Pattern) → ExplainedAfter hz unfit known (ds ++ Ask q ∷ []) made w
     Explained-ask q = record {
       replies = x.replies;
       rises = x.rises;
@@ -175,7 +175,7 @@ module _ (unfit : Judgement) (told : Option (ℕ → Option Bytes)) where
     ask_replies q = refl
 
     -- another version of the mapping comes into force, which changes nothing of what is played
-    pub Explained-mapping : (v : MappingVersion) → ExplainedAfter hz unfit told (ds ++ Mapping v ∷ []) made w
+    pub Explained-mapping : (v : MappingVersion) → ExplainedAfter hz unfit known (ds ++ Mapping v ∷ []) made w
     Explained-mapping v = record {
       replies = x.replies;
       rises = x.rises;
@@ -194,7 +194,7 @@ module _ (unfit : Judgement) (told : Option (ℕ → Option Bytes)) where
     mapping_replies v = refl
 
     -- the end is taken
-    pub Explained-end : ExplainedToEnd hz unfit told ds made (after_end w)
+    pub Explained-end : ExplainedToEnd hz unfit known ds made (after_end w)
     Explained-end =
         let before : (others : Replies) → AgreeOnApplied (after_end w) x.replies others → AgreeOnApplied w x.replies others = λ others agree q r h. agree q r (applied-end w q h) in
         record {
@@ -250,7 +250,7 @@ abbrev now_replied : Judgement → Option (ℕ → Option Bytes) → List Event 
 now_replied unfit None failed e reply r = reply
 now_replied unfit (Some contents) failed e reply r = source_replies unfit contents failed e r
 
-now_fits : (unfit : Judgement) (told : Option (ℕ → Option Bytes)) (failed : List Event) (e : Event) (reply : Result Bytes Cause) (r : ℕ) → GivesDocument unfit e.entity reply → GivesDocument unfit e.entity (now_replied unfit told failed e reply r)
+now_fits : (unfit : Judgement) (known : Option (ℕ → Option Bytes)) (failed : List Event) (e : Event) (reply : Result Bytes Cause) (r : ℕ) → GivesDocument unfit e.entity reply → GivesDocument unfit e.entity (now_replied unfit known failed e reply r)
 now_fits unfit None failed e reply r fits = fits
 now_fits unfit (Some contents) failed e reply r fits = source_fits unfit contents failed e r
 
@@ -262,30 +262,30 @@ honest_is unfit contents failed e r reply fresh honest =
     (λ is. ap (λ b. cond b (Err Failed) (reply_there unfit e.entity (contents r))) (ap (λ p. has event_cmp e (failed ++ failed_of e p)) is ∙ ap (λ l. has event_cmp e (failed ++ l)) (failed_of-there unfit e (contents r)) ∙ ap (has event_cmp e) (append-nil failed) ∙ fresh) ∙ sym is)
     honest
 
-module _ (unfit : Judgement) (told : Option (ℕ → Option Bytes)) (play_of : Replies → ReplayState) (fetches_of : Replies → List Fetch) (made : ℕ) (w : ReplayState) (e : Event) (reply : Result Bytes Cause) where
-  fetched : (known : Option (ℕ → Option Bytes)) → has event_cmp e (failed_events w.played.side) ≡ false → (fetching : Bool) → fetching ≡ true
-      → ((contents : ℕ → Option Bytes) → known ≡ Some contents → IsHonest unfit contents e (revision_wanted w e) reply)
-      → now_replied unfit known (failed_events w.played.side ++ failed_by fetching e reply) e reply (revision_wanted w e) ≡ reply
+module _ (unfit : Judgement) (known : Option (ℕ → Option Bytes)) (play_of : Replies → ReplayState) (fetches_of : Replies → List Fetch) (made : ℕ) (w : ReplayState) (e : Event) (reply : Result Bytes Cause) where
+  fetched : (given : Option (ℕ → Option Bytes)) → has event_cmp e (failed_events w.played.side) ≡ false → (fetching : Bool) → fetching ≡ true
+      → ((contents : ℕ → Option Bytes) → given ≡ Some contents → IsHonest unfit contents e (revision_wanted w e) reply)
+      → now_replied unfit given (failed_events w.played.side ++ failed_by fetching e reply) e reply (revision_wanted w e) ≡ reply
   fetched None fresh fetching is honest = refl
   fetched (Some contents) fresh false is honest = clash is refl
   fetched (Some contents) fresh true is honest = honest_is unfit contents (failed_events w.played.side) e (revision_wanted w e) reply fresh (honest contents refl)
 
   -- the replies after the event is applied
   abbrev replies_next : Replies → Replies
-  replies_next replies = replied replies e (now_replied unfit told (failed_events (next_by w e reply).played.side) e reply)
+  replies_next replies = replied replies e (now_replied unfit known (failed_events (next_by w e reply).played.side) e reply)
 
-  told_now : (known : Option (ℕ → Option Bytes)) (contents : ℕ → Option Bytes) (failed : List Event) (r : ℕ) → known ≡ Some contents → now_replied unfit known failed e reply r ≡ source_replies unfit contents failed e r
-  told_now known contents failed r is = ap (λ k. now_replied unfit k failed e reply r) is
+  told_now : (given : Option (ℕ → Option Bytes)) (contents : ℕ → Option Bytes) (failed : List Event) (r : ℕ) → given ≡ Some contents → now_replied unfit given failed e reply r ≡ source_replies unfit contents failed e r
+  told_now given contents failed r is = ap (λ k. now_replied unfit k failed e reply r) is
 
   -- the state after the event is explained too; replies that agree with its replies agree with those before, and lead to it
-  pub record Next (x : Explained unfit told play_of fetches_of made w) : Type 0 where
-    pub explained : Explained unfit told play_of fetches_of (made + fetches_counted (is_fetching w e)) (next_by w e reply)
+  pub record Next (x : Explained unfit known play_of fetches_of made w) : Type 0 where
+    pub explained : Explained unfit known play_of fetches_of (made + fetches_counted (is_fetching w e)) (next_by w e reply)
     pub agree_before : (others : Replies) → AgreeOnApplied (next_by w e reply) explained.replies others → AgreeOnApplied w x.replies others
     pub is_next : (others : Replies) → AgreeOnApplied (next_by w e reply) explained.replies others → next_by w e reply ≡ after_next others w
 
   -- one due event is applied, with any reply where contents aren't told, and an honest one where they are
-  pub Explained-next : (x : Explained unfit told play_of fetches_of made w) → first_due w.buffer ≡ Some e
-      → ((contents : ℕ → Option Bytes) → told ≡ Some contents → is_fetching w e ≡ true → IsHonest unfit contents e (revision_wanted w e) reply)
+  pub Explained-next : (x : Explained unfit known play_of fetches_of made w) → first_due w.buffer ≡ Some e
+      → ((contents : ℕ → Option Bytes) → known ≡ Some contents → is_fetching w e ≡ true → IsHonest unfit contents e (revision_wanted w e) reply)
       → GivesDocument unfit e.entity reply
       → Next x
   Explained-next x some honest fits =
@@ -297,13 +297,13 @@ module _ (unfit : Judgement) (told : Option (ℕ → Option Bytes)) (play_of : R
       let other : (q : Event) → is_applied w q ≡ true → eq_by_cmp event_cmp q e ≡ false = λ q h. false_from_ne_true (eq_by_cmp event_cmp q e) (λ tie. clash (ap (is_applied w) (sym (event_cmp_same q e (equal _ tie))) ∙ h) not_yet) in
       let before : (others : Replies) → AgreeOnApplied (next_by w e reply) (replies_next x.replies) others → AgreeOnApplied w x.replies others = λ others agree q r h.
       agree q r (applied q ∙ or_true (eq_by_cmp event_cmp q e) _ h)
-      ∙ ap (λ b. cond b (now_replied unfit told (failed_events (next_by w e reply).played.side) e reply r) (x.replies q r)) (other q h) in
+      ∙ ap (λ b. cond b (now_replied unfit known (failed_events (next_by w e reply).played.side) e reply r) (x.replies q r)) (other q h) in
       let now : (others : Replies) → AgreeOnApplied (next_by w e reply) (replies_next x.replies) others → is_fetching w e ≡ true → others e (revision_wanted w e) ≡ reply = λ others agree fetching.
       agree e (revision_wanted w e) (applied e ∙ ap (λ b. b || is_applied w e) (itself e))
-      ∙ ap (λ b. cond b (now_replied unfit told (failed_events (next_by w e reply).played.side) e reply (revision_wanted w e)) (x.replies e (revision_wanted w e))) (itself e)
-      ∙ ap (λ fs. now_replied unfit told fs e reply (revision_wanted w e)) failed
-      ∙ fetched told fresh (is_fetching w e) fetching (λ contents is. honest contents is fetching) in
-      let explained : Explained unfit told play_of fetches_of (made + fetches_counted (is_fetching w e)) (next_by w e reply) = record {
+      ∙ ap (λ b. cond b (now_replied unfit known (failed_events (next_by w e reply).played.side) e reply (revision_wanted w e)) (x.replies e (revision_wanted w e))) (itself e)
+      ∙ ap (λ fs. now_replied unfit known fs e reply (revision_wanted w e)) failed
+      ∙ fetched known fresh (is_fetching w e) fetching (λ contents is. honest contents is fetching) in
+      let explained : Explained unfit known play_of fetches_of (made + fetches_counted (is_fetching w e)) (next_by w e reply) = record {
         replies = replies_next x.replies;
         rises = IsRising-remove_key (is_due w.buffer.closed w.buffer.mark) event_cmp w.buffer.waiting x.rises;
         leads = λ others agree.
@@ -324,24 +324,24 @@ module _ (unfit : Judgement) (told : Option (ℕ → Option Bytes)) (play_of : R
         is_next = λ others agree. apply-same (λ q r. reply) others w e (now others agree) ∙ ap (after_applying others w) (sym some);
       }
     where
-      from_failed : (q : Event) (x : Explained unfit told play_of fetches_of made w) → failed_events (next_by w e reply).played.side ≡ failed_events w.played.side ++ failed_by (is_fetching w e) e reply → (t : Bool) → eq_by_cmp event_cmp q e ≡ t → has event_cmp q (failed_events (next_by w e reply).played.side) ≡ true → (t || is_applied w q) ≡ true
+      from_failed : (q : Event) (x : Explained unfit known play_of fetches_of made w) → failed_events (next_by w e reply).played.side ≡ failed_events w.played.side ++ failed_by (is_fetching w e) e reply → (t : Bool) → eq_by_cmp event_cmp q e ≡ t → has event_cmp q (failed_events (next_by w e reply).played.side) ≡ true → (t || is_applied w q) ≡ true
       from_failed q x failed true tie h = refl
       from_failed q x failed false tie h = x.failed_applied q (sym (ap (has event_cmp q) failed ∙ has-append event_cmp q (failed_events w.played.side) (failed_by (is_fetching w e) e reply) ∙ ap (λ b. has event_cmp q (failed_events w.played.side) || b) (has-failed_by q e (is_fetching w e) reply tie) ∙ or_none _) ∙ h)
 
-      still_fits : (q : Event) (r : ℕ) (x : Explained unfit told play_of fetches_of made w) → GivesDocument unfit e.entity reply → (t : Bool) → eq_by_cmp event_cmp q e ≡ t →
-          GivesDocument unfit q.entity (cond t (now_replied unfit told (failed_events (next_by w e reply).played.side) e reply r) (x.replies q r))
+      still_fits : (q : Event) (r : ℕ) (x : Explained unfit known play_of fetches_of made w) → GivesDocument unfit e.entity reply → (t : Bool) → eq_by_cmp event_cmp q e ≡ t →
+          GivesDocument unfit q.entity (cond t (now_replied unfit known (failed_events (next_by w e reply).played.side) e reply r) (x.replies q r))
       still_fits q r x fits true tie =
-          let Fits : Event → Type 0 = λ v. GivesDocument unfit v.entity (now_replied unfit told (failed_events (next_by w e reply).played.side) e reply r) in
-          subst Fits (sym (event_cmp_same q e (equal _ tie))) (now_fits unfit told (failed_events (next_by w e reply).played.side) e reply r fits)
+          let Fits : Event → Type 0 = λ v. GivesDocument unfit v.entity (now_replied unfit known (failed_events (next_by w e reply).played.side) e reply r) in
+          subst Fits (sym (event_cmp_same q e (equal _ tie))) (now_fits unfit known (failed_events (next_by w e reply).played.side) e reply r fits)
       still_fits q r x fits false tie = x.fit q r
 
-      from_source : (contents : ℕ → Option Bytes) → told ≡ Some contents → (q : Event) (r : ℕ) (x : Explained unfit told play_of fetches_of made w) → failed_events (next_by w e reply).played.side ≡ failed_events w.played.side ++ failed_by (is_fetching w e) e reply → (t : Bool) → eq_by_cmp event_cmp q e ≡ t
+      from_source : (contents : ℕ → Option Bytes) → known ≡ Some contents → (q : Event) (r : ℕ) (x : Explained unfit known play_of fetches_of made w) → failed_events (next_by w e reply).played.side ≡ failed_events w.played.side ++ failed_by (is_fetching w e) e reply → (t : Bool) → eq_by_cmp event_cmp q e ≡ t
           → replies_next x.replies q r ≡ source_replies unfit contents (failed_events (next_by w e reply).played.side) q r
       from_source contents is q r x failed true tie =
-          ap (λ b. cond b (now_replied unfit told (failed_events (next_by w e reply).played.side) e reply r) (x.replies q r)) tie
-          ∙ told_now told contents (failed_events (next_by w e reply).played.side) r is
+          ap (λ b. cond b (now_replied unfit known (failed_events (next_by w e reply).played.side) e reply r) (x.replies q r)) tie
+          ∙ told_now known contents (failed_events (next_by w e reply).played.side) r is
           ∙ ap (λ y. source_replies unfit contents (failed_events (next_by w e reply).played.side) y r) (sym (event_cmp_same q e (equal _ tie)))
       from_source contents is q r x failed false tie =
-          ap (λ b. cond b (now_replied unfit told (failed_events (next_by w e reply).played.side) e reply r) (x.replies q r)) tie
+          ap (λ b. cond b (now_replied unfit known (failed_events (next_by w e reply).played.side) e reply r) (x.replies q r)) tie
           ∙ x.honest contents is q r
           ∙ ap (λ b. cond b (Err Failed) (reply_there unfit q.entity (contents r))) (sym (ap (has event_cmp q) failed ∙ has-append event_cmp q (failed_events w.played.side) (failed_by (is_fetching w e) e reply) ∙ ap (λ b. has event_cmp q (failed_events w.played.side) || b) (has-failed_by q e (is_fetching w e) reply tie) ∙ or_none _))

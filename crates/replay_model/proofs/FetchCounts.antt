@@ -1,8 +1,8 @@
 -- The fetches of a replay, delivery by delivery and event by event, and how a count rises by them.
 use Rattle.std.proofs.Common.{◌≡◌, ℕ, ◌+◌, List, [], ◌∷◌, ◌++◌, None, Some, refl, ◌∙◌, ap, arith, Option}
 use Rattle.entity_model.specs.declared.event.Event.{Event}
-use Rattle.entity_model.specs.declared.delivery.Delivery.{Delivery}
-use Rattle.entity_model.specs.declared.delivery.Delivery.TheVariants.{Event as Told, Watermark, Ask, Mapping}
+use Rattle.delivery.specs.declared.Delivery.{Delivery}
+use Rattle.delivery.specs.declared.Delivery.TheVariants.{Event as Told, Watermark, Ask, Mapping}
 use Rattle.reorder_buffer.specs.Watermarks.{is_due}
 use Rattle.reorder_buffer.specs.Buffered.{first_due}
 use Rattle.rising.proofs.FirstPassing.{filter-first, filter-none}

@@ -2,7 +2,7 @@
 use Rattle.std.proofs.Common.{◌≡◌, ℕ, Bool, true, false, not, cond, ◌&&◌, List, Option, None, filter, refl, sym, ◌∙◌, ap}
 use Rattle.entity_model.specs.declared.event.Event.{Event}
 use Rattle.entity_model.specs.Event.{event_cmp}
-use Rattle.entity_model.specs.declared.delivery.Delivery.{Delivery}
+use Rattle.delivery.specs.declared.Delivery.{Delivery}
 use Rattle.reorder_buffer.specs.declared.taken.Taken.TheVariants.{New, Repeat, Late}
 use Rattle.reorder_buffer.specs.Watermarks.{reached, is_due, floor}
 use Rattle.reorder_buffer.specs.Buffered.{answer_to}

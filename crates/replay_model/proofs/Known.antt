@@ -13,8 +13,8 @@ use Rattle.entity_model.specs.declared.event.Kind.TheVariants.{Edit, Delete, Und
 use Rattle.entity_model.specs.Event.{event_cmp, event_cmp_total, event_cmp_same}
 use Rattle.entity_state.specs.declared.state.State.{State}
 use Rattle.entity_state.specs.State.{state_after, after_kind, unknown}
-use Rattle.entity_model.specs.declared.delivery.Delivery.{Delivery}
-use Rattle.entity_model.specs.declared.delivery.Delivery.TheVariants.{Event as Told, Watermark, Ask, Mapping}
+use Rattle.delivery.specs.declared.Delivery.{Delivery}
+use Rattle.delivery.specs.declared.Delivery.TheVariants.{Event as Told, Watermark, Ask, Mapping}
 use Rattle.reorder_buffer.specs.Watermarks.{reached, is_due}
 use Rattle.rising.specs.Rising.{has}
 use Rattle.rising.proofs.Bools.{clash, equal, or_none, or_true, or_false_left, or_false_right}

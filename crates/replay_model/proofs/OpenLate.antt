@@ -6,7 +6,7 @@ use Rattle.entity_model.specs.Event.{event_cmp, event_cmp_total, event_cmp_same}
 use Rattle.entity_state.specs.declared.record.Record.{Record}
 use Rattle.entity_state.specs.Record.{blank}
 use Rattle.side_output.specs.Entry.{is_before}
-use Rattle.entity_model.specs.declared.delivery.Delivery.{Delivery}
+use Rattle.delivery.specs.declared.Delivery.{Delivery}
 use Rattle.rising.proofs.Bools.{or_assoc, or_none}
 use Rattle.rising.proofs.Rising.{turned}
 use Rattle.rising.proofs.Finding.{list_any-sorted, list_any-filter}

@@ -8,7 +8,7 @@ use Rattle.entity_model.specs.Event.{event_cmp_total, event_cmp_same}
 use Rattle.entity_state.specs.declared.record.Record.{Record}
 use Rattle.entity_state.specs.State.{state_after}
 use Rattle.entity_state.specs.Record.{blank}
-use Rattle.entity_model.specs.declared.delivery.Delivery.{Delivery}
+use Rattle.delivery.specs.declared.Delivery.{Delivery}
 use Rattle.rising.proofs.Bools.{equal}
 use Rattle.rising.proofs.Filtering.{sorted-filter}
 use Rattle.replay_model.specs.Acceptance.{due}

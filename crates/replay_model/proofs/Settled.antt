@@ -17,8 +17,8 @@ use Rattle.entity_state.specs.Record.{held_revision, is_held, wants}
 use Rattle.side_output.specs.declared.entry.Cause.{Cause}
 use Rattle.side_output.specs.declared.entry.Entry.{Entry}
 use Rattle.side_output.specs.declared.entry.Entry.TheVariants.{Late, Revision}
-use Rattle.entity_model.specs.declared.delivery.Delivery.{Delivery}
-use Rattle.entity_model.specs.declared.delivery.Delivery.TheVariants.{Event as Told, Watermark, Ask, Mapping}
+use Rattle.delivery.specs.declared.Delivery.{Delivery}
+use Rattle.delivery.specs.declared.Delivery.TheVariants.{Event as Told, Watermark, Ask, Mapping}
 use Rattle.rising.proofs.Bools.{clash, or_true, and_right, and_left, and_none, and_all}
 use Rattle.rising.proofs.Finding.{list_any_weaker, list_any_never}
 use Rattle.rising.proofs.Pushes.{by_pushes}

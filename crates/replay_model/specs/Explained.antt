@@ -11,7 +11,7 @@ use Rattle.reorder_buffer.specs.Watermarks.{is_due}
 use Rattle.replay_model.specs.Play.{Replies, Fetch, fetches, fetches_to_end}
 use Rattle.replay_model.specs.Records.{Bytes, record_of}
 use Rattle.replay_model.specs.Replies.{GivesDocument, Judgement, reply_there, source_replies, failed_events}
-use Rattle.entity_model.specs.declared.delivery.Delivery.{Delivery}
+use Rattle.delivery.specs.declared.Delivery.{Delivery}
 use Rattle.replay_model.specs.ReplayState.{ReplayState, after_due, fetches_due, following, following_to_end}
 
 -- whether what is replied to the event is settled: it is due by the mark and doesn't wait
@@ -37,7 +37,7 @@ IsHonest unfit contents e r reply = (reply ≡ Err Failed) ⊎ (reply ≡ reply_
 -- the state leads, when all due events are applied, to that of a play with some replies, and the fetches made so far with those still
 -- to be made are the play's; where the contents are told, the replies so far are those of the contents and of the failed events that
 -- the side output names
-pub record Explained (unfit : Judgement) (told : Option (ℕ → Option Bytes)) (play_of : Replies → ReplayState) (fetches_of : Replies → List Fetch) (made : ℕ) (w : ReplayState) : Type 0 where
+pub record Explained (unfit : Judgement) (known : Option (ℕ → Option Bytes)) (play_of : Replies → ReplayState) (fetches_of : Replies → List Fetch) (made : ℕ) (w : ReplayState) : Type 0 where
   -- the replies
   pub replies : Replies
   -- the waiting events are in order
@@ -46,7 +46,7 @@ pub record Explained (unfit : Judgement) (told : Option (ℕ → Option Bytes)) 
   pub leads : (others : Replies) → AgreeOnApplied w replies others → after_due others w ≡ play_of others
   pub counts : (others : Replies) → AgreeOnApplied w replies others → made + length (fetches_due others w) ≡ length (fetches_of others)
   -- the replies are the source's
-  pub honest : (contents : ℕ → Option Bytes) → told ≡ Some contents → (e : Event) (r : ℕ) →
+  pub honest : (contents : ℕ → Option Bytes) → known ≡ Some contents → (e : Event) (r : ℕ) →
       replies e r ≡ source_replies unfit contents (failed_events w.played.side) e r
   -- each reply that gives bytes gives a document
   pub fit : (e : Event) (r : ℕ) → GivesDocument unfit e.entity (replies e r)
@@ -55,8 +55,8 @@ pub record Explained (unfit : Judgement) (told : Option (ℕ → Option Bytes)) 
 
 -- explained by the play of a list of deliveries with this horizon
 abbrev pub ExplainedAfter : Option ℕ → Judgement → Option (ℕ → Option Bytes) → List Delivery → ℕ → ReplayState → Type 0
-ExplainedAfter h unfit told ds made w = Explained unfit told (λ replies. following h replies ds) (λ replies. fetches h replies ds) made w
+ExplainedAfter h unfit known ds made w = Explained unfit known (λ replies. following h replies ds) (λ replies. fetches h replies ds) made w
 
 -- explained by the play of a list of deliveries and the end of the input
 abbrev pub ExplainedToEnd : Option ℕ → Judgement → Option (ℕ → Option Bytes) → List Delivery → ℕ → ReplayState → Type 0
-ExplainedToEnd h unfit told ds made w = Explained unfit told (λ replies. following_to_end h replies ds) (λ replies. fetches_to_end h replies ds) made w
+ExplainedToEnd h unfit known ds made w = Explained unfit known (λ replies. following_to_end h replies ds) (λ replies. fetches_to_end h replies ds) made w

@@ -14,11 +14,11 @@ use Rattle.replay_model.specs.Union.{Meaning}
 
 -- the version by which what x holds is mapped, where these hold by version Two and all others by One
 abbrev pub version_at : List EntityId → EntityId → MappingVersion
-version_at second x = cond (has entity_cmp x second) Two One
+version_at by_two x = cond (has entity_cmp x by_two) Two One
 
 -- what each entity's document means by the version that it is mapped by
 abbrev pub meaning_by : {Triple : Type 0} → (MappingVersion → Meaning Triple) → List EntityId → Meaning Triple
-meaning_by meaning second x rev bytes = meaning (version_at second x) x rev bytes
+meaning_by meaning by_two x rev bytes = meaning (version_at by_two x) x rev bytes
 
 -- whether the entity holds a document
 abbrev pub is_holder : Records → EntityId → Bool
@@ -35,5 +35,5 @@ all_by Two records = holders records
 
 -- the entities that hold by version Two once what x holds is mapped by this version
 abbrev pub with_version : MappingVersion → EntityId → List EntityId → List EntityId
-with_version One x second = remove_key (eq_by_cmp entity_cmp x) second
-with_version Two x second = insert_key entity_cmp second x
+with_version One x by_two = remove_key (eq_by_cmp entity_cmp x) by_two
+with_version Two x by_two = insert_key entity_cmp by_two x

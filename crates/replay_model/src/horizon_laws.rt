@@ -4,7 +4,7 @@ ghost use Rattle.std.specs.Prelude.{◌≡◌, ℕ, ℤ, Bool, not, ◌&&◌, co
 ghost use Rattle.rising.specs.Rising.{has};
 ghost use Rattle.entity_model.specs.declared.event.Event.{Event};
 ghost use Rattle.entity_model.specs.Event.{event_cmp};
-ghost use Rattle.entity_model.specs.declared.delivery.Delivery.{Delivery};
+ghost use Rattle.delivery.specs.declared.Delivery.{Delivery};
 ghost use Rattle.reorder_buffer.specs.declared.taken.Taken.TheVariants.{New, Repeat, Late};
 ghost use Rattle.reorder_buffer.specs.Buffered.{Buffered, nothing_taken_within, answer_to, after_taking, after_raising, after_closing, after_dropping};
 ghost use Rattle.reorder_buffer.specs.Watermarks.{floor, is_below};

@@ -8,7 +8,7 @@ ghost use Rattle.entity_model.specs.declared.id.EntityId.{EntityId};
 ghost use Rattle.entity_model.specs.Event.{event_cmp};
 ghost use Rattle.entity_state.specs.State.{is_kept};
 ghost use Rattle.side_output.specs.declared.entry.Entry.{Entry};
-ghost use Rattle.entity_model.specs.declared.delivery.Delivery.{Delivery};
+ghost use Rattle.delivery.specs.declared.Delivery.{Delivery};
 ghost use Rattle.replay_model.specs.Acceptance.{accepted, late, due, known};
 ghost use Rattle.replay_model.specs.Entries.{HoldsUnlessOpen, late_events, is_later, is_open_by, is_open_late, has_open_revision};
 ghost use Rattle.replay_model.specs.Fate.{fate, events_of, in_order};

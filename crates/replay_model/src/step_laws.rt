@@ -2,7 +2,7 @@
 
 ghost use Rattle.std.specs.Prelude.{◌≡◌, ℕ, ◌+◌, [], ◌∷◌, ◌++◌, List, Option, None};
 ghost use Rattle.rdf_term.specs.declared.triple.Triple.{Triple};
-ghost use Rattle.entity_model.specs.declared.delivery.Delivery.{Delivery};
+ghost use Rattle.delivery.specs.declared.Delivery.{Delivery};
 ghost use Rattle.entity_model.specs.declared.mapping.MappingVersion.{MappingVersion};
 ghost use Rattle.reorder_buffer.specs.Buffered.{first_due};
 ghost use Rattle.replay_model.specs.Acceptance.{mapping_of, version_in_force};

@@ -5,7 +5,7 @@ ghost use Rattle.std.specs.Cmp.{IsTotalOrder};
 ghost use Rattle.std.specs.declared.cmp.Ordering.{Ordering};
 ghost use Rattle.std.specs.FinMap.{insert};
 ghost use Rattle.rising.specs.Rising.{has, difference, IsRising};
-ghost use Rattle.entity_model.specs.declared.delivery.Delivery.{Delivery};
+ghost use Rattle.delivery.specs.declared.Delivery.{Delivery};
 ghost use Rattle.entity_model.specs.declared.event.Event.{Event};
 ghost use Rattle.entity_model.specs.declared.id.EntityId.{EntityId};
 ghost use Rattle.entity_model.specs.declared.mapping.MappingVersion.{MappingVersion};

@@ -2,12 +2,12 @@
 
 ghost use Rattle.std.specs.Prelude.{◌≡◌, ℕ, Bool, List, Option, true};
 ghost use Rattle.std.specs.declared.cmp.Ordering.{Ordering};
-ghost use Rattle.entity_model.specs.declared.delivery.Delivery.{Delivery};
+ghost use Rattle.delivery.specs.declared.Delivery.{Delivery};
 ghost use Rattle.entity_model.specs.declared.id.EntityId.{EntityId};
 ghost use Rattle.entity_model.specs.declared.mapping.MappingVersion.{MappingVersion};
 ghost use Rattle.replay_model.specs.Acceptance.{version_in_force};
 ghost use Rattle.replay_model.specs.Play.{Replies, played};
-ghost use Rattle.replay_model.specs.PlayedVersions.{second_played};
+ghost use Rattle.replay_model.specs.PlayedVersions.{by_two_played};
 ghost use Rattle.replay_model.specs.Records.{Records, record_of};
 ghost use Rattle.replay_model.specs.Union.{Meaning, owners, triples_held, union};
 ghost use Rattle.replay_model.specs.Versions.{all_by, is_holder, meaning_by, version_at};
@@ -35,7 +35,7 @@ pub fn one_version_gives_its_union<Triple>()
 /// One is.
 pub fn documents_are_by_the_version_in_force()
     ensures ids { (h : Option ℕ) (closed : Bool) (replies : Replies) (ds : List Delivery) →
-        second_played h closed replies ds ≡ all_by (version_in_force ds) (played h closed replies ds).records }
+        by_two_played h closed replies ds ≡ all_by (version_in_force ds) (played h closed replies ds).records }
     ensures each { (h : Option ℕ) (closed : Bool) (replies : Replies) (ds : List Delivery) (x : EntityId) →
-        is_holder (played h closed replies ds).records x ≡ true → version_at (second_played h closed replies ds) x ≡ version_in_force ds }
+        is_holder (played h closed replies ds).records x ≡ true → version_at (by_two_played h closed replies ds) x ≡ version_in_force ds }
 {}

@@ -9,7 +9,7 @@ use Rattle.rdf_term.specs.declared.triple.Triple.{Triple}
 use Rattle.rdf_term.specs.Order.{triple_cmp, triple_cmp-total}
 use Rattle.rising.specs.Rising.{Each, has}
 use Rattle.entity_model.specs.declared.id.EntityId.{EntityId}
-use Rattle.entity_model.specs.declared.delivery.Delivery.{Delivery}
+use Rattle.delivery.specs.declared.Delivery.{Delivery}
 use Rattle.entity_model.specs.declared.mapping.MappingVersion.{MappingVersion}
 use Rattle.replay_model.specs.Acceptance.{version_in_force}
 use Rattle.replay_model.specs.Play.{Replies, played}

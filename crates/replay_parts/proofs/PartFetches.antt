@@ -4,8 +4,8 @@ use Rattle.std.proofs.lemmas.List.Elements.{filter-append}
 use Rattle.rising.proofs.Pushes.{by_pushes}
 use Rattle.entity_model.specs.declared.id.EntityId.{EntityId}
 use Rattle.entity_model.specs.declared.event.Event.{Event}
-use Rattle.entity_model.specs.declared.delivery.Delivery.{Delivery}
-use Rattle.entity_model.specs.declared.delivery.Delivery.TheVariants.{Event as Told, Watermark, Ask, Mapping}
+use Rattle.delivery.specs.declared.Delivery.{Delivery}
+use Rattle.delivery.specs.declared.Delivery.TheVariants.{Event as Told, Watermark, Ask, Mapping}
 use Rattle.entity_state.specs.declared.record.Record.{Record}
 use Rattle.entity_state.specs.Record.{held_revision, wants}
 use Rattle.entity_state.specs.State.{state_after}

@@ -9,7 +9,7 @@ use Rattle.rdf_term.specs.Pattern.{agrees, rows}
 use Rattle.rdf_term.proofs.Texts.{triple_cmp-IsAntisymmetric}
 use Rattle.rising.specs.Rising.{Each, has, sorted}
 use Rattle.rising.proofs.Filtering.{sorted-filter}
-use Rattle.entity_model.specs.declared.delivery.Delivery.{Delivery}
+use Rattle.delivery.specs.declared.Delivery.{Delivery}
 use Rattle.entity_model.specs.declared.mapping.MappingVersion.{MappingVersion}
 use Rattle.replay_model.specs.Acceptance.{Arrival, arrivals, version_in_force}
 use Rattle.replay_model.specs.Play.{Replies, played}

@@ -4,8 +4,8 @@ use Rattle.std.proofs.lemmas.List.Sums.{fold_push}
 use Rattle.rdf_term.specs.declared.triple.Triple.{Triple}
 use Rattle.entity_model.specs.declared.event.Event.{Event}
 use Rattle.entity_model.specs.Event.{event_cmp_total, event_cmp_same}
-use Rattle.entity_model.specs.declared.delivery.Delivery.{Delivery}
-use Rattle.entity_model.specs.declared.delivery.Delivery.TheVariants.{Event as Told, Watermark, Ask, Mapping}
+use Rattle.delivery.specs.declared.Delivery.{Delivery}
+use Rattle.delivery.specs.declared.Delivery.TheVariants.{Event as Told, Watermark, Ask, Mapping}
 use Rattle.entity_model.specs.declared.mapping.MappingVersion.{MappingVersion}
 use Rattle.entity_state.specs.State.{state_after}
 use Rattle.rising.proofs.Bools.{clash}

@@ -21,7 +21,7 @@ use Rattle.replica.specs.declared.reader.Begun.{Begun}
 use Rattle.replica.specs.declared.record.PatchRecord.{PatchRecord}
 use Rattle.replica.specs.Head.{IsHead, head_line}
 use Rattle.replica.specs.Record.{IsSound, head_of, lines_with, record_lines, record_text}
-use Rattle.replica.specs.Reader.{Grows, IsPart, IsUnfinished, given, in_order, is_adding, is_next, is_whole, left, lines_of, opened, record_of, with_triple}
+use Rattle.replica.specs.Reader.{Grows, IsPart, IsUnfinished, given, may_come_next, is_adding, is_next, all_read, left, lines_read, opened, patch_read, with_triple}
 use Rattle.replica.specs.TripleLine.{HasReadableTerms, triple_line}
 use Rattle.replica.proofs.TripleLines.{line_text}
 
@@ -106,8 +106,8 @@ not_there true false h = refl
 not_there false y h = cc
 
 -- with a triple that may follow it is a part of a record
-pub grown : (before : Begun) (t : Triple) → IsUnfinished before → in_order before t ≡ true → HasReadableTerms t → IsPart (with_triple before t)
-unfolding in_order with_triple
+pub grown : (before : Begun) (t : Triple) → IsUnfinished before → may_come_next before t ≡ true → HasReadableTerms t → IsPart (with_triple before t)
+unfolding may_come_next with_triple
 grown before t unfinished follows readable = by (is_adding before) refl follows
   where
     part : IsPart before
@@ -162,31 +162,31 @@ opened_part line head is = record {
 -- ---- what is given, and what is left
 
 -- the lines of what is given or left are those that were read
-settled_lines : (begun : Begun) → MatchOption (given begun) (lines_of (left begun) ≡ lines_of (Some begun)) (λ item. record_lines item ≡ lines_of (Some begun))
+settled_lines : (begun : Begun) → MatchOption (given begun) (lines_read (left begun) ≡ lines_read (Some begun)) (λ item. record_lines item ≡ lines_read (Some begun))
 unfolding given left
-settled_lines begun = by (is_whole begun) refl
+settled_lines begun = by (all_read begun) refl
   where
-    counted : is_whole begun ≡ true → head_of (record_of begun) ≡ begun.head
+    counted : all_read begun ≡ true → head_of (patch_read begun) ≡ begun.head
     counted whole =
         let adds : length begun.adds ≡ begun.head.adds = grind (arith, nat_tests) in
         let removes : length begun.removes ≡ begun.head.removes = grind (arith, nat_tests) in
         λ i. record { number = begun.head.number; adds = adds i; removes = removes i }
 
-    by : (b : Bool) → is_whole begun ≡ b → MatchOption (cond b (Some (record_of begun)) None) (lines_of (cond b None (Some begun)) ≡ lines_of (Some begun)) (λ item. record_lines item ≡ lines_of (Some begun))
+    by : (b : Bool) → all_read begun ≡ b → MatchOption (cond b (Some (patch_read begun)) None) (lines_read (cond b None (Some begun)) ≡ lines_read (Some begun)) (λ item. record_lines item ≡ lines_read (Some begun))
     by true whole = ap (λ head. lines_with head (begun.adds ++ begun.removes)) (counted whole)
     by false lacks = refl
 
 -- the line stands behind those that were read
-grown_lines : (old : Option Begun) (line : List ℕ) (begun : Begun) → IfSome old IsUnfinished → Grows old line begun → lines_of (Some begun) ≡ lines_of old ++ line ∷ []
+grown_lines : (old : Option Begun) (line : List ℕ) (begun : Begun) → IfSome old IsUnfinished → Grows old line begun → lines_read (Some begun) ≡ lines_read old ++ line ∷ []
 unfolding with_triple
 grown_lines None line begun unfinished grows = rw grows.1 (ap (λ l. l ∷ []) (sym grows.0.text))
 grown_lines (Some before) line begun unfinished grows =
     let t = grows.0 in
-    ap (λ b. lines_with b.head (b.adds ++ b.removes)) grows.3 ∙ by (is_adding before) refl ∙ ap (λ l. lines_of (Some before) ++ l ∷ []) (sym grows.1.text)
+    ap (λ b. lines_with b.head (b.adds ++ b.removes)) grows.3 ∙ by (is_adding before) refl ∙ ap (λ l. lines_read (Some before) ++ l ∷ []) (sym grows.1.text)
   where
     by : (b : Bool) → is_adding before ≡ b →
-        lines_of (Some (cond b (record { head = before.head; adds = before.adds ++ grows.0 ∷ []; removes = before.removes }) (record { head = before.head; adds = before.adds; removes = before.removes ++ grows.0 ∷ [] })))
-        ≡ lines_of (Some before) ++ triple_line grows.0 ∷ []
+        lines_read (Some (cond b (record { head = before.head; adds = before.adds ++ grows.0 ∷ []; removes = before.removes }) (record { head = before.head; adds = before.adds; removes = before.removes ++ grows.0 ∷ [] })))
+        ≡ lines_read (Some before) ++ triple_line grows.0 ∷ []
     by true due =
         let none : before.removes ≡ [] = unfinished.part.in_turn due in
         ap (λ l. head_line before.head ∷ map triple_line l) (ap (λ rs. (before.adds ++ grows.0 ∷ []) ++ rs) none ∙ append-nil (before.adds ++ grows.0 ∷ []) ∙ ap (λ l. l ++ grows.0 ∷ []) (sym (ap (λ rs. before.adds ++ rs) none ∙ append-nil before.adds)))
@@ -197,28 +197,28 @@ grown_lines (Some before) line begun unfinished grows =
 
 -- a line that was taken stands behind those before it, in what is left or in the record that is given
 pub taken_lines : (old : Option Begun) (line : List ℕ) (begun : Begun) → IfSome old IsUnfinished → Grows old line begun →
-    MatchOption (given begun) (lines_of (left begun) ≡ lines_of old ++ line ∷ []) (λ item. record_lines item ≡ lines_of old ++ line ∷ [])
+    MatchOption (given begun) (lines_read (left begun) ≡ lines_read old ++ line ∷ []) (λ item. record_lines item ≡ lines_read old ++ line ∷ [])
 taken_lines old line begun unfinished grows = by (given begun) (settled_lines begun)
   where
-    by : (found : Option PatchRecord) → MatchOption found (lines_of (left begun) ≡ lines_of (Some begun)) (λ item. record_lines item ≡ lines_of (Some begun)) →
-        MatchOption found (lines_of (left begun) ≡ lines_of old ++ line ∷ []) (λ item. record_lines item ≡ lines_of old ++ line ∷ [])
+    by : (found : Option PatchRecord) → MatchOption found (lines_read (left begun) ≡ lines_read (Some begun)) (λ item. record_lines item ≡ lines_read (Some begun)) →
+        MatchOption found (lines_read (left begun) ≡ lines_read old ++ line ∷ []) (λ item. record_lines item ≡ lines_read old ++ line ∷ [])
     by None is = is ∙ grown_lines old line begun unfinished grows
     by (Some item) is = is ∙ grown_lines old line begun unfinished grows
 
 -- what is given is sound
 pub given_sound : (begun : Begun) → IsPart begun → IfSome (given begun) IsSound
 unfolding given
-given_sound begun part = by (is_whole begun)
+given_sound begun part = by (all_read begun)
   where
-    by : (b : Bool) → IfSome (cond b (Some (record_of begun)) None) IsSound
+    by : (b : Bool) → IfSome (cond b (Some (patch_read begun)) None) IsSound
     by true = record { numbered = part.head.numbered; adds = part.adds; removes = part.removes; readable = part.readable; apart = part.apart }
     by false = tt
 
 -- what is left lacks lines
 pub left_unfinished : (begun : Begun) → IsPart begun → IfSome (left begun) IsUnfinished
 unfolding left
-left_unfinished begun part = by (is_whole begun) refl
+left_unfinished begun part = by (all_read begun) refl
   where
-    by : (b : Bool) → is_whole begun ≡ b → IfSome (cond b None (Some begun)) IsUnfinished
+    by : (b : Bool) → all_read begun ≡ b → IfSome (cond b None (Some begun)) IsUnfinished
     by true whole = tt
     by false lacks = record { part = part; lacks = lacks }

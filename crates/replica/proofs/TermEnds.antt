@@ -10,18 +10,18 @@ use denote.Ref.{Bor}
 use Rattle.rising.specs.Rising.{Each}
 use Rattle.rdf_term.specs.declared.term.Term.{Term}
 use Rattle.rdf_term.specs.declared.term.Term.TheVariants.{Iri, Blank, Plain, Lang, Typed}
-use Rattle.rdf_term.specs.declared.tag.Place.{Place as TagPlace}
-use Rattle.rdf_term.specs.declared.tag.Place.TheVariants.{Start, First, Dash, Later}
+use Rattle.rdf_term.specs.declared.tag.TagState.{TagState}
+use Rattle.rdf_term.specs.declared.tag.TagState.TheVariants.{Start, First, Dash, Later}
 use Rattle.rdf_term.specs.Fit.{is_fit}
 use Rattle.rdf_term.specs.Grammar.{is_iri, is_iri_char, is_tag, is_word}
 use Rattle.rdf_term.specs.Reader.{with_front}
-use Rattle.rdf_term.specs.TagReader.{is_rest_of_tag, place_after as tag_place_after}
+use Rattle.rdf_term.specs.TagReader.{is_rest_of_tag, tag_state_after}
 use Rattle.rdf_term.specs.Text.{escaped, in_brackets, quoted, term_text}
 use Rattle.rdf_term.proofs.Escapes.{kind}
 use Rattle.rdf_term.proofs.Tags.{is_tag_read}
-use Rattle.replica.specs.declared.term_end.Place.{Place}
-use Rattle.replica.specs.declared.term_end.Place.TheVariants.{Outside, Quoted, Escaped}
-use Rattle.replica.specs.TermEnd.{next_place, place_after, split_on, split_term}
+use Rattle.replica.specs.declared.term_end.TermState.{TermState}
+use Rattle.replica.specs.declared.term_end.TermState.TheVariants.{Outside, Quoted, Escaped}
+use Rattle.replica.specs.TermEnd.{next_state, term_state_after, split_on, split_term}
 
 -- ---- more bytes in front
 
@@ -50,12 +50,12 @@ pub record IsInner (b : ℕ) : Type 0 where
   pub no_space : (b == 32) ≡ false
   pub no_quote : (b == 34) ≡ false
 
-inner_next : (b : ℕ) → IsInner b → next_place Outside b ≡ Some Outside
-unfolding next_place place_after
+inner_next : (b : ℕ) → IsInner b → next_state Outside b ≡ Some Outside
+unfolding next_state term_state_after
 inner_next b h = rw (h.no_space, h.no_quote) refl
 
 pub split_inner : (xs rest : List ℕ) → Each IsInner xs → split_term Outside (xs ++ 32 ∷ rest) ≡ Some (xs, rest)
-unfolding split_term next_place
+unfolding split_term next_state
 split_inner [] rest h = refl
 split_inner (x ∷ xs) rest h =
     ap (split_on (λ next. split_term next (xs ++ 32 ∷ rest)) x (xs ++ 32 ∷ rest)) (inner_next x h.0)
@@ -64,20 +64,20 @@ split_inner (x ∷ xs) rest h =
 
 -- ---- between quotes
 
-stands_next : (b : ℕ) → (b == 34) ≡ false → (b == 92) ≡ false → next_place Quoted b ≡ Some Quoted
-unfolding next_place place_after
+stands_next : (b : ℕ) → (b == 34) ≡ false → (b == 92) ≡ false → next_state Quoted b ≡ Some Quoted
+unfolding next_state term_state_after
 stands_next b quote backslash = rw (quote, backslash) refl
 
-quoted_byte : (b : ℕ) (rest : List ℕ) → next_place Quoted b ≡ Some Quoted → split_term Quoted (b ∷ rest) ≡ with_front (b ∷ []) (split_term Quoted rest)
+quoted_byte : (b : ℕ) (rest : List ℕ) → next_state Quoted b ≡ Some Quoted → split_term Quoted (b ∷ rest) ≡ with_front (b ∷ []) (split_term Quoted rest)
 unfolding split_term
 quoted_byte b rest is = ap (split_on (λ next. split_term next rest) b rest) is
 
 escaped_pair : (letter : ℕ) (rest : List ℕ) → split_term Quoted (92 ∷ letter ∷ rest) ≡ with_front (92 ∷ []) (with_front (letter ∷ []) (split_term Quoted rest))
-unfolding split_term next_place place_after
+unfolding split_term next_state term_state_after
 escaped_pair letter rest = refl
 
 closed : (rest : List ℕ) → split_term Quoted (34 ∷ rest) ≡ with_front (34 ∷ []) (split_term Outside rest)
-unfolding split_term next_place place_after
+unfolding split_term next_state term_state_after
 closed rest = refl
 
 split_escaped : (text rest : List ℕ) → split_term Quoted (escaped text ++ 34 ∷ rest) ≡ with_front (escaped text ++ 34 ∷ []) (split_term Outside rest)
@@ -97,7 +97,7 @@ split_escaped (x ∷ xs) rest =
     (kind x)
 
 opens : (rest : List ℕ) → split_term Outside (34 ∷ rest) ≡ with_front (34 ∷ []) (split_term Quoted rest)
-unfolding split_term next_place place_after
+unfolding split_term next_state term_state_after
 opens rest = refl
 
 split_literal : (text suffix rest : List ℕ) → Each IsInner suffix → split_term Outside (quoted text suffix ++ 32 ∷ rest) ≡ Some (quoted text suffix, rest)
@@ -134,31 +134,31 @@ word_inner : (xs : List ℕ) → is_word is_ascii_alphanumeric xs ≡ true → E
 word_inner [] h = tt
 word_inner (x ∷ xs) h = passing_inner is_ascii_alphanumeric refl refl (x ∷ xs) h
 
-no_space_in_tag : (place : TagPlace) → tag_place_after place 32 ≡ None
+no_space_in_tag : (state : TagState) → tag_state_after state 32 ≡ None
 no_space_in_tag Start = refl
 no_space_in_tag First = refl
 no_space_in_tag Dash = refl
 no_space_in_tag Later = refl
 
-no_quote_in_tag : (place : TagPlace) → tag_place_after place 34 ≡ None
+no_quote_in_tag : (state : TagState) → tag_state_after state 34 ≡ None
 no_quote_in_tag Start = refl
 no_quote_in_tag First = refl
 no_quote_in_tag Dash = refl
 no_quote_in_tag Later = refl
 
 -- a byte that may stand nowhere in a tag doesn't stand in it
-not_in_tag : (k b : ℕ) (bs : List ℕ) (place : TagPlace) → ((q : TagPlace) → tag_place_after q k ≡ None) → is_rest_of_tag place (b ∷ bs) ≡ true → (b == k) ≡ false
-not_in_tag k b bs place nowhere h =
-    ne_eqb b k (λ same. true≢false (sym h ∙ ap (λ c. is_rest_of_tag place (c ∷ bs)) same ∙ ap (λ o. option_map_or (λ next. is_rest_of_tag next bs) o false) (nowhere place)))
+not_in_tag : (k b : ℕ) (bs : List ℕ) (state : TagState) → ((q : TagState) → tag_state_after q k ≡ None) → is_rest_of_tag state (b ∷ bs) ≡ true → (b == k) ≡ false
+not_in_tag k b bs state nowhere h =
+    ne_eqb b k (λ same. true≢false (sym h ∙ ap (λ c. is_rest_of_tag state (c ∷ bs)) same ∙ ap (λ o. option_map_or (λ next. is_rest_of_tag next bs) o false) (nowhere state)))
 
-rest_inner : (place : TagPlace) (bs : List ℕ) → is_rest_of_tag place bs ≡ true → Each IsInner bs
-rest_inner place [] h = tt
-rest_inner place (b ∷ bs) h = (
-  one b (not_in_tag 32 b bs place no_space_in_tag h) (not_in_tag 34 b bs place no_quote_in_tag h),
-  by (λ next. rest_inner next bs) (tag_place_after place b) h,
+rest_inner : (state : TagState) (bs : List ℕ) → is_rest_of_tag state bs ≡ true → Each IsInner bs
+rest_inner state [] h = tt
+rest_inner state (b ∷ bs) h = (
+  one b (not_in_tag 32 b bs state no_space_in_tag h) (not_in_tag 34 b bs state no_quote_in_tag h),
+  by (λ next. rest_inner next bs) (tag_state_after state b) h,
 )
   where
-    by : ((next : TagPlace) → is_rest_of_tag next bs ≡ true → Each IsInner bs) → (o : Option TagPlace) → option_map_or (λ next. is_rest_of_tag next bs) o false ≡ true → Each IsInner bs
+    by : ((next : TagState) → is_rest_of_tag next bs ≡ true → Each IsInner bs) → (o : Option TagState) → option_map_or (λ next. is_rest_of_tag next bs) o false ≡ true → Each IsInner bs
     by others None never = absurd (true≢false (sym never))
     by others (Some next) goes = others next goes
 
@@ -178,9 +178,9 @@ term_ends (Typed text datatype) rest fit =
 
 -- ---- what a split gives
 
-space_ends : (place : Place) (b : ℕ) → next_place place b ≡ None → b ≡ 32
-unfolding next_place
-space_ends Outside b none = ⊎_elim (λ same. same) (λ other. let more : Some (place_after Outside b) ≡ None = rw (ne_eqb b 32 other) at none in cc) (cases_eq b 32)
+space_ends : (state : TermState) (b : ℕ) → next_state state b ≡ None → b ≡ 32
+unfolding next_state
+space_ends Outside b none = ⊎_elim (λ same. same) (λ other. let more : Some (term_state_after Outside b) ≡ None = rw (ne_eqb b 32 other) at none in cc) (cases_eq b 32)
 space_ends Quoted b none = cc
 space_ends Escaped b none = cc
 
@@ -191,13 +191,13 @@ put_before b bs None h = tt
 put_before b bs (Some parts) h = ap (λ l. b ∷ l) h
 
 -- what was split is put together again
-pub split_joins : (place : Place) (bytes : List ℕ) → IfSome (split_term place bytes) (λ parts. bytes ≡ parts.0 ++ 32 ∷ parts.1)
+pub split_joins : (state : TermState) (bytes : List ℕ) → IfSome (split_term state bytes) (λ parts. bytes ≡ parts.0 ++ 32 ∷ parts.1)
 unfolding split_term
-split_joins place [] = tt
-split_joins place (b ∷ bs) = by (λ q. split_joins q bs) (next_place place b) refl
+split_joins state [] = tt
+split_joins state (b ∷ bs) = by (λ q. split_joins q bs) (next_state state b) refl
   where
-    by : ((q : Place) → IfSome (split_term q bs) (λ parts. bs ≡ parts.0 ++ 32 ∷ parts.1)) → (next : Option Place) → next_place place b ≡ next → IfSome (split_on (λ q. split_term q bs) b bs next) (λ parts. b ∷ bs ≡ parts.0 ++ 32 ∷ parts.1)
-    by others None none = ap (λ c. c ∷ bs) (space_ends place b none)
+    by : ((q : TermState) → IfSome (split_term q bs) (λ parts. bs ≡ parts.0 ++ 32 ∷ parts.1)) → (next : Option TermState) → next_state state b ≡ next → IfSome (split_on (λ q. split_term q bs) b bs next) (λ parts. b ∷ bs ≡ parts.0 ++ 32 ∷ parts.1)
+    by others None none = ap (λ c. c ∷ bs) (space_ends state b none)
     by others (Some q) is = put_before b bs (split_term q bs) (others q)
 
 -- the bytes of two slices
@@ -224,35 +224,35 @@ drop_here bytes i b within is =
     drop-cons bytes i 0 within ∙ ap (λ k. get_or bytes i 0 ∷ drop k bytes) next ∙ ap (λ c. c ∷ drop (i + 1) bytes) (sym is)
 
 -- where a byte ends the term, what is split are the bytes before it and those behind it
-pub stops_here : (bytes : List ℕ) (place : Place) (i b : ℕ) → i < length bytes → b ≡ get_or bytes i 0 → next_place place b ≡ None →
-    split_term Outside bytes ≡ with_front (take i bytes) (split_term place (drop i bytes)) →
+pub stops_here : (bytes : List ℕ) (state : TermState) (i b : ℕ) → i < length bytes → b ≡ get_or bytes i 0 → next_state state b ≡ None →
+    split_term Outside bytes ≡ with_front (take i bytes) (split_term state (drop i bytes)) →
     Some (take i bytes, take (length bytes - (i + 1)) (drop (i + 1) bytes)) ≡ split_term Outside bytes
 unfolding split_term
-stops_here bytes place i b within is none so_far =
+stops_here bytes state i b within is none so_far =
     let rest : drop i bytes ≡ b ∷ drop (i + 1) bytes = drop_here bytes i b within is in
     let long : length (drop (i + 1) bytes) ≤ length bytes - (i + 1) = omega (arith, length-drop (i + 1) bytes) in
     ap (λ xs. Some (take i bytes, xs)) (take_all (length bytes - (i + 1)) (drop (i + 1) bytes) long)
     ∙ sym (so_far
-    ∙ ap (λ xs. with_front (take i bytes) (split_term place xs)) rest
+    ∙ ap (λ xs. with_front (take i bytes) (split_term state xs)) rest
     ∙ ap (λ o. with_front (take i bytes) (split_on (λ next. split_term next (drop (i + 1) bytes)) b (drop (i + 1) bytes) o)) none
     ∙ with_front-Some (take i bytes) [] (drop (i + 1) bytes)
     ∙ ap (λ xs. Some (xs, drop (i + 1) bytes)) (append-nil (take i bytes)))
 
 -- and else the split goes on behind it
-pub goes_on : (bytes : List ℕ) (place next : Place) (i b : ℕ) → i < length bytes → b ≡ get_or bytes i 0 → next_place place b ≡ Some next →
-    split_term Outside bytes ≡ with_front (take i bytes) (split_term place (drop i bytes)) →
+pub goes_on : (bytes : List ℕ) (state next : TermState) (i b : ℕ) → i < length bytes → b ≡ get_or bytes i 0 → next_state state b ≡ Some next →
+    split_term Outside bytes ≡ with_front (take i bytes) (split_term state (drop i bytes)) →
     split_term Outside bytes ≡ with_front (take (i + 1) bytes) (split_term next (drop (i + 1) bytes))
 unfolding split_term
-goes_on bytes place next i b within is more so_far =
+goes_on bytes state next i b within is more so_far =
     let rest : drop i bytes ≡ b ∷ drop (i + 1) bytes = drop_here bytes i b within is in
     so_far
-    ∙ ap (λ xs. with_front (take i bytes) (split_term place xs)) rest
+    ∙ ap (λ xs. with_front (take i bytes) (split_term state xs)) rest
     ∙ ap (λ o. with_front (take i bytes) (split_on (λ q. split_term q (drop (i + 1) bytes)) b (drop (i + 1) bytes) o)) more
     ∙ with_front-twice (take i bytes) (b ∷ []) (split_term next (drop (i + 1) bytes))
     ∙ ap (λ xs. with_front xs (split_term next (drop (i + 1) bytes))) (ap (λ c. take i bytes ++ c ∷ []) is ∙ sym (take_more bytes i 0 within))
 
 -- at the end none was found
-pub not_ended : (bytes : List ℕ) (place : Place) (i : ℕ) → length bytes ≤ i → split_term Outside bytes ≡ with_front (take i bytes) (split_term place (drop i bytes)) → None ≡ split_term Outside bytes
+pub not_ended : (bytes : List ℕ) (state : TermState) (i : ℕ) → length bytes ≤ i → split_term Outside bytes ≡ with_front (take i bytes) (split_term state (drop i bytes)) → None ≡ split_term Outside bytes
 unfolding split_term
-not_ended bytes place i past so_far =
-    sym (so_far ∙ ap (λ xs. with_front (take i bytes) (split_term place xs)) (drop_all i bytes past) ∙ with_front-None (take i bytes))
+not_ended bytes state i past so_far =
+    sym (so_far ∙ ap (λ xs. with_front (take i bytes) (split_term state xs)) (drop_all i bytes past) ∙ with_front-None (take i bytes))

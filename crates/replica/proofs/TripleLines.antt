@@ -2,7 +2,7 @@
 use Rattle.std.proofs.Common.{◌≡◌, ◌↔◌, ℕ, List, [], ◌∷◌, ◌++◌, Option, Some, sym, ◌∙◌, ap, append_assoc}
 use Rattle.rdf_term.specs.declared.triple.Triple.{Triple}
 use Rattle.rdf_term.specs.Text.{spaced, term_text, triple_text}
-use Rattle.replica.specs.TripleLine.{HasTexts, IsTripleLine, triple_line}
+use Rattle.replica.specs.TripleLine.{AreTermTexts, IsTripleLine, triple_line}
 
 -- three texts with the spaces and the full stop of a line
 abbrev pub joined : List ℕ → List ℕ → List ℕ → List ℕ
@@ -31,7 +31,7 @@ line_text triple =
 -- the texts of a line are those of its triple
 pub texts_or_line : (line subject predicate object : List ℕ) → line ≡ joined subject predicate object →
     ((triple : Triple) → IsTripleLine line triple → (subject ≡ term_text triple.subject) × (predicate ≡ term_text triple.predicate) × (object ≡ term_text triple.object)) →
-    (found : Option Triple) → ((triple : Triple) → (found ≡ Some triple) ↔ HasTexts subject predicate object triple) →
+    (found : Option Triple) → ((triple : Triple) → (found ≡ Some triple) ↔ AreTermTexts subject predicate object triple) →
     (triple : Triple) → (found ≡ Some triple) ↔ IsTripleLine line triple
 texts_or_line line subject predicate object parts whole found read triple = (
   (λ is. let has = (read triple).0 is in record {

@@ -6,7 +6,7 @@ use Rattle.rdf_term.specs.declared.triple.Triple.{Triple}
 use Rattle.rdf_term.specs.Order.{triple_cmp}
 use Rattle.replica.specs.declared.reader.Begun.{Begun}
 use Rattle.replica.specs.declared.record.PatchRecord.{PatchRecord}
-use Rattle.replica.specs.Reader.{Takes, lines_of}
+use Rattle.replica.specs.Reader.{TakesLine, lines_read}
 use Rattle.replica.specs.Record.{IsSound, record_lines}
 use Rattle.replica.specs.Replica.{Follows, ReplicaState, numbered}
 
@@ -34,17 +34,17 @@ FollowsItsProducer = (producer : ℕ → List Triple) (items : List PatchRecord)
 -- the lines are taken one after the other, and these records are given
 pub data IsReadAs : Option Begun → List (List ℕ) → List PatchRecord → Option Begun → Type 0 where
   nothing : (begun : Option Begun) → IsReadAs begun [] [] begun
-  within : (old new end : Option Begun) (line : List ℕ) (lines : List (List ℕ)) (items : List PatchRecord) → Takes old line new None → IsReadAs new lines items end
+  within : (old new end : Option Begun) (line : List ℕ) (lines : List (List ℕ)) (items : List PatchRecord) → TakesLine old line new None → IsReadAs new lines items end
       → IsReadAs old (line ∷ lines) items end
-  last : (old new end : Option Begun) (line : List ℕ) (lines : List (List ℕ)) (item : PatchRecord) (items : List PatchRecord) → Takes old line new (Some item) → IsReadAs new lines items end
+  last : (old new end : Option Begun) (line : List ℕ) (lines : List (List ℕ)) (item : PatchRecord) (items : List PatchRecord) → TakesLine old line new (Some item) → IsReadAs new lines items end
       → IsReadAs old (line ∷ lines) (item ∷ items) end
 
 -- lines that are taken are those of the records that are given, one after the other, and of one that lacks lines
 abbrev pub ReadsTheirLines : Type 0
-ReadsTheirLines = (lines : List (List ℕ)) (items : List PatchRecord) (end : Option Begun) → IsReadAs None lines items end → lines ≡ flat_map record_lines items ++ lines_of end
+ReadsTheirLines = (lines : List (List ℕ)) (items : List PatchRecord) (end : Option Begun) → IsReadAs None lines items end → lines ≡ flat_map record_lines items ++ lines_read end
 
 -- a record that a reader can give: it is sound, and its numbers have 64 bits
-pub record IsCounted (item : PatchRecord) : Type 0 where
+pub record HasShortNumbers (item : PatchRecord) : Type 0 where
   pub sound : IsSound item
   pub number : item.number < 2 ^ 64
   pub adds : length item.adds < 2 ^ 64
@@ -52,4 +52,4 @@ pub record IsCounted (item : PatchRecord) : Type 0 where
 
 -- the lines of records, one after the other, are taken, and these records are given
 abbrev pub ReadsRecords : Type 0
-ReadsRecords = (items : List PatchRecord) → AllByRecursion IsCounted items → IsReadAs None (flat_map record_lines items) items None
+ReadsRecords = (items : List PatchRecord) → AllByRecursion HasShortNumbers items → IsReadAs None (flat_map record_lines items) items None

@@ -15,9 +15,9 @@ use Rattle.replica.specs.Record.{lines_with}
 use Rattle.replica.specs.TripleLine.{HasReadableTerms, IsTripleLine}
 
 -- the lines that were read of a record
-abbrev pub lines_of : Option Begun → List (List ℕ)
-lines_of None = []
-lines_of (Some begun) = lines_with begun.head (begun.adds ++ begun.removes)
+abbrev pub lines_read : Option Begun → List (List ℕ)
+lines_read None = []
+lines_read (Some begun) = lines_with begun.head (begun.adds ++ begun.removes)
 
 -- the triple is greater than the last one of the list
 abbrev pub is_next : List Triple → Triple → Bool
@@ -30,8 +30,8 @@ abbrev pub is_adding : Begun → Bool
 is_adding begun = nat_lt (length begun.adds) begun.head.adds
 
 -- whether the triple may follow: it is greater than the one before it in its part, and isn't in both parts
-unfoldable pub in_order : Begun → Triple → Bool
-in_order begun triple = if is_adding begun then is_next begun.adds triple else (is_next begun.removes triple && not (has triple_cmp triple begun.adds))
+unfoldable pub may_come_next : Begun → Triple → Bool
+may_come_next begun triple = if is_adding begun then is_next begun.adds triple else (is_next begun.removes triple && not (has triple_cmp triple begun.adds))
 
 -- a record whose head was read
 abbrev pub opened : Head → Begun
@@ -44,27 +44,27 @@ with_triple begun triple =
     else record { head = begun.head; adds = begun.adds; removes = begun.removes ++ triple ∷ [] }
 
 -- whether all triples that the head counts were read
-abbrev pub is_whole : Begun → Bool
-is_whole begun = (length begun.adds == begun.head.adds) && (length begun.removes == begun.head.removes)
+abbrev pub all_read : Begun → Bool
+all_read begun = (length begun.adds == begun.head.adds) && (length begun.removes == begun.head.removes)
 
 -- the record of what was read
-abbrev pub record_of : Begun → PatchRecord
-record_of begun = record { number = begun.head.number; adds = begun.adds; removes = begun.removes }
+abbrev pub patch_read : Begun → PatchRecord
+patch_read begun = record { number = begun.head.number; adds = begun.adds; removes = begun.removes }
 
 -- what is given behind a line, and what is left to be read on
 unfoldable pub given : Begun → Option PatchRecord
-given begun = if is_whole begun then Some (record_of begun) else None
+given begun = if all_read begun then Some (patch_read begun) else None
 
 unfoldable pub left : Begun → Option Begun
-left begun = if is_whole begun then None else Some begun
+left begun = if all_read begun then None else Some begun
 
 -- with the line, this was read of a record: the line is its head, or that of its next triple
 abbrev pub Grows : Option Begun → List ℕ → Begun → Type 0
 Grows None line begun = IsHead line begun.head × (begun ≡ opened begun.head)
-Grows (Some before) line begun = (triple : Triple) × IsTripleLine line triple × (in_order before triple ≡ true) × (begun ≡ with_triple before triple)
+Grows (Some before) line begun = (triple : Triple) × IsTripleLine line triple × (may_come_next before triple ≡ true) × (begun ≡ with_triple before triple)
 
 -- the reader takes the line: it gives the record at its last line
-pub record Takes (old : Option Begun) (line : List ℕ) (new : Option Begun) (found : Option PatchRecord) : Type 0 where
+pub record TakesLine (old : Option Begun) (line : List ℕ) (new : Option Begun) (found : Option PatchRecord) : Type 0 where
   pub begun : Begun
   pub grows : Grows old line begun
   pub found_is : found ≡ given begun
@@ -85,11 +85,11 @@ pub record IsPart (begun : Begun) : Type 0 where
 -- a record that lacks lines
 pub record IsUnfinished (begun : Begun) : Type 0 where
   pub part : IsPart begun
-  pub lacks : is_whole begun ≡ false
+  pub lacks : all_read begun ≡ false
 
 -- why a line is refused: a head is due, and it is none; a triple is due, and it is none's; or this triple may not follow
 abbrev pub HasCause : PatchFault → Option Begun → List ℕ → Type 0
 HasCause NoHead begun line = (begun ≡ None) × ((head : Head) → IsHead line head → ⊥)
 HasCause NoTriple begun line = (begun ≢ None) × ((triple : Triple) → IsTripleLine line triple → ⊥)
-HasCause OutOfOrder begun line = MatchOption begun ⊥ (λ before. (triple : Triple) × IsTripleLine line triple × (in_order before triple ≡ false))
+HasCause OutOfOrder begun line = MatchOption begun ⊥ (λ before. (triple : Triple) × IsTripleLine line triple × (may_come_next before triple ≡ false))
 HasCause OutOfMemory begun line = ⊤

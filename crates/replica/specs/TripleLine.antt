@@ -32,7 +32,7 @@ pub record IsTripleLine (line : List ℕ) (triple : Triple) : Type 0 where
   pub readable : HasReadableTerms triple
 
 -- these are the canonical texts of the triple's terms
-pub record HasTexts (subject predicate object : List ℕ) (triple : Triple) : Type 0 where
+pub record AreTermTexts (subject predicate object : List ℕ) (triple : Triple) : Type 0 where
   pub subject_is : IsTermText subject triple.subject
   pub predicate_is : IsTermText predicate triple.predicate
   pub object_is : IsTermText object triple.object

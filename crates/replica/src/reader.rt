@@ -5,7 +5,7 @@ ghost use Rattle.rising.specs.Rising.{IsRising, has};
 ghost use Rattle.rdf_term.specs.declared.triple.Triple.{Triple as TheTriple};
 ghost use Rattle.rdf_term.specs.Order.{triple_cmp};
 ghost use Rattle.replica.specs.declared.reader.PatchFault.TheVariants.{Order as OutOfOrder, OutOfMemory as Refused};
-ghost use Rattle.replica.specs.Reader.{Grows, HasCause, IsPart, IsUnfinished, Takes, given, in_order, is_adding, is_next, is_whole, left, lines_of, opened, record_of, with_triple};
+ghost use Rattle.replica.specs.Reader.{Grows, HasCause, IsPart, IsUnfinished, TakesLine, given, may_come_next, is_adding, is_next, all_read, left, lines_read, opened, patch_read, with_triple};
 ghost use Rattle.replica.specs.Record.{IsSound, record_lines};
 ghost use Rattle.replica.specs.TripleLine.{HasReadableTerms};
 
@@ -83,9 +83,9 @@ impl PatchReader {
     /// # Errors
     /// See `PatchFault`.
     pub fn line(&mut self, line: &[u8]) -> Result<Option<PatchRecord>, PatchFault>
-        ensures takes { IfOk result (λ found. Takes self.old line.now self.new found) }
+        ensures takes { IfOk result (λ found. TakesLine self.old line.now self.new found) }
         ensures lines { IfOk result (λ found. MatchOption found
-            (lines_of self.new ≡ lines_of self.old ++ line.now ∷ []) (λ item. record_lines item ≡ lines_of self.old ++ line.now ∷ [])) }
+            (lines_read self.new ≡ lines_read self.old ++ line.now ∷ []) (λ item. record_lines item ≡ lines_read self.old ++ line.now ∷ [])) }
         ensures sound { IfOk result (λ found. IfSome found IsSound) }
         ensures cause { IfErr result (λ fault. HasCause fault self.old line.now) }
         ensures refused { IsErr result → self.new ≡ None }
@@ -106,7 +106,7 @@ impl PatchReader {
         ensures sound { IfSome result IsSound }
         ensures unfinished { IfSome self.new IsUnfinished }
     {
-        if begun.is_whole() {
+        if begun.all_read() {
             self.begun = None;
             Some(begun.into_record())
         } else {
@@ -117,7 +117,7 @@ impl PatchReader {
 
     /// Whether a record has begun and lacks lines.
     pub fn inside(&self) -> bool
-        ensures answer { IsTrue result ↔ (lines_of self.now ≡ [] → ⊥) }
+        ensures answer { IsTrue result ↔ (lines_read self.now ≡ [] → ⊥) }
         ensures unfinished { IfSome self.now IsUnfinished }
     {
         self.begun.is_some()
@@ -174,17 +174,17 @@ impl Begun {
     }
 
     // Whether all triples that the head counts were read.
-    fn is_whole(&self) -> bool
-        ensures { result ≡ is_whole self.now }
+    fn all_read(&self) -> bool
+        ensures { result ≡ all_read self.now }
     {
         self.adds.len() as u64 == self.head.adds && self.removes.len() as u64 == self.head.removes
     }
 
     // Whether the triple may follow.
-    #[tactic(auto, unfolding(crate::specs::Reader::in_order))]
-    fn in_order(&self, triple: &Triple) -> bool
+    #[tactic(auto, unfolding(crate::specs::Reader::may_come_next))]
+    fn may_come_next(&self, triple: &Triple) -> bool
         requires { IsRising triple_cmp self.now.adds }
-        ensures { result ≡ in_order self.now triple.now }
+        ensures { result ≡ may_come_next self.now triple.now }
     {
         if self.is_adding() {
             is_next(self.adds.as_slice(), triple)
@@ -197,10 +197,10 @@ impl Begun {
     fn follow(self, triple: Triple) -> Result<Begun, PatchFault>
         requires unfinished { IsUnfinished self }
         requires readable { HasReadableTerms triple }
-        ensures ok { IfOk result (λ next. (in_order self triple ≡ true) × (next ≡ with_triple self triple) × IsPart next) }
-        ensures err { IfErr result (λ fault. (fault ≡ Refused) ⊎ ((fault ≡ OutOfOrder) × (in_order self triple ≡ false))) }
+        ensures ok { IfOk result (λ next. (may_come_next self triple ≡ true) × (next ≡ with_triple self triple) × IsPart next) }
+        ensures err { IfErr result (λ fault. (fault ≡ Refused) ⊎ ((fault ≡ OutOfOrder) × (may_come_next self triple ≡ false))) }
     {
-        if self.in_order(&triple) {
+        if self.may_come_next(&triple) {
             self.with_triple(triple)
         } else {
             Err(PatchFault::Order)
@@ -237,7 +237,7 @@ impl Begun {
     fn into_record(self) -> PatchRecord
         requires adds { IsRising triple_cmp self.adds }
         requires removes { IsRising triple_cmp self.removes }
-        ensures { result ≡ record_of self }
+        ensures { result ≡ patch_read self }
     {
         let Begun {
             head,

@@ -5,12 +5,12 @@ ghost use Rattle.std.specs.Option.{option_map};
 ghost use Rattle.rdf_term.specs.declared.term.Term.{Term};
 ghost use Rattle.rdf_term.specs.Fit.{is_fit};
 ghost use Rattle.rdf_term.specs.Text.{term_text};
-ghost use Rattle.replica.specs.declared.term_end.Place.TheVariants.{Outside};
-ghost use Rattle.replica.specs.TermEnd.{next_place, place_after, split_term};
+ghost use Rattle.replica.specs.declared.term_end.TermState.TheVariants.{Outside};
+ghost use Rattle.replica.specs.TermEnd.{next_state, term_state_after, split_term};
 
 // Where a byte of a line stands.
 #[derive(Clone, Copy, Debug, Drop)]
-enum Place {
+enum TermState {
     // Not between quotes.
     Outside,
     // Between quotes.
@@ -19,27 +19,27 @@ enum Place {
     Escaped,
 }
 
-impl Place {
-    // The place behind a byte.
-    #[tactic(auto, unfolding(crate::specs::TermEnd::place_after))]
-    fn after(self, byte: u8) -> Place
-        ensures { result ≡ place_after self byte }
+impl TermState {
+    // The state behind a byte.
+    #[tactic(auto, unfolding(crate::specs::TermEnd::term_state_after))]
+    fn after(self, byte: u8) -> TermState
+        ensures { result ≡ term_state_after self byte }
     {
         match (self, byte) {
-            (Place::Outside, b'"') | (Place::Escaped, _) => Place::Quoted,
-            (Place::Outside, _) | (Place::Quoted, b'"') => Place::Outside,
-            (Place::Quoted, b'\\') => Place::Escaped,
-            (Place::Quoted, _) => Place::Quoted,
+            (TermState::Outside, b'"') | (TermState::Escaped, _) => TermState::Quoted,
+            (TermState::Outside, _) | (TermState::Quoted, b'"') => TermState::Outside,
+            (TermState::Quoted, b'\\') => TermState::Escaped,
+            (TermState::Quoted, _) => TermState::Quoted,
         }
     }
 
     // The same, and none behind a space that ends a term.
-    #[tactic(auto, unfolding(crate::specs::TermEnd::next_place))]
-    fn next(self, byte: u8) -> Option<Place>
-        ensures { result ≡ next_place self byte }
+    #[tactic(auto, unfolding(crate::specs::TermEnd::next_state))]
+    fn next(self, byte: u8) -> Option<TermState>
+        ensures { result ≡ next_state self byte }
     {
         match self {
-            Place::Outside if byte == b' ' => None,
+            TermState::Outside if byte == b' ' => None,
             _ => Some(self.after(byte)),
         }
     }
@@ -58,10 +58,10 @@ pub fn split_term(bytes: &[u8]) -> Option<(&[u8], &[u8])>
 fn split_at_space(bytes: &[u8]) -> Option<(&[u8], &[u8])>
     ensures { option_map (λ parts. (parts.0.now, parts.1.now)) result ≡ split_term Outside bytes.now }
 {
-    let mut place = Place::Outside;
+    let mut state = TermState::Outside;
     for index in 0..bytes.len() {
-        match place.next(bytes[index]) {
-            Some(next) => place = next,
+        match state.next(bytes[index]) {
+            Some(next) => state = next,
             None => return Some((&bytes[..index], &bytes[index + 1..])),
         }
     }

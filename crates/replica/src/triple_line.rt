@@ -4,7 +4,7 @@ ghost use Rattle.std.specs.Prelude.{◌≡◌, ◌↔◌, ◌≤◌, ◌++◌, �
 ghost use Rattle.rdf_term.specs.declared.term.Term.{Term as TheTerm};
 ghost use Rattle.rdf_term.specs.declared.triple.Triple.{Triple as TheTriple};
 ghost use Rattle.rdf_term.specs.Text.{term_text};
-ghost use Rattle.replica.specs.TripleLine.{HasTexts, IsTermText, IsTripleLine};
+ghost use Rattle.replica.specs.TripleLine.{AreTermTexts, IsTermText, IsTripleLine};
 
 use crate::term_end::split_term;
 use rdf_term::{OutOfMemory, Term, Triple, read_term, write_term};
@@ -34,7 +34,7 @@ pub fn read_triple(alloc: Global, line: &[u8]) -> Result<Option<Triple>, OutOfMe
 
 // The triple of the three texts.
 fn read_texts(alloc: Global, texts: TermTexts<'_>) -> Result<Option<Triple>, OutOfMemory>
-    ensures { IfOk result (λ found. (triple : TheTriple) → (found ≡ Some triple) ↔ HasTexts texts.entry.subject.now texts.entry.predicate.now texts.entry.object.now triple) }
+    ensures { IfOk result (λ found. (triple : TheTriple) → (found ≡ Some triple) ↔ AreTermTexts texts.entry.subject.now texts.entry.predicate.now texts.entry.object.now triple) }
 {
     let subject = canonical_term(alloc, texts.subject)?;
     let predicate = canonical_term(alloc, texts.predicate)?;

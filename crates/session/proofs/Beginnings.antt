@@ -5,10 +5,10 @@ use Rattle.std.specs.Option.{option_map}
 use Rattle.std.proofs.lemmas.List.Elements.{filter_map-append}
 use Rattle.rising.specs.Rising.{In, has}
 use Rattle.rising.proofs.Rising.{has-append}
-use Rattle.wq_io.specs.Lines.{lines, lines_of}
+use Rattle.wq_io.specs.Lines.{lines, input_lines}
 use Rattle.wq_io.specs.Streams.{before_known}
-use Rattle.entity_model.specs.declared.delivery.Delivery.{Delivery}
-use Rattle.entity_model.specs.declared.delivery.Delivery.TheVariants.{Mapping}
+use Rattle.delivery.specs.declared.Delivery.{Delivery}
+use Rattle.delivery.specs.declared.Delivery.TheVariants.{Mapping}
 use Rattle.entity_model.specs.declared.mapping.MappingVersion.{MappingVersion}
 use Rattle.entity_model.specs.declared.mapping.MappingVersion.TheVariants.{One}
 use Rattle.entity_model.specs.Event.{event_cmp}
@@ -59,12 +59,12 @@ first_deliveries (line ∷ before) others first ds is all =
     record { rest = later.rest; is = b.is ∙ (λ i. head i ∷ later.is i) ∙ ap (λ l. l ++ later.rest) (sym a.is) }
 
 pub first_begins : (limit : ℕ) (left left_now : Option (List ℕ)) (bytes : List ℕ) (first ds : List Delivery) → left ≡ Some bytes → AreDeliveries limit bytes ds → AreFirst limit left left_now first → Begins ds first
-first_begins limit left left_now bytes first ds known are taken = by (lines_of (before_known (taken.part ++ taken.last) left_now)) taken.are_lines
+first_begins limit left left_now bytes first ds known are taken = by (input_lines (before_known (taken.part ++ taken.last) left_now)) taken.are_lines
   where
-    by : (o : Option (List (List ℕ))) → lines_of left ≡ option_map (λ (ls : List (List ℕ)). taken.before ++ ls) o → Begins ds first
-    by None is = let never : Some (lines bytes) ≡ None = sym (ap lines_of known) ∙ is in cc
+    by : (o : Option (List (List ℕ))) → input_lines left ≡ option_map (λ (ls : List (List ℕ)). taken.before ++ ls) o → Begins ds first
+    by None is = let never : Some (lines bytes) ≡ None = sym (ap input_lines known) ∙ is in cc
     by (Some others) is =
-        let same : Some (lines bytes) ≡ Some (taken.before ++ others) = sym (ap lines_of known) ∙ is in
+        let same : Some (lines bytes) ≡ Some (taken.before ++ others) = sym (ap input_lines known) ∙ is in
         let all : lines bytes ≡ taken.before ++ others = cc in
         first_deliveries taken.before others first ds taken.delivered (subst (λ l. deliveries_of l ≡ Some ds) all are.delivered)
 

@@ -9,7 +9,7 @@ use Rattle.wq_io.specs.Streams.{Rose}
 use Rattle.wq_io.specs.Lines.{IsLineLong, IsOneLine, lines, longest_line, onto_first_line}
 use Rattle.wq_io.proofs.LineLists.{one_line-cons}
 use Rattle.rdf_term.specs.Order.{triple_cmp}
-use Rattle.entity_model.specs.declared.delivery.Delivery.{Delivery}
+use Rattle.delivery.specs.declared.Delivery.{Delivery}
 use Rattle.entity_model.specs.declared.event.Event.{Event}
 use Rattle.entity_model.specs.declared.id.EntityId.{EntityId}
 use Rattle.entity_model.specs.declared.mapping.MappingVersion.{MappingVersion}
@@ -130,7 +130,7 @@ module _ (run : Run) (before now : Moment) (bytes : List ℕ) (ds : List Deliver
 
 -- ---- the world
 
-module _ (run : Run) (before now : Moment) (contents : ℕ → Option Bytes) (ending : Ending run before now) (known : run.setting.known ≡ Some contents) where
+module _ (run : Run) (before now : Moment) (contents : ℕ → Option Bytes) (ending : Ending run before now) (known : run.environment.known ≡ Some contents) where
   -- no fetch failed
   none_failed_now : IsStill before.stage.counts.faults now.stage.counts.faults → failed_events now.stage.world.played.side ≡ []
   none_failed_now still =

@@ -1,8 +1,8 @@
 -- What follows from the taking of a delivery, and of the end, for a drill: its pages are told, and no fetch of them fails.
 use Rattle.std.proofs.Common.{◌≡◌, ◌∙◌, refl, sym, ap, subst, inl, inr, ⊎_elim, ◌⊎◌, ℕ, ◌-◌, ◌^◌, ◌<◌, ◌≤◌, ◌+◌, arith, List, [], ◌∷◌, ◌++◌, append_assoc, append-nil, length, length-append, filter_map, Option, None, Some}
 use Rattle.std.proofs.lemmas.List.Elements.{filter_map-append}
-use Rattle.entity_model.specs.declared.delivery.Delivery.{Delivery}
-use Rattle.entity_model.specs.declared.delivery.Delivery.TheVariants.{Ask, Mapping}
+use Rattle.delivery.specs.declared.Delivery.{Delivery}
+use Rattle.delivery.specs.declared.Delivery.TheVariants.{Ask, Mapping}
 use Rattle.entity_model.specs.declared.event.Event.{Event}
 use Rattle.entity_model.specs.declared.mapping.MappingVersion.{MappingVersion}
 use Rattle.entity_model.specs.declared.mapping.MappingVersion.TheVariants.{One}
@@ -31,8 +31,8 @@ use Rattle.session.specs.declared.stop.Stop.TheVariants.{OutOfMemory as Refused}
 use Rattle.session.specs.declared.stop.Unapplied.{Unapplied}
 use Rattle.session.specs.declared.stop.Unapplied.TheVariants.{StoreFull, OutOfMemory}
 use Rattle.session.specs.Counts.{HasCountedUnapplied, RoseBy}
-use Rattle.session.specs.DrillPlaying.{HasTakenFirst, LeavesDrill, drill_setting, drill_stage, told_of}
-use Rattle.session.specs.Moment.{Stage, setting}
+use Rattle.session.specs.DrillPlaying.{HasTakenFirst, LeavesDrill, drill_environment, drill_stage, told_of}
+use Rattle.session.specs.Moment.{Stage, environment}
 use Rattle.session.specs.Remapping.{HasNoRoom, HoldsWithin, KeepsVersion, Mapped, mapped_by, mapped_in}
 use Rattle.session.specs.Stop.{stop_of_unapplied}
 use Rattle.session.specs.Taking.{AppliesDue, AtEnd, AtRest, Course, CutsOff, IsFull, IsHeldUp, IsUntaken, IsWithin, Leads, StaysWithin, TakesDelivery, TakesInPart, course_after, course_begun, course_to_end, judgement, replies_there, turn}
@@ -58,16 +58,16 @@ module _ (size : ℕ) (start now : Stage) (nothing : start.world ≡ nothing_del
   replies_are none = ap (source_replies judgement (contents_of size)) none
 
   -- where no event is due, it is where its play is
-  course_is : (course : Course) → Leads (drill_setting size) course start now → first_due now.world.buffer ≡ None → now.mapped ≡ mapped_by course.version now.world.played.records → now.world ≡ course.state (replies_of size)
+  course_is : (course : Course) → Leads (drill_environment size) course start now → first_due now.world.buffer ≡ None → now.mapped ≡ mapped_by course.version now.world.played.records → now.world ≡ course.state (replies_of size)
   course_is course leads rests mapped =
-      let play = is_played (drill_setting size) course start now leads rests mapped in
+      let play = is_played (drill_environment size) course start now leads rests mapped in
       play.source (contents_of size) refl ∙ ap course.state (replies_are (none_failed _ _ _ play.counted.failed still))
 
-  pub after_is : (ds : List Delivery) → AtRest (drill_setting size) ds start now → now.world ≡ following None (replies_of size) ds
+  pub after_is : (ds : List Delivery) → AtRest (drill_environment size) ds start now → now.world ≡ following None (replies_of size) ds
   after_is ds at_rest =
       course_is (course_after ds start) at_rest.leads at_rest.rests at_rest.mapped ∙ ap (λ (w : ReplayState). following w.buffer.horizon (replies_of size) ds) nothing
 
-  pub end_is : (ds : List Delivery) → AtEnd (drill_setting size) ds start now → now.world ≡ following_to_end None (replies_of size) ds
+  pub end_is : (ds : List Delivery) → AtEnd (drill_environment size) ds start now → now.world ≡ following_to_end None (replies_of size) ds
   end_is ds at_end =
       course_is (course_to_end ds start) at_end.leads at_end.rests at_end.mapped ∙ ap (λ (w : ReplayState). following_to_end w.buffer.horizon (replies_of size) ds) nothing
 
@@ -76,12 +76,12 @@ module _ (size : ℕ) (start now : Stage) (nothing : start.world ≡ nothing_del
   unapplied_none OutOfMemory made counted = ⊎_elim (λ same. none_failed _ _ _ same.failed still) (λ more. none_failed _ _ _ more.failed still) counted
 
   -- and where some due events were applied, it is within its play
-  pub within_is : (why : Unapplied) (course : Course) (begun : Replies → ReplayState) (x : IsWithin why (drill_setting size) course begun start now) → now.world ≡ after_some (replies_of size) x.steps (begun (replies_of size))
+  pub within_is : (why : Unapplied) (course : Course) (begun : Replies → ReplayState) (x : IsWithin why (drill_environment size) course begun start now) → now.world ≡ after_some (replies_of size) x.steps (begun (replies_of size))
   within_is why course begun x =
       x.source (contents_of size) refl ∙ ap (λ (replies : Replies). after_some replies x.steps (begun replies)) (replies_are (unapplied_none why x.made x.counted))
 
 -- there is room for each page that is due
-full_never : (size : ℕ) (world : ReplayState) (mapped : Mapped) → IsSize size → HasBegun size world → mapped ≡ mapped_by One world.played.records → IsFull (drill_setting size) world mapped → ⊥
+full_never : (size : ℕ) (world : ReplayState) (mapped : Mapped) → IsSize size → HasBegun size world → mapped ≡ mapped_by One world.played.records → IsFull (drill_environment size) world mapped → ⊥
 full_never size world mapped is_size begun is full =
     never_over size 20000000 world full.event full.bytes is_size begun (omega arith) full.due full.fetches (full.there (contents_of size) refl)
     (subst (λ m. HasNoRoom 20000000 world.played.records m full.event.entity (revision_wanted world full.event) full.bytes) is full.over)
@@ -95,7 +95,7 @@ pub record IsHalted (size : ℕ) (ds : List Delivery) (d : Delivery) (stop : Sto
   pub first : IsByFirst world
 
 pub by_first : (world : WorldState) → mapped_in world ≡ mapped_by One world.replay.played.records → IsByFirst world
-by_first world is = (ap (λ (m : Mapped). m.version) is, ap (λ (m : Mapped). m.second) is)
+by_first world is = (ap (λ (m : Mapped). m.version) is, ap (λ (m : Mapped). m.by_two) is)
 
 module _ (run : DrillRun) (ds after : List Delivery) (d : Delivery) (all : drill run.size ≡ ds ++ d ∷ after) where
   with_it : drill run.size ≡ (ds ++ d ∷ []) ++ after
@@ -123,8 +123,8 @@ module _ (run : DrillRun) (ds after : List Delivery) (d : Delivery) (all : drill
       cc
 
   module _ (folder : List ℕ) (out : Output) (world : WorldState) (taken : HasTakenFirst run ds out world) where
-    setting_is : setting (told_of run.pages.size) folder world.room ≡ drill_setting run.size
-    setting_is = ap (λ c. setting c folder world.room) taken.told ∙ ap (λ n. setting (told_of run.size) folder n) taken.room
+    environment_is : environment (told_of run.pages.size) folder world.limit ≡ drill_environment run.size
+    environment_is = ap (λ c. environment c folder world.limit) taken.told ∙ ap (λ n. environment (told_of run.size) folder n) taken.limit
 
     abbrev pub before : Stage
     before = drill_stage run.pages out world
@@ -134,25 +134,25 @@ module _ (run : DrillRun) (ds after : List Delivery) (d : Delivery) (all : drill
 
     -- it is taken and counted
     pub next_taken : (pages_now : Source) (counts_now : DrillCounts) (answer : Option Taken) (out_now : Output) (world_now : WorldState) → told_of pages_now.size ≡ told_of run.pages.size →
-        TakesDelivery (setting (told_of run.pages.size) folder world.room) (turn 0 d) before (drill_stage pages_now out_now world_now) → answer ≡ answer_of world.replay.buffer d → counts_now ≡ with_answer answer run.counts →
-        world_now.room ≡ world.room → (HoldsWithin world.room world → HoldsWithin world.room world_now) → HasTakenFirst (record run { pages = pages_now; counts = counts_now }) (ds ++ d ∷ []) out_now world_now
-    next_taken pages_now counts_now answer out_now world_now told takes answered counted room held = record {
+        TakesDelivery (environment (told_of run.pages.size) folder world.limit) (turn 0 d) before (drill_stage pages_now out_now world_now) → answer ≡ answer_of world.replay.buffer d → counts_now ≡ with_answer answer run.counts →
+        world_now.limit ≡ world.limit → (HoldsWithin world.limit world → HoldsWithin world.limit world_now) → HasTakenFirst (record run { pages = pages_now; counts = counts_now }) (ds ++ d ∷ []) out_now world_now
+    next_taken pages_now counts_now answer out_now world_now told takes answered counted limit held = record {
       start = taken.start;
       nothing = taken.nothing;
       told = told ∙ taken.told;
-      at_rest = (subst (λ s. TakesDelivery s (turn 0 d) before (drill_stage pages_now out_now world_now)) setting_is takes) ds taken.start asks_none taken.at_rest;
+      at_rest = (subst (λ s. TakesDelivery s (turn 0 d) before (drill_stage pages_now out_now world_now)) environment_is takes) ds taken.start asks_none taken.at_rest;
       counted = subst (λ c. Counted (ds ++ d ∷ []) c)
           (sym (counted ∙ ap (λ (a : Option Taken). with_answer a run.counts) (answered ∙ ap (λ (w : ReplayState). answer_of w.buffer d) stands)))
           (counted-next (replies_of run.size) ds d run.counts taken.counted);
-      room = room ∙ taken.room;
-      held = subst (λ n. HoldsWithin n world_now) taken.room (held (subst (λ n. HoldsWithin n world) (sym taken.room) taken.held));
+      limit = limit ∙ taken.limit;
+      held = subst (λ n. HoldsWithin n world_now) taken.limit (held (subst (λ n. HoldsWithin n world) (sym taken.limit) taken.held));
     }
 
     module _ (pages_now : Source) (out_now : Output) (world_now : WorldState) where
       abbrev pub now : Stage
       now = drill_stage pages_now out_now world_now
 
-      in_part : (why : Unapplied) → IsUntaken why before now ⊎ IsWithin why (drill_setting run.size) (course_begun ds (Some d) taken.start) (λ replies. entered (following taken.start.world.buffer.horizon replies ds) d) taken.start now →
+      in_part : (why : Unapplied) → IsUntaken why before now ⊎ IsWithin why (drill_environment run.size) (course_begun ds (Some d) taken.start) (λ replies. entered (following taken.start.world.buffer.horizon replies ds) d) taken.start now →
           (world_now.replay ≡ following None (replies_of run.size) ds) ⊎ ((steps : ℕ) × (world_now.replay ≡ after_some (replies_of run.size) steps (entered (following None (replies_of run.size) ds) d)))
       in_part why part = ⊎_elim (λ none. inl (untaken why none)) (λ some. inr (some.steps, within_is run.size taken.start now taken.nothing refl why _ _ some ∙ ap (λ (w : ReplayState). after_some (replies_of run.size) some.steps (entered (following w.buffer.horizon (replies_of run.size) ds) d)) taken.nothing)) part
         where
@@ -166,7 +166,7 @@ module _ (run : DrillRun) (ds after : List Delivery) (d : Delivery) (all : drill
           (λ some. inr (record { before = ds; last = d; after = after; all = all; steps = some.0; is = some.1 }))
           at)
 
-      starves : IsSize run.size → (stop : Stop) (why : Unapplied) → stop ≡ stop_of_unapplied why → TakesInPart why (drill_setting run.size) d before now → IsHalted run.size ds d stop world_now
+      starves : IsSize run.size → (stop : Stop) (why : Unapplied) → stop ≡ stop_of_unapplied why → TakesInPart why (drill_environment run.size) d before now → IsHalted run.size ds d stop world_now
       starves is_size stop why is x = record {
         refused = is ∙ by why x.held_up;
         at = at;
@@ -179,18 +179,18 @@ module _ (run : DrillRun) (ds after : List Delivery) (d : Delivery) (all : drill
           mapped : mapped_in world_now ≡ mapped_by One world_now.replay.played.records
           mapped = x.mapped (version_in_force ds) taken.at_rest.mapped ∙ ap (λ v. mapped_by v world_now.replay.played.records) (part_by_first run.size ds (d ∷ after) all)
 
-          by : (why : Unapplied) → IsHeldUp why (drill_setting run.size) world_now.replay (mapped_in world_now) → stop_of_unapplied why ≡ Refused
+          by : (why : Unapplied) → IsHeldUp why (drill_environment run.size) world_now.replay (mapped_in world_now) → stop_of_unapplied why ≡ Refused
           by StoreFull full = absurd (full_never run.size world_now.replay (mapped_in world_now) is_size (begun at) mapped full)
           by OutOfMemory held_up = refl
 
       -- it isn't taken wholly
-      pub cut_off : IsSize run.size → (stop : Stop) → CutsOff stop (setting (told_of run.pages.size) folder world.room) (turn 0 d) before now → IsHalted run.size ds d stop world_now
+      pub cut_off : IsSize run.size → (stop : Stop) → CutsOff stop (environment (told_of run.pages.size) folder world.limit) (turn 0 d) before now → IsHalted run.size ds d stop world_now
       cut_off is_size stop cuts = ⊎_elim
           (λ printing. absurd (no_question printing.2.pattern printing.2.is))
           (⊎_elim
           (λ starving. starves is_size stop starving.0 starving.1 starving.2)
           (λ remapping. absurd (no_mapping remapping.2.version remapping.2.is)))
-          (subst (λ s. CutsOff stop s (turn 0 d) before now) setting_is cuts)
+          (subst (λ s. CutsOff stop s (turn 0 d) before now) environment_is cuts)
 
 -- a drill that halted has come to a part of any deliveries of which those are the first
 pub halted_in : (size : ℕ) (ds rest whole : List Delivery) (d : Delivery) (stop : Stop) (world : WorldState) → whole ≡ ds ++ d ∷ rest → IsHalted size ds d stop world → IsPartOf size whole world.replay
@@ -209,32 +209,32 @@ part_at_rest run ds out world taken = inl (record {
 })
 
 -- what it leaves
-pub leaves_halted : (size : ℕ) (ds : List Delivery) (d : Delivery) (stop : Stop) (world world_now : WorldState) → IsHalted size ds d stop world_now → world.room ≡ 20000000 → HoldsWithin 20000000 world →
-    world_now.room ≡ world.room → (HoldsWithin world.room world → HoldsWithin world.room world_now) → LeavesDrill world_now
-leaves_halted size ds d stop world world_now halted room within same held = record {
+pub leaves_halted : (size : ℕ) (ds : List Delivery) (d : Delivery) (stop : Stop) (world world_now : WorldState) → IsHalted size ds d stop world_now → world.limit ≡ 20000000 → HoldsWithin 20000000 world →
+    world_now.limit ≡ world.limit → (HoldsWithin world.limit world → HoldsWithin world.limit world_now) → LeavesDrill world_now
+leaves_halted size ds d stop world world_now halted limit within same held = record {
   first = halted.first;
-  room = same ∙ room;
-  held = subst (λ n. HoldsWithin n world_now) room (held (subst (λ n. HoldsWithin n world) (sym room) within));
+  limit = same ∙ limit;
+  held = subst (λ n. HoldsWithin n world_now) limit (held (subst (λ n. HoldsWithin n world) (sym limit) within));
 }
 
 -- what a drill leaves at rest
 pub leaves_at_rest : (run : DrillRun) (ds after : List Delivery) (out : Output) (world : WorldState) → drill run.size ≡ ds ++ after → HasTakenFirst run ds out world → LeavesDrill world
 leaves_at_rest run ds after out world all taken = record {
   first = by_first world (taken.at_rest.mapped ∙ ap (λ v. mapped_by v world.replay.played.records) (part_by_first run.size ds after all));
-  room = taken.room;
+  limit = taken.limit;
   held = taken.held;
 }
 
 -- before the first delivery
 pub starts : (run : DrillRun) (out : Output) (world : WorldState) → told_of run.pages.size ≡ told_of run.size → run.counts ≡ record { deliveries = 0; accepted = 0; late = 0 } → world.replay ≡ nothing_delivered → IsByFirst world →
-    world.room ≡ 20000000 → HasTakenFirst run (drill 0) out world
-starts run out world told zero is first room = record {
+    world.limit ≡ 20000000 → HasTakenFirst run (drill 0) out world
+starts run out world told zero is first limit = record {
   start = drill_stage run.pages out world;
   nothing = is;
   told = told;
-  at_rest = rw (is, first.0, first.1) (nothing_taken (drill_setting run.size) None out _);
+  at_rest = rw (is, first.0, first.1) (nothing_taken (drill_environment run.size) None out _);
   counted = rw zero (record { deliveries = refl; accepted = refl; late = refl });
-  room = room;
+  limit = limit;
   held = rw is (nothing_held _ nothing_played.records _ (len-empty _ _));
 }
 
@@ -265,8 +265,8 @@ all_taken run size done out world same low high taken =
 -- ---- the end of a drill
 
 module _ (run : DrillRun) (folder : List ℕ) (out : Output) (world : WorldState) (taken : HasTakenFirst run (drill run.size) out world) (pages_now : Source) (world_now : WorldState) where
-  setting_at_end : setting (told_of run.pages.size) folder world.room ≡ drill_setting run.size
-  setting_at_end = ap (λ c. setting c folder world.room) taken.told ∙ ap (λ n. setting (told_of run.size) folder n) taken.room
+  environment_at_end : environment (told_of run.pages.size) folder world.limit ≡ drill_environment run.size
+  environment_at_end = ap (λ c. environment c folder world.limit) taken.told ∙ ap (λ n. environment (told_of run.size) folder n) taken.limit
 
   abbrev pub stage_before : Stage
   stage_before = drill_stage run.pages out world
@@ -278,26 +278,26 @@ module _ (run : DrillRun) (folder : List ℕ) (out : Output) (world : WorldState
   end_first keeps = keeps (version_in_force (drill run.size)) taken.at_rest.mapped ∙ ap (λ v. mapped_by v world_now.replay.played.records) (drill_by_first run.size)
 
   -- and it leaves this
-  pub leaves_end : KeepsVersion (mapped_in world) (mapped_in world_now) world.replay.played.records world_now.replay.played.records → world_now.room ≡ world.room → HoldsWithin world.room world_now → LeavesDrill world_now
+  pub leaves_end : KeepsVersion (mapped_in world) (mapped_in world_now) world.replay.played.records world_now.replay.played.records → world_now.limit ≡ world.limit → HoldsWithin world.limit world_now → LeavesDrill world_now
   leaves_end keeps same held = record {
     first = by_first world_now (end_first keeps);
-    room = same ∙ taken.room;
-    held = subst (λ n. HoldsWithin n world_now) taken.room held;
+    limit = same ∙ taken.limit;
+    held = subst (λ n. HoldsWithin n world_now) taken.limit held;
   }
 
   -- all was applied
-  pub end_reached : AppliesDue (setting (told_of run.pages.size) folder world.room) (mapped_in world) stage_before.counts stage_now.counts (after_end world.replay) world_now.replay →
+  pub end_reached : AppliesDue (environment (told_of run.pages.size) folder world.limit) (mapped_in world) stage_before.counts stage_now.counts (after_end world.replay) world_now.replay →
       KeepsVersion (mapped_in world) (mapped_in world_now) world.replay.played.records world_now.replay.played.records → world_now.replay ≡ drilled run.size
   end_reached applies keeps =
       end_is run.size taken.start stage_now taken.nothing refl (drill run.size)
-      (end_taken (drill_setting run.size) (drill run.size) taken.start stage_before stage_now.counts world_now.replay (mapped_in world_now)
-      (subst (λ s. AppliesDue s (mapped_in world) stage_before.counts stage_now.counts (after_end world.replay) world_now.replay) setting_at_end applies) keeps taken.at_rest)
+      (end_taken (drill_environment run.size) (drill run.size) taken.start stage_before stage_now.counts world_now.replay (mapped_in world_now)
+      (subst (λ s. AppliesDue s (mapped_in world) stage_before.counts stage_now.counts (after_end world.replay) world_now.replay) environment_at_end applies) keeps taken.at_rest)
 
   -- not all was applied
-  pub end_halted : (why : Unapplied) → StaysWithin why (setting (told_of run.pages.size) folder world.room) (mapped_in world) stage_before.counts stage_now.counts (after_end world.replay) world_now.replay → StandsAtEnd run.size world_now.replay
+  pub end_halted : (why : Unapplied) → StaysWithin why (environment (told_of run.pages.size) folder world.limit) (mapped_in world) stage_before.counts stage_now.counts (after_end world.replay) world_now.replay → StandsAtEnd run.size world_now.replay
   end_halted why stays =
-      let within = end_begun (drill_setting run.size) (drill run.size) taken.start why stage_before stage_now.counts world_now.replay (mapped_in world_now)
-      (subst (λ s. StaysWithin why s (mapped_in world) stage_before.counts stage_now.counts (after_end world.replay) world_now.replay) setting_at_end stays) taken.at_rest in
+      let within = end_begun (drill_environment run.size) (drill run.size) taken.start why stage_before stage_now.counts world_now.replay (mapped_in world_now)
+      (subst (λ s. StaysWithin why s (mapped_in world) stage_before.counts stage_now.counts (after_end world.replay) world_now.replay) environment_at_end stays) taken.at_rest in
       record {
         steps = within.steps;
         is = within_is run.size taken.start stage_now taken.nothing refl why _ _ within
@@ -305,8 +305,8 @@ module _ (run : DrillRun) (folder : List ℕ) (out : Output) (world : WorldState
       }
 
   -- and never for want of room
-  pub end_never_full : IsSize run.size → StaysWithin StoreFull (setting (told_of run.pages.size) folder world.room) (mapped_in world) stage_before.counts stage_now.counts (after_end world.replay) world_now.replay →
-      KeepsVersion (mapped_in world) (mapped_in world_now) world.replay.played.records world_now.replay.played.records → IsFull (setting (told_of run.pages.size) folder world.room) world_now.replay (mapped_in world_now) → ⊥
+  pub end_never_full : IsSize run.size → StaysWithin StoreFull (environment (told_of run.pages.size) folder world.limit) (mapped_in world) stage_before.counts stage_now.counts (after_end world.replay) world_now.replay →
+      KeepsVersion (mapped_in world) (mapped_in world_now) world.replay.played.records world_now.replay.played.records → IsFull (environment (told_of run.pages.size) folder world.limit) world_now.replay (mapped_in world_now) → ⊥
   end_never_full is_size stays keeps full =
       full_never run.size world_now.replay (mapped_in world_now) is_size (inr (end_halted StoreFull stays)) (end_first keeps)
-      (subst (λ s. IsFull s world_now.replay (mapped_in world_now)) setting_at_end full)
+      (subst (λ s. IsFull s world_now.replay (mapped_in world_now)) environment_at_end full)

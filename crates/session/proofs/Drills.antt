@@ -8,7 +8,7 @@ use Rattle.transcript.specs.declared.write.Unwritten.TheVariants.{WriteFault as 
 use Rattle.transcript.specs.Printing.{Output, Prints, output}
 use Rattle.transcript.proofs.Parts.{cut_short_at_once}
 use Rattle.drill_replay.specs.Playing.{HasBegun}
-use Rattle.drill_replay.specs.Summary.{drilled, lines_of, summary_of}
+use Rattle.drill_replay.specs.Summary.{drilled, summary_lines, summary_of}
 use Rattle.session.specs.Counts.{HasWrittenOn}
 use Rattle.session.specs.Drilling.{DrillStopped, HasDrilled, summary_text}
 
@@ -22,7 +22,7 @@ pub not_begun : (size : ℕ) (old new : Output) (world : ReplayState) → new �
 not_begun size old new world same begun = rw same (record { has_come = begun; cut_short = (cut_short_at_once (summary_text size) old).outcome })
 
 -- the lines of the summary of a drill that was run to its end were printed, or a prefix of them
-module _ {X : Type 0} (f : X → List ℕ) (lines : List X) (size : ℕ) (old new : Output) (world : ReplayState) (are : map f lines ≡ lines_of (summary_of size)) (is : world ≡ drilled size) where
+module _ {X : Type 0} (f : X → List ℕ) (lines : List X) (size : ℕ) (old new : Output) (world : ReplayState) (are : map f lines ≡ summary_lines (summary_of size)) (is : world ≡ drilled size) where
   text : flat_map f lines ≡ summary_text size
   text = joined f lines ∙ ap (flat_map (λ line. line)) are
 

@@ -28,15 +28,15 @@ use Rattle.session.specs.Counts.{SourceCounts, HasCounted, HasCountedUnapplied, 
 use Rattle.session.specs.declared.stop.Unapplied.{Unapplied}
 use Rattle.session.specs.declared.stop.Unapplied.TheVariants.{StoreFull, OutOfMemory}
 use Rattle.revisions.specs.declared.revisions.Revisions.{Ghosts as RevisionsOf}
-use Rattle.session.specs.Moment.{Setting, Stage, onward, setting, with_mapped}
+use Rattle.session.specs.Moment.{Environment, Stage, onward, environment, with_mapped}
 use Rattle.session.specs.Needed.{HaveRoom, needed_by, needed_by_due, needed_for}
 use Rattle.session.specs.Remapping.{HasNoRoom, KeepsVersion, Mapped, mapped_by, mapped_in}
 use Rattle.session.specs.Taking.{AppliesDue, Course, IsFull, IsUnderWay, IsWithin, Leads, StaysWithin, judgement, replies_there}
 use Rattle.session.proofs.Needed.{due-some, next_met, room_replied}
 
 -- events are applied: the world leads where it led, where every page was mapped by the version of the play
-pub record Goes (setting : Setting) (mapped : Mapped) (before now : SourceCounts) (old new : ReplayState) : Type 0 where
-  pub leads : (course : Course) (begun : Replies → ReplayState) (start s : Stage) → mapped ≡ mapped_by course.version old.played.records → IsUnderWay setting course begun start (onward s before old) → IsUnderWay setting course begun start (onward s now new)
+pub record Goes (environment : Environment) (mapped : Mapped) (before now : SourceCounts) (old new : ReplayState) : Type 0 where
+  pub leads : (course : Course) (begun : Replies → ReplayState) (start s : Stage) → mapped ≡ mapped_by course.version old.played.records → IsUnderWay environment course begun start (onward s before old) → IsUnderWay environment course begun start (onward s now new)
 
 -- the counts after an application, as its outcome shows
 pub record Rises (outcome : Outcome) (before now : SourceCounts) : Type 0 where
@@ -46,20 +46,20 @@ pub record Rises (outcome : Outcome) (before now : SourceCounts) : Type 0 where
   pub more_misses : before.misses ≤ now.misses
 
 -- a reply that agrees with what the source has is honest
-pub reply_is_honest : (contents : Option Contents) (folder : List ℕ) (room : ℕ) (x : EntityId) (r : ℕ) (reply : Result Bytes Cause) →
-    IsReply contents folder x r reply → (there : ℕ → Option Bytes) → (setting contents folder room).known ≡ Some there →
+pub reply_is_honest : (contents : Option Contents) (folder : List ℕ) (limit : ℕ) (x : EntityId) (r : ℕ) (reply : Result Bytes Cause) →
+    IsReply contents folder x r reply → (there : ℕ → Option Bytes) → (environment contents folder limit).known ≡ Some there →
     (reply ≡ Err Failed) ⊎ (reply ≡ reply_there judgement x (there r))
-reply_is_honest None folder room x r reply is there known = cc
-reply_is_honest (Some c) folder room x r (Ok bytes) is there known =
+reply_is_honest None folder limit x r reply is there known = cc
+reply_is_honest (Some c) folder limit x r (Ok bytes) is there known =
     let same : c folder ≡ there = cc in
     let found : there r ≡ Some bytes = ap (λ (f : ℕ → Option Bytes). f r) (sym same) ∙ is.1 in
     inr (rw (found, is.0) refl)
-reply_is_honest (Some c) folder room x r (Err Missing) is there known =
+reply_is_honest (Some c) folder limit x r (Err Missing) is there known =
     let same : c folder ≡ there = cc in
     let found : there r ≡ None = ap (λ (f : ℕ → Option Bytes). f r) (sym same) ∙ is in
     inr (rw found refl)
-reply_is_honest (Some c) folder room x r (Err Failed) is there known = inl refl
-reply_is_honest (Some c) folder room x r (Err (NoDocument unfit)) is there known =
+reply_is_honest (Some c) folder limit x r (Err Failed) is there known = inl refl
+reply_is_honest (Some c) folder limit x r (Err (NoDocument unfit)) is there known =
     let same : c folder ≡ there = cc in
     inr (unfit_there judgement x unfit (c folder r) is ∙ ap (λ (f : ℕ → Option Bytes). reply_there judgement x (f r)) same)
 
@@ -130,22 +130,22 @@ reply_gives contents folder x r (Ok bytes) is = is.0
 reply_gives contents folder x r (Err cause) is = tt
 
 -- the world still leads to its play, one application further
-pub applies-leads : (contents : Option Contents) (folder : List ℕ) (room : ℕ) (mapped : Mapped) (before now : SourceCounts) (old new : ReplayState) (applied : Applied) (a : Applies contents folder old new applied) → Rises applied.outcome before now →
+pub applies-leads : (contents : Option Contents) (folder : List ℕ) (limit : ℕ) (mapped : Mapped) (before now : SourceCounts) (old new : ReplayState) (applied : Applied) (a : Applies contents folder old new applied) → Rises applied.outcome before now →
     ((version : MappingVersion) → mapped ≡ mapped_by version old.played.records →
-    HaveRoom room (cond (is_fetching old applied.event) (needed_for version old.played.records applied.event.entity (revision_wanted old applied.event) a.reply) [])) →
-    Goes (setting contents folder room) mapped before now old new
-applies-leads contents folder room mapped before now old new applied a rises has_room = record {
+    HaveRoom limit (cond (is_fetching old applied.event) (needed_for version old.played.records applied.event.entity (revision_wanted old applied.event) a.reply) [])) →
+    Goes (environment contents folder limit) mapped before now old new
+applies-leads contents folder limit mapped before now old new applied a rises has_room = record {
   leads = λ course begun start s is_mapped under_way.
-      let known : Option (ℕ → Option Bytes) = (setting contents folder room).known in
+      let known : Option (ℕ → Option Bytes) = (environment contents folder limit).known in
       let e : Event = applied.event in
-      let leads : Leads (setting contents folder room) course start (onward s before old) = under_way.leads in
+      let leads : Leads (environment contents folder limit) course start (onward s before old) = under_way.leads in
       let made : ℕ = leads.made + cond (is_fetching old e) 1 0 in
       let next : Next judgement known course.state course.fetched leads.made old e a.reply leads.explained =
       Explained-next judgement known course.state course.fetched leads.made old e a.reply leads.explained a.due
-      (λ there is _. reply_is_honest contents folder room e.entity _ a.reply a.is_reply there is)
+      (λ there is _. reply_is_honest contents folder limit e.entity _ a.reply a.is_reply there is)
       (reply_gives contents folder e.entity _ a.reply a.is_reply) in
       let Counted : ReplayState → Type 0 = λ w. HasCounted start.counts now made w.played.side in
-      let There : ReplayState → Type 0 = λ w. IsUnderWay (setting contents folder room) course begun start (onward s now w) in
+      let There : ReplayState → Type 0 = λ w. IsUnderWay (environment contents folder limit) course begun start (onward s now w) in
       let there : There (next_by old e a.reply) = record {
         leads = record {
           made = made;
@@ -156,9 +156,9 @@ applies-leads contents folder room mapped before now old new applied a rises has
           roomed = λ others agree.
               let same : next_by old e a.reply ≡ after_applying others old (Some e) = next.is_next others agree ∙ ap (after_applying others old) a.due in
               let needed_now : List ℕ = needed_by course.version others old.played.records e (record_of old.played.records e.entity) in
-              next_met room (needed_by_due course.version others (next_by old e a.reply)) (course.needed others) needed_now (needed_by_due course.version others old)
+              next_met limit (needed_by_due course.version others (next_by old e a.reply)) (course.needed others) needed_now (needed_by_due course.version others old)
               (due-some course.version others old e a.due ∙ ap (λ w. needed_now ++ needed_by_due course.version others w) (sym same))
-              (room_replied old e room course.version a.reply others same (has_room course.version is_mapped))
+              (room_replied old e limit course.version a.reply others same (has_room course.version is_mapped))
               (leads.roomed others (next.agree_before others agree));
         };
         steps = suc under_way.steps;
@@ -168,14 +168,14 @@ applies-leads contents folder room mapped before now old new applied a rises has
 }
 
 -- before the first event
-pub goes-nowhere : (setting : Setting) (mapped : Mapped) (now : SourceCounts) (world : ReplayState) → Goes setting mapped now now world world
-goes-nowhere setting mapped now world = record { leads = λ course begun start s is_mapped under_way. under_way }
+pub goes-nowhere : (environment : Environment) (mapped : Mapped) (now : SourceCounts) (world : ReplayState) → Goes environment mapped now now world world
+goes-nowhere environment mapped now world = record { leads = λ course begun start s is_mapped under_way. under_way }
 
 -- some events, and then more
-pub goes-further : (setting : Setting) (mapped mapped_then : Mapped) (before between now : SourceCounts) (old middle new : ReplayState) → KeepsVersion mapped mapped_then old.played.records middle.played.records →
-    Goes setting mapped before between old middle → Goes setting mapped_then between now middle new → Goes setting mapped before now old new
-goes-further setting mapped mapped_then before between now old middle new keeps first second = record {
-  leads = λ course begun start s is_mapped under_way. second.leads course begun start s (keeps course.version is_mapped) (first.leads course begun start s is_mapped under_way);
+pub goes-further : (environment : Environment) (mapped mapped_then : Mapped) (before between now : SourceCounts) (old middle new : ReplayState) → KeepsVersion mapped mapped_then old.played.records middle.played.records →
+    Goes environment mapped before between old middle → Goes environment mapped_then between now middle new → Goes environment mapped before now old new
+goes-further environment mapped mapped_then before between now old middle new keeps first by_two = record {
+  leads = λ course begun start s is_mapped under_way. by_two.leads course begun start s (keeps course.version is_mapped) (first.leads course begun start s is_mapped under_way);
 }
 
 -- a source was asked further, twice
@@ -217,9 +217,9 @@ pub no_call : (counts : SourceCounts) → Lasts OutOfMemory counts counts
 no_call counts = record { calls = inl refl; faults = omega arith; misses = omega arith }
 
 -- no event is left: the last call has made no fetch
-pub none_due : (setting : Setting) (mapped : Mapped) (before now last : SourceCounts) (old world new : ReplayState) → Goes setting mapped before now old world → last.calls ≡ now.calls → now.faults ≤ last.faults → now.misses ≤ last.misses →
-    new ≡ world → first_due world.buffer ≡ None → AppliesDue setting mapped before last old new
-none_due setting mapped before now last old world new goes calls faults misses same none = rw same (record {
+pub none_due : (environment : Environment) (mapped : Mapped) (before now last : SourceCounts) (old world new : ReplayState) → Goes environment mapped before now old world → last.calls ≡ now.calls → now.faults ≤ last.faults → now.misses ≤ last.misses →
+    new ≡ world → first_due world.buffer ≡ None → AppliesDue environment mapped before last old new
+none_due environment mapped before now last old world new goes calls faults misses same none = rw same (record {
   leads = λ course start s is_mapped leads.
       let there = (goes.leads course (λ replies. old) start s is_mapped (record { leads = leads; steps = 0; is = λ others agree. refl })).leads in
       record {
@@ -234,10 +234,10 @@ none_due setting mapped before now last old world new goes calls faults misses s
 })
 
 -- a world that is under way in a play is where some of its due events were applied, after a call that applied nothing too
-pub within : (why : Unapplied) (setting : Setting) (course : Course) (begun : Replies → ReplayState) (start now : Stage) (counts : SourceCounts) → Lasts why now.counts counts → IsUnderWay setting course begun start now →
-    IsWithin why setting course begun start (onward now counts now.world)
-within why setting course begun start now counts last under_way =
-    let honest : (contents : ℕ → Option Bytes) → setting.known ≡ Some contents → AgreeOnApplied now.world under_way.leads.explained.replies (replies_there contents now.world) =
+pub within : (why : Unapplied) (environment : Environment) (course : Course) (begun : Replies → ReplayState) (start now : Stage) (counts : SourceCounts) → Lasts why now.counts counts → IsUnderWay environment course begun start now →
+    IsWithin why environment course begun start (onward now counts now.world)
+within why environment course begun start now counts last under_way =
+    let honest : (contents : ℕ → Option Bytes) → environment.known ≡ Some contents → AgreeOnApplied now.world under_way.leads.explained.replies (replies_there contents now.world) =
     λ contents is q r h. sym (under_way.leads.explained.honest contents is q r) in
     record {
       steps = under_way.steps;
@@ -257,9 +257,9 @@ within why setting course begun start now counts last under_way =
     }
 
 -- it is so whatever the versions are by which the pages are mapped
-pub within_mapped : (why : Unapplied) (setting : Setting) (course : Course) (begun : Replies → ReplayState) (start now : Stage) (mapped : Mapped) → IsWithin why setting course begun start now →
-    IsWithin why setting course begun start (with_mapped now mapped)
-within_mapped why setting course begun start now mapped x = record {
+pub within_mapped : (why : Unapplied) (environment : Environment) (course : Course) (begun : Replies → ReplayState) (start now : Stage) (mapped : Mapped) → IsWithin why environment course begun start now →
+    IsWithin why environment course begun start (with_mapped now mapped)
+within_mapped why environment course begun start now mapped x = record {
   steps = x.steps;
   replies = x.replies;
   fit = x.fit;
@@ -277,21 +277,21 @@ within_mapped why setting course begun start now mapped x = record {
 }
 
 -- an event isn't applied: the world is that before
-pub starved : (why : Unapplied) (setting : Setting) (mapped : Mapped) (before now last : SourceCounts) (old world new : ReplayState) → Goes setting mapped before now old world → Lasts why now last → new ≡ world →
-    StaysWithin why setting mapped before last old new
-starved why setting mapped before now last old world new goes lasts same =
-    rw same (λ course begun start s is_mapped under_way. within why setting course begun start (onward s now world) last lasts (goes.leads course begun start s is_mapped under_way))
+pub starved : (why : Unapplied) (environment : Environment) (mapped : Mapped) (before now last : SourceCounts) (old world new : ReplayState) → Goes environment mapped before now old world → Lasts why now last → new ≡ world →
+    StaysWithin why environment mapped before last old new
+starved why environment mapped before now last old world new goes lasts same =
+    rw same (λ course begun start s is_mapped under_way. within why environment course begun start (onward s now world) last lasts (goes.leads course begun start s is_mapped under_way))
 
 -- where the world says that there is no room, the store is full
-full_there : (contents : Option Contents) (folder : List ℕ) (room : ℕ) (x : EntityId) (r : ℕ) (bytes : Bytes) → IsReply contents folder x r (Ok bytes) → (there : ℕ → Option Bytes) →
-    (setting contents folder room).known ≡ Some there → there r ≡ Some bytes
-full_there None folder room x r bytes is there known = cc
-full_there (Some c) folder room x r bytes is there known =
+full_there : (contents : Option Contents) (folder : List ℕ) (limit : ℕ) (x : EntityId) (r : ℕ) (bytes : Bytes) → IsReply contents folder x r (Ok bytes) → (there : ℕ → Option Bytes) →
+    (environment contents folder limit).known ≡ Some there → there r ≡ Some bytes
+full_there None folder limit x r bytes is there known = cc
+full_there (Some c) folder limit x r bytes is there known =
     let same : c folder ≡ there = cc in
     ap (λ (f : ℕ → Option Bytes). f r) (sym same) ∙ is.1
 
-pub is_full : (contents : Option Contents) (folder : List ℕ) (room : ℕ) (old new : WorldState) → old.room ≡ room → new ≡ old → IsOverfull contents folder old → IsFull (setting contents folder room) new.replay (mapped_in new)
-is_full contents folder room old new same stays over =
+pub is_full : (contents : Option Contents) (folder : List ℕ) (limit : ℕ) (old new : WorldState) → old.limit ≡ limit → new ≡ old → IsOverfull contents folder old → IsFull (environment contents folder limit) new.replay (mapped_in new)
+is_full contents folder limit old new same stays over =
     let Over : ℕ → Type 0 = λ n. HasNoRoom n old.replay.played.records (mapped_in old) over.event.entity (revision_wanted old.replay over.event) over.bytes in
     rw stays (record {
       event = over.event;
@@ -299,6 +299,6 @@ is_full contents folder room old new same stays over =
       fetches = over.wanted;
       bytes = over.bytes;
       document = over.is_reply.0;
-      there = full_there contents folder room over.event.entity _ over.bytes over.is_reply;
+      there = full_there contents folder limit over.event.entity _ over.bytes over.is_reply;
       over = subst Over same over.over;
     })

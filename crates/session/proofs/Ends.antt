@@ -4,7 +4,7 @@ use Rattle.rising.specs.Rising.{Each}
 use Rattle.wq_io.specs.Streams.{IsAtEnd, Rose, after_known}
 use Rattle.entity_model.specs.declared.event.Event.{Event}
 use Rattle.entity_state.specs.State.{is_kept}
-use Rattle.entity_model.specs.declared.delivery.Delivery.{Delivery}
+use Rattle.delivery.specs.declared.Delivery.{Delivery}
 use Rattle.reorder_buffer.specs.Buffered.{first_due}
 use Rattle.replay_model.specs.Acceptance.{due, known, late, version_in_force}
 use Rattle.replay_model.specs.Entries.{has_open_revision, late_events}
@@ -32,7 +32,7 @@ use Rattle.transcript.specs.Sections.{closing_of}
 use Rattle.transcript.proofs.Parts.{after_twice}
 use Rattle.session.specs.Counts.{RoseBy, HasCounted}
 use Rattle.session.specs.Headline.{BrokenOff, Ending, HasFates, HasReplayed, HoldsRightly, IsFunction, IsInterrupted, IsPlayed, IsReplayed, NamesRightly, StandsAtMapping, Stopped}
-use Rattle.session.specs.Moment.{Moment, Run, Setting, Stage, with_output, horizon_at}
+use Rattle.session.specs.Moment.{Moment, Run, Environment, Stage, with_output, horizon_at}
 use Rattle.session.specs.Reading.{AreDeliveries}
 use Rattle.session.specs.Remapping.{IsLeftStale, Mapped, held_triples, mapped_by}
 use Rattle.session.specs.Sections.{sections_of}
@@ -46,23 +46,23 @@ use Rattle.session.proofs.Needed.{all_met, due-none}
 use Rattle.session.proofs.Versions.{all_held_by}
 
 -- where no event is due, a world that leads to a play is played
-abbrev pub is_played : (setting : Setting) (course : Course) (start now : Stage) → Leads setting course start now → first_due now.world.buffer ≡ None → now.mapped ≡ mapped_by course.version now.world.played.records →
-    IsPlayed setting course start now
-is_played setting course start now x rests mapped = record {
+abbrev pub is_played : (environment : Environment) (course : Course) (start now : Stage) → Leads environment course start now → first_due now.world.buffer ≡ None → now.mapped ≡ mapped_by course.version now.world.played.records →
+    IsPlayed environment course start now
+is_played environment course start now x rests mapped = record {
   replies = x.explained.replies;
   fit = x.explained.fit;
-  is = Explained-is judgement setting.known course.state course.fetched x.made now.world x.explained rests;
+  is = Explained-is judgement environment.known course.state course.fetched x.made now.world x.explained rests;
   says = x.says x.explained.replies (λ q r h. refl);
-  roomed = all_met setting.room _ _ (due-none course.version x.explained.replies now.world rests) (x.roomed x.explained.replies (λ q r h. refl));
+  roomed = all_met environment.limit _ _ (due-none course.version x.explained.replies now.world rests) (x.roomed x.explained.replies (λ q r h. refl));
   documents = x.documents;
   mapped = mapped;
-  counted = subst (λ (n : ℕ). HasCounted start.counts now.counts n now.world.played.side) (Explained-fetches judgement setting.known course.state course.fetched x.made now.world x.explained rests) x.counted;
-  source = Explained-source judgement setting.known course.state course.fetched x.made now.world x.explained rests;
+  counted = subst (λ (n : ℕ). HasCounted start.counts now.counts n now.world.played.side) (Explained-fetches judgement environment.known course.state course.fetched x.made now.world x.explained rests) x.counted;
+  source = Explained-source judgement environment.known course.state course.fetched x.made now.world x.explained rests;
   source_says = λ contents is. x.says (replies_there contents now.world) (λ q r h. sym (x.explained.honest contents is q r));
   source_roomed = λ contents is.
-      all_met setting.room _ _ (due-none course.version (replies_there contents now.world) now.world rests) (x.roomed (replies_there contents now.world) (λ q r h. sym (x.explained.honest contents is q r)));
+      all_met environment.limit _ _ (due-none course.version (replies_there contents now.world) now.world rests) (x.roomed (replies_there contents now.world) (λ q r h. sym (x.explained.honest contents is q r)));
   source_counted = λ contents is.
-      subst (λ (n : ℕ). HasCounted start.counts now.counts n now.world.played.side) (Explained-source_fetches judgement setting.known course.state course.fetched x.made now.world x.explained rests contents is) x.counted;
+      subst (λ (n : ℕ). HasCounted start.counts now.counts n now.world.played.side) (Explained-source_fetches judgement environment.known course.state course.fetched x.made now.world x.explained rests contents is) x.counted;
 }
 
 fates : (hz : Option ℕ) (ds : List Delivery) (world : ReplayState) (replies : Replies) → played hz true replies ds ≡ world.played → HasFates hz ds world
@@ -73,9 +73,9 @@ fates hz ds world replies whole = record {
       subst P whole (state-played hz true replies ds x ∙ fate-known hz true ds x none);
 }
 
-module _ (setting : Setting) (hz : Option ℕ) (ds : List Delivery) (world : ReplayState) (replies : Replies) (whole : played hz true replies ds ≡ world.played)
-    (source : (contents : ℕ → Option Bytes) → setting.known ≡ Some contents → played hz true (replies_there contents world) ds ≡ world.played) where
-  holds : HoldsDocuments world → HoldsRightly setting world
+module _ (environment : Environment) (hz : Option ℕ) (ds : List Delivery) (world : ReplayState) (replies : Replies) (whole : played hz true replies ds ≡ world.played)
+    (source : (contents : ℕ → Option Bytes) → environment.known ≡ Some contents → played hz true (replies_there contents world) ds ≡ world.played) where
+  holds : HoldsDocuments world → HoldsRightly environment world
   holds documents = record {
     settled = λ x. let P : Played → Type 0 = λ p. is_settled (record_of p.records x) ≡ not (has_open_revision p.records p.side x) in subst P whole (settled-played hz true replies ds x);
     documents = documents;
@@ -87,7 +87,7 @@ module _ (setting : Setting) (hz : Option ℕ) (ds : List Delivery) (world : Rep
         subst P (source contents is) (held-told judgement contents (failed_events world.played.side) hz true ds x);
   }
 
-  names : NamesRightly setting hz ds world
+  names : NamesRightly environment hz ds world
   names = record {
     late_ones = let P : Played → Type 0 = λ p. late_events p.side ≡ late hz ds in subst P whole (late-played hz true replies ds);
     there = λ contents is.
@@ -96,22 +96,22 @@ module _ (setting : Setting) (hz : Option ℕ) (ds : List Delivery) (world : Rep
   }
 
 -- at the end the world has the states, holds and names what it should
-is_replayed : (setting : Setting) (ds : List Delivery) (start now : Stage) → AtEnd setting ds start now → IsReplayed setting (course_to_end ds start) ds start now
-is_replayed setting ds start now at_end =
-    let play : IsPlayed setting (course_to_end ds start) start now = is_played setting (course_to_end ds start) start now at_end.leads at_end.rests at_end.mapped in
+is_replayed : (environment : Environment) (ds : List Delivery) (start now : Stage) → AtEnd environment ds start now → IsReplayed environment (course_to_end ds start) ds start now
+is_replayed environment ds start now at_end =
+    let play : IsPlayed environment (course_to_end ds start) start now = is_played environment (course_to_end ds start) start now at_end.leads at_end.rests at_end.mapped in
     let whole : played (horizon_at start) true play.replies ds ≡ now.world.played = ap (λ (w : ReplayState). w.played) (sym play.is) in
-    let source : (contents : ℕ → Option Bytes) → setting.known ≡ Some contents → played (horizon_at start) true (replies_there contents now.world) ds ≡ now.world.played =
+    let source : (contents : ℕ → Option Bytes) → environment.known ≡ Some contents → played (horizon_at start) true (replies_there contents now.world) ds ≡ now.world.played =
     λ contents is. ap (λ (w : ReplayState). w.played) (sym (play.source contents is)) in
     record {
       played = play;
       fates = fates (horizon_at start) ds now.world play.replies whole;
-      holds = holds setting (horizon_at start) ds now.world play.replies whole source at_end.leads.documents;
-      names = names setting (horizon_at start) ds now.world play.replies whole source;
+      holds = holds environment (horizon_at start) ds now.world play.replies whole source at_end.leads.documents;
+      names = names environment (horizon_at start) ds now.world play.replies whole source;
     }
 
 -- the same, of an input that was read
-pub replayed : (run : Run) (before now : Moment) (ds : List Delivery) → IsAtEnd now.input.left → IfSome before.input.left (λ bytes. AreDeliveries (max_bytes_of run.choices) bytes ds) → AtEnd run.setting ds before.stage now.stage → HasReplayed run before now
-replayed run before now ds read are at_end = record { deliveries = ds; read = read; are = are; replay = is_replayed run.setting ds before.stage now.stage at_end }
+pub replayed : (run : Run) (before now : Moment) (ds : List Delivery) → IsAtEnd now.input.left → IfSome before.input.left (λ bytes. AreDeliveries (max_bytes_of run.choices) bytes ds) → AtEnd run.environment ds before.stage now.stage → HasReplayed run before now
+replayed run before now ds read are at_end = record { deliveries = ds; read = read; are = are; replay = is_replayed run.environment ds before.stage now.stage at_end }
 
 -- no fetch failed where the count of faults stands still below its last value
 pub none_failed : (failed : List Event) (before now : ℕ) → RoseBy (length failed) before now → now ≡ before → now < 2 ^ 64 - 1 → failed ≡ []
@@ -126,7 +126,7 @@ prints_asked version sections wanted mapped p old new result same by prints =
     subst (λ s. Printed s (union triple_cmp (meaning version) p.records)) same (subst (Printed sections) (all_held_by version mapped p.records by) prints)
 
 -- the sections were printed behind the answers
-module _ (setting : Setting) (sections : Sections) (ds : List Delivery) (start now : Stage) (out : Output) (replay : IsReplayed setting (course_to_end ds start) ds start now)
+module _ (environment : Environment) (sections : Sections) (ds : List Delivery) (start now : Stage) (out : Output) (replay : IsReplayed environment (course_to_end ds start) ds start now)
     (prints : Prints (closing_text meaning (version_in_force ds) sections now.world.played) now.output out (Ok tt)) where
   -- the answers and the sections are the transcript
   transcribed : (replies : Replies) → now.world ≡ following_to_end (horizon_at start) replies ds → now.output.bytes ≡ said_behind ds start replies → out.bytes ≡ after_known start.output.bytes (transcript meaning (horizon_at start) sections replies ds)
@@ -136,11 +136,11 @@ module _ (setting : Setting) (sections : Sections) (ds : List Delivery) (start n
       ∙ ap (λ (w : ReplayState). after_known start.output.bytes (said meaning (horizon_at start) replies ds ++ closing_text meaning (version_in_force ds) sections w.played)) is
 
   -- the same, with the replies of what is there
-  transcribed_there : (contents : ℕ → Option Bytes) → setting.known ≡ Some contents → out.bytes ≡ after_known start.output.bytes (transcript meaning (horizon_at start) sections (replies_there contents now.world) ds)
+  transcribed_there : (contents : ℕ → Option Bytes) → environment.known ≡ Some contents → out.bytes ≡ after_known start.output.bytes (transcript meaning (horizon_at start) sections (replies_there contents now.world) ds)
   transcribed_there contents is = transcribed (replies_there contents now.world) (replay.played.source contents is) (replay.played.source_says contents is)
 
   -- where no fetch failed, world and output are functions of the sections, the deliveries and the contents
-  pub is_function : IsFunction setting sections ds start (with_output now out)
+  pub is_function : IsFunction environment sections ds start (with_output now out)
   is_function =
       let none = none_failed (failed_events now.world.played.side) start.counts.faults now.counts.faults replay.played.counted.failed in
       record {
@@ -149,7 +149,7 @@ module _ (setting : Setting) (sections : Sections) (ds : List Delivery) (start n
       }
 
   -- the play says the transcript
-  pub all_printed : IsReplayed setting (course_printed sections ds start) ds start (with_output now out)
+  pub all_printed : IsReplayed environment (course_printed sections ds start) ds start (with_output now out)
   all_printed = record {
     played = record {
       replies = replay.played.replies;
@@ -176,8 +176,8 @@ pub ending : (run : Run) (before now : Moment) (out : Output) (replayed : HasRep
 ending run before now out replayed prints =
     let sections : Sections = sections_of run.choices in
     record {
-      replayed = record { deliveries = replayed.deliveries; read = replayed.read; are = replayed.are; replay = all_printed run.setting sections replayed.deliveries before.stage now.stage out replayed.replay prints };
-      function = is_function run.setting sections replayed.deliveries before.stage now.stage out replayed.replay prints;
+      replayed = record { deliveries = replayed.deliveries; read = replayed.read; are = replayed.are; replay = all_printed run.environment sections replayed.deliveries before.stage now.stage out replayed.replay prints };
+      function = is_function run.environment sections replayed.deliveries before.stage now.stage out replayed.replay prints;
     }
 
 -- a count that rose since a later time rose since an earlier one
@@ -191,12 +191,12 @@ interrupted NotWritten run before now between earlier rose stands = (rose_since 
 interrupted Refused run before now between earlier rose stands = inr stands
 
 -- not all that was due was applied
-pub halted : (why : Unapplied) (run : Run) (before now : Moment) → IsHeldUp why run.setting now.stage.world now.stage.mapped → IsHalted why run before now → Stopped (stop_of_unapplied why) run before now
+pub halted : (why : Unapplied) (run : Run) (before now : Moment) → IsHeldUp why run.environment now.stage.world now.stage.mapped → IsHalted why run before now → Stopped (stop_of_unapplied why) run before now
 halted NoRoom run before now full stands = inl (full, stands)
 halted Starved run before now held_up stands = inl (inl stands)
 
 -- not all that is held was mapped anew
-pub left_stale : (why : Unapplied) (run : Run) (before now : Moment) → IsLeftStale why run.setting.room now.stage.world.played.records now.stage.mapped → StandsAtMapping run before now → Stopped (stop_of_unapplied why) run before now
+pub left_stale : (why : Unapplied) (run : Run) (before now : Moment) → IsLeftStale why run.environment.limit now.stage.world.played.records now.stage.mapped → StandsAtMapping run before now → Stopped (stop_of_unapplied why) run before now
 left_stale NoRoom run before now full stands = inr (full, stands)
 left_stale Starved run before now stale stands = inl (inr stands)
 

@@ -6,8 +6,8 @@ use Rattle.std.specs.Ordering.{eq_by_cmp}
 use Rattle.rising.specs.Rising.{In}
 use Rattle.rising.proofs.Bools.{clash}
 use Rattle.rising.proofs.FirstPassing.{has-remove_key}
-use Rattle.entity_model.specs.declared.delivery.Delivery.{Delivery}
-use Rattle.entity_model.specs.declared.delivery.Delivery.TheVariants.{Mapping}
+use Rattle.delivery.specs.declared.Delivery.{Delivery}
+use Rattle.delivery.specs.declared.Delivery.TheVariants.{Mapping}
 use Rattle.entity_model.specs.declared.event.Event.{Event}
 use Rattle.entity_model.specs.declared.id.EntityId.{EntityId}
 use Rattle.entity_model.specs.declared.mapping.MappingVersion.{MappingVersion}
@@ -26,7 +26,7 @@ use Rattle.words.specs.Options.{max_bytes_of}
 use Rattle.session.specs.declared.stop.Stop.TheVariants.{StoreFull}
 use Rattle.session.specs.declared.stop.Unapplied.TheVariants.{StoreFull as NoRoom}
 use Rattle.told_pages.specs.Told.{terms_there, versions_told}
-use Rattle.told_pages.proofs.Fits.{SecondTold, fits}
+use Rattle.told_pages.proofs.Fits.{ByTwoTold, fits}
 use Rattle.session.specs.Headline.{StandsAtMapping, Stopped}
 use Rattle.session.specs.Moment.{Moment, Run, horizon_at}
 use Rattle.session.specs.Reading.{AreDeliveries}
@@ -43,23 +43,23 @@ module _ (ds : List Delivery) where
   -- the version in force is told, and so is each by which a page is mapped
   record MappedTold (mapped : Mapped) : Type 0 where
     version : In mapped.version (versions_told ds)
-    second : SecondTold ds mapped.second
+    by_two : ByTwoTold ds mapped.by_two
 
-  all_told : (v : MappingVersion) (records : Records) → In v (versions_told ds) → SecondTold ds (all_by v records)
+  all_told : (v : MappingVersion) (records : Records) → In v (versions_told ds) → ByTwoTold ds (all_by v records)
   all_told One records there x h = clash h refl
   all_told Two records there x h = there
 
-  next_told : (v : MappingVersion) (next : Option EntityId) (second : List EntityId) → In v (versions_told ds) → SecondTold ds second → SecondTold ds (with_version_of v next second)
-  next_told v None second there told = told
-  next_told One (Some y) second there told = λ x h. told x (has-remove_key (eq_by_cmp entity_cmp y) entity_cmp x second h)
-  next_told Two (Some y) second there told = λ x h. there
+  next_told : (v : MappingVersion) (next : Option EntityId) (by_two : List EntityId) → In v (versions_told ds) → ByTwoTold ds by_two → ByTwoTold ds (with_version_of v next by_two)
+  next_told v None by_two there told = told
+  next_told One (Some y) by_two there told = λ x h. told x (has-remove_key (eq_by_cmp entity_cmp y) entity_cmp x by_two h)
+  next_told Two (Some y) by_two there told = λ x h. there
 
   some_told : (steps : ℕ) (records : Records) (mapped : Mapped) → MappedTold mapped → MappedTold (remapped_some steps records mapped)
   some_told zero records mapped told = told
   some_told (suc n) records mapped told =
       let before = some_told n records mapped told in
       let old : Mapped = remapped_some n records mapped in
-      record { version = before.version; second = next_told old.version (next_stale_in records old) old.second before.version before.second }
+      record { version = before.version; by_two = next_told old.version (next_stale_in records old) old.by_two before.version before.by_two }
 
 -- ---- a run that stopped
 
@@ -74,7 +74,7 @@ no_number : (a b c : ℕ) → a < b → b ≤ c → c ≤ a → ⊥
 no_number a b c over within enough = omega (arith, over, within, enough)
 
 module _ (run : Run) (before now : Moment) (bytes : List ℕ) (ds : List Delivery) (contents : ℕ → Option Bytes) (left : before.input.left ≡ Some bytes) (are : AreDeliveries (max_bytes_of run.choices) bytes ds)
-    (known : run.setting.known ≡ Some contents) where
+    (known : run.environment.known ≡ Some contents) where
   abbrev replies : Replies
   replies = replies_there contents now.stage.world
 
@@ -91,7 +91,7 @@ module _ (run : Run) (before now : Moment) (bytes : List ℕ) (ds : List Deliver
 
   one_version : (first : List Delivery) → Begins ds first → now.stage.mapped ≡ mapped_by (version_in_force first) records → MappedTold ds now.stage.mapped
   one_version first b is =
-      subst (MappedTold ds) (sym is) (record { version = begins-in_force ds first b; second = all_told ds (version_in_force first) records (begins-in_force ds first b) })
+      subst (MappedTold ds) (sym is) (record { version = begins-in_force ds first b; by_two = all_told ds (version_in_force first) records (begins-in_force ds first b) })
 
   brought_within : StopsWithin NoRoom run before now → Brought
   brought_within s =
@@ -126,21 +126,21 @@ module _ (run : Run) (before now : Moment) (bytes : List ℕ) (ds : List Deliver
             (following_named contents (events ds) replies gives (horizon_at before.stage) s.deliveries (begins-events ds s.deliveries fewer_ones));
         mapped = subst (MappedTold ds) (sym s.mapped) (some_told ds s.steps records _ (record {
           version = begins-mapping ds s.deliveries s.version b;
-          second = all_told ds (version_in_force s.deliveries) records (begins-in_force ds s.deliveries fewer_ones);
+          by_two = all_told ds (version_in_force s.deliveries) records (begins-in_force ds s.deliveries fewer_ones);
         }));
       }
 
-  module _ (enough : distinct (terms_there contents ds) ≤ run.setting.room) where
-    never_over : (x : EntityId) (rev : ℕ) (page : Bytes) → Brought → IsNamed (events ds) x rev → contents rev ≡ Some page → HasNoRoom run.setting.room records now.stage.mapped x rev page → ⊥
+  module _ (enough : distinct (terms_there contents ds) ≤ run.environment.limit) where
+    never_over : (x : EntityId) (rev : ℕ) (page : Bytes) → Brought → IsNamed (events ds) x rev → contents rev ≡ Some page → HasNoRoom run.environment.limit records now.stage.mapped x rev page → ⊥
     never_over x rev page brought named there over =
-        no_number _ _ _ over (fits contents ds records now.stage.mapped.version now.stage.mapped.second brought.mapped.version brought.mapped.second (λ y. (brought.named.pages y).held) x rev page named there) enough
+        no_number _ _ _ over (fits contents ds records now.stage.mapped.version now.stage.mapped.by_two brought.mapped.version brought.mapped.by_two (λ y. (brought.named.pages y).held) x rev page named there) enough
 
-    never_full : IsFull run.setting now.stage.world now.stage.mapped → Brought → ⊥
+    never_full : IsFull run.environment now.stage.world now.stage.mapped → Brought → ⊥
     never_full full brought =
         never_over full.event.entity (revision_wanted now.stage.world full.event) full.bytes brought
         (wanted_named contents (events ds) now.stage.world full.event full.due full.fetches brought.named) (full.there contents known) full.over
 
-    never_full_of_stale : IsFullOfStale run.setting.room records now.stage.mapped → Brought → ⊥
+    never_full_of_stale : IsFullOfStale run.environment.limit records now.stage.mapped → Brought → ⊥
     never_full_of_stale full brought =
         let held : HoldsNamed contents (events ds) full.entity (Some full.page) = subst (HoldsNamed contents (events ds) full.entity) full.holds (brought.named.pages full.entity).held in
         never_over full.entity full.page.revision full.page.content brought held.0 held.1 full.over

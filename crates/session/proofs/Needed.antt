@@ -9,8 +9,8 @@ use Rattle.rising.specs.Rising.{IsRising}
 use Rattle.rising.proofs.FirstPassing.{filter-first, filter-none}
 use Rattle.rdf_term.specs.declared.triple.Triple.{Triple}
 use Rattle.rdf_term.specs.Order.{triple_cmp}
-use Rattle.entity_model.specs.declared.delivery.Delivery.{Delivery}
-use Rattle.entity_model.specs.declared.delivery.Delivery.TheVariants.{Watermark}
+use Rattle.delivery.specs.declared.Delivery.{Delivery}
+use Rattle.delivery.specs.declared.Delivery.TheVariants.{Watermark}
 use Rattle.entity_model.specs.declared.event.Event.{Event}
 use Rattle.entity_model.specs.declared.id.EntityId.{EntityId}
 use Rattle.entity_model.specs.declared.mapping.MappingVersion.{MappingVersion}
@@ -49,27 +49,27 @@ use Rattle.world.proofs.ByVersion.{stale_remapped}
 use Rattle.session.specs.Needed.{HaveRoom, HaveRoomBefore, needed_anew, needed_at, needed_by, needed_by_all, needed_by_due, needed_by_pages, needed_for, needed_in, needed_to_end}
 use Rattle.session.specs.Remapping.{Mapped, mapped_by, mapped_in}
 
--- ---- needs and a room
+-- ---- needs and a limit
 
-module _ (room : ℕ) (left needs : List ℕ) where
+module _ (limit : ℕ) (left needs : List ℕ) where
   -- where none is left, there is room for all
-  pub all_met : left ≡ [] → HaveRoomBefore room left needs → HaveRoom room needs
-  all_met none x = subst (HaveRoom room) (sym (append-nil x.met) ∙ ap (λ l. x.met ++ l) (sym none) ∙ x.are) x.have_room
+  pub all_met : left ≡ [] → HaveRoomBefore limit left needs → HaveRoom limit needs
+  all_met none x = subst (HaveRoom limit) (sym (append-nil x.met) ∙ ap (λ l. x.met ++ l) (sym none) ∙ x.are) x.have_room
 
   -- the first have room
-  pub first_met : (first : List ℕ) → needs ≡ first ++ left → HaveRoom room first → HaveRoomBefore room left needs
+  pub first_met : (first : List ℕ) → needs ≡ first ++ left → HaveRoom limit first → HaveRoomBefore limit left needs
   first_met first is have = record { met = first; are = sym is; have_room = have }
 
   -- all have room
-  pub none_left : left ≡ [] → HaveRoom room needs → HaveRoomBefore room left needs
+  pub none_left : left ≡ [] → HaveRoom limit needs → HaveRoomBefore limit left needs
   none_left none have = first_met needs (sym (ap (λ l. needs ++ l) none ∙ append-nil needs)) have
 
   -- and some more
-  pub next_met : (now before : List ℕ) → before ≡ now ++ left → HaveRoom room now → HaveRoomBefore room before needs → HaveRoomBefore room left needs
+  pub next_met : (now before : List ℕ) → before ≡ now ++ left → HaveRoom limit now → HaveRoomBefore limit before needs → HaveRoomBefore limit left needs
   next_met now before is have x = record {
     met = x.met ++ now;
     are = append_assoc x.met now left ∙ ap (λ l. x.met ++ l) (sym is) ∙ x.are;
-    have_room = Each-append (λ n. n ≤ room) x.met now x.have_room have;
+    have_room = Each-append (λ n. n ≤ limit) x.met now x.have_room have;
   }
 
 -- ---- due events
@@ -157,73 +157,73 @@ module _ (w : ReplayState) (e : Event) where
       same_reply e rev before.held reply (others e rev) pages entries
 
   -- there is room for what other replies bring that are the same to it
-  pub room_replied : (room : ℕ) (version : MappingVersion) (reply : Result Bytes Cause) (others : Replies) → next_by w e reply ≡ after_applying others w (Some e) →
-      HaveRoom room (cond fetches (needed_for version w.played.records e.entity rev reply) []) → HaveRoom room (needed_by version others w.played.records e before)
-  room_replied room version reply others same = by fetches (λ fetching. replied reply others fetching same)
+  pub room_replied : (limit : ℕ) (version : MappingVersion) (reply : Result Bytes Cause) (others : Replies) → next_by w e reply ≡ after_applying others w (Some e) →
+      HaveRoom limit (cond fetches (needed_for version w.played.records e.entity rev reply) []) → HaveRoom limit (needed_by version others w.played.records e before)
+  room_replied limit version reply others same = by fetches (λ fetching. replied reply others fetching same)
     where
-      by : (fetching : Bool) → (fetching ≡ true → others e rev ≡ reply) → HaveRoom room (cond fetching (needed_for version w.played.records e.entity rev reply) []) →
-          HaveRoom room (cond fetching (needed_for version w.played.records e.entity rev (others e rev)) [])
-      by true is have = subst (λ p. HaveRoom room (needed_for version w.played.records e.entity rev p)) (sym (is refl)) have
+      by : (fetching : Bool) → (fetching ≡ true → others e rev ≡ reply) → HaveRoom limit (cond fetching (needed_for version w.played.records e.entity rev reply) []) →
+          HaveRoom limit (cond fetching (needed_for version w.played.records e.entity rev (others e rev)) [])
+      by true is have = subst (λ p. HaveRoom limit (needed_for version w.played.records e.entity rev p)) (sym (is refl)) have
       by false is have = tt
 
 -- where what is stored has room, there is room for what a fetch gives
-stored_has_room : (room : ℕ) (version : MappingVersion) (records : Records) (x : EntityId) (revision : ℕ) (fetching deleting : Bool) (reply : Result Bytes Cause) (was held : Option (Held Bytes)) (outcome : Outcome) →
+stored_has_room : (limit : ℕ) (version : MappingVersion) (records : Records) (x : EntityId) (revision : ℕ) (fetching deleting : Bool) (reply : Result Bytes Cause) (was held : Option (Held Bytes)) (outcome : Outcome) →
     outcome ≡ cond fetching (outcome_of_reply reply) (cond deleting Dropped Same) → held ≡ cond fetching (held_after_fetch revision reply was) (cond deleting None was) →
-    (outcome ≡ Stored → room_with (meaning version) records (triples_held (meaning version) x held) ≤ room) → HaveRoom room (cond fetching (needed_for version records x revision reply) [])
-stored_has_room room version records x revision true deleting (Ok bytes) was held outcome is holds within = (subst (λ h. room_with (meaning version) records (triples_held (meaning version) x h) ≤ room) holds (within is), tt)
-stored_has_room room version records x revision true deleting (Err cause) was held outcome is holds within = tt
-stored_has_room room version records x revision false deleting reply was held outcome is holds within = tt
+    (outcome ≡ Stored → room_with (meaning version) records (triples_held (meaning version) x held) ≤ limit) → HaveRoom limit (cond fetching (needed_for version records x revision reply) [])
+stored_has_room limit version records x revision true deleting (Ok bytes) was held outcome is holds within = (subst (λ h. room_with (meaning version) records (triples_held (meaning version) x h) ≤ limit) holds (within is), tt)
+stored_has_room limit version records x revision true deleting (Err cause) was held outcome is holds within = tt
+stored_has_room limit version records x revision false deleting reply was held outcome is holds within = tt
 
 -- room is counted by the one version by which all that is held is mapped
-by_one : (room : ℕ) (version : MappingVersion) (records : Records) (triples : List Triple) → room_with (meaning_by meaning (all_by version records)) records triples ≤ room → room_with (meaning version) records triples ≤ room
-by_one room version records triples = subst (λ ts. distinct (flat_map terms_of (ts ++ triples)) ≤ room) (union-all meaning version records triple_cmp)
+by_one : (limit : ℕ) (version : MappingVersion) (records : Records) (triples : List Triple) → room_with (meaning_by meaning (all_by version records)) records triples ≤ limit → room_with (meaning version) records triples ≤ limit
+by_one limit version records triples = subst (λ ts. distinct (flat_map terms_of (ts ++ triples)) ≤ limit) (union-all meaning version records triple_cmp)
 
 -- a due event that was applied had room
-pub applied_has_room : (contents : Option Contents) (folder : List ℕ) (room : ℕ) (old : WorldState) (new : ReplayState) (applied : Applied) (a : Applies contents folder old.replay new applied) →
-    (applied.outcome ≡ Stored → room_with (meaning_by meaning old.second) old.replay.played.records (triples_held (meaning old.mapping) applied.event.entity (record_of new.played.records applied.event.entity).held) ≤ room) →
+pub applied_has_room : (contents : Option Contents) (folder : List ℕ) (limit : ℕ) (old : WorldState) (new : ReplayState) (applied : Applied) (a : Applies contents folder old.replay new applied) →
+    (applied.outcome ≡ Stored → room_with (meaning_by meaning old.by_two) old.replay.played.records (triples_held (meaning old.mapping) applied.event.entity (record_of new.played.records applied.event.entity).held) ≤ limit) →
     (version : MappingVersion) → mapped_in old ≡ mapped_by version old.replay.played.records →
-    HaveRoom room (cond (is_fetching old.replay applied.event) (needed_for version old.replay.played.records applied.event.entity (revision_wanted old.replay applied.event) a.reply) [])
-applied_has_room contents folder room old new applied a within version is =
+    HaveRoom limit (cond (is_fetching old.replay applied.event) (needed_for version old.replay.played.records applied.event.entity (revision_wanted old.replay applied.event) a.reply) [])
+applied_has_room contents folder limit old new applied a within version is =
     let e : Event = applied.event in
     let records : Records = old.replay.played.records in
     let held : Option (Held Bytes) = (record_of new.played.records e.entity).held in
-    let Within : Mapped → Type 0 = λ m. room_with (meaning_by meaning m.second) records (triples_held (meaning m.version) e.entity held) ≤ room in
-    stored_has_room room version records e.entity (revision_wanted old.replay e) (is_fetching old.replay e) (is_deleted (state_after (record_of records e.entity).state e).mode) a.reply (record_of records e.entity).held held applied.outcome
+    let Within : Mapped → Type 0 = λ m. room_with (meaning_by meaning m.by_two) records (triples_held (meaning m.version) e.entity held) ≤ limit in
+    stored_has_room limit version records e.entity (revision_wanted old.replay e) (is_fetching old.replay e) (is_deleted (state_after (record_of records e.entity).state e).mode) a.reply (record_of records e.entity).held held applied.outcome
     a.outcome
     (ap (λ (v : ReplayState). (record_of v.played.records e.entity).held) a.new_is ∙ held_applied old.replay e (λ q r. a.reply))
-    (λ stored. by_one room version records (triples_held (meaning version) e.entity held) (subst Within is (within stored)))
+    (λ stored. by_one limit version records (triples_held (meaning version) e.entity held) (subst Within is (within stored)))
 
 -- ---- one page is mapped anew
 
-module _ (room : ℕ) (needs : List ℕ) (w : WorldState) (rising : IsRising entity_cmp w.second) where
+module _ (limit : ℕ) (needs : List ℕ) (w : WorldState) (rising : IsRising entity_cmp w.by_two) where
   abbrev records : Records
   records = w.replay.played.records
 
   -- for how many terms the page of an entity needs room that is mapped anew now
   abbrev need : EntityId → ℕ
-  need x = room_with (meaning_by meaning w.second) records (triples_held (meaning w.mapping) x (record_of records x).held)
+  need x = room_with (meaning_by meaning w.by_two) records (triples_held (meaning w.mapping) x (record_of records x).held)
 
   -- the needs of the pages that are left, where these hold by version Two
   abbrev left_by : List EntityId → List ℕ
-  left_by second = needed_anew records (record { version = w.mapping; second = second })
+  left_by by_two = needed_anew records (record { version = w.mapping; by_two = by_two })
 
   first_anew : (x : EntityId) (rest : List EntityId) → stale w ≡ x ∷ rest →
-      left_by w.second ≡ need x ∷ left_by (with_version w.mapping x w.second)
+      left_by w.by_two ≡ need x ∷ left_by (with_version w.mapping x w.by_two)
   first_anew x rest is =
-      let others : stale_by w.mapping (with_version w.mapping x w.second) records ≡ rest =
-      stale_remapped w.second rising x w.mapping records ∙ ap (remove_key (eq_by_cmp entity_cmp x)) is
+      let others : stale_by w.mapping (with_version w.mapping x w.by_two) records ≡ rest =
+      stale_remapped w.by_two rising x w.mapping records ∙ ap (remove_key (eq_by_cmp entity_cmp x)) is
       ∙ ap (λ b. cond b rest (x ∷ remove_key (eq_by_cmp entity_cmp x) rest)) (ap is_eq (tied_itself entity_cmp_total x)) in
-      ap (needed_by_pages w.mapping records w.second) is
-      ∙ ap (λ l. need x ∷ needed_by_pages w.mapping records (with_version w.mapping x w.second) l) (sym others)
+      ap (needed_by_pages w.mapping records w.by_two) is
+      ∙ ap (λ l. need x ∷ needed_by_pages w.mapping records (with_version w.mapping x w.by_two) l) (sym others)
 
   -- the page of the least stale entity is mapped anew, and had room
-  pub remapped_has_room : room_with (meaning_by meaning w.second) records (triples_anew w) ≤ room → HaveRoomBefore room (left_by w.second) needs → HaveRoomBefore room (left_by (remapped w).second) needs
+  pub remapped_has_room : room_with (meaning_by meaning w.by_two) records (triples_anew w) ≤ limit → HaveRoomBefore limit (left_by w.by_two) needs → HaveRoomBefore limit (left_by (remapped w).by_two) needs
   remapped_has_room within so_far = by (stale w) refl
     where
-      by : (xs : List EntityId) → stale w ≡ xs → HaveRoomBefore room (left_by (remapped w).second) needs
-      by [] is = subst (λ o. HaveRoomBefore room (left_by (with_version_of w.mapping o w.second)) needs) (sym (ap first_of is)) so_far
+      by : (xs : List EntityId) → stale w ≡ xs → HaveRoomBefore limit (left_by (remapped w).by_two) needs
+      by [] is = subst (λ o. HaveRoomBefore limit (left_by (with_version_of w.mapping o w.by_two)) needs) (sym (ap first_of is)) so_far
       by (x ∷ rest) is =
           let next : next_stale w ≡ Some x = ap first_of is in
-          subst (λ o. HaveRoomBefore room (left_by (with_version_of w.mapping o w.second)) needs) (sym next)
-          (next_met room (left_by (with_version w.mapping x w.second)) needs (need x ∷ []) (left_by w.second) (first_anew x rest is)
-          (subst (λ o. room_with (meaning_by meaning w.second) records (triples_of (meaning w.mapping) records o) ≤ room) next within, tt) so_far)
+          subst (λ o. HaveRoomBefore limit (left_by (with_version_of w.mapping o w.by_two)) needs) (sym next)
+          (next_met limit (left_by (with_version w.mapping x w.by_two)) needs (need x ∷ []) (left_by w.by_two) (first_anew x rest is)
+          (subst (λ o. room_with (meaning_by meaning w.by_two) records (triples_of (meaning w.mapping) records o) ≤ limit) next within, tt) so_far)

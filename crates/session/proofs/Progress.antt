@@ -11,8 +11,8 @@ use Rattle.entity_model.specs.declared.mapping.MappingVersion.{MappingVersion}
 use Rattle.entity_model.specs.declared.mapping.MappingVersion.TheVariants.{One}
 use Rattle.replay_model.specs.Acceptance.{version_in_force}
 use Rattle.replay_model.specs.Versions.{all_by}
-use Rattle.entity_model.specs.declared.delivery.Delivery.{Delivery}
-use Rattle.entity_model.specs.declared.delivery.Delivery.TheVariants.{Ask}
+use Rattle.delivery.specs.declared.Delivery.{Delivery}
+use Rattle.delivery.specs.declared.Delivery.TheVariants.{Ask}
 use Rattle.event_line.specs.declared.faults.LineCause.{LineCause}
 use Rattle.event_line.specs.Line.{delivery_of}
 use Rattle.entity_state.specs.declared.record.Record.{Record}
@@ -35,7 +35,7 @@ use Rattle.session.specs.declared.stop.Unapplied.{Unapplied}
 use Rattle.session.specs.declared.stop.Unapplied.TheVariants.{StoreFull as NoRoom, OutOfMemory as Starved}
 use Rattle.session.specs.Counts.{SourceCounts}
 use Rattle.session.specs.Headline.{IsPlayedAfter, StandsAtMapping, StandsAtQuestion, Stopped}
-use Rattle.session.specs.Moment.{Input, Moment, Run, Setting, Stage, horizon_at, onward, with_mapped, with_output}
+use Rattle.session.specs.Moment.{Input, Moment, Run, Environment, Stage, horizon_at, onward, with_mapped, with_output}
 use Rattle.session.specs.Needed.{HaveRoomBefore, needed_anew}
 use Rattle.session.specs.Reading.{AreFirst, HasRead, TakesByNeed}
 use Rattle.session.specs.Remapping.{Mapped, held_triples, mapped_by, remapped_some}
@@ -54,7 +54,7 @@ pub record Progress (run : Run) (before now : Moment) (reader : Reading) (asked 
   pub deliveries : List Delivery
   pub read : HasRead before.input.left reader now.input.left deliveries
   pub taken : IfSome before.input.left (λ bytes. TakesByNeed (max_bytes_of run.choices) bytes now.input.left)
-  pub at_rest : AtRest run.setting deliveries before.stage now.stage
+  pub at_rest : AtRest run.environment deliveries before.stage now.stage
   pub earlier : before.input.faults ≤ now.input.faults
   pub asked_is : asked ≡ asks deliveries
   pub few_asked : asked ≤ reader.given
@@ -64,11 +64,11 @@ pub record Progress (run : Run) (before now : Moment) (reader : Reading) (asked 
   pub ended : reader.ended ≡ true → IsAtEnd now.input.left
 
 -- before the first delivery a world is at rest
-pub nothing_taken : (setting : Setting) (h : Option ℕ) (output : Output) (counts : SourceCounts) → let s : Stage = record { output = output; counts = counts; world = nothing_delivered_within h; mapped = record { version = One; second = [] } } in AtRest setting [] s s
-nothing_taken setting h output counts = record {
+pub nothing_taken : (environment : Environment) (h : Option ℕ) (output : Output) (counts : SourceCounts) → let s : Stage = record { output = output; counts = counts; world = nothing_delivered_within h; mapped = record { version = One; by_two = [] } } in AtRest environment [] s s
+nothing_taken environment h output counts = record {
   leads = record {
     made = 0;
-    explained = Explained-start judgement setting.known h;
+    explained = Explained-start judgement environment.known h;
     counted = record { calls = sym (risen_by-none counts.calls); failed = λ below. omega arith; missing = λ below. omega arith };
     documents = λ x. subst (λ (r : Record Bytes). HoldsDocument judgement x r.held) (sym (record_of-empty x)) tt;
     says = λ others agree. sym (after_nothing output.bytes);
@@ -81,7 +81,7 @@ nothing_taken setting h output counts = record {
 
 -- a moment before the first delivery
 abbrev pub at_start : Option ℕ → Input → Output → SourceCounts → Moment
-at_start h input output counts = record { input = input; stage = record { output = output; counts = counts; world = nothing_delivered_within h; mapped = record { version = One; second = [] } } }
+at_start h input output counts = record { input = input; stage = record { output = output; counts = counts; world = nothing_delivered_within h; mapped = record { version = One; by_two = [] } } }
 
 -- before the first line
 pub nothing_begun : (run : Run) (h : Option ℕ) (input : Input) (output : Output) (counts : SourceCounts) → Progress run (at_start h input output counts) (at_start h input output counts) (fresh (max_bytes_of run.choices) longest_line) 0
@@ -89,7 +89,7 @@ nothing_begun run h input output counts = record {
   deliveries = [];
   read = nothing_read (max_bytes_of run.choices) input.left;
   taken = nothing_taken_of (max_bytes_of run.choices) input.left;
-  at_rest = nothing_taken run.setting h output counts;
+  at_rest = nothing_taken run.environment h output counts;
   earlier = omega arith;
   asked_is = refl;
   few_asked = omega arith;
@@ -100,8 +100,8 @@ nothing_begun run h input output counts = record {
 }
 
 module _ (run : Run) (before now : Moment) (reader : Reading) (asked : ℕ) (so_far : Progress run before now reader asked) where
-  played : IsPlayedAfter run.setting so_far.deliveries before.stage now.stage
-  played = is_played run.setting (course_after so_far.deliveries before.stage) before.stage now.stage so_far.at_rest.leads so_far.at_rest.rests so_far.at_rest.mapped
+  played : IsPlayedAfter run.environment so_far.deliveries before.stage now.stage
+  played = is_played run.environment (course_after so_far.deliveries before.stage) before.stage now.stage so_far.at_rest.leads so_far.at_rest.rests so_far.at_rest.mapped
 
   -- what was taken, after a call of the reader, whatever it answered
   pub taken_on : (next : Reading) (left_next : Option (List ℕ)) (last last_next : Option LastRead) → ReadsAsNeeded reader next now.input.left left_next last last_next →
@@ -122,7 +122,7 @@ module _ (run : Run) (before now : Moment) (reader : Reading) (asked : ℕ) (so_
   stands next input last last_next reads = record {
     deliveries = so_far.deliveries;
     last = None;
-    within = rest_within run.setting so_far.deliveries before.stage now.stage so_far.at_rest;
+    within = rest_within run.environment so_far.deliveries before.stage now.stage so_far.at_rest;
     mapped = so_far.at_rest.mapped;
     first = first_still next input.left last last_next reads;
   }
@@ -176,11 +176,11 @@ module _ (run : Run) (before now : Moment) (reader : Reading) (asked : ℕ) (so_
 
       -- what was played before stands with a stage in which nothing else changed but the output
       played_still : after.stage.world ≡ now.stage.world → after.stage.counts ≡ now.stage.counts → (mapped : Mapped) → mapped ≡ now.stage.mapped →
-          IsPlayedAfter run.setting so_far.deliveries before.stage (with_mapped (onward now.stage after.stage.counts after.stage.world) mapped)
+          IsPlayedAfter run.environment so_far.deliveries before.stage (with_mapped (onward now.stage after.stage.counts after.stage.world) mapped)
       played_still world counts mapped same =
-          subst (λ m. IsPlayedAfter run.setting so_far.deliveries before.stage (with_mapped (onward now.stage after.stage.counts after.stage.world) m)) (sym same)
-          (subst (λ w. IsPlayedAfter run.setting so_far.deliveries before.stage (onward now.stage after.stage.counts w)) (sym world)
-          (subst (λ c. IsPlayedAfter run.setting so_far.deliveries before.stage (onward now.stage c now.stage.world)) (sym counts) played))
+          subst (λ m. IsPlayedAfter run.environment so_far.deliveries before.stage (with_mapped (onward now.stage after.stage.counts after.stage.world) m)) (sym same)
+          (subst (λ w. IsPlayedAfter run.environment so_far.deliveries before.stage (onward now.stage after.stage.counts w)) (sym world)
+          (subst (λ c. IsPlayedAfter run.environment so_far.deliveries before.stage (onward now.stage c now.stage.world)) (sym counts) played))
 
       -- a question that isn't answered wholly stops the taking
       at_question : (why : Unwritten) → AnswersInPart why (turn asked_now d) now.stage after.stage → StandsAtQuestion why run before after
@@ -200,7 +200,7 @@ module _ (run : Run) (before now : Moment) (reader : Reading) (asked : ℕ) (so_
           }
 
       -- a delivery wasn't taken wholly, and nothing was printed
-      starves : (why : Unapplied) → TakesInPart why run.setting d now.stage after.stage → StopsWithin why run before after
+      starves : (why : Unapplied) → TakesInPart why run.environment d now.stage after.stage → StopsWithin why run before after
       starves why in_part =
           let mapped = in_part.mapped (version_in_force so_far.deliveries) so_far.at_rest.mapped in
           ⊎_elim
@@ -209,14 +209,14 @@ module _ (run : Run) (before now : Moment) (reader : Reading) (asked : ℕ) (so_
           (in_part.world so_far.deliveries before.stage so_far.at_rest)
         where
           Within : Stage → Type 0
-          Within s = IsWithin Starved run.setting (course_begun so_far.deliveries None before.stage) (λ replies. following (horizon_at before.stage) replies so_far.deliveries) before.stage s
+          Within s = IsWithin Starved run.environment (course_begun so_far.deliveries None before.stage) (λ replies. following (horizon_at before.stage) replies so_far.deliveries) before.stage s
 
           still : after.stage.world ≡ now.stage.world → after.stage.counts ≡ now.stage.counts → Within after.stage
           still world counts =
               subst (λ o. Within (with_output after.stage o)) (sym in_part.output)
               (subst (λ w. Within (with_mapped (onward now.stage after.stage.counts w) after.stage.mapped)) (sym world)
               (subst (λ c. Within (with_mapped (onward now.stage c now.stage.world) after.stage.mapped)) (sym counts)
-              (within_mapped Starved _ _ _ _ now.stage after.stage.mapped (rest_within run.setting so_far.deliveries before.stage now.stage so_far.at_rest))))
+              (within_mapped Starved _ _ _ _ now.stage after.stage.mapped (rest_within run.environment so_far.deliveries before.stage now.stage so_far.at_rest))))
 
           untaken : (why : Unapplied) → after.stage.mapped ≡ mapped_by (version_in_force so_far.deliveries) after.stage.world.played.records → IsUntaken why now.stage after.stage → StopsWithin why run before after
           untaken NoRoom mapped never = absurd never
@@ -229,27 +229,27 @@ module _ (run : Run) (before now : Moment) (reader : Reading) (asked : ℕ) (so_
           }
 
       -- not all that is held was mapped anew, and nothing was printed
-      remaps : (why : Unapplied) → RemapsInPart why run.setting d now.stage after.stage → StandsAtMapping run before after
+      remaps : (why : Unapplied) → RemapsInPart why run.environment d now.stage after.stage → StandsAtMapping run before after
       remaps why in_part =
           let v : MappingVersion = version_in_force so_far.deliveries in
-          let start : ReplayState → List EntityId → Mapped = λ w second. remapped_some in_part.steps w.played.records (record { version = in_part.version; second = second }) in
+          let start : ReplayState → List EntityId → Mapped = λ w by_two. remapped_some in_part.steps w.played.records (record { version = in_part.version; by_two = by_two }) in
           record {
             deliveries = so_far.deliveries;
             version = in_part.version;
             steps = in_part.steps;
-            played = subst (λ o. IsPlayedAfter run.setting so_far.deliveries before.stage (with_mapped (with_output after.stage o) (mapped_by v after.stage.world.played.records))) (sym in_part.output)
+            played = subst (λ o. IsPlayedAfter run.environment so_far.deliveries before.stage (with_mapped (with_output after.stage o) (mapped_by v after.stage.world.played.records))) (sym in_part.output)
                 (played_still in_part.world in_part.counts (mapped_by v after.stage.world.played.records) (ap (λ (w : ReplayState). mapped_by v w.played.records) in_part.world ∙ sym so_far.at_rest.mapped));
             mapped = in_part.mapped
-                ∙ ap (start now.stage.world) (ap (λ (m : Mapped). m.second) so_far.at_rest.mapped)
+                ∙ ap (start now.stage.world) (ap (λ (m : Mapped). m.by_two) so_far.at_rest.mapped)
                 ∙ ap (λ (w : ReplayState). start w (all_by v w.played.records)) (sym in_part.world);
-            roomed = subst (λ (w : ReplayState). HaveRoomBefore run.setting.room (needed_anew w.played.records after.stage.mapped) (needed_anew w.played.records (record { version = in_part.version; second = all_by v w.played.records }))) (sym in_part.world)
-                (subst (λ second. HaveRoomBefore run.setting.room (needed_anew now.stage.world.played.records after.stage.mapped) (needed_anew now.stage.world.played.records (record { version = in_part.version; second = second })))
-                (ap (λ (m : Mapped). m.second) so_far.at_rest.mapped) in_part.roomed);
+            roomed = subst (λ (w : ReplayState). HaveRoomBefore run.environment.limit (needed_anew w.played.records after.stage.mapped) (needed_anew w.played.records (record { version = in_part.version; by_two = all_by v w.played.records }))) (sym in_part.world)
+                (subst (λ by_two. HaveRoomBefore run.environment.limit (needed_anew now.stage.world.played.records after.stage.mapped) (needed_anew now.stage.world.played.records (record { version = in_part.version; by_two = by_two })))
+                (ap (λ (m : Mapped). m.by_two) so_far.at_rest.mapped) in_part.roomed);
             first = subst (λ q. AreFirst (max_bytes_of run.choices) before.input.left after.input.left (so_far.deliveries ++ q ∷ [])) in_part.is first;
           }
 
       -- a delivery that isn't taken wholly stops the taking
-      pub delivery_stops : (stop : Stop) → CutsOff stop run.setting (turn asked_now d) now.stage after.stage → Stopped stop run before after
+      pub delivery_stops : (stop : Stop) → CutsOff stop run.environment (turn asked_now d) now.stage after.stage → Stopped stop run before after
       delivery_stops stop cut = ⊎_elim
           (λ printing. subst (λ s. Stopped s run before after) (sym printing.1)
           (interrupted printing.0 run before after now.stage.output so_far.at_rest.later (λ fault. (printing.2.cut_short.failed fault).1) (inl (at_question printing.0 printing.2))))
@@ -260,7 +260,7 @@ module _ (run : Run) (before now : Moment) (reader : Reading) (asked : ℕ) (so_
 
       -- a line that is taken
       pub line_taken : now.input.faults ≤ after.input.faults → next.given ≡ reader.given + 1 → (next.ended ≡ true → IsAtEnd after.input.left) → asks (d ∷ []) ≤ 1 →
-          TakesDelivery run.setting (turn asked_now d) now.stage after.stage → Progress run before after next asked_now
+          TakesDelivery run.environment (turn asked_now d) now.stage after.stage → Progress run before after next asked_now
       line_taken later given ended one takes = record {
         deliveries = so_far.deliveries ++ d ∷ [];
         taken = taken_on next after.input.left last last_next is.reads;

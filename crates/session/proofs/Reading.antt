@@ -6,9 +6,9 @@ use Rattle.std.proofs.Math.Seq.{drop-append_seam}
 use Rattle.std.specs.Option.{option_map}
 use Rattle.rising.specs.Rising.{Each}
 use Rattle.wq_io.specs.Streams.{IsAtEnd, LastRead, before_known}
-use Rattle.wq_io.specs.Lines.{GoesOn, IsLineLong, IsNeeded, IsOneLine, IsSound, IsTooLong, IsUndecided, ReadsAsNeeded, Reading, StopsInLine, TakesBytes, before_lines, ended_lines, fresh, input_length, line_feed, lines, lines_of, longest_line, longest_read, room, unread, whole_lines}
+use Rattle.wq_io.specs.Lines.{GoesOn, IsLineLong, IsNeeded, IsOneLine, IsSound, IsTooLong, IsUndecided, ReadsAsNeeded, Reading, StopsInLine, TakesBytes, before_lines, ended_lines, fresh, input_length, line_feed, lines, input_lines, longest_line, longest_read, room, unread, whole_lines}
 use Rattle.wq_io.proofs.LineLists.{whole_lines-ended}
-use Rattle.entity_model.specs.declared.delivery.Delivery.{Delivery}
+use Rattle.delivery.specs.declared.Delivery.{Delivery}
 use Rattle.event_line.specs.declared.faults.LineCause.{LineCause}
 use Rattle.event_line.specs.declared.faults.LineCause.TheVariants.{LineLong}
 use Rattle.event_line.specs.Line.{delivery_of}
@@ -53,7 +53,7 @@ as_many (l ∷ ls) ds is =
     let more : length ds ≡ length ls + 1 = onto-length (line_delivers l) (deliveries_of ls) (length ls) ds (as_many ls) is in
     omega arith
 
-same_lines : (limit : ℕ) (left : Option (List ℕ)) → lines_of left ≡ option_map (λ (ls : List (List ℕ)). [] ++ ls) (lines_of (unread (fresh limit longest_line) left))
+same_lines : (limit : ℕ) (left : Option (List ℕ)) → input_lines left ≡ option_map (λ (ls : List (List ℕ)). [] ++ ls) (input_lines (unread (fresh limit longest_line) left))
 same_lines limit None = refl
 same_lines limit (Some bytes) = refl
 
@@ -157,7 +157,7 @@ record Known (bytes : List ℕ) (done : List (List ℕ)) (read : List ℕ) (cons
   read_is : length read ≡ consumed
 
 known_parts : (bytes : List ℕ) (done : List (List ℕ)) (read : List ℕ) (consumed : ℕ) (known : Option (List ℕ)) →
-    Some (lines bytes) ≡ option_map (λ (ls : List (List ℕ)). done ++ ls) (lines_of known) → option_map (λ (u : List ℕ). consumed + length u) known ≡ Some (length bytes) →
+    Some (lines bytes) ≡ option_map (λ (ls : List (List ℕ)). done ++ ls) (input_lines known) → option_map (λ (u : List ℕ). consumed + length u) known ≡ Some (length bytes) →
     Some bytes ≡ before_known read known → Known bytes done read consumed known
 known_parts bytes done read consumed None are total all = cc
 known_parts bytes done read consumed (Some u) are total all =
@@ -196,7 +196,7 @@ not_ended false now still is = refl
 
 -- the reader took this line
 pub record IsNextLine (line : List ℕ) (reader next : Reading) (left left_next : Option (List ℕ)) (last last_next : Option LastRead) : Type 0 where
-  pub first : lines_of (unread reader left) ≡ before_lines line (lines_of (unread next left_next))
+  pub first : input_lines (unread reader left) ≡ before_lines line (input_lines (unread next left_next))
   pub total : input_length next left_next ≡ input_length reader left
   pub takes : TakesBytes next.ended (unread reader left) (unread next left_next) line
   pub goes : GoesOn reader next line
@@ -233,7 +233,7 @@ module _ (limit : ℕ) (reader : Reading) (left : Option (List ℕ)) (ds : List 
         part = part;
         last = last;
         all = read.bytes ∙ ap (λ (o : Option (List ℕ)). before_known read.read o) behind;
-        are_lines = read.are ∙ ap (λ (o : Option (List ℕ)). option_map (λ (ls : List (List ℕ)). read.done ++ ls) (lines_of o)) behind;
+        are_lines = read.are ∙ ap (λ (o : Option (List ℕ)). option_map (λ (ls : List (List ℕ)). read.done ++ ls) (input_lines o)) behind;
         within = lines_within (Some bytes) read;
         delivered = read.delivered;
         undecided = subst (λ n. IsUndecided n longest_line part) (same_room limit reader read.read limits.bytes parts.read_is) undecided;
@@ -383,7 +383,7 @@ module _ (limit : ℕ) (reader : Reading) (left : Option (List ℕ)) (ds : List 
     known_next : (bytes : List ℕ) (read : HasRead (Some bytes) reader left ds) → Known bytes (read.done ++ line ∷ []) (read.read ++ is.takes.moved) next.consumed (unread next left_next)
     known_next bytes read =
         known_parts bytes (read.done ++ line ∷ []) (read.read ++ is.takes.moved) next.consumed (unread next left_next)
-        (lines_grow (Some (lines bytes)) (lines_of (unread reader left)) (lines_of (unread next left_next)) read.done line read.are is.first) (is.total ∙ read.total) (bytes_grow (Some bytes) read)
+        (lines_grow (Some (lines bytes)) (input_lines (unread reader left)) (input_lines (unread next left_next)) read.done line read.are is.first) (is.total ∙ read.total) (bytes_grow (Some bytes) read)
 
     -- the bytes that went into the lines so far and this one are within the limit
     line_within : (start : Option (List ℕ)) (read : HasRead start reader left ds) → IfSome start (λ _. length (read.read ++ is.takes.moved) ≤ limit)
@@ -400,7 +400,7 @@ module _ (limit : ℕ) (reader : Reading) (left : Option (List ℕ)) (ds : List 
       part = [];
       last = next.held;
       all = bytes_grow start read;
-      are_lines = lines_grow (lines_of start) (lines_of (unread reader left)) (lines_of (unread next left_next)) read.done line read.are is.first;
+      are_lines = lines_grow (input_lines start) (input_lines (unread reader left)) (input_lines (unread next left_next)) read.done line read.are is.first;
       within = line_within start read;
       delivered = deliveries-push read.done line ds d read.delivered (short_delivers line d short_line delivers);
       undecided = nothing_undecided (limit - length (read.read ++ is.takes.moved));
@@ -431,7 +431,7 @@ module _ (limit : ℕ) (reader : Reading) (left : Option (List ℕ)) (ds : List 
     pub read_more : (start : Option (List ℕ)) (d : Delivery) → HasRead start reader left ds → next.given ≡ reader.given + 1 → delivery_of line ≡ Ok d → HasRead start next left_next (ds ++ d ∷ [])
     read_more start d read given delivers = record {
       done = read.done ++ line ∷ [];
-      are = lines_grow (lines_of start) (lines_of (unread reader left)) (lines_of (unread next left_next)) read.done line read.are is.first;
+      are = lines_grow (input_lines start) (input_lines (unread reader left)) (input_lines (unread next left_next)) read.done line read.are is.first;
       delivered = deliveries-push read.done line ds d read.delivered (short_delivers line d short_line delivers);
       counted = given ∙ omega (arith, read.counted, length-append read.done (line ∷ []));
       total = is.total ∙ read.total;

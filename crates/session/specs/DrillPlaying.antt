@@ -1,7 +1,7 @@
 -- How far a drill has come whose deliveries are taken as those of an input are.
 use Rattle.std.specs.Prelude.{◌≡◌, ℕ, List, Option, Some}
 use Rattle.revisions.specs.Revisions.{Contents}
-use Rattle.entity_model.specs.declared.delivery.Delivery.{Delivery}
+use Rattle.delivery.specs.declared.Delivery.{Delivery}
 use Rattle.replay_model.specs.ReplayState.{nothing_delivered}
 use Rattle.world.specs.WorldState.{WorldState}
 use Rattle.transcript.specs.Printing.{Output}
@@ -9,7 +9,7 @@ use Rattle.drill.specs.Drill.{contents_of}
 use Rattle.drill.specs.Source.{Source}
 use Rattle.drill_replay.specs.Playing.{Counted, IsByFirst}
 use Rattle.session.specs.declared.drill_playing.DrillRun.{DrillRun}
-use Rattle.session.specs.Moment.{Setting, Stage}
+use Rattle.session.specs.Moment.{Environment, Stage}
 use Rattle.session.specs.Remapping.{HoldsWithin, mapped_in}
 use Rattle.session.specs.Taking.{AtRest}
 
@@ -17,9 +17,9 @@ use Rattle.session.specs.Taking.{AtRest}
 abbrev pub told_of : ℕ → Option Contents
 told_of size = Some (λ folder. contents_of size)
 
--- what the deliveries of a drill are taken under: its pages, and the room of every drill
-abbrev pub drill_setting : ℕ → Setting
-drill_setting size = record { known = Some (contents_of size); room = 20000000 }
+-- what the deliveries of a drill are taken under: its pages, and the limit of every drill
+abbrev pub drill_environment : ℕ → Environment
+drill_environment size = record { known = Some (contents_of size); limit = 20000000 }
 
 -- the stage of a drill over its pages, whose fetches never fail
 abbrev pub drill_stage : Source → Output → WorldState → Stage
@@ -30,13 +30,13 @@ pub record HasTakenFirst (run : DrillRun) (ds : List Delivery) (out : Output) (w
   pub start : Stage
   pub nothing : start.world ≡ nothing_delivered
   pub told : told_of run.pages.size ≡ told_of run.size
-  pub at_rest : AtRest (drill_setting run.size) ds start (drill_stage run.pages out world)
+  pub at_rest : AtRest (drill_environment run.size) ds start (drill_stage run.pages out world)
   pub counted : Counted ds run.counts
-  pub room : world.room ≡ 20000000
+  pub limit : world.limit ≡ 20000000
   pub held : HoldsWithin 20000000 world
 
--- what a drill leaves wherever it stops: all that is held is mapped by the first version, and has the room of every drill
+-- what a drill leaves wherever it stops: all that is held is mapped by the first version, and stays within the limit of every drill
 pub record LeavesDrill (world : WorldState) : Type 0 where
   pub first : IsByFirst world
-  pub room : world.room ≡ 20000000
+  pub limit : world.limit ≡ 20000000
   pub held : HoldsWithin 20000000 world

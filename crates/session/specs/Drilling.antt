@@ -7,14 +7,14 @@ use Rattle.transcript.specs.declared.write.Unwritten.{Unwritten}
 use Rattle.transcript.specs.declared.write.Unwritten.TheVariants.{WriteFault as NotWritten, OutOfMemory as Refused}
 use Rattle.transcript.specs.Printing.{IsCutShort, Output}
 use Rattle.drill_replay.specs.Playing.{HasBegun}
-use Rattle.drill_replay.specs.Summary.{drilled, lines_of, summary_of}
+use Rattle.drill_replay.specs.Summary.{drilled, summary_lines, summary_of}
 use Rattle.session.specs.declared.status.Status.{Status}
 use Rattle.session.specs.declared.status.Status.TheVariants.{Ok as Ended, BadWords, BadLine, ReadFault, WriteFault, TooLong, StoreFull, OutOfMemory}
 use Rattle.session.specs.Moment.{Stage}
 
 -- the text of a drill's summary
 abbrev pub summary_text : ℕ → List ℕ
-summary_text size = flat_map (λ line. line) (lines_of (summary_of size))
+summary_text size = flat_map (λ line. line) (summary_lines (summary_of size))
 
 -- the drill was run to its end, and its summary was printed, and nothing else
 pub record HasDrilled (size : ℕ) (old new : Output) (world : ReplayState) : Type 0 where

@@ -8,8 +8,8 @@ use Rattle.rdf_term.specs.Order.{triple_cmp}
 use Rattle.entity_model.specs.declared.id.EntityId.{EntityId}
 use Rattle.entity_model.specs.declared.event.Event.{Event}
 use Rattle.entity_state.specs.State.{is_kept}
-use Rattle.entity_model.specs.declared.delivery.Delivery.{Delivery}
-use Rattle.entity_model.specs.declared.delivery.Delivery.TheVariants.{Ask, Mapping}
+use Rattle.delivery.specs.declared.Delivery.{Delivery}
+use Rattle.delivery.specs.declared.Delivery.TheVariants.{Ask, Mapping}
 use Rattle.entity_model.specs.declared.mapping.MappingVersion.{MappingVersion}
 use Rattle.event_line.specs.declared.faults.LineCause.{LineCause}
 use Rattle.replay_model.specs.Acceptance.{due, known, late, version_in_force}
@@ -33,7 +33,7 @@ use Rattle.session.specs.declared.stop.Stop.{Stop}
 use Rattle.session.specs.declared.stop.Stop.TheVariants.{BadLine, ReadFault, WriteFault, TooLong, StoreFull, OutOfMemory}
 use Rattle.session.specs.declared.stop.Unapplied.TheVariants.{StoreFull as NoRoom, OutOfMemory as Starved}
 use Rattle.session.specs.Counts.{HasCounted}
-use Rattle.session.specs.Moment.{Moment, Run, Setting, Stage, with_mapped, with_output, horizon_at}
+use Rattle.session.specs.Moment.{Moment, Run, Environment, Stage, with_mapped, with_output, horizon_at}
 use Rattle.session.specs.Needed.{HaveRoom, HaveRoomBefore, needed_anew}
 use Rattle.session.specs.Reading.{AreDeliveries, AreFirst, AreWhole, IsPastLimit, IsRefusedLine, TakesByNeed}
 use Rattle.session.specs.Remapping.{IsFullOfStale, mapped_by, remapped_some}
@@ -46,24 +46,24 @@ use Rattle.session.specs.Taking.{Course, HoldsDocuments, IsFull, course_after, c
 -- play says, there was room for each page that a fetch gave or that was mapped anew, with all that was held then, and the counts of the
 -- source rose by these fetches; what is held are documents of their entities, each mapped by the version in force; where it is known
 -- what the source has, the replies are those of what is there, but for the events whose fetches failed, which the side output names
-pub record IsPlayed (setting : Setting) (course : Course) (start now : Stage) : Type 0 where
+pub record IsPlayed (environment : Environment) (course : Course) (start now : Stage) : Type 0 where
   pub replies : Replies
   pub fit : (e : Event) (r : ℕ) → GivesDocument judgement e.entity (replies e r)
   pub is : now.world ≡ course.state replies
   pub says : now.output.bytes ≡ course.bytes replies
-  pub roomed : HaveRoom setting.room (course.needed replies)
+  pub roomed : HaveRoom environment.limit (course.needed replies)
   pub documents : HoldsDocuments now.world
   pub mapped : now.mapped ≡ mapped_by course.version now.world.played.records
   pub counted : HasCounted start.counts now.counts (length (course.fetched replies)) now.world.played.side
-  pub source : (contents : ℕ → Option Bytes) → setting.known ≡ Some contents → now.world ≡ course.state (replies_there contents now.world)
-  pub source_says : (contents : ℕ → Option Bytes) → setting.known ≡ Some contents → now.output.bytes ≡ course.bytes (replies_there contents now.world)
-  pub source_roomed : (contents : ℕ → Option Bytes) → setting.known ≡ Some contents → HaveRoom setting.room (course.needed (replies_there contents now.world))
-  pub source_counted : (contents : ℕ → Option Bytes) → setting.known ≡ Some contents →
+  pub source : (contents : ℕ → Option Bytes) → environment.known ≡ Some contents → now.world ≡ course.state (replies_there contents now.world)
+  pub source_says : (contents : ℕ → Option Bytes) → environment.known ≡ Some contents → now.output.bytes ≡ course.bytes (replies_there contents now.world)
+  pub source_roomed : (contents : ℕ → Option Bytes) → environment.known ≡ Some contents → HaveRoom environment.limit (course.needed (replies_there contents now.world))
+  pub source_counted : (contents : ℕ → Option Bytes) → environment.known ≡ Some contents →
       HasCounted start.counts now.counts (length (course.fetched (replies_there contents now.world))) now.world.played.side
 
 -- the world has taken these deliveries, and the answers to their questions were printed, and nothing else
-abbrev pub IsPlayedAfter : Setting → List Delivery → Stage → Stage → Type 0
-IsPlayedAfter setting ds start now = IsPlayed setting (course_after ds start) start now
+abbrev pub IsPlayedAfter : Environment → List Delivery → Stage → Stage → Type 0
+IsPlayedAfter environment ds start now = IsPlayed environment (course_after ds start) start now
 
 -- the states: each is the fate of the entity's due events in their order; where no late event of the entity is open,
 -- also the fate of all its events, late ones included
@@ -74,29 +74,29 @@ pub record HasFates (h : Option ℕ) (ds : List Delivery) (world : ReplayState) 
 
 -- what is held: what the state wants, exactly where no revision entry of the entity is open; nothing of a page that
 -- isn't kept; a document of the entity; and what the source has, where it is known
-pub record HoldsRightly (setting : Setting) (world : ReplayState) : Type 0 where
+pub record HoldsRightly (environment : Environment) (world : ReplayState) : Type 0 where
   pub settled : (x : EntityId) → is_settled (record_of world.played.records x) ≡ not (has_open_revision world.played.records world.played.side x)
   pub empty : (x : EntityId) → is_kept (record_of world.played.records x).state.mode ≡ false → (record_of world.played.records x).held ≡ None
   pub documents : HoldsDocuments world
-  pub there : (contents : ℕ → Option Bytes) → setting.known ≡ Some contents → (x : EntityId) → HoldsWhatIsThere judgement contents x (record_of world.played.records x).held
+  pub there : (contents : ℕ → Option Bytes) → environment.known ≡ Some contents → (x : EntityId) → HoldsWhatIsThere judgement contents x (record_of world.played.records x).held
 
 -- the side output: an entry for each late delivery, in the order of these, and revision entries that say what the source has
-pub record NamesRightly (setting : Setting) (h : Option ℕ) (ds : List Delivery) (world : ReplayState) : Type 0 where
+pub record NamesRightly (environment : Environment) (h : Option ℕ) (ds : List Delivery) (world : ReplayState) : Type 0 where
   pub late_ones : late_events world.played.side ≡ late h ds
-  pub there : (contents : ℕ → Option Bytes) → setting.known ≡ Some contents → Each (TellsWhatIsThere judgement contents (failed_events world.played.side)) world.played.side
+  pub there : (contents : ℕ → Option Bytes) → environment.known ≡ Some contents → Each (TellsWhatIsThere judgement contents (failed_events world.played.side)) world.played.side
 
 -- a play of these deliveries to their end: the world is where it leads, and has the states, holds and names what it should
-pub record IsReplayed (setting : Setting) (course : Course) (ds : List Delivery) (start now : Stage) : Type 0 where
-  pub played : IsPlayed setting course start now
+pub record IsReplayed (environment : Environment) (course : Course) (ds : List Delivery) (start now : Stage) : Type 0 where
+  pub played : IsPlayed environment course start now
   pub fates : HasFates (horizon_at start) ds now.world
-  pub holds : HoldsRightly setting now.world
-  pub names : NamesRightly setting (horizon_at start) ds now.world
+  pub holds : HoldsRightly environment now.world
+  pub names : NamesRightly environment (horizon_at start) ds now.world
 
 -- where no fetch failed, the world and what was printed are functions of the sections, the deliveries and the contents
-pub record IsFunction (setting : Setting) (sections : Sections) (ds : List Delivery) (start now : Stage) : Type 0 where
-  pub world_is : (contents : ℕ → Option Bytes) → setting.known ≡ Some contents → now.counts.faults ≡ start.counts.faults → now.counts.faults < 2 ^ 64 - 1 →
+pub record IsFunction (environment : Environment) (sections : Sections) (ds : List Delivery) (start now : Stage) : Type 0 where
+  pub world_is : (contents : ℕ → Option Bytes) → environment.known ≡ Some contents → now.counts.faults ≡ start.counts.faults → now.counts.faults < 2 ^ 64 - 1 →
       now.world ≡ following_to_end (horizon_at start) (source_replies judgement contents []) ds
-  pub output_is : (contents : ℕ → Option Bytes) → setting.known ≡ Some contents → now.counts.faults ≡ start.counts.faults → now.counts.faults < 2 ^ 64 - 1 →
+  pub output_is : (contents : ℕ → Option Bytes) → environment.known ≡ Some contents → now.counts.faults ≡ start.counts.faults → now.counts.faults < 2 ^ 64 - 1 →
       now.output.bytes ≡ after_known start.output.bytes (transcript meaning (horizon_at start) sections (source_replies judgement contents []) ds)
 
 -- the whole input was read, its lines are deliveries, and they were replayed; the output has what this play of them says
@@ -104,7 +104,7 @@ pub record Replayed (run : Run) (course : List Delivery → Stage → Course) (b
   pub deliveries : List Delivery
   pub read : IsAtEnd now.input.left
   pub are : IfSome before.input.left (λ bytes. AreDeliveries (max_bytes_of run.choices) bytes deliveries)
-  pub replay : IsReplayed run.setting (course deliveries before.stage) deliveries before.stage now.stage
+  pub replay : IsReplayed run.environment (course deliveries before.stage) deliveries before.stage now.stage
 
 -- the whole input was replayed, and the answers were printed, and nothing else
 abbrev pub HasReplayed : Run → Moment → Moment → Type 0
@@ -113,7 +113,7 @@ HasReplayed run before now = Replayed run course_to_end before now
 -- all that a run leaves that ended well: the input was replayed, and the output has the transcript of the play
 pub record Ending (run : Run) (before now : Moment) : Type 0 where
   pub replayed : Replayed run (course_printed (sections_of run.choices)) before now
-  pub function : IsFunction run.setting (sections_of run.choices) replayed.deliveries before.stage now.stage
+  pub function : IsFunction run.environment (sections_of run.choices) replayed.deliveries before.stage now.stage
 
 -- what a run leaves that stopped while it printed the sections: the answers were printed and then a prefix of the sections of
 -- the world, and nothing else; where a write failed, not all of them
@@ -125,19 +125,19 @@ pub record BrokenOff (why : Unwritten) (run : Run) (before now : Moment) : Type 
 -- the world has taken the deliveries of all whole lines of the bytes that were read before a read failed
 pub record StandsAfter (run : Run) (before now : Moment) : Type 0 where
   pub deliveries : List Delivery
-  pub played : IsPlayedAfter run.setting deliveries before.stage now.stage
+  pub played : IsPlayedAfter run.environment deliveries before.stage now.stage
   pub whole : AreWhole (max_bytes_of run.choices) before.input.left now.input.left deliveries
 
 -- the world has taken the deliveries before the line in which the input goes past the limit
 pub record StandsAtLimit (run : Run) (before now : Moment) : Type 0 where
   pub deliveries : List Delivery
-  pub played : IsPlayedAfter run.setting deliveries before.stage now.stage
+  pub played : IsPlayedAfter run.environment deliveries before.stage now.stage
   pub past : IfSome before.input.left (λ bytes. IsPastLimit (max_bytes_of run.choices) bytes deliveries)
 
 -- the world has taken the deliveries before the line with this number, which is refused: each line before it was one
 pub record StandsBeforeLine (number : ℕ) (cause : LineCause) (run : Run) (before now : Moment) : Type 0 where
   pub deliveries : List Delivery
-  pub played : IsPlayedAfter run.setting deliveries before.stage now.stage
+  pub played : IsPlayedAfter run.environment deliveries before.stage now.stage
   pub counted : number ≡ length deliveries + 1
   pub bad : IfSome before.input.left (λ bytes. IsRefusedLine (max_bytes_of run.choices) bytes deliveries number cause)
 
@@ -147,7 +147,7 @@ pub record StandsAtQuestion (why : Unwritten) (run : Run) (before now : Moment) 
   pub deliveries : List Delivery
   pub pattern : Pattern
   pub between : Output
-  pub played : IsPlayedAfter run.setting deliveries before.stage (with_output now.stage between)
+  pub played : IsPlayedAfter run.environment deliveries before.stage (with_output now.stage between)
   pub cut_short : IsCutShort why (ask_section (asks deliveries + 1) (rows (union triple_cmp (meaning (version_in_force deliveries)) now.stage.world.played.records) pattern)) between now.stage.output
   pub first : AreFirst (max_bytes_of run.choices) before.input.left now.input.left (deliveries ++ Ask pattern ∷ [])
 
@@ -157,10 +157,10 @@ pub record StandsAtMapping (run : Run) (before now : Moment) : Type 0 where
   pub deliveries : List Delivery
   pub version : MappingVersion
   pub steps : ℕ
-  pub played : IsPlayedAfter run.setting deliveries before.stage (with_mapped now.stage (mapped_by (version_in_force deliveries) now.stage.world.played.records))
-  pub mapped : now.stage.mapped ≡ remapped_some steps now.stage.world.played.records (record { version = version; second = all_by (version_in_force deliveries) now.stage.world.played.records })
-  pub roomed : HaveRoomBefore run.setting.room (needed_anew now.stage.world.played.records now.stage.mapped)
-      (needed_anew now.stage.world.played.records (record { version = version; second = all_by (version_in_force deliveries) now.stage.world.played.records }))
+  pub played : IsPlayedAfter run.environment deliveries before.stage (with_mapped now.stage (mapped_by (version_in_force deliveries) now.stage.world.played.records))
+  pub mapped : now.stage.mapped ≡ remapped_some steps now.stage.world.played.records (record { version = version; by_two = all_by (version_in_force deliveries) now.stage.world.played.records })
+  pub roomed : HaveRoomBefore run.environment.limit (needed_anew now.stage.world.played.records now.stage.mapped)
+      (needed_anew now.stage.world.played.records (record { version = version; by_two = all_by (version_in_force deliveries) now.stage.world.played.records }))
   pub first : AreFirst (max_bytes_of run.choices) before.input.left now.input.left (deliveries ++ Mapping version ∷ [])
 
 -- what a run leaves that stopped while it printed: in the answer to a question, or in the sections
@@ -174,8 +174,8 @@ Stopped ReadFault run before now = Rose before.input.faults now.input.faults × 
 Stopped WriteFault run before now = Rose before.stage.output.faults now.stage.output.faults × IsInterrupted NotWritten run before now
 Stopped TooLong run before now = StandsAtLimit run before now
 Stopped StoreFull run before now =
-    (IsFull run.setting now.stage.world now.stage.mapped × IsHalted NoRoom run before now)
-    ⊎ (IsFullOfStale run.setting.room now.stage.world.played.records now.stage.mapped × StandsAtMapping run before now)
+    (IsFull run.environment now.stage.world now.stage.mapped × IsHalted NoRoom run before now)
+    ⊎ (IsFullOfStale run.environment.limit now.stage.world.played.records now.stage.mapped × StandsAtMapping run before now)
 Stopped OutOfMemory run before now = (IsHalted Starved run before now ⊎ StandsAtMapping run before now) ⊎ IsInterrupted Refused run before now
 
 -- what a replay leaves that was begun: it ended well, or it stopped for a cause; and what it took of its input is bounded

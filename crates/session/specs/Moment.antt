@@ -17,13 +17,13 @@ use Rattle.words.specs.Options.{Choices, folder_of, max_terms_of}
 
 -- what deliveries are taken under: what the source of revisions has in its folder, where it is known, and for how many terms
 -- there is room
-pub record Setting : Type 0 where
+pub record Environment : Type 0 where
   pub known : Option (ℕ → Option Bytes)
-  pub room : ℕ
+  pub limit : ℕ
 
--- the setting of a source with these contents, of a folder, and of a store with this room
-abbrev pub setting : Option Contents → List ℕ → ℕ → Setting
-setting contents folder room = record { known = option_map (λ (c : Contents). c folder) contents; room = room }
+-- the environment of a source with these contents, of a folder, and of a store with this limit
+abbrev pub environment : Option Contents → List ℕ → ℕ → Environment
+environment contents folder limit = record { known = option_map (λ (c : Contents). c folder) contents; limit = limit }
 
 -- what the taking of deliveries changes: the output, the counts of the source of revisions, the world, and the versions by which
 -- it maps
@@ -74,13 +74,13 @@ moment input source sink ports world = record {
 -- a run: what was chosen, and what deliveries are taken under
 pub record Run : Type 0 where
   pub choices : Choices
-  pub setting : Setting
+  pub environment : Environment
 
--- the world that a run of these choices begins with: empty, with the horizon and the room that were chosen, and with the first
+-- the world that a run of these choices begins with: empty, with the horizon and the limit that were chosen, and with the first
 -- version of the mapping
 abbrev pub world_at_start : Choices → WorldState
-world_at_start choices = record { replay = nothing_delivered_within choices.horizon; room = max_terms_of choices; mapping = One; second = [] }
+world_at_start choices = record { replay = nothing_delivered_within choices.horizon; limit = max_terms_of choices; mapping = One; by_two = [] }
 
 -- the run of these choices over a source with these contents
 abbrev pub run_of : Option Contents → Choices → Run
-run_of contents choices = record { choices = choices; setting = setting contents (folder_of choices) (max_terms_of choices) }
+run_of contents choices = record { choices = choices; environment = environment contents (folder_of choices) (max_terms_of choices) }

@@ -1,8 +1,8 @@
 -- For how many different terms there must be room as a play goes on: at each page that a fetch gives, and at each that is mapped anew.
 use Rattle.std.specs.Prelude.{◌≡◌, ℕ, ◌≤◌, cond, true, false, List, [], ◌∷◌, ◌++◌, flat_map, Option, Result, Ok, Err}
 use Rattle.rising.specs.Rising.{Each}
-use Rattle.entity_model.specs.declared.delivery.Delivery.{Delivery}
-use Rattle.entity_model.specs.declared.delivery.Delivery.TheVariants.{Watermark, Mapping}
+use Rattle.delivery.specs.declared.Delivery.{Delivery}
+use Rattle.delivery.specs.declared.Delivery.TheVariants.{Watermark, Mapping}
 use Rattle.entity_model.specs.declared.event.Event.{Event}
 use Rattle.entity_model.specs.declared.id.EntityId.{EntityId}
 use Rattle.entity_model.specs.declared.mapping.MappingVersion.{MappingVersion}
@@ -25,13 +25,13 @@ use Rattle.session.specs.Remapping.{Mapped}
 
 -- there is room for each of these
 abbrev pub HaveRoom : ℕ → List ℕ → Type 0
-HaveRoom room needs = Each (λ n. n ≤ room) needs
+HaveRoom limit needs = Each (λ n. n ≤ limit) needs
 
 -- there is room for each of these but for those that are left, which are the last
-pub record HaveRoomBefore (room : ℕ) (left needs : List ℕ) : Type 0 where
+pub record HaveRoomBefore (limit : ℕ) (left needs : List ℕ) : Type 0 where
   pub met : List ℕ
   pub are : met ++ left ≡ needs
-  pub have_room : HaveRoom room met
+  pub have_room : HaveRoom limit met
 
 -- ---- applications
 
@@ -61,13 +61,13 @@ needed_by_due version replies w = needed_by_all version replies w.played (due_no
 -- other list names those that are by version Two: at each for the different terms of all that is held, as it is mapped until then, and
 -- of the page by this version
 abbrev pub needed_by_pages : MappingVersion → Records → List EntityId → List EntityId → List ℕ
-needed_by_pages version records second [] = []
-needed_by_pages version records second (x ∷ xs) =
-    room_with (meaning_by meaning second) records (triples_held (meaning version) x (record_of records x).held) ∷ needed_by_pages version records (with_version version x second) xs
+needed_by_pages version records by_two [] = []
+needed_by_pages version records by_two (x ∷ xs) =
+    room_with (meaning_by meaning by_two) records (triples_held (meaning version) x (record_of records x).held) ∷ needed_by_pages version records (with_version version x by_two) xs
 
 -- at all pages that aren't mapped by the version in force, the least entity first
 abbrev pub needed_anew : Records → Mapped → List ℕ
-needed_anew records mapped = needed_by_pages mapped.version records mapped.second (stale_by mapped.version mapped.second records)
+needed_anew records mapped = needed_by_pages mapped.version records mapped.by_two (stale_by mapped.version mapped.by_two records)
 
 -- ---- a play
 
@@ -78,7 +78,7 @@ needed_at h replies a = by a.delivery
   where
     by : Delivery → List ℕ
     by (Watermark w) = needed_by_all (version_in_force a.before) replies (play h replies a.before) (newly_due h a.before false (a.before ++ a.delivery ∷ []))
-    by (Mapping v) = needed_anew (play h replies a.before).records (record { version = v; second = all_by (version_in_force a.before) (play h replies a.before).records })
+    by (Mapping v) = needed_anew (play h replies a.before).records (record { version = v; by_two = all_by (version_in_force a.before) (play h replies a.before).records })
     by _ = []
 
 -- at deliveries, in their order

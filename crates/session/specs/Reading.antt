@@ -3,8 +3,8 @@ use Rattle.std.specs.Prelude.{◌≡◌, ◌⊎◌, ℕ, ◌+◌, ◌-◌, ◌<�
 use Rattle.std.specs.Option.{option_map}
 use Rattle.rising.specs.Rising.{Each}
 use Rattle.wq_io.specs.Streams.{before_known}
-use Rattle.wq_io.specs.Lines.{Reading, IsLineLong, IsOneLine, IsTooLong, IsUndecided, ended_lines, input_length, lines, lines_of, longest_line, longest_read, unread, whole_lines}
-use Rattle.entity_model.specs.declared.delivery.Delivery.{Delivery}
+use Rattle.wq_io.specs.Lines.{Reading, IsLineLong, IsOneLine, IsTooLong, IsUndecided, ended_lines, input_length, lines, input_lines, longest_line, longest_read, unread, whole_lines}
+use Rattle.delivery.specs.declared.Delivery.{Delivery}
 use Rattle.event_line.specs.declared.faults.LineCause.{LineCause}
 use Rattle.event_line.specs.declared.faults.LineCause.TheVariants.{LineLong}
 use Rattle.event_line.specs.Line.{delivery_of}
@@ -27,7 +27,7 @@ deliveries_of (line ∷ others) = onto_deliveries (line_delivers line) (deliveri
 -- the lines so far were read, and are these deliveries; the bytes that went into them stand before those that are unread
 pub record HasRead (left_start : Option (List ℕ)) (reader : Reading) (left : Option (List ℕ)) (ds : List Delivery) : Type 0 where
   pub done : List (List ℕ)
-  pub are : lines_of left_start ≡ option_map (λ (ls : List (List ℕ)). done ++ ls) (lines_of (unread reader left))
+  pub are : input_lines left_start ≡ option_map (λ (ls : List (List ℕ)). done ++ ls) (input_lines (unread reader left))
   pub delivered : deliveries_of done ≡ Some ds
   pub counted : reader.given ≡ length done
   pub total : input_length reader left ≡ option_map length left_start
@@ -49,7 +49,7 @@ pub record AreFirst (limit : ℕ) (left left_now : Option (List ℕ)) (ds : List
   pub part : List ℕ
   pub last : List ℕ
   pub all : left ≡ before_known read (before_known (part ++ last) left_now)
-  pub are_lines : lines_of left ≡ option_map (λ (ls : List (List ℕ)). before ++ ls) (lines_of (before_known (part ++ last) left_now))
+  pub are_lines : input_lines left ≡ option_map (λ (ls : List (List ℕ)). before ++ ls) (input_lines (before_known (part ++ last) left_now))
   pub within : IfSome left (λ _. length read ≤ limit)
   pub delivered : deliveries_of before ≡ Some ds
   pub undecided : IsUndecided (limit - length read) longest_line part

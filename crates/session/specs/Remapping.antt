@@ -18,15 +18,15 @@ use Rattle.session.specs.declared.stop.Unapplied.TheVariants.{StoreFull, OutOfMe
 -- first
 pub record Mapped : Type 0 where
   pub version : MappingVersion
-  pub second : List EntityId
+  pub by_two : List EntityId
 
 -- this version is in force, and every page that is held is mapped by it
 abbrev pub mapped_by : MappingVersion → Records → Mapped
-mapped_by version records = record { version = version; second = all_by version records }
+mapped_by version records = record { version = version; by_two = all_by version records }
 
 -- the versions of a world
 abbrev pub mapped_in : WorldState → Mapped
-mapped_in world = record { version = world.mapping; second = world.second }
+mapped_in world = record { version = world.mapping; by_two = world.by_two }
 
 -- where one version was in force and every page mapped by it, this is so still
 abbrev pub KeepsVersion : Mapped → Mapped → Records → Records → Type 0
@@ -34,23 +34,23 @@ KeepsVersion old new before now = (version : MappingVersion) → old ≡ mapped_
 
 -- the triples of all that is held, each page by the version that it is mapped by
 abbrev pub held_triples : Mapped → Records → List Triple
-held_triples mapped records = union triple_cmp (meaning_by meaning mapped.second) records
+held_triples mapped records = union triple_cmp (meaning_by meaning mapped.by_two) records
 
--- what a world holds has no more different terms than this room
+-- what a world holds has no more different terms than this limit
 abbrev pub HoldsWithin : ℕ → WorldState → Type 0
-HoldsWithin room world = HasRoom (meaning_by meaning world.second) room world.replay.played.records
+HoldsWithin limit world = HasRoom (meaning_by meaning world.by_two) limit world.replay.played.records
 
--- the triples of all that is held have, together with those of a page by the version in force, more different terms than this room
+-- the triples of all that is held have, together with those of a page by the version in force, more different terms than this limit
 abbrev pub HasNoRoom : ℕ → Records → Mapped → EntityId → ℕ → Bytes → Type 0
-HasNoRoom room records mapped x rev bytes = room < room_with (meaning_by meaning mapped.second) records (meaning mapped.version x rev bytes)
+HasNoRoom limit records mapped x rev bytes = limit < room_with (meaning_by meaning mapped.by_two) records (meaning mapped.version x rev bytes)
 
 -- the least entity whose page isn't mapped by the version in force, if there is one
 abbrev pub next_stale_in : Records → Mapped → Option EntityId
-next_stale_in records mapped = first_of (stale_by mapped.version mapped.second records)
+next_stale_in records mapped = first_of (stale_by mapped.version mapped.by_two records)
 
 -- its page is mapped by the version in force now
 abbrev pub remapped_in : Records → Mapped → Mapped
-remapped_in records mapped = record { version = mapped.version; second = with_version_of mapped.version (next_stale_in records mapped) mapped.second }
+remapped_in records mapped = record { version = mapped.version; by_two = with_version_of mapped.version (next_stale_in records mapped) mapped.by_two }
 
 -- so many pages are mapped anew, one after the other
 abbrev pub remapped_some : ℕ → Records → Mapped → Mapped
@@ -58,14 +58,14 @@ remapped_some zero records mapped = mapped
 remapped_some (suc n) records mapped = remapped_in records (remapped_some n records mapped)
 
 -- the page of the least entity whose page isn't mapped by the version in force has no room by this version
-pub record IsFullOfStale (room : ℕ) (records : Records) (mapped : Mapped) : Type 0 where
+pub record IsFullOfStale (limit : ℕ) (records : Records) (mapped : Mapped) : Type 0 where
   pub entity : EntityId
   pub next : next_stale_in records mapped ≡ Some entity
   pub page : Held Bytes
   pub holds : (record_of records entity).held ≡ Some page
-  pub over : HasNoRoom room records mapped entity page.revision page.content
+  pub over : HasNoRoom limit records mapped entity page.revision page.content
 
 -- why this page isn't mapped anew
 abbrev pub IsLeftStale : Unapplied → ℕ → Records → Mapped → Type 0
-IsLeftStale StoreFull room records mapped = IsFullOfStale room records mapped
-IsLeftStale OutOfMemory room records mapped = ⊤
+IsLeftStale StoreFull limit records mapped = IsFullOfStale limit records mapped
+IsLeftStale OutOfMemory limit records mapped = ⊤

@@ -3,7 +3,7 @@
 use Rattle.std.specs.Prelude.{◌≡◌, ◌⊎◌, List, ◌++◌, Option, IfSome}
 use Rattle.std.specs.Option.{option_to_list}
 use Rattle.wq_io.specs.Streams.{IsAtEnd}
-use Rattle.entity_model.specs.declared.delivery.Delivery.{Delivery}
+use Rattle.delivery.specs.declared.Delivery.{Delivery}
 use Rattle.replay_model.specs.Acceptance.{version_in_force}
 use Rattle.replay_model.specs.ReplayState.{after_end, following}
 use Rattle.session.specs.declared.stop.Unapplied.{Unapplied}
@@ -18,14 +18,14 @@ pub record HasTaken (run : Run) (before now : Moment) : Type 0 where
   pub deliveries : List Delivery
   pub read : IsAtEnd now.input.left
   pub are : IfSome before.input.left (λ bytes. AreDeliveries (max_bytes_of run.choices) bytes deliveries)
-  pub at_rest : AtRest run.setting deliveries before.stage now.stage
+  pub at_rest : AtRest run.environment deliveries before.stage now.stage
 
 -- at a line: the world of the first lines of what was taken, of which the last is perhaps a watermark with some of the events that
 -- it makes due; every page is mapped by the version in force
 pub record StopsWithin (why : Unapplied) (run : Run) (before now : Moment) : Type 0 where
   pub deliveries : List Delivery
   pub last : Option Delivery
-  pub within : IsWithin why run.setting (course_begun deliveries last before.stage) (λ replies. entered_perhaps (following (horizon_at before.stage) replies deliveries) last) before.stage now.stage
+  pub within : IsWithin why run.environment (course_begun deliveries last before.stage) (λ replies. entered_perhaps (following (horizon_at before.stage) replies deliveries) last) before.stage now.stage
   pub mapped : now.stage.mapped ≡ mapped_by (version_in_force deliveries) now.stage.world.played.records
   pub first : AreFirst (max_bytes_of run.choices) before.input.left now.input.left (deliveries ++ option_to_list last)
 
@@ -34,7 +34,7 @@ pub record StopsWithin (why : Unapplied) (run : Run) (before now : Moment) : Typ
 pub record StopsAtEnd (why : Unapplied) (run : Run) (before now : Moment) : Type 0 where
   pub deliveries : List Delivery
   pub read : IsAtEnd now.input.left
-  pub within : IsWithin why run.setting (course_to_end deliveries before.stage) (λ replies. after_end (following (horizon_at before.stage) replies deliveries)) before.stage now.stage
+  pub within : IsWithin why run.environment (course_to_end deliveries before.stage) (λ replies. after_end (following (horizon_at before.stage) replies deliveries)) before.stage now.stage
   pub mapped : now.stage.mapped ≡ mapped_by (version_in_force deliveries) now.stage.world.played.records
   pub are : IfSome before.input.left (λ bytes. AreDeliveries (max_bytes_of run.choices) bytes deliveries)
 

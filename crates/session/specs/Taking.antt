@@ -6,8 +6,8 @@ use Rattle.rdf_term.specs.declared.pattern.Pattern.{Pattern}
 use Rattle.entity_model.specs.declared.id.EntityId.{EntityId}
 use Rattle.entity_json.specs.Document.{unfit_of}
 use Rattle.entity_model.specs.declared.event.Event.{Event}
-use Rattle.entity_model.specs.declared.delivery.Delivery.{Delivery}
-use Rattle.entity_model.specs.declared.delivery.Delivery.TheVariants.{Ask, Mapping}
+use Rattle.delivery.specs.declared.Delivery.{Delivery}
+use Rattle.delivery.specs.declared.Delivery.TheVariants.{Ask, Mapping}
 use Rattle.entity_model.specs.declared.mapping.MappingVersion.{MappingVersion}
 use Rattle.reorder_buffer.specs.Buffered.{first_due}
 use Rattle.replay_model.specs.Acceptance.{version_in_force}
@@ -25,7 +25,7 @@ use Rattle.session.specs.declared.stop.Stop.{Stop}
 use Rattle.session.specs.declared.stop.Unapplied.{Unapplied}
 use Rattle.session.specs.declared.stop.Unapplied.TheVariants.{StoreFull, OutOfMemory}
 use Rattle.session.specs.Counts.{SourceCounts, HasCounted, HasCountedUnapplied}
-use Rattle.session.specs.Moment.{Setting, Stage, onward, horizon_at}
+use Rattle.session.specs.Moment.{Environment, Stage, onward, horizon_at}
 use Rattle.session.specs.Needed.{HaveRoomBefore, needed_anew, needed_by_due, needed_in, needed_to_end}
 use Rattle.session.specs.Remapping.{HasNoRoom, IsLeftStale, KeepsVersion, Mapped, held_triples, mapped_by, remapped_some}
 use Rattle.session.specs.Stop.{stop_of_unapplied, stop_of_unwritten}
@@ -88,18 +88,18 @@ course_printed sections ds start = record (course_to_end ds start) {
 -- the world leads to a play with some replies, the counts rose with what was fetched for it so far, and what is held are
 -- documents; with all replies that agree with these on what was applied the output has what the play says, and there was room for all
 -- that the play needs but what due events have still to bring
-pub record Leads (setting : Setting) (course : Course) (start now : Stage) : Type 0 where
+pub record Leads (environment : Environment) (course : Course) (start now : Stage) : Type 0 where
   pub made : ℕ
-  pub explained : Explained judgement setting.known course.state course.fetched made now.world
+  pub explained : Explained judgement environment.known course.state course.fetched made now.world
   pub counted : HasCounted start.counts now.counts made now.world.played.side
   pub documents : HoldsDocuments now.world
   pub says : (others : Replies) → AgreeOnApplied now.world explained.replies others → now.output.bytes ≡ course.bytes others
-  pub roomed : (others : Replies) → AgreeOnApplied now.world explained.replies others → HaveRoomBefore setting.room (needed_by_due course.version others now.world) (course.needed others)
+  pub roomed : (others : Replies) → AgreeOnApplied now.world explained.replies others → HaveRoomBefore environment.limit (needed_by_due course.version others now.world) (course.needed others)
 
 -- the world leads to a play with some replies, and is so many applications of due events after where the play begins them,
 -- the least first
-pub record IsUnderWay (setting : Setting) (course : Course) (begun : Replies → ReplayState) (start now : Stage) : Type 0 where
-  pub leads : Leads setting course start now
+pub record IsUnderWay (environment : Environment) (course : Course) (begun : Replies → ReplayState) (start now : Stage) : Type 0 where
+  pub leads : Leads environment course start now
   pub steps : ℕ
   pub is : (others : Replies) → AgreeOnApplied now.world leads.explained.replies others → now.world ≡ after_some others steps (begun others)
 
@@ -108,22 +108,22 @@ pub record IsUnderWay (setting : Setting) (course : Course) (begun : Replies →
 -- replies of what is there and of the events whose fetches failed. The counts rose by the play's fetches without those that due
 -- events have still to make, and by the first of these where there was no room for what it gave; where memory was refused, perhaps.
 -- There was room for all that the play needs but what due events have still to bring
-pub record IsWithin (why : Unapplied) (setting : Setting) (course : Course) (begun : Replies → ReplayState) (start now : Stage) : Type 0 where
+pub record IsWithin (why : Unapplied) (environment : Environment) (course : Course) (begun : Replies → ReplayState) (start now : Stage) : Type 0 where
   pub steps : ℕ
   pub replies : Replies
   pub fit : (e : Event) (r : ℕ) → GivesDocument judgement e.entity (replies e r)
   pub is : now.world ≡ after_some replies steps (begun replies)
   pub says : now.output.bytes ≡ course.bytes replies
-  pub source : (contents : ℕ → Option Bytes) → setting.known ≡ Some contents →
+  pub source : (contents : ℕ → Option Bytes) → environment.known ≡ Some contents →
       now.world ≡ after_some (replies_there contents now.world) steps (begun (replies_there contents now.world))
-  pub source_says : (contents : ℕ → Option Bytes) → setting.known ≡ Some contents → now.output.bytes ≡ course.bytes (replies_there contents now.world)
-  pub roomed : HaveRoomBefore setting.room (needed_by_due course.version replies now.world) (course.needed replies)
-  pub source_roomed : (contents : ℕ → Option Bytes) → setting.known ≡ Some contents →
-      HaveRoomBefore setting.room (needed_by_due course.version (replies_there contents now.world) now.world) (course.needed (replies_there contents now.world))
+  pub source_says : (contents : ℕ → Option Bytes) → environment.known ≡ Some contents → now.output.bytes ≡ course.bytes (replies_there contents now.world)
+  pub roomed : HaveRoomBefore environment.limit (needed_by_due course.version replies now.world) (course.needed replies)
+  pub source_roomed : (contents : ℕ → Option Bytes) → environment.known ≡ Some contents →
+      HaveRoomBefore environment.limit (needed_by_due course.version (replies_there contents now.world) now.world) (course.needed (replies_there contents now.world))
   pub documents : HoldsDocuments now.world
   pub made : ℕ
   pub fetched : made + length (fetches_due replies now.world) ≡ length (course.fetched replies)
-  pub source_fetched : (contents : ℕ → Option Bytes) → setting.known ≡ Some contents →
+  pub source_fetched : (contents : ℕ → Option Bytes) → environment.known ≡ Some contents →
       made + length (fetches_due (replies_there contents now.world) now.world) ≡ length (course.fetched (replies_there contents now.world))
   pub counted : HasCountedUnapplied why start.counts now.counts made now.world.played.side
 
@@ -134,45 +134,45 @@ entered_perhaps w (Some d) = entered w d
 
 -- the world has taken these deliveries, and no event is due: with some replies, it is where a replay of them leads, and the
 -- output has what this replay says; and every page is mapped by the version in force
-pub record AtRest (setting : Setting) (ds : List Delivery) (start now : Stage) : Type 0 where
-  pub leads : Leads setting (course_after ds start) start now
+pub record AtRest (environment : Environment) (ds : List Delivery) (start now : Stage) : Type 0 where
+  pub leads : Leads environment (course_after ds start) start now
   pub rests : first_due now.world.buffer ≡ None
   pub mapped : now.mapped ≡ mapped_by (version_in_force ds) now.world.played.records
   pub later : start.output.faults ≤ now.output.faults
 
 -- the world has taken these deliveries and the end of the input, no event is due, and every page is mapped by the version in force
-pub record AtEnd (setting : Setting) (ds : List Delivery) (start now : Stage) : Type 0 where
-  pub leads : Leads setting (course_to_end ds start) start now
+pub record AtEnd (environment : Environment) (ds : List Delivery) (start now : Stage) : Type 0 where
+  pub leads : Leads environment (course_to_end ds start) start now
   pub rests : first_due now.world.buffer ≡ None
   pub mapped : now.mapped ≡ mapped_by (version_in_force ds) now.world.played.records
   pub later : start.output.faults ≤ now.output.faults
 
 -- all due events were applied: where the world led to a play, by whose version every page was mapped, it does so now
-pub record AppliesDue (setting : Setting) (mapped : Mapped) (before now : SourceCounts) (old new : ReplayState) : Type 0 where
+pub record AppliesDue (environment : Environment) (mapped : Mapped) (before now : SourceCounts) (old new : ReplayState) : Type 0 where
   pub leads : (course : Course) (start s : Stage) → mapped ≡ mapped_by course.version old.played.records →
-      Leads setting course start (onward s before old) → Leads setting course start (onward s now new)
+      Leads environment course start (onward s before old) → Leads environment course start (onward s now new)
   pub rests : first_due new.buffer ≡ None
 
 -- the least due event wants a page: a document of its entity, and what the source has where it is known; and there is no room for it
-pub record IsFull (setting : Setting) (world : ReplayState) (mapped : Mapped) : Type 0 where
+pub record IsFull (environment : Environment) (world : ReplayState) (mapped : Mapped) : Type 0 where
   pub event : Event
   pub due : first_due world.buffer ≡ Some event
   pub fetches : is_fetching world event ≡ true
   pub bytes : Bytes
   pub document : judgement event.entity bytes ≡ None
-  pub there : (contents : ℕ → Option Bytes) → setting.known ≡ Some contents → contents (revision_wanted world event) ≡ Some bytes
-  pub over : HasNoRoom setting.room world.played.records mapped event.entity (revision_wanted world event) bytes
+  pub there : (contents : ℕ → Option Bytes) → environment.known ≡ Some contents → contents (revision_wanted world event) ≡ Some bytes
+  pub over : HasNoRoom environment.limit world.played.records mapped event.entity (revision_wanted world event) bytes
 
 -- why the least due event isn't applied
-abbrev pub IsHeldUp : Unapplied → Setting → ReplayState → Mapped → Type 0
-IsHeldUp StoreFull setting world mapped = IsFull setting world mapped
-IsHeldUp OutOfMemory setting world mapped = ⊤
+abbrev pub IsHeldUp : Unapplied → Environment → ReplayState → Mapped → Type 0
+IsHeldUp StoreFull environment world mapped = IsFull environment world mapped
+IsHeldUp OutOfMemory environment world mapped = ⊤
 
 -- a due event wasn't applied: where the world was under way in a play, by whose version every page was mapped, it is so still
-abbrev pub StaysWithin : Unapplied → Setting → Mapped → SourceCounts → SourceCounts → ReplayState → ReplayState → Type 0
-StaysWithin why setting mapped before now old new =
+abbrev pub StaysWithin : Unapplied → Environment → Mapped → SourceCounts → SourceCounts → ReplayState → ReplayState → Type 0
+StaysWithin why environment mapped before now old new =
     (course : Course) (begun : Replies → ReplayState) (start s : Stage) → mapped ≡ mapped_by course.version old.played.records →
-    IsUnderWay setting course begun start (onward s before old) → IsWithin why setting course begun start (onward s now new)
+    IsUnderWay environment course begun start (onward s before old) → IsWithin why environment course begun start (onward s now new)
 
 -- a delivery, and how many questions were asked up to it
 pub record Turn : Type 0 where
@@ -184,9 +184,9 @@ abbrev pub turn : ℕ → Delivery → Turn
 turn asked delivery = record { asked = asked; delivery = delivery }
 
 -- a world that was at rest is at rest with one delivery more, from whichever stage it began
-abbrev pub TakesDelivery : Setting → Turn → Stage → Stage → Type 0
-TakesDelivery setting t before now =
-    (ds : List Delivery) (start : Stage) → t.asked ≡ asks (ds ++ t.delivery ∷ []) → AtRest setting ds start before → AtRest setting (ds ++ t.delivery ∷ []) start now
+abbrev pub TakesDelivery : Environment → Turn → Stage → Stage → Type 0
+TakesDelivery environment t before now =
+    (ds : List Delivery) (start : Stage) → t.asked ≡ asks (ds ++ t.delivery ∷ []) → AtRest environment ds start before → AtRest environment (ds ++ t.delivery ∷ []) start now
 
 -- a question was answered, but not all was written: the world and the counts are as they were
 pub record AnswersInPart (why : Unwritten) (t : Turn) (before now : Stage) : Type 0 where
@@ -204,31 +204,31 @@ IsUntaken OutOfMemory before now = (now.world ≡ before.world) × (now.counts �
 
 -- an event or a watermark wasn't taken wholly: nothing was printed, and a world that was at rest is as it was, with the counts, or
 -- has taken it, with some of what it makes due; every page is mapped by the version by which it was, if all were by one
-pub record TakesInPart (why : Unapplied) (setting : Setting) (d : Delivery) (before now : Stage) : Type 0 where
-  pub held_up : IsHeldUp why setting now.world now.mapped
+pub record TakesInPart (why : Unapplied) (environment : Environment) (d : Delivery) (before now : Stage) : Type 0 where
+  pub held_up : IsHeldUp why environment now.world now.mapped
   pub output : now.output ≡ before.output
   pub mapped : KeepsVersion before.mapped now.mapped before.world.played.records now.world.played.records
-  pub world : (ds : List Delivery) (start : Stage) → AtRest setting ds start before →
+  pub world : (ds : List Delivery) (start : Stage) → AtRest environment ds start before →
       IsUntaken why before now
-      ⊎ IsWithin why setting (course_begun ds (Some d) start) (λ replies. entered (following (horizon_at start) replies ds) d) start now
+      ⊎ IsWithin why environment (course_begun ds (Some d) start) (λ replies. entered (following (horizon_at start) replies ds) d) start now
 
 -- a change of the mapping wasn't taken wholly: its version is in force, and the pages of some entities, the least first, are mapped
 -- by it, and had room; all else is as it was
-pub record RemapsInPart (why : Unapplied) (setting : Setting) (d : Delivery) (before now : Stage) : Type 0 where
+pub record RemapsInPart (why : Unapplied) (environment : Environment) (d : Delivery) (before now : Stage) : Type 0 where
   pub version : MappingVersion
   pub is : d ≡ Mapping version
-  pub left_stale : IsLeftStale why setting.room now.world.played.records now.mapped
+  pub left_stale : IsLeftStale why environment.limit now.world.played.records now.mapped
   pub output : now.output ≡ before.output
   pub counts : now.counts ≡ before.counts
   pub world : now.world ≡ before.world
   pub steps : ℕ
-  pub mapped : now.mapped ≡ remapped_some steps before.world.played.records (record { version = version; second = before.mapped.second })
-  pub roomed : HaveRoomBefore setting.room (needed_anew before.world.played.records now.mapped) (needed_anew before.world.played.records (record { version = version; second = before.mapped.second }))
+  pub mapped : now.mapped ≡ remapped_some steps before.world.played.records (record { version = version; by_two = before.mapped.by_two })
+  pub roomed : HaveRoomBefore environment.limit (needed_anew before.world.played.records now.mapped) (needed_anew before.world.played.records (record { version = version; by_two = before.mapped.by_two }))
 
 -- a delivery wasn't taken, or not wholly: its answer wasn't written, or it or what it makes due wasn't applied, or not all that is
 -- held was mapped anew
-abbrev pub CutsOff : Stop → Setting → Turn → Stage → Stage → Type 0
-CutsOff stop setting t before now =
+abbrev pub CutsOff : Stop → Environment → Turn → Stage → Stage → Type 0
+CutsOff stop environment t before now =
     ((why : Unwritten) × (stop ≡ stop_of_unwritten why) × AnswersInPart why t before now)
-    ⊎ (((why : Unapplied) × (stop ≡ stop_of_unapplied why) × TakesInPart why setting t.delivery before now)
-    ⊎ ((why : Unapplied) × (stop ≡ stop_of_unapplied why) × RemapsInPart why setting t.delivery before now))
+    ⊎ (((why : Unapplied) × (stop ≡ stop_of_unapplied why) × TakesInPart why environment t.delivery before now)
+    ⊎ ((why : Unapplied) × (stop ≡ stop_of_unapplied why) × RemapsInPart why environment t.delivery before now))

@@ -7,13 +7,14 @@ ghost use Rattle.replay_model.specs.ReplayState.{after_end, after_event, after_m
 ghost use Rattle.replay_model.specs.Transcript.{asks};
 ghost use Rattle.transcript.specs.Printing.{output};
 ghost use Rattle.session.specs.Counts.{HasGoneOn, HasWrittenOn, counts};
-ghost use Rattle.session.specs.Moment.{setting, stage};
+ghost use Rattle.session.specs.Moment.{environment, stage};
 ghost use Rattle.session.specs.Remapping.{HoldsWithin, KeepsVersion, mapped_in};
 ghost use Rattle.session.specs.Taking.{AppliesDue, CutsOff, IsHeldUp, StaysWithin, TakesDelivery, turn};
 
 use crate::remapping::take_mapping;
 use crate::stop::{Stop, Unapplied};
-use entity_model::{Delivery, Event};
+use delivery::Delivery;
+use entity_model::Event;
 use rdf_term::OutOfMemory;
 use reorder_buffer::Taken;
 use revisions::Revisions;
@@ -51,14 +52,14 @@ pub fn deliver<R: Revisions, K: Sink>(
     world: &mut World,
 ) -> Result<Option<Taken>, Stop>
     requires { world.old.replay.buffer.closed ≡ false }
-    ensures ok { OnOk result (TakesDelivery (setting (R.contents revisions.old) context.now.folder.now world.old.room) (turn context.now.asked delivery.now)
+    ensures ok { OnOk result (TakesDelivery (environment (R.contents revisions.old) context.now.folder.now world.old.limit) (turn context.now.asked delivery.now)
         (stage R.Revisions K.Sink revisions.old out.old world.old) (stage R.Revisions K.Sink revisions.new out.new world.new)) }
     ensures answer { IfOk result (λ answer. answer ≡ answer_of world.old.replay.buffer delivery.now) }
-    ensures err { IfErr result (λ stop. CutsOff stop (setting (R.contents revisions.old) context.now.folder.now world.old.room) (turn context.now.asked delivery.now)
+    ensures err { IfErr result (λ stop. CutsOff stop (environment (R.contents revisions.old) context.now.folder.now world.old.limit) (turn context.now.asked delivery.now)
         (stage R.Revisions K.Sink revisions.old out.old world.old) (stage R.Revisions K.Sink revisions.new out.new world.new)) }
     ensures silent { asks (delivery.now ∷ []) ≡ 0 → output K.Sink out.new ≡ output K.Sink out.old }
-    ensures room { world.new.room ≡ world.old.room }
-    ensures held { HoldsWithin world.old.room world.old → HoldsWithin world.old.room world.new }
+    ensures limit { world.new.limit ≡ world.old.limit }
+    ensures held { HoldsWithin world.old.limit world.old → HoldsWithin world.old.limit world.new }
     ensures source { HasGoneOn R.Revisions revisions.old revisions.new }
     ensures written { HasWrittenOn K.Sink out.old out.new }
 {
@@ -85,13 +86,13 @@ pub fn take_end<R: Revisions>(
     revisions: &mut R,
     world: &mut World,
 ) -> Result<(), Unapplied>
-    ensures ok { OnOk result (AppliesDue (setting (R.contents revisions.old) folder.now world.old.room) (mapped_in world.old)
+    ensures ok { OnOk result (AppliesDue (environment (R.contents revisions.old) folder.now world.old.limit) (mapped_in world.old)
         (counts R.Revisions revisions.old) (counts R.Revisions revisions.new) (after_end world.old.replay) world.new.replay) }
-    ensures err { IfErr result (λ why. StaysWithin why (setting (R.contents revisions.old) folder.now world.old.room) (mapped_in world.old)
+    ensures err { IfErr result (λ why. StaysWithin why (environment (R.contents revisions.old) folder.now world.old.limit) (mapped_in world.old)
         (counts R.Revisions revisions.old) (counts R.Revisions revisions.new) (after_end world.old.replay) world.new.replay) }
-    ensures held_up { IfErr result (λ why. IsHeldUp why (setting (R.contents revisions.old) folder.now world.old.room) world.new.replay (mapped_in world.new)) }
-    ensures room { world.new.room ≡ world.old.room }
-    ensures held { HoldsWithin world.old.room world.new }
+    ensures held_up { IfErr result (λ why. IsHeldUp why (environment (R.contents revisions.old) folder.now world.old.limit) world.new.replay (mapped_in world.new)) }
+    ensures limit { world.new.limit ≡ world.old.limit }
+    ensures held { HoldsWithin world.old.limit world.new }
     ensures versions { KeepsVersion (mapped_in world.old) (mapped_in world.new) world.old.replay.played.records world.new.replay.played.records }
     ensures source { HasGoneOn R.Revisions revisions.old revisions.new }
 {
@@ -106,13 +107,13 @@ fn take_mark<R: Revisions>(
     revisions: &mut R,
     world: &mut World,
 ) -> Result<(), Unapplied>
-    ensures ok { OnOk result (AppliesDue (setting (R.contents revisions.old) folder.now world.old.room) (mapped_in world.old)
+    ensures ok { OnOk result (AppliesDue (environment (R.contents revisions.old) folder.now world.old.limit) (mapped_in world.old)
         (counts R.Revisions revisions.old) (counts R.Revisions revisions.new) (after_mark world.old.replay mark.now) world.new.replay) }
-    ensures err { IfErr result (λ why. StaysWithin why (setting (R.contents revisions.old) folder.now world.old.room) (mapped_in world.old)
+    ensures err { IfErr result (λ why. StaysWithin why (environment (R.contents revisions.old) folder.now world.old.limit) (mapped_in world.old)
         (counts R.Revisions revisions.old) (counts R.Revisions revisions.new) (after_mark world.old.replay mark.now) world.new.replay) }
-    ensures held_up { IfErr result (λ why. IsHeldUp why (setting (R.contents revisions.old) folder.now world.old.room) world.new.replay (mapped_in world.new)) }
-    ensures room { world.new.room ≡ world.old.room }
-    ensures held { HoldsWithin world.old.room world.new }
+    ensures held_up { IfErr result (λ why. IsHeldUp why (environment (R.contents revisions.old) folder.now world.old.limit) world.new.replay (mapped_in world.new)) }
+    ensures limit { world.new.limit ≡ world.old.limit }
+    ensures held { HoldsWithin world.old.limit world.new }
     ensures versions { KeepsVersion (mapped_in world.old) (mapped_in world.new) world.old.replay.played.records world.new.replay.played.records }
     ensures source { HasGoneOn R.Revisions revisions.old revisions.new }
 {
@@ -123,7 +124,7 @@ fn take_mark<R: Revisions>(
 // Takes a watermark.
 fn raise(mark: &i64, world: &mut World)
     ensures mark { world.new.replay ≡ after_mark world.old.replay mark.now }
-    ensures room { world.new.room ≡ world.old.room }
+    ensures limit { world.new.limit ≡ world.old.limit }
     ensures versions { mapped_in world.new ≡ mapped_in world.old }
 {
     world.raise(*mark);
@@ -134,7 +135,7 @@ fn take_event(event: Event, world: &mut World) -> Result<Taken, OutOfMemory>
     requires { world.old.replay.buffer.closed ≡ false }
     ensures answer { IfOk result (λ taken. taken ≡ answer_to world.old.replay.buffer event) }
     ensures ok { OnOk result (world.new.replay ≡ after_event world.old.replay event) }
-    ensures room { world.new.room ≡ world.old.room }
+    ensures limit { world.new.limit ≡ world.old.limit }
     ensures versions { mapped_in world.new ≡ mapped_in world.old }
     ensures err { OnErr result (world.new ≡ world.old) }
 {
@@ -147,13 +148,13 @@ fn apply_due<R: Revisions>(
     revisions: &mut R,
     world: &mut World,
 ) -> Result<(), Unapplied>
-    ensures ok { OnOk result (AppliesDue (setting (R.contents revisions.old) folder.now world.old.room) (mapped_in world.old)
+    ensures ok { OnOk result (AppliesDue (environment (R.contents revisions.old) folder.now world.old.limit) (mapped_in world.old)
         (counts R.Revisions revisions.old) (counts R.Revisions revisions.new) world.old.replay world.new.replay) }
-    ensures err { IfErr result (λ why. StaysWithin why (setting (R.contents revisions.old) folder.now world.old.room) (mapped_in world.old)
+    ensures err { IfErr result (λ why. StaysWithin why (environment (R.contents revisions.old) folder.now world.old.limit) (mapped_in world.old)
         (counts R.Revisions revisions.old) (counts R.Revisions revisions.new) world.old.replay world.new.replay) }
-    ensures held_up { IfErr result (λ why. IsHeldUp why (setting (R.contents revisions.old) folder.now world.old.room) world.new.replay (mapped_in world.new)) }
-    ensures room { world.new.room ≡ world.old.room }
-    ensures held { HoldsWithin world.old.room world.new }
+    ensures held_up { IfErr result (λ why. IsHeldUp why (environment (R.contents revisions.old) folder.now world.old.limit) world.new.replay (mapped_in world.new)) }
+    ensures limit { world.new.limit ≡ world.old.limit }
+    ensures held { HoldsWithin world.old.limit world.new }
     ensures versions { KeepsVersion (mapped_in world.old) (mapped_in world.new) world.old.replay.played.records world.new.replay.played.records }
     ensures source { HasGoneOn R.Revisions revisions.old revisions.new }
 {

@@ -40,7 +40,7 @@ pub fn play<K: Sink>(
     requires size { IsSize size }
     requires world { world.old.replay ≡ nothing_delivered }
     requires first { IsByFirst world.old }
-    requires room { world.old.room ≡ 20000000 }
+    requires limit { world.old.limit ≡ 20000000 }
     ensures counts { IfOk result (λ counts. Counted (drill size) counts) }
     ensures ok { OnOk result (world.new.replay ≡ drilled size) }
     ensures begun { HasBegun size world.new.replay }

@@ -17,8 +17,8 @@ use transcript::{Unwritten, print_lines};
 use world::World;
 use wq_io::Sink;
 
-/// For how many terms a drill has room.
-const ROOM: u32 = 20_000_000;
+/// The limit of a drill's world.
+const LIMIT: u32 = 20_000_000;
 
 // Runs the drill of this size, by version One of the mapping, and prints its summary.
 pub fn drill<K: Sink>(
@@ -32,12 +32,12 @@ pub fn drill<K: Sink>(
     ensures ok { OnOk result (HasDrilled size (output K.Sink out.old) (output K.Sink out.new) world.new.replay) }
     ensures err { IfErr result (λ why. DrillStopped why size (output K.Sink out.old) (output K.Sink out.new) world.new.replay) }
     ensures first { IsByFirst world.new }
-    ensures room { world.new.room ≡ 20000000 }
+    ensures limit { world.new.limit ≡ 20000000 }
     ensures held { HoldsWithin 20000000 world.new }
     ensures written { HasWrittenOn K.Sink out.old out.new }
 {
     begin_by_first(world);
-    world.set_room(ROOM);
+    world.set_room(LIMIT);
     let counts = play(alloc, size, out, world)?;
     let summary = summarize(alloc, size, counts, world)?;
     let lines = summary_lines(alloc, &summary)?;

@@ -33,7 +33,7 @@ pub fn follow_records<S: Source, R: Revisions, K: Sink>(
     ensures err { IfErr result (λ stop. FollowStopped stop options.now
         (moment S.Source K.Sink ports.old.events ports.old.out) (moment S.Source K.Sink ports.new.events ports.new.out)) }
     ensures others { ports.new ≡ record ports.old { events = ports.new.events; out = ports.new.out } }
-    ensures empty { world.new ≡ record world.old { room = 20000000 } }
+    ensures empty { world.new ≡ record world.old { limit = 20000000 } }
     ensures held { HoldsWithin 20000000 world.new }
     ensures further { HaveGoneOn S.Source R.Revisions K.Sink ports.old ports.new }
 {

@@ -5,7 +5,7 @@ ghost use Rattle.std.specs.FinMap as map;
 ghost use Rattle.std.specs.List.{flat_map};
 ghost use Rattle.rising.specs.Rising.{has, sorted};
 ghost use Rattle.rdf_term.specs.Order.{triple_cmp};
-ghost use Rattle.entity_model.specs.declared.delivery.Delivery.{Delivery};
+ghost use Rattle.delivery.specs.declared.Delivery.{Delivery};
 ghost use Rattle.entity_model.specs.declared.event.Event.{Event};
 ghost use Rattle.entity_model.specs.declared.id.EntityId.{EntityId};
 ghost use Rattle.entity_model.specs.Event.{event_cmp};
@@ -34,29 +34,29 @@ pub fn good_input_is_replayed()
         (status ≡ Status.BadWords → ⊥) → IfSome (stop_of status) (λ stop. Stopped stop run before now) →
         before.input.left ≡ Some bytes → AreDeliveries (max_bytes_of run.choices) bytes ds →
         IsStill before.input.faults now.input.faults → IsStill before.stage.output.faults now.stage.output.faults →
-        (IsFull run.setting now.stage.world now.stage.mapped → ⊥) →
-        (IsFullOfStale run.setting.room now.stage.world.played.records now.stage.mapped → ⊥) →
+        (IsFull run.environment now.stage.world now.stage.mapped → ⊥) →
+        (IsFullOfStale run.environment.limit now.stage.world.played.records now.stage.mapped → ⊥) →
         (status ≡ Status.Ok) ⊎ (status ≡ Status.OutOfMemory) }
 {}
 
 /// A replay over told contents never stops for want of room where the different terms of all pages that its input may bring are no
-/// more than the room. These are the pages at the revisions of all delivered edits, undeletions and reconciliations as kept, where a
+/// more than the limit. These are the pages at the revisions of all delivered edits, undeletions and reconciliations as kept, where a
 /// document of the entity is there, by the first version of the mapping and by each that a line brings.
 pub fn told_pages_have_room()
     ensures { (run : Run) (before now : Moment) (contents : ℕ → Option Bytes) (bytes : List ℕ) (ds : List Delivery) →
         Stopped Stop.StoreFull run before now → before.input.left ≡ Some bytes → AreDeliveries (max_bytes_of run.choices) bytes ds →
-        run.setting.known ≡ Some contents → distinct (terms_there contents ds) ≤ run.setting.room → ⊥ }
+        run.environment.known ≡ Some contents → distinct (terms_there contents ds) ≤ run.environment.limit → ⊥ }
 {}
 
 /// A replay over told contents ends well, or for want of memory, where the words are understood, each line of the input is a
 /// delivery, the input is within the limit, no read and no write fails, and the different terms of all pages that the input may bring
-/// are no more than the room.
+/// are no more than the limit.
 pub fn fitting_input_is_replayed()
     ensures { (run : Run) (before now : Moment) (status : Status) (contents : ℕ → Option Bytes) (bytes : List ℕ) (ds : List Delivery) →
         (status ≡ Status.BadWords → ⊥) → IfSome (stop_of status) (λ stop. Stopped stop run before now) →
         before.input.left ≡ Some bytes → AreDeliveries (max_bytes_of run.choices) bytes ds →
         IsStill before.input.faults now.input.faults → IsStill before.stage.output.faults now.stage.output.faults →
-        run.setting.known ≡ Some contents → distinct (terms_there contents ds) ≤ run.setting.room →
+        run.environment.known ≡ Some contents → distinct (terms_there contents ds) ≤ run.environment.limit →
         (status ≡ Status.Ok) ⊎ (status ≡ Status.OutOfMemory) }
 {}
 
@@ -64,7 +64,7 @@ pub fn fitting_input_is_replayed()
 /// revision where nothing is, or no document of it.
 pub fn unsettled_pages_have_no_document()
     ensures { (run : Run) (before now : Moment) (contents : ℕ → Option Bytes) →
-        Ending run before now → run.setting.known ≡ Some contents → IsStill before.stage.counts.faults now.stage.counts.faults →
+        Ending run before now → run.environment.known ≡ Some contents → IsStill before.stage.counts.faults now.stage.counts.faults →
         (x : EntityId) → is_settled (record_of now.stage.world.played.records x) ≡ false →
         (is_kept (record_of now.stage.world.played.records x).state.mode ≡ true)
         × (has_document judgement contents x (record_of now.stage.world.played.records x).state.rev ≡ false) }
@@ -74,7 +74,7 @@ pub fn unsettled_pages_have_no_document()
 /// that the kept revisions mean, as the source has them, by the version of the mapping that is in force at the end.
 pub fn settled_pages_are_the_union()
     ensures { (run : Run) (before now : Moment) (contents : ℕ → Option Bytes) → (ending : Ending run before now) →
-        run.setting.known ≡ Some contents →
+        run.environment.known ≡ Some contents →
         ((x : EntityId) → is_settled (record_of now.stage.world.played.records x) ≡ true) →
         held_triples now.stage.mapped now.stage.world.played.records
         ≡ sorted triple_cmp (flat_map (λ entry. triples_in (meaning (version_in_force ending.replayed.deliveries)) contents entry.0 entry.1.state)
@@ -85,7 +85,7 @@ pub fn settled_pages_are_the_union()
 /// and each accepted event that may say that its page is there finds a document at its revision.
 pub fn found_pages_leave_no_entries()
     ensures { (run : Run) (before now : Moment) (contents : ℕ → Option Bytes) → (ending : Ending run before now) →
-        run.setting.known ≡ Some contents → IsStill before.stage.counts.faults now.stage.counts.faults →
+        run.environment.known ≡ Some contents → IsStill before.stage.counts.faults now.stage.counts.faults →
         late (horizon_at before.stage) ending.replayed.deliveries ≡ [] →
         ((e : Event) → has event_cmp e (accepted (horizon_at before.stage) ending.replayed.deliveries) ≡ true → FindsDocument judgement contents e) →
         now.stage.world.played.side ≡ [] }

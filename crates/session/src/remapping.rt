@@ -16,7 +16,7 @@ pub fn begin_by_first(world: &mut World)
     requires world { world.old.replay ≡ nothing_delivered }
     ensures replay { world.new.replay ≡ nothing_delivered }
     ensures first { IsByFirst world.new }
-    ensures room { world.new.room ≡ world.old.room }
+    ensures limit { world.new.limit ≡ world.old.limit }
 {
     world.set_mapping(MappingVersion::One);
 }
@@ -24,15 +24,15 @@ pub fn begin_by_first(world: &mut World)
 // Puts a version of the mapping in force, and maps all that is held by it, the page of the least entity first.
 pub fn take_mapping(version: MappingVersion, world: &mut World) -> Result<(), Unapplied>
     ensures replay { world.new.replay ≡ world.old.replay }
-    ensures room { world.new.room ≡ world.old.room }
-    ensures held { HoldsWithin world.old.room world.old → HoldsWithin world.old.room world.new }
+    ensures limit { world.new.limit ≡ world.old.limit }
+    ensures held { HoldsWithin world.old.limit world.old → HoldsWithin world.old.limit world.new }
     ensures ok { OnOk result (mapped_in world.new ≡ mapped_by version world.old.replay.played.records) }
     ensures err { OnErr result ((steps : ℕ) × (mapped_in world.new
-        ≡ remapped_some steps world.old.replay.played.records (record { version = version; second = world.old.second }))) }
-    ensures roomed { OnOk result (HaveRoom world.old.room (needed_anew world.old.replay.played.records (record { version = version; second = world.old.second }))) }
-    ensures roomed_before { OnErr result (HaveRoomBefore world.old.room (needed_anew world.old.replay.played.records (mapped_in world.new))
-        (needed_anew world.old.replay.played.records (record { version = version; second = world.old.second }))) }
-    ensures left_stale { IfErr result (λ why. IsLeftStale why world.old.room world.old.replay.played.records (mapped_in world.new)) }
+        ≡ remapped_some steps world.old.replay.played.records (record { version = version; by_two = world.old.by_two }))) }
+    ensures roomed { OnOk result (HaveRoom world.old.limit (needed_anew world.old.replay.played.records (record { version = version; by_two = world.old.by_two }))) }
+    ensures roomed_before { OnErr result (HaveRoomBefore world.old.limit (needed_anew world.old.replay.played.records (mapped_in world.new))
+        (needed_anew world.old.replay.played.records (record { version = version; by_two = world.old.by_two }))) }
+    ensures left_stale { IfErr result (λ why. IsLeftStale why world.old.limit world.old.replay.played.records (mapped_in world.new)) }
 {
     world.set_mapping(version);
     while world.stale() > 0 {

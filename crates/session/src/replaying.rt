@@ -24,7 +24,7 @@ use words::ReplayOptions;
 use world::World;
 use wq_io::{Sink, Source};
 
-// Begins by the first version of the mapping, sets the horizon and the room, takes the lines and the end, and prints.
+// Begins by the first version of the mapping, sets the horizon and the limit, takes the lines and the end, and prints.
 pub fn replay<S: Source, R: Revisions, K: Sink>(
     alloc: Global,
     options: &ReplayOptions<'_>,
@@ -39,7 +39,7 @@ pub fn replay<S: Source, R: Revisions, K: Sink>(
         (moment S.Source R.Revisions K.Sink ports.old (world_at_start options.now))
         (moment S.Source R.Revisions K.Sink ports.new world.new)) }
     ensures taken { IfSome (S.left ports.old.events) (λ bytes. TakesByNeed (max_bytes_of options.now) bytes (S.left ports.new.events)) }
-    ensures room { world.new.room ≡ max_terms_of options.now }
+    ensures limit { world.new.limit ≡ max_terms_of options.now }
     ensures held { HoldsWithin (max_terms_of options.now) world.new }
     ensures further { HaveGoneOn S.Source R.Revisions K.Sink ports.old ports.new }
 {
@@ -54,14 +54,14 @@ fn set_horizon(options: &ReplayOptions<'_>, world: &mut World)
     requires first { IsByFirst world.old }
     ensures replay { world.new.replay ≡ (world_at_start options.now).replay }
     ensures first { IsByFirst world.new }
-    ensures room { world.new.room ≡ world.old.room }
+    ensures limit { world.new.limit ≡ world.old.limit }
 {
     if let Some(micros) = options.horizon() {
         world.set_horizon(micros);
     }
 }
 
-// Sets the room, takes the lines and the end, and prints.
+// Sets the limit, takes the lines and the end, and prints.
 fn replay_within<S: Source, R: Revisions, K: Sink>(
     alloc: Global,
     options: &ReplayOptions<'_>,
@@ -77,7 +77,7 @@ fn replay_within<S: Source, R: Revisions, K: Sink>(
         (moment S.Source R.Revisions K.Sink ports.old world.old)
         (moment S.Source R.Revisions K.Sink ports.new world.new)) }
     ensures taken { IfSome (S.left ports.old.events) (λ bytes. TakesByNeed (max_bytes_of options.now) bytes (S.left ports.new.events)) }
-    ensures room { world.new.room ≡ max_terms_of options.now }
+    ensures limit { world.new.limit ≡ max_terms_of options.now }
     ensures held { HoldsWithin (max_terms_of options.now) world.new }
     ensures further { HaveGoneOn S.Source R.Revisions K.Sink ports.old ports.new }
 {
@@ -106,8 +106,8 @@ fn take_all<S: Source, R: Revisions, K: Sink>(
 ) -> Result<(), Stop>
     requires world { world.old.replay ≡ nothing_delivered_within world.old.replay.buffer.horizon }
     requires first { IsByFirst world.old }
-    requires room { world.old.room ≡ max_terms_of plan.now }
-    requires held { HoldsWithin world.old.room world.old }
+    requires limit { world.old.limit ≡ max_terms_of plan.now }
+    requires held { HoldsWithin world.old.limit world.old }
     ensures ok { OnOk result (HasReplayed (run_of (R.contents ports.old.revisions) plan.now)
         (moment S.Source R.Revisions K.Sink ports.old world.old)
         (moment S.Source R.Revisions K.Sink ports.new world.new)) }
@@ -115,8 +115,8 @@ fn take_all<S: Source, R: Revisions, K: Sink>(
         (moment S.Source R.Revisions K.Sink ports.old world.old)
         (moment S.Source R.Revisions K.Sink ports.new world.new)) }
     ensures taken { IfSome (S.left ports.old.events) (λ bytes. TakesByNeed (max_bytes_of plan.now) bytes (S.left ports.new.events)) }
-    ensures room { world.new.room ≡ world.old.room }
-    ensures held { HoldsWithin world.old.room world.new }
+    ensures limit { world.new.limit ≡ world.old.limit }
+    ensures held { HoldsWithin world.old.limit world.new }
     ensures further { HaveGoneOn S.Source R.Revisions K.Sink ports.old ports.new }
 {
     take_lines(alloc, plan, ports, world)?;

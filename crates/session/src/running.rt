@@ -9,7 +9,7 @@ ghost use Rattle.session.specs.Following.{FollowEnding};
 ghost use Rattle.session.specs.Headline.{ReplayEnding};
 ghost use Rattle.session.specs.Moment.{moment, run_of, stage, world_at_start};
 ghost use Rattle.session.specs.Remapping.{HoldsWithin};
-ghost use Rattle.session.specs.Room.{room_of};
+ghost use Rattle.session.specs.Room.{limit_of_plan};
 ghost use Rattle.following.specs.Following.{moment as follow_moment};
 ghost use Rattle.words.specs.Options.{Choices, FollowChoices};
 ghost use Rattle.words.specs.Plan.{plan_of};
@@ -50,7 +50,7 @@ pub fn run<S: Source, R: Revisions, K: Sink>(
     ensures bad_words { (result ≡ Status.BadWords) ↔ (plan_of (map (λ w. string_bytes w) words.now) ≡ None) }
     ensures untouched { result ≡ Status.BadWords → (ports.new ≡ ports.old) × (world.new ≡ world.old) }
 
-    // A replay ends well, or stops for a cause; it begins with the horizon and the room of the words, and by the first version.
+    // A replay ends well, or stops for a cause; it begins with the horizon and the limit of the words, and by the first version.
     ensures replay { (choices : Choices) → plan_of (map (λ w. string_bytes w) words.now) ≡ Some (Replay choices) →
         ReplayEnding result (run_of (R.contents ports.old.revisions) choices)
         (moment S.Source R.Revisions K.Sink ports.old (world_at_start choices))
@@ -69,11 +69,11 @@ pub fn run<S: Source, R: Revisions, K: Sink>(
         FollowEnding result choices
         (follow_moment S.Source K.Sink ports.old.events ports.old.out)
         (follow_moment S.Source K.Sink ports.new.events ports.new.out)
-        × (ports.new ≡ record ports.old { events = ports.new.events; out = ports.new.out }) × (world.new ≡ record world.old { room = 20000000 }) }
+        × (ports.new ≡ record ports.old { events = ports.new.events; out = ports.new.out }) × (world.new ≡ record world.old { limit = 20000000 }) }
 
-    // However a run ends, the world is left with the room of the plan, and what it holds has this room.
-    ensures room { (plan : ThePlan) → plan_of (map (λ w. string_bytes w) words.now) ≡ Some plan →
-        (world.new.room ≡ room_of plan) × HoldsWithin (room_of plan) world.new }
+    // However a run ends, the world is left with the limit of the plan, and what it holds stays within it.
+    ensures limit { (plan : ThePlan) → plan_of (map (λ w. string_bytes w) words.now) ≡ Some plan →
+        (world.new.limit ≡ limit_of_plan plan) × HoldsWithin (limit_of_plan plan) world.new }
 
     // The contents of the revisions stay the same, and failure counters never decrease.
     ensures further { HaveGoneOn S.Source R.Revisions K.Sink ports.old ports.new }

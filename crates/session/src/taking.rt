@@ -17,7 +17,7 @@ ghost use Rattle.words.specs.Options.{max_bytes_of, max_terms_of};
 use crate::delivering::{Context, asks, deliver};
 use crate::ports::Ports;
 use crate::stop::Stop;
-use entity_model::Delivery;
+use delivery::Delivery;
 use event_line::{DeliveryFault, delivery};
 use revisions::Revisions;
 use std::alloc::Global;
@@ -35,8 +35,8 @@ pub fn take_lines<S: Source, R: Revisions, K: Sink>(
 ) -> Result<(), Stop>
     requires world { world.old.replay ≡ nothing_delivered_within world.old.replay.buffer.horizon }
     requires first { IsByFirst world.old }
-    requires room { world.old.room ≡ max_terms_of plan.now }
-    requires held { HoldsWithin world.old.room world.old }
+    requires limit { world.old.limit ≡ max_terms_of plan.now }
+    requires held { HoldsWithin world.old.limit world.old }
     ensures ok { OnOk result (HasTaken (run_of (R.contents ports.old.revisions) plan.now)
         (moment S.Source R.Revisions K.Sink ports.old world.old)
         (moment S.Source R.Revisions K.Sink ports.new world.new)) }
@@ -44,8 +44,8 @@ pub fn take_lines<S: Source, R: Revisions, K: Sink>(
         (moment S.Source R.Revisions K.Sink ports.old world.old)
         (moment S.Source R.Revisions K.Sink ports.new world.new)) }
     ensures taken { IfSome (S.left ports.old.events) (λ bytes. TakesByNeed (max_bytes_of plan.now) bytes (S.left ports.new.events)) }
-    ensures room { world.new.room ≡ world.old.room }
-    ensures held { HoldsWithin world.old.room world.new }
+    ensures limit { world.new.limit ≡ world.old.limit }
+    ensures held { HoldsWithin world.old.limit world.new }
     ensures further { HaveGoneOn S.Source R.Revisions K.Sink ports.old ports.new }
 {
     let folder = plan.folder();

@@ -59,10 +59,10 @@ impl Side {
         self.entries.len()
     }
 
-    /// The entry at a place from 0.
-    pub fn get(&self, place: usize) -> Option<&Entry>
-        ensures { option_copied result ≡ slice_get self.now.entries place }
+    /// The entry at an index from 0.
+    pub fn get(&self, index: usize) -> Option<&Entry>
+        ensures { option_copied result ≡ slice_get self.now.entries index }
     {
-        self.entries.get(place)
+        self.entries.get(index)
     }
 }

@@ -9,7 +9,7 @@ use crate::project::{Project, coded};
 use crate::replaced::replaced;
 use crate::sites::Site;
 use crate::special::SpecialSite;
-use rdf_term::{OutOfMemory, Piece, Text};
+use rdf_term::{CowText, OutOfMemory, Text};
 use std::alloc::Global;
 
 // Room for what most IRIs of sites begin with, in bytes.
@@ -34,9 +34,9 @@ fn special_site(special: SpecialSite) -> Site<'static>
     ensures { result ≡ special_site special }
 {
     Site {
-        base: Piece::borrowed(special.base()),
-        language: Piece::borrowed("en"),
-        group: Piece::borrowed(special.group()),
+        base: CowText::borrowed(special.base()),
+        language: CowText::borrowed("en"),
+        group: CowText::borrowed(special.group()),
     }
 }
 
@@ -54,9 +54,9 @@ fn language_site(
     }
     let base = language_base(alloc, language.as_str(), project)?;
     Ok(Some(Site {
-        base: Piece::owned(base),
+        base: CowText::owned(base),
         language,
-        group: Piece::borrowed(project.group()),
+        group: CowText::borrowed(project.group()),
     }))
 }
 

@@ -3,7 +3,7 @@
 ghost use Rattle.std.specs.Prelude.{◌≡◌, ◌<◌, ◌++◌, ◌∷◌, ℕ, IfOk, OnOk, MatchOption, string_bytes, encode_utf8};
 ghost use Rattle.sitelinks.specs.Replaced.{replaced};
 
-use rdf_term::{OutOfMemory, Piece, Text};
+use rdf_term::{CowText, OutOfMemory, Text};
 use std::alloc::Global;
 
 /// What stands before the first of an ASCII character in the text, and what stands behind it.
@@ -21,7 +21,7 @@ pub(crate) fn replaced<'a>(
     text: &'a str,
     from: char,
     to: char,
-) -> Result<Piece<'a>, OutOfMemory>
+) -> Result<CowText<'a>, OutOfMemory>
     requires from { from < 128 }
     requires to { to < 128 }
     ensures { IfOk result (λ out. out ≡ replaced from to text.now) }
@@ -29,9 +29,9 @@ pub(crate) fn replaced<'a>(
     match around(text, from) {
         Some(_) => {
             let out = replaced_copy(alloc, text, from, to)?;
-            Ok(Piece::owned(Text::from_string(out)))
+            Ok(CowText::owned(Text::from_string(out)))
         }
-        None => Ok(Piece::borrowed(text)),
+        None => Ok(CowText::borrowed(text)),
     }
 }
 

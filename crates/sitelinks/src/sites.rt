@@ -1,14 +1,14 @@
 // Where articles are.
 
-use rdf_term::Piece;
+use rdf_term::CowText;
 
 /// A site with articles. What its id spells out is borrowed from there.
 #[derive(Debug, Drop)]
 pub struct Site<'a> {
     /// What the IRIs of the site begin with, as `https://en.wikipedia.org/`.
-    pub base: Piece<'a>,
+    pub base: CowText<'a>,
     /// The language of the articles, as `en`.
-    pub language: Piece<'a>,
+    pub language: CowText<'a>,
     /// The group of sites that it counts to, as `wikipedia`.
-    pub group: Piece<'a>,
+    pub group: CowText<'a>,
 }

@@ -13,7 +13,7 @@ use Rattle.rising.proofs.Rising.{has-insert_key, has-tied_above}
 use Rattle.rising.proofs.Sorting.{IsStrictlySortedBy-from_rising}
 use Rattle.slot_index.specs.declared.key.Key.{Key}
 use Rattle.slot_index.specs.Keys.{key_cmp, key_cmp-total, key_cmp-IsAntisymmetric, same_key}
-use Rattle.slot_index.specs.Counts.{Counts, HaveOwners, count_of, counts_of, raised, lowered}
+use Rattle.slot_index.specs.Counts.{KeyCounts, HaveOwners, count_of, counts_of, raised, lowered}
 use Rattle.slot_index.specs.Counted.{with_more, IsCounted}
 use Rattle.slot_index.proofs.Mapped.{got, keys_ordered, len_ordered}
 use Rattle.slot_index.proofs.Passing.{one_if}
@@ -27,12 +27,12 @@ at_key P k q same other =
       | false ↦ λ e. other e
     ] refl
 
-lookup-entries : (more : Counts) (q : Key) (keys : List Key) → lookup (same_key q) (mapped (λ k. (k, count_of more k + 1)) keys) ≡ cond (has key_cmp q keys) (Some (count_of more q + 1)) None
+lookup-entries : (more : KeyCounts) (q : Key) (keys : List Key) → lookup (same_key q) (mapped (λ k. (k, count_of more k + 1)) keys) ≡ cond (has key_cmp q keys) (Some (count_of more q + 1)) None
 lookup-entries more q [] = refl
 lookup-entries more q (k ∷ keys) =
     at_key (λ x b. cond b (Some (count_of more k + 1)) (lookup (same_key q) (mapped (λ k. (k, count_of more k + 1)) keys)) ≡ cond (b || has key_cmp q keys) (Some (count_of more x + 1)) None) k q refl (λ _. lookup-entries more q keys)
 
-get-with_more : (keys : List Key) (more : Counts) (q : Key) → map.get (with_more keys more) q ≡ cond (has key_cmp q keys) (Some (count_of more q + 1)) None
+get-with_more : (keys : List Key) (more : KeyCounts) (q : Key) → map.get (with_more keys more) q ≡ cond (has key_cmp q keys) (Some (count_of more q + 1)) None
 unfolding with_more
 get-with_more keys more q = got key_cmp-total q (mapped (λ k. (k, count_of more k + 1)) keys) ∙ lookup-entries more q keys
 
@@ -40,52 +40,52 @@ unwrapped : (b : Bool) (n : ℕ) → unwrap_or (cond b (Some n) None) 0 ≡ cond
 unwrapped true n = refl
 unwrapped false n = refl
 
-pub count_of-with_more : (keys : List Key) (more : Counts) (q : Key) → count_of (with_more keys more) q ≡ cond (has key_cmp q keys) (count_of more q + 1) 0
+pub count_of-with_more : (keys : List Key) (more : KeyCounts) (q : Key) → count_of (with_more keys more) q ≡ cond (has key_cmp q keys) (count_of more q + 1) 0
 count_of-with_more keys more q = ap (λ v. unwrap_or v 0) (get-with_more keys more q) ∙ unwrapped (has key_cmp q keys) (count_of more q + 1)
 
-pub HaveOwners-with_more : (keys : List Key) (more : Counts) → HaveOwners (with_more keys more)
+pub HaveOwners-with_more : (keys : List Key) (more : KeyCounts) → HaveOwners (with_more keys more)
 HaveOwners-with_more keys more q = subst (λ v. is_some v ≡ true → 0 < unwrap_or v 0) (sym (get-with_more keys more q)) (by (has key_cmp q keys))
   where
     by : (b : Bool) → is_some (cond b (Some (count_of more q + 1)) None) ≡ true → 0 < unwrap_or (cond b (Some (count_of more q + 1)) None) 0
     by true e = omega arith
     by false e = absurd (true≢false (sym e))
 
-keys-entries : (more : Counts) (keys : List Key) → by_keys.keys_of (mapped (λ k. (k, count_of more k + 1)) keys) ≡ keys
+keys-entries : (more : KeyCounts) (keys : List Key) → by_keys.keys_of (mapped (λ k. (k, count_of more k + 1)) keys) ≡ keys
 keys-entries more [] = refl
 keys-entries more (k ∷ keys) = ap (λ l. k ∷ l) (keys-entries more keys)
 
-pub keys-with_more : (keys : List Key) (more : Counts) → IsRising key_cmp keys → map.keys (with_more keys more) ≡ keys
+pub keys-with_more : (keys : List Key) (more : KeyCounts) → IsRising key_cmp keys → map.keys (with_more keys more) ≡ keys
 unfolding with_more
 keys-with_more keys more h =
     let same = keys-entries more keys in
     keys_ordered key_cmp-total key_cmp-IsAntisymmetric (mapped (λ k. (k, count_of more k + 1)) keys) (IsStrictlySortedBy-from_rising key_cmp _ (subst (IsRising key_cmp) (sym same) h)) ∙ same
 
 -- the entries of the map
-abbrev entries_of : Counts → List Key → List (Key × ℕ)
+abbrev entries_of : KeyCounts → List Key → List (Key × ℕ)
 entries_of more keys = mapped (λ k. (k, count_of more k + 1)) keys
 
-length-entries : (more : Counts) (keys : List Key) → length (entries_of more keys) ≡ length keys
+length-entries : (more : KeyCounts) (keys : List Key) → length (entries_of more keys) ≡ length keys
 length-entries more [] = refl
 length-entries more (k ∷ keys) = let rest = length-entries more keys in omega arith
 
-pub len-with_more : (keys : List Key) (more : Counts) → IsRising key_cmp keys → map.len (with_more keys more) ≡ length keys
+pub len-with_more : (keys : List Key) (more : KeyCounts) → IsRising key_cmp keys → map.len (with_more keys more) ≡ length keys
 unfolding with_more
 len-with_more keys more h =
     let same = keys-entries more keys in
     len_ordered key_cmp-total key_cmp-IsAntisymmetric (mapped (λ k. (k, count_of more k + 1)) keys) (IsStrictlySortedBy-from_rising key_cmp _ (subst (IsRising key_cmp) (sym same) h)) ∙ length-entries more keys
 
 -- a map in which each stored triple has owners is fixed by its numbers
-more_is : (keys : List Key) (more m : Counts) → HaveOwners m → ((q : Key) → cond (has key_cmp q keys) (count_of more q + 1) 0 ≡ count_of m q) → with_more keys more ≡ m
+more_is : (keys : List Key) (more m : KeyCounts) → HaveOwners m → ((q : Key) → cond (has key_cmp q keys) (count_of more q + 1) 0 ≡ count_of m q) → with_more keys more ≡ m
 more_is keys more m h e = same_counts (with_more keys more) m (HaveOwners-with_more keys more) h (λ q. count_of-with_more keys more q ∙ e q)
 
-none_more : (keys : List Key) (more : Counts) (k : Key) → IsCounted keys more → has key_cmp k keys ≡ false → count_of more k ≡ 0
+none_more : (keys : List Key) (more : KeyCounts) (k : Key) → IsCounted keys more → has key_cmp k keys ≡ false → count_of more k ≡ 0
 none_more keys more k h absent = ⊎_elim
     (λ some. clash (h.stored k some) absent)
     (λ none. omega arith)
     (cases_lt 0 (count_of more k))
 
 -- a triple that wasn't stored
-pub put_in : (keys : List Key) (more : Counts) (k : Key) → IsCounted keys more → has key_cmp k keys ≡ false → with_more (insert_key key_cmp keys k) more ≡ raised (with_more keys more) k
+pub put_in : (keys : List Key) (more : KeyCounts) (k : Key) → IsCounted keys more → has key_cmp k keys ≡ false → with_more (insert_key key_cmp keys k) more ≡ raised (with_more keys more) k
 put_in keys more k h absent = more_is (insert_key key_cmp keys k) more _ (HaveOwners-with_count _ k _ (HaveOwners-with_more keys more)) (λ q.
     ap (λ b. cond b (count_of more q + 1) 0) (has-insert_key key_cmp-total q k keys)
     ∙ at_key (λ x b. cond (b || has key_cmp x keys) (count_of more x + 1) 0 ≡ cond (has key_cmp x keys) (count_of more x + 1) 0 + one_if b) k q
@@ -112,14 +112,14 @@ has_same : (keys : List Key) (k q : Key) → has key_cmp k keys ≡ true → sam
 has_same keys k q there e = ap (λ x. has key_cmp x keys) (key_cmp-IsAntisymmetric q k (equal _ e)) ∙ there
 
 -- a further owner of a stored triple comes, or goes
-pub one_more : (keys : List Key) (more : Counts) (k : Key) → has key_cmp k keys ≡ true → with_more keys (raised more k) ≡ raised (with_more keys more) k
+pub one_more : (keys : List Key) (more : KeyCounts) (k : Key) → has key_cmp k keys ≡ true → with_more keys (raised more k) ≡ raised (with_more keys more) k
 one_more keys more k there = more_is keys (raised more k) _ (HaveOwners-with_count _ k _ (HaveOwners-with_more keys more)) (λ q.
     ap (λ n. cond (has key_cmp q keys) (n + 1) 0) (count_of-raised more k q)
     ∙ raised_one (has key_cmp q keys) (same_key q k) (count_of more q) (has_same keys k q there)
     ∙ ap (λ n. n + one_if (same_key q k)) (sym (count_of-with_more keys more q))
     ∙ sym (count_of-raised (with_more keys more) k q))
 
-pub one_less : (keys : List Key) (more : Counts) (k : Key) → 0 < count_of more k → with_more keys (lowered more k) ≡ lowered (with_more keys more) k
+pub one_less : (keys : List Key) (more : KeyCounts) (k : Key) → 0 < count_of more k → with_more keys (lowered more k) ≡ lowered (with_more keys more) k
 one_less keys more k some = more_is keys (lowered more k) _ (HaveOwners-with_count _ k _ (HaveOwners-with_more keys more)) (λ q.
     ap (λ n. cond (has key_cmp q keys) (n + 1) 0) (count_of-lowered more k q)
     ∙ lowered_one (has key_cmp q keys) (same_key q k) (count_of more q) (λ e. subst (λ x. 0 < count_of more x) (sym (key_cmp-IsAntisymmetric q k (equal _ e))) some)
@@ -146,7 +146,7 @@ without_other k q (x ∷ keys) apart =
     ] refl
 
 -- the one owner of a triple goes
-pub taken : (keys : List Key) (more : Counts) (k : Key) → IsRising key_cmp keys → count_of more k ≡ 0 → with_more (remove_key (same_key k) keys) more ≡ lowered (with_more keys more) k
+pub taken : (keys : List Key) (more : KeyCounts) (k : Key) → IsRising key_cmp keys → count_of more k ≡ 0 → with_more (remove_key (same_key k) keys) more ≡ lowered (with_more keys more) k
 taken keys more k h none = more_is (remove_key (same_key k) keys) more _ (HaveOwners-with_count _ k _ (HaveOwners-with_more keys more)) (λ q.
     at_key (λ x b. cond (has key_cmp x (remove_key (same_key k) keys)) (count_of more x + 1) 0 ≡ cond (has key_cmp x keys) (count_of more x + 1) 0 - one_if b) k q
     (ap (λ b. cond b (count_of more k + 1) 0) (without_same k keys h) ∙ none_left (has key_cmp k keys) (count_of more k) none)
@@ -162,14 +162,14 @@ taken keys more k h none = more_is (remove_key (same_key k) keys) more _ (HaveOw
     less_none n = omega arith
 
 -- the parts of an index stay as they must
-pub IsCounted-put : (keys : List Key) (more : Counts) (k : Key) → IsCounted keys more → IsCounted (insert_key key_cmp keys k) more
+pub IsCounted-put : (keys : List Key) (more : KeyCounts) (k : Key) → IsCounted keys more → IsCounted (insert_key key_cmp keys k) more
 IsCounted-put keys more k h = record {
   owned = h.owned;
   stored = λ q some. has-insert_key key_cmp-total q k keys ∙ or_true (same_key q k) (has key_cmp q keys) (h.stored q some);
   few = h.few;
 }
 
-pub IsCounted-more : (keys : List Key) (more : Counts) (k : Key) → IsCounted keys more → has key_cmp k keys ≡ true → count_of more k + 1 < 18446744073709551615 → IsCounted keys (raised more k)
+pub IsCounted-more : (keys : List Key) (more : KeyCounts) (k : Key) → IsCounted keys more → has key_cmp k keys ≡ true → count_of more k + 1 < 18446744073709551615 → IsCounted keys (raised more k)
 IsCounted-more keys more k h there small = record {
   owned = HaveOwners-with_count more k _ h.owned;
   stored = λ q. subst (λ n. 0 < n → has key_cmp q keys ≡ true) (sym (count_of-raised more k q))
@@ -178,14 +178,14 @@ IsCounted-more keys more k h there small = record {
       (at_key (λ x b. count_of more x + one_if b < 18446744073709551615) k q small (λ _. let below = h.few q in omega arith));
 }
 
-pub IsCounted-less : (keys : List Key) (more : Counts) (k : Key) → IsCounted keys more → IsCounted keys (lowered more k)
+pub IsCounted-less : (keys : List Key) (more : KeyCounts) (k : Key) → IsCounted keys more → IsCounted keys (lowered more k)
 IsCounted-less keys more k h = record {
   owned = HaveOwners-with_count more k _ h.owned;
   stored = λ q some. let n = count_of-lowered more k q in h.stored q (omega arith);
   few = λ q. let n = count_of-lowered more k q in let below = h.few q in omega arith;
 }
 
-pub IsCounted-taken : (keys : List Key) (more : Counts) (k : Key) → IsCounted keys more → count_of more k ≡ 0 → IsCounted (remove_key (same_key k) keys) more
+pub IsCounted-taken : (keys : List Key) (more : KeyCounts) (k : Key) → IsCounted keys more → count_of more k ≡ 0 → IsCounted (remove_key (same_key k) keys) more
 IsCounted-taken keys more k h none = record {
   owned = h.owned;
   stored = λ q some. without_other k q keys (apart q some) ∙ h.stored q some;
@@ -195,10 +195,10 @@ IsCounted-taken keys more k h none = record {
     apart : (q : Key) → 0 < count_of more q → same_key q k ≡ false
     apart q some = at_key (λ x b. 0 < count_of more x → b ≡ false) k q (λ one. absurd (omega arith)) (λ _ _. refl) some
 
-pub counted_there : (keys : List Key) (more : Counts) (k : Key) → has key_cmp k keys ≡ true → count_of (with_more keys more) k ≡ count_of more k + 1
+pub counted_there : (keys : List Key) (more : KeyCounts) (k : Key) → has key_cmp k keys ≡ true → count_of (with_more keys more) k ≡ count_of more k + 1
 counted_there keys more k there = count_of-with_more keys more k ∙ ap (λ b. cond b (count_of more k + 1) 0) there
 
-pub counted_absent : (keys : List Key) (more : Counts) (k : Key) → has key_cmp k keys ≡ false → count_of (with_more keys more) k ≡ 0
+pub counted_absent : (keys : List Key) (more : KeyCounts) (k : Key) → has key_cmp k keys ≡ false → count_of (with_more keys more) k ≡ 0
 counted_absent keys more k absent = count_of-with_more keys more k ∙ ap (λ b. cond b (count_of more k + 1) 0) absent
 
 -- whether a triple has one owner or none is whether it is in the list, where no further owner is counted
@@ -206,7 +206,7 @@ owner_alone : (b : Bool) (n : ℕ) → n ≡ 0 → b ≡ (cond b (n + 1) 0 == 1)
 owner_alone true n e = sym (eq-eqb (n + 1) 1 (omega arith))
 owner_alone false n e = refl
 
-pub alone : (keys : List Key) (more : Counts) (k : Key) → count_of more k ≡ 0 → has key_cmp k keys ≡ (count_of (with_more keys more) k == 1)
+pub alone : (keys : List Key) (more : KeyCounts) (k : Key) → count_of more k ≡ 0 → has key_cmp k keys ≡ (count_of (with_more keys more) k == 1)
 alone keys more k none = owner_alone (has key_cmp k keys) (count_of more k) none ∙ ap (λ n. n == 1) (sym (count_of-with_more keys more k))
 
 none_counted : (k : Key) → count_of {R = key_cmp} map.empty k ≡ 0
@@ -219,6 +219,6 @@ IsCounted-empty = record {
   few = λ k. let none : count_of map.empty k ≡ 0 = none_counted k in omega arith;
 }
 
-pub with_more-empty : (more : Counts) → with_more [] more ≡ map.empty
+pub with_more-empty : (more : KeyCounts) → with_more [] more ≡ map.empty
 unfolding with_more
 with_more-empty more = refl

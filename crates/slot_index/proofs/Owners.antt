@@ -6,25 +6,25 @@ use Rattle.std.proofs.lemmas.List.Sums.{sum_by-cons}
 use Rattle.rising.proofs.Bools.{equal}
 use Rattle.slot_index.specs.declared.key.Key.{Key}
 use Rattle.slot_index.specs.Keys.{key_cmp, key_cmp-total, key_cmp-IsAntisymmetric, same_key}
-use Rattle.slot_index.specs.Counts.{Counts, counts_of, count_of, with_count, raised, lowered, HaveOwners}
+use Rattle.slot_index.specs.Counts.{KeyCounts, counts_of, count_of, with_count, raised, lowered, HaveOwners}
 use Rattle.slot_index.proofs.Mapped.{changed, got}
 use Rattle.slot_index.proofs.Passing.{one_if}
 use Rattle.slot_index.proofs.Raising as raising
 use Rattle.slot_index.proofs.Raising.{kept}
 
-get-with_count : (counts : Counts) (t : Key) (n : ℕ) (q : Key) → map.get (with_count counts t n) q ≡ cond (same_key q t) (kept n) (map.get counts q)
+get-with_count : (counts : KeyCounts) (t : Key) (n : ℕ) (q : Key) → map.get (with_count counts t n) q ≡ cond (same_key q t) (kept n) (map.get counts q)
 get-with_count = raising.get-with_count key_cmp-total
 
-pub HaveOwners-with_count : (counts : Counts) (t : Key) (n : ℕ) → HaveOwners counts → HaveOwners (with_count counts t n)
+pub HaveOwners-with_count : (counts : KeyCounts) (t : Key) (n : ℕ) → HaveOwners counts → HaveOwners (with_count counts t n)
 HaveOwners-with_count = raising.HaveOwners-with_count key_cmp-total
 
-pub same_counts : (m n : Counts) → HaveOwners m → HaveOwners n → ((q : Key) → count_of m q ≡ count_of n q) → m ≡ n
+pub same_counts : (m n : KeyCounts) → HaveOwners m → HaveOwners n → ((q : Key) → count_of m q ≡ count_of n q) → m ≡ n
 same_counts = raising.same_counts key_cmp-total key_cmp-IsAntisymmetric
 
-pub count_of-raised : (counts : Counts) (t q : Key) → count_of (raised counts t) q ≡ count_of counts q + one_if (same_key q t)
+pub count_of-raised : (counts : KeyCounts) (t q : Key) → count_of (raised counts t) q ≡ count_of counts q + one_if (same_key q t)
 count_of-raised = raising.count_of-raised key_cmp-total
 
-pub count_of-lowered : (counts : Counts) (t q : Key) → count_of (lowered counts t) q ≡ count_of counts q - one_if (same_key q t)
+pub count_of-lowered : (counts : KeyCounts) (t q : Key) → count_of (lowered counts t) q ≡ count_of counts q - one_if (same_key q t)
 count_of-lowered = raising.count_of-lowered key_cmp-total
 
 -- where a look-up finds another count at one triple, the map has this count

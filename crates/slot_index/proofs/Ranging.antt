@@ -11,9 +11,9 @@ use Rattle.rising.proofs.Rising as rise
 use Rattle.block_index.specs.Blocks.{keys_between}
 use Rattle.slot_index.specs.declared.key.Key.{Key}
 use Rattle.slot_index.specs.declared.pattern.SlotPattern.{SlotPattern}
-use Rattle.slot_index.specs.Keys.{IsFit, key_cmp, turned}
+use Rattle.slot_index.specs.Keys.{FitsSlots, key_cmp, turned}
 use Rattle.slot_index.specs.Orders.{IsTurned}
-use Rattle.slot_index.specs.Patterns.{agrees, agrees_at, turned_pattern, leads, leads_at, low, high}
+use Rattle.slot_index.specs.Patterns.{slots_agree, slot_agrees_at, turned_pattern, leads, leads_at, low, high}
 use Rattle.slot_index.proofs.Passing.{count-map, count-filter, count-alike}
 use Rattle.slot_index.proofs.Turning.{and_turned}
 
@@ -68,7 +68,7 @@ free_three x y z lx ly lz =
 between_at : (a b c : Option ℕ) (x y z : ℕ) → x < 2 ^ 32 → y < 2 ^ 32 → z < 2 ^ 32 → leads_at a b c ≡ true →
     (is_le (ordering_then (nat_cmp (unwrap_or a 0) x) (ordering_then (nat_cmp (unwrap_or b 0) y) (nat_cmp (unwrap_or c 0) z)))
     && is_le (ordering_then (nat_cmp x (unwrap_or a 4294967295)) (ordering_then (nat_cmp y (unwrap_or b 4294967295)) (nat_cmp z (unwrap_or c 4294967295)))))
-    ≡ (agrees_at a x && (agrees_at b y && agrees_at c z))
+    ≡ (slot_agrees_at a x && (slot_agrees_at b y && slot_agrees_at c z))
 between_at None None None x y z lx ly lz h = free_three x y z lx ly lz
 between_at None None (Some o) x y z lx ly lz h = clash h refl
 between_at None (Some p) c x y z lx ly lz h = clash h refl
@@ -78,14 +78,14 @@ between_at (Some s) (Some p) None x y z lx ly lz h = wanted s x _ _ ∙ ap (λ t
 between_at (Some s) (Some p) (Some o) x y z lx ly lz h = wanted s x _ _ ∙ ap (λ t. eq_by_cmp nat_cmp s x && t) (wanted p y _ _ ∙ ap (λ t. eq_by_cmp nat_cmp p y && t) (wanted_last o z))
 
 -- between the least and the greatest triple that agree lie exactly those that do
-between : (p : SlotPattern) (k : Key) → IsFit k → leads p ≡ true → (is_le (key_cmp (low p) k) && is_le (key_cmp k (high p))) ≡ agrees p k
+between : (p : SlotPattern) (k : Key) → FitsSlots k → leads p ≡ true → (is_le (key_cmp (low p) k) && is_le (key_cmp k (high p))) ≡ slots_agree p k
 between p k f h = between_at p.first p.second p.third k.first k.second k.third f.0 f.1 f.2 h
 
-pub one_range : (p : SlotPattern) (keys : List Key) → leads p ≡ true → All IsFit keys → keys_between key_cmp (low p) (high p) keys ≡ filter (agrees p) keys
+pub one_range : (p : SlotPattern) (keys : List Key) → leads p ≡ true → All FitsSlots keys → keys_between key_cmp (low p) (high p) keys ≡ filter (slots_agree p) keys
 one_range p [] h f = refl
 one_range p (k ∷ keys) h f =
-    ap (λ b. cond b (k ∷ keys_between key_cmp (low p) (high p) keys) (keys_between key_cmp (low p) (high p) keys)) (between p k (All-head IsFit k keys f) h)
-    ∙ ap (λ l. cond (agrees p k) (k ∷ l) l) (one_range p keys h (All-tail IsFit k keys f))
+    ap (λ b. cond b (k ∷ keys_between key_cmp (low p) (high p) keys) (keys_between key_cmp (low p) (high p) keys)) (between p k (All-head FitsSlots k keys f) h)
+    ∙ ap (λ l. cond (slots_agree p k) (k ∷ l) l) (one_range p keys h (All-tail FitsSlots k keys f))
 
 third_at : (a b c : Option ℕ) → leads_at a b c ≡ false → leads_at b c a ≡ false → leads_at c a b ≡ true
 third_at None None None h g = clash refl h
@@ -101,25 +101,25 @@ third_at (Some x) (Some y) (Some z) h g = clash refl h
 pub third_leads : (p : SlotPattern) → leads p ≡ false → leads (turned_pattern p) ≡ false → leads (turned_pattern (turned_pattern p)) ≡ true
 third_leads p h g = third_at p.first p.second p.third h g
 
-agrees_turned : (p : SlotPattern) (k : Key) → agrees (turned_pattern p) (turned k) ≡ agrees p k
-agrees_turned p k = and_turned (agrees_at p.first k.first) (agrees_at p.second k.second) (agrees_at p.third k.third)
+agrees_turned : (p : SlotPattern) (k : Key) → slots_agree (turned_pattern p) (turned k) ≡ slots_agree p k
+agrees_turned p k = and_turned (slot_agrees_at p.first k.first) (slot_agrees_at p.second k.second) (slot_agrees_at p.third k.third)
 
-pub by_first : (p : SlotPattern) (xs found : List Key) (q : Key → Bool) → found ≡ filter (agrees p) xs → count_by q found ≡ count_by (λ k. agrees p k && q k) xs
-by_first p xs found q e = ap (count_by q) e ∙ count-filter (agrees p) q xs
+pub by_first : (p : SlotPattern) (xs found : List Key) (q : Key → Bool) → found ≡ filter (slots_agree p) xs → count_by q found ≡ count_by (λ k. slots_agree p k && q k) xs
+by_first p xs found q e = ap (count_by q) e ∙ count-filter (slots_agree p) q xs
 
-pub by_second : (p : SlotPattern) (xs ys found : List Key) (q : Key → Bool) → IsTurned xs ys → found ≡ filter (agrees (turned_pattern p)) ys → count_by q (mapped turned (mapped turned found)) ≡ count_by (λ k. agrees p k && q k) xs
+pub by_second : (p : SlotPattern) (xs ys found : List Key) (q : Key → Bool) → IsTurned xs ys → found ≡ filter (slots_agree (turned_pattern p)) ys → count_by q (mapped turned (mapped turned found)) ≡ count_by (λ k. slots_agree p k && q k) xs
 by_second p xs ys found q t e =
     count-map turned q (mapped turned found)
     ∙ count-map turned (λ k. q (turned k)) found
     ∙ by_first (turned_pattern p) ys found (λ k. q (turned (turned k))) e
-    ∙ t.alike (λ k. agrees (turned_pattern p) k && q (turned (turned k)))
-    ∙ count-alike (λ k. agrees (turned_pattern p) (turned k) && q k) (λ k. agrees p k && q k) xs (λ k. ap (λ b. b && q k) (agrees_turned p k))
+    ∙ t.alike (λ k. slots_agree (turned_pattern p) k && q (turned (turned k)))
+    ∙ count-alike (λ k. slots_agree (turned_pattern p) (turned k) && q k) (λ k. slots_agree p k && q k) xs (λ k. ap (λ b. b && q k) (agrees_turned p k))
 
-pub by_third : (p : SlotPattern) (xs ys zs found : List Key) (q : Key → Bool) → IsTurned xs ys → IsTurned ys zs → found ≡ filter (agrees (turned_pattern (turned_pattern p))) zs → count_by q (mapped turned found) ≡ count_by (λ k. agrees p k && q k) xs
+pub by_third : (p : SlotPattern) (xs ys zs found : List Key) (q : Key → Bool) → IsTurned xs ys → IsTurned ys zs → found ≡ filter (slots_agree (turned_pattern (turned_pattern p))) zs → count_by q (mapped turned found) ≡ count_by (λ k. slots_agree p k && q k) xs
 by_third p xs ys zs found q t u e =
     count-map turned q found
     ∙ by_first (turned_pattern (turned_pattern p)) zs found (λ k. q (turned k)) e
-    ∙ u.alike (λ k. agrees (turned_pattern (turned_pattern p)) k && q (turned k))
-    ∙ t.alike (λ k. agrees (turned_pattern (turned_pattern p)) (turned k) && q (turned (turned k)))
-    ∙ count-alike (λ k. agrees (turned_pattern (turned_pattern p)) (turned (turned k)) && q k) (λ k. agrees p k && q k) xs
+    ∙ u.alike (λ k. slots_agree (turned_pattern (turned_pattern p)) k && q (turned k))
+    ∙ t.alike (λ k. slots_agree (turned_pattern (turned_pattern p)) (turned k) && q (turned (turned k)))
+    ∙ count-alike (λ k. slots_agree (turned_pattern (turned_pattern p)) (turned (turned k)) && q k) (λ k. slots_agree p k && q k) xs
     (λ k. ap (λ b. b && q k) (agrees_turned (turned_pattern p) (turned k) ∙ agrees_turned p k))

@@ -9,7 +9,7 @@ use Rattle.rising.specs.Rising.{has}
 use Rattle.rising.proofs.Rising.{IsRising-insert_key}
 use Rattle.block_index.proofs.Removed.{IsRising-remove_key, remove_key-absent}
 use Rattle.slot_index.specs.declared.key.Key.{Key}
-use Rattle.slot_index.specs.Keys.{IsFit, key_cmp, key_cmp-total, key_cmp-IsAntisymmetric, same_key, turned}
+use Rattle.slot_index.specs.Keys.{FitsSlots, key_cmp, key_cmp-total, key_cmp-IsAntisymmetric, same_key, turned}
 use Rattle.slot_index.specs.Orders.{IsTurned, IsOrders}
 use Rattle.slot_index.proofs.Passing.{one_if, count-insert_key, count-remove_key, count-alike, has_counted, length_counted, remove-insert_key}
 
@@ -67,14 +67,14 @@ IsTurned-remove_key xs ys k t = ⊎_elim
     record { alike = λ p. ap (count_by p) right ∙ t.alike p ∙ ap (count_by (λ x. p (turned x))) (sym left) })
     (cases_Bool (has key_cmp k xs))
 
-pub IsOrders-insert : (xs ys zs : List Key) (k : Key) → IsOrders xs ys zs → IsFit k → has key_cmp k xs ≡ false → IsOrders (insert_key key_cmp xs k) (insert_key key_cmp ys (turned k)) (insert_key key_cmp zs (turned (turned k)))
+pub IsOrders-insert : (xs ys zs : List Key) (k : Key) → IsOrders xs ys zs → FitsSlots k → has key_cmp k xs ≡ false → IsOrders (insert_key key_cmp xs k) (insert_key key_cmp ys (turned k)) (insert_key key_cmp zs (turned (turned k)))
 IsOrders-insert xs ys zs k h f absent = record {
   rising = IsRising-insert_key key_cmp-total k xs h.rising;
   second = IsTurned-insert_key xs ys k h.second absent;
   third = IsTurned-insert_key ys zs (turned k) h.third (has-turned xs ys h.second k ∙ absent);
-  fit = All-insert_key key_cmp k IsFit xs h.fit f;
-  fit_second = All-insert_key key_cmp (turned k) IsFit ys h.fit_second (f.1, f.2, f.0);
-  fit_third = All-insert_key key_cmp (turned (turned k)) IsFit zs h.fit_third (f.2, f.0, f.1);
+  fit = All-insert_key key_cmp k FitsSlots xs h.fit f;
+  fit_second = All-insert_key key_cmp (turned k) FitsSlots ys h.fit_second (f.1, f.2, f.0);
+  fit_third = All-insert_key key_cmp (turned (turned k)) FitsSlots zs h.fit_third (f.2, f.0, f.1);
 }
 
 pub IsOrders-remove : (xs ys zs : List Key) (k : Key) → IsOrders xs ys zs → IsOrders (remove_key (same_key k) xs) (remove_key (same_key (turned k)) ys) (remove_key (same_key (turned (turned k))) zs)
@@ -82,9 +82,9 @@ IsOrders-remove xs ys zs k h = record {
   rising = IsRising-remove_key key_cmp (same_key k) xs h.rising;
   second = IsTurned-remove_key xs ys k h.second;
   third = IsTurned-remove_key ys zs (turned k) h.third;
-  fit = All-remove_key (same_key k) IsFit xs h.fit;
-  fit_second = All-remove_key (same_key (turned k)) IsFit ys h.fit_second;
-  fit_third = All-remove_key (same_key (turned (turned k))) IsFit zs h.fit_third;
+  fit = All-remove_key (same_key k) FitsSlots xs h.fit;
+  fit_second = All-remove_key (same_key (turned k)) FitsSlots ys h.fit_second;
+  fit_third = All-remove_key (same_key (turned (turned k))) FitsSlots zs h.fit_third;
 }
 
 -- what was put in and taken out again left the list as it was

@@ -4,14 +4,14 @@ use Rattle.std.specs.Prelude.{map as mapped}
 use Rattle.rising.specs.Rising.{has}
 use Rattle.slot_index.specs.declared.key.Key.{Key}
 use Rattle.slot_index.specs.Keys.{key_cmp}
-use Rattle.slot_index.specs.Counts.{Counts, HaveOwners, count_of, counts_of}
+use Rattle.slot_index.specs.Counts.{KeyCounts, HaveOwners, count_of, counts_of}
 
 -- each triple of the list, with one owner and as many as are counted beside it
-unfoldable pub with_more : List Key → Counts → Counts
+unfoldable pub with_more : List Key → KeyCounts → KeyCounts
 with_more keys more = counts_of (mapped (λ k. (k, count_of more k + 1)) keys)
 
 -- only triples of the list have further owners, fewer than 2^64 each
-pub record IsCounted (keys : List Key) (more : Counts) : Type 0 where
+pub record IsCounted (keys : List Key) (more : KeyCounts) : Type 0 where
   pub owned : HaveOwners more
   pub stored : (k : Key) → 0 < count_of more k → has key_cmp k keys ≡ true
   pub few : (k : Key) → count_of more k < 18446744073709551615

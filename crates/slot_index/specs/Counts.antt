@@ -30,13 +30,13 @@ module _ {K : Type 0} {R : K → K → Ordering} where
   HaveOwners counts = (k : K) → map.contains_key counts k ≡ true → 0 < count_of counts k
 
 -- the count of each stored triple
-abbrev pub Counts : Type 0
-Counts = map.FinMap key_cmp ℕ
+abbrev pub KeyCounts : Type 0
+KeyCounts = map.FinMap key_cmp ℕ
 
 -- how counts are stored as a value
-abbrev pub counts_code : Coded Counts
+abbrev pub counts_code : Coded KeyCounts
 counts_code = map.code (key.the_row).coded coded_ℕ
 
 -- triples and their counts as a map
-abbrev pub counts_of : List (Key × ℕ) → Counts
+abbrev pub counts_of : List (Key × ℕ) → KeyCounts
 counts_of entries = map.from_entries entries

@@ -34,5 +34,5 @@ abbrev pub turned : Key → Key
 turned key = record { first = key.second; second = key.third; third = key.first }
 
 -- slots have 32 bits
-abbrev pub IsFit : Key → Type 0
-IsFit key = (key.first < 2 ^ 32) × (key.second < 2 ^ 32) × (key.third < 2 ^ 32)
+abbrev pub FitsSlots : Key → Type 0
+FitsSlots key = (key.first < 2 ^ 32) × (key.second < 2 ^ 32) × (key.third < 2 ^ 32)

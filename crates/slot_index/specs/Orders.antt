@@ -3,7 +3,7 @@ use Rattle.std.specs.Prelude.{◌≡◌, Bool, List, count_by}
 use Rattle.std.specs.List.{All}
 use Rattle.rising.specs.Rising.{IsRising}
 use Rattle.slot_index.specs.declared.key.Key.{Key}
-use Rattle.slot_index.specs.Keys.{IsFit, key_cmp, turned}
+use Rattle.slot_index.specs.Keys.{FitsSlots, key_cmp, turned}
 
 -- the second list has the turned triples of the first: each test passes as often
 pub record IsTurned (xs ys : List Key) : Type 0 where
@@ -14,6 +14,6 @@ pub record IsOrders (subjects predicates objects : List Key) : Type 0 where
   pub rising : IsRising key_cmp subjects
   pub second : IsTurned subjects predicates
   pub third : IsTurned predicates objects
-  pub fit : All IsFit subjects
-  pub fit_second : All IsFit predicates
-  pub fit_third : All IsFit objects
+  pub fit : All FitsSlots subjects
+  pub fit_second : All FitsSlots predicates
+  pub fit_third : All FitsSlots objects

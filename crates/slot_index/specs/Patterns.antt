@@ -5,13 +5,13 @@ use Rattle.slot_index.specs.declared.key.Key.{Key}
 use Rattle.slot_index.specs.declared.pattern.SlotPattern.{SlotPattern}
 
 -- a place that is free agrees with every slot, and else the slots are equal
-abbrev pub agrees_at : Option ℕ → ℕ → Bool
-agrees_at None slot = true
-agrees_at (Some wanted) slot = eq_by_cmp nat_cmp wanted slot
+abbrev pub slot_agrees_at : Option ℕ → ℕ → Bool
+slot_agrees_at None slot = true
+slot_agrees_at (Some wanted) slot = eq_by_cmp nat_cmp wanted slot
 
 -- a triple agrees with a pattern where it does at each place
-abbrev pub agrees : SlotPattern → Key → Bool
-agrees pattern key = agrees_at pattern.first key.first && (agrees_at pattern.second key.second && agrees_at pattern.third key.third)
+abbrev pub slots_agree : SlotPattern → Key → Bool
+slots_agree pattern key = slot_agrees_at pattern.first key.first && (slot_agrees_at pattern.second key.second && slot_agrees_at pattern.third key.third)
 
 -- the pattern of the turned triples
 abbrev pub turned_pattern : SlotPattern → SlotPattern

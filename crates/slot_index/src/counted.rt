@@ -3,10 +3,10 @@
 ghost use Rattle.std.specs.Prelude.{◌≡◌, ◌+◌, ◌*◌, ◌^◌, ◌<◌, ◌≤◌, ◌==◌, ◌&&◌, ℕ, Bool, length, count_by, IfOk, OnOk, OnErr};
 ghost use Rattle.std.specs.FinMap as map;
 ghost use Rattle.rising.specs.Rising.{IsRising};
-ghost use Rattle.block_index.specs.Steps.{Within};
+ghost use Rattle.block_index.specs.Steps.{WithinSteps};
 ghost use Rattle.slot_index.specs.declared.key.Key.{Key as TheKey};
 ghost use Rattle.slot_index.specs.Keys.{key_cmp};
-ghost use Rattle.slot_index.specs.Patterns.{agrees};
+ghost use Rattle.slot_index.specs.Patterns.{slots_agree};
 ghost use Rattle.slot_index.specs.Counts.{HaveOwners, count_of, lowered, raised};
 
 use crate::counting::{lower, owners, raise};
@@ -30,10 +30,10 @@ pub struct SlotIndex {
 }
 
 impl Model for SlotIndex {
-    ghost use Rattle.slot_index.specs.Counts.{Counts, counts_code, counts_of};
+    ghost use Rattle.slot_index.specs.Counts.{KeyCounts, counts_code, counts_of};
     ghost use Rattle.slot_index.specs.Counted.{IsCounted, with_more};
 
-    ghost Value = { Counts };
+    ghost Value = { KeyCounts };
 
     ghost coded = { counts_code };
 
@@ -65,7 +65,7 @@ impl SlotIndex {
     /// are kept.
     pub fn count<L: Ledger>(&self, key: Key, steps: &mut Steps<L>) -> u64
         ensures count { result ≡ count_of self.now key }
-        ensures cost { Within (map.len self.now) 8 steps.old steps.new }
+        ensures cost { WithinSteps (map.len self.now) 8 steps.old steps.new }
     {
         if self.orders.find(key, steps) {
             owners(&self.more, key) + 1
@@ -113,9 +113,9 @@ impl SlotIndex {
         pattern: SlotPattern,
         steps: &mut Steps<L>,
     ) -> Result<List<Key>, OutOfMemory>
-        ensures found { IfOk result (λ found. (p : TheKey → Bool) → count_by p found ≡ count_by (λ key. agrees pattern key && p key) (map.keys self.now)) }
+        ensures found { IfOk result (λ found. (p : TheKey → Bool) → count_by p found ≡ count_by (λ key. slots_agree pattern key && p key) (map.keys self.now)) }
         ensures rising { IsRising key_cmp (map.keys self.now) }
-        ensures cost { IfOk result (λ found. Within (map.len self.now) (9 + length found) steps.old steps.new) }
+        ensures cost { IfOk result (λ found. WithinSteps (map.len self.now) (9 + length found) steps.old steps.new) }
         ensures forward { steps.old ≤ steps.new }
     {
         let found = self.orders.range(pattern, steps)?;

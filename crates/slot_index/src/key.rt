@@ -3,7 +3,7 @@
 ghost use Rattle.std.specs.Prelude.{◌≡◌, refl};
 ghost use Rattle.std.specs.Cmp.{partial_equiv_from_equiv, eq_by_cmp_equiv, partial_order_from_total};
 ghost use Rattle.std.specs.Ordering.{as_partial_cmp, eq_by_cmp, nat_cmp, ordering_then};
-ghost use Rattle.slot_index.specs.Keys.{IsFit, key_cmp, key_cmp-total, key_cmp-IsAntisymmetric, turned};
+ghost use Rattle.slot_index.specs.Keys.{FitsSlots, key_cmp, key_cmp-total, key_cmp-IsAntisymmetric, turned};
 
 use block_index::{Ranked, Steps};
 use std::cmp::Ordering;
@@ -26,7 +26,7 @@ impl Key {
     /// The triple with its first slot at the end.
     pub fn turned(self) -> Key
         ensures turned { result ≡ turned self }
-        ensures fit { IsFit self }
+        ensures fit { FitsSlots self }
     {
         Key {
             first: self.second,

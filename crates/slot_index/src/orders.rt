@@ -7,11 +7,11 @@ ghost use Rattle.std.specs.Ordering.{eq_by_cmp};
 ghost use Rattle.std.specs.BTreeSet.{insert_key};
 ghost use Rattle.std.specs.Set.{remove_key};
 ghost use Rattle.rising.specs.Rising.{IsRising, has};
-ghost use Rattle.block_index.specs.Steps.{Within};
+ghost use Rattle.block_index.specs.Steps.{WithinSteps};
 ghost use Rattle.block_index.specs.Blocks.{keys_of};
 ghost use Rattle.slot_index.specs.declared.key.Key.{Key as TheKey};
-ghost use Rattle.slot_index.specs.Keys.{IsFit, key_cmp, turned};
-ghost use Rattle.slot_index.specs.Patterns.{agrees, leads};
+ghost use Rattle.slot_index.specs.Keys.{FitsSlots, key_cmp, turned};
+ghost use Rattle.slot_index.specs.Patterns.{slots_agree, leads};
 
 use crate::key::Key;
 use crate::pattern::SlotPattern;
@@ -66,7 +66,7 @@ impl Orders {
     pub fn find<L: Ledger>(&self, key: Key, steps: &mut Steps<L>) -> bool
         ensures answer { result ≡ has key_cmp key self.now }
         ensures rising { IsRising key_cmp self.now }
-        ensures cost { Within (length self.now) 8 steps.old steps.new }
+        ensures cost { WithinSteps (length self.now) 8 steps.old steps.new }
     {
         self.subjects.find(key, steps)
     }
@@ -120,9 +120,9 @@ impl Orders {
         pattern: SlotPattern,
         steps: &mut Steps<L>,
     ) -> Result<List<Key>, OutOfMemory>
-        ensures found { IfOk result (λ found. (p : TheKey → Bool) → count_by p found ≡ count_by (λ key. agrees pattern key && p key) self.now) }
+        ensures found { IfOk result (λ found. (p : TheKey → Bool) → count_by p found ≡ count_by (λ key. slots_agree pattern key && p key) self.now) }
         ensures rising { IsRising key_cmp self.now }
-        ensures cost { IfOk result (λ found. Within (length self.now) (9 + length found) steps.old steps.new) }
+        ensures cost { IfOk result (λ found. WithinSteps (length self.now) (9 + length found) steps.old steps.new) }
         ensures forward { steps.old ≤ steps.new }
     {
         if pattern.leads() {
@@ -147,9 +147,9 @@ fn leading<L: Ledger>(
     steps: &mut Steps<L>,
 ) -> Result<List<Key>, OutOfMemory>
     requires leads { leads pattern ≡ true }
-    requires fit { All IsFit (keys_of index.now) }
-    ensures keys { IfOk result (λ keys. keys ≡ filter (agrees pattern) (keys_of index.now)) }
-    ensures cost { IfOk result (λ keys. Within (length (keys_of index.now)) (9 + length keys) steps.old steps.new) }
+    requires fit { All FitsSlots (keys_of index.now) }
+    ensures keys { IfOk result (λ keys. keys ≡ filter (slots_agree pattern) (keys_of index.now)) }
+    ensures cost { IfOk result (λ keys. WithinSteps (length (keys_of index.now)) (9 + length keys) steps.old steps.new) }
     ensures forward { steps.old ≤ steps.new }
 {
     let keys = index.range(pattern.low(), pattern.high(), steps)?;

@@ -13,11 +13,11 @@ use Rattle.side_output.specs.declared.entry.Entry.{Entry}
 use Rattle.replay_model.specs.Records.{Bytes}
 use Rattle.snapshot.specs.declared.line.Line.{Line}
 use Rattle.snapshot.specs.declared.line.Line.TheVariants.{Remembered, Side, End}
-use Rattle.snapshot.specs.Fit.{IsFitEvent, IsFitRecord, IsFitEntry, IsFit}
+use Rattle.snapshot.specs.Fit.{IsFitEvent, IsFitRecord, IsFitEntry, IsFitLine}
 use Rattle.snapshot.specs.LineData.{line_data}
 use Rattle.snapshot.specs.LineText.{line_text}
 use Rattle.snapshot.specs.Waiting.{IsAtRest}
-use Rattle.snapshot.specs.Whole.{Saved, entity_line, lines_before_end, lines_of, saved_in}
+use Rattle.snapshot.specs.Whole.{Saved, entity_line, lines_before_end, snapshot_lines, saved_in}
 use Rattle.snapshot.specs.File.{file_text, feeds, onto_line, lines_in, saved_in_bytes, IsFitSaved}
 use Rattle.snapshot.proofs.LineShape.{text_in_line}
 use Rattle.snapshot.proofs.LineTextBack.{line_text_back}
@@ -45,29 +45,29 @@ feeds-ended (line ∷ lines) =
     ∙ feeds-line (line_text line) (ended_lines (map line_text lines)) (text_in_line (line_data line))
     ∙ ap (λ o. option_map (λ ls. line_text line ∷ ls) o) (feeds-ended lines)
 
-pub lines_back : (lines : List Line) → Each IsFit lines → lines_in (map line_text lines) ≡ Some lines
+pub lines_back : (lines : List Line) → Each IsFitLine lines → lines_in (map line_text lines) ≡ Some lines
 lines_back [] fit = refl
 lines_back (line ∷ lines) fit = rw (line_text_back line fit.0, lines_back lines fit.1) refl
 
 -- ---- the lines of a state that fits do
 
-each_both : (xs ys : List Line) → Each IsFit xs → Each IsFit ys → Each IsFit (xs ++ ys)
+each_both : (xs ys : List Line) → Each IsFitLine xs → Each IsFitLine ys → Each IsFitLine (xs ++ ys)
 each_both [] ys first second = second
 each_both (x ∷ xs) ys first second = (first.0, each_both xs ys first.1 second)
 
-events_fit : (es : List Event) → Each IsFitEvent es → Each IsFit (map Remembered es)
+events_fit : (es : List Event) → Each IsFitEvent es → Each IsFitLine (map Remembered es)
 events_fit [] fit = tt
 events_fit (e ∷ es) fit = (fit.0, events_fit es fit.1)
 
-records_fit : (es : List (EntityId × Record Bytes)) → Each (λ entry. IsId entry.0 × IsFitRecord entry.1) es → Each IsFit (map entity_line es)
+records_fit : (es : List (EntityId × Record Bytes)) → Each (λ entry. IsId entry.0 × IsFitRecord entry.1) es → Each IsFitLine (map entity_line es)
 records_fit [] fit = tt
 records_fit (e ∷ es) fit = (fit.0, records_fit es fit.1)
 
-entries_fit : (es : List Entry) → Each IsFitEntry es → Each IsFit (map Side es)
+entries_fit : (es : List Entry) → Each IsFitEntry es → Each IsFitLine (map Side es)
 entries_fit [] fit = tt
 entries_fit (e ∷ es) fit = (fit.0, entries_fit es fit.1)
 
-pub lines_fit : (s : Saved) → IsFitSaved s → Each IsFit (lines_of s)
+pub lines_fit : (s : Saved) → IsFitSaved s → Each IsFitLine (snapshot_lines s)
 lines_fit s fit =
     each_both (lines_before_end s) (End (length (lines_before_end s)) ∷ []) (
       record { mark = fit.mark; horizon = fit.horizon; asks = fit.asks; patches = fit.patches },
@@ -80,6 +80,6 @@ lines_fit s fit =
 
 pub file_back : (s : Saved) → IsAtRest s.state.buffer → IsFitSaved s → saved_in_bytes (file_text s) ≡ Some s
 file_back s is fit =
-    ap (λ o. option_and_then saved_in (option_and_then lines_in o)) (feeds-ended (lines_of s))
-    ∙ ap (λ o. option_and_then saved_in o) (lines_back (lines_of s) (lines_fit s fit))
+    ap (λ o. option_and_then saved_in (option_and_then lines_in o)) (feeds-ended (snapshot_lines s))
+    ∙ ap (λ o. option_and_then saved_in o) (lines_back (snapshot_lines s) (lines_fit s fit))
     ∙ saved_back s is

@@ -12,7 +12,7 @@ use Rattle.snapshot.specs.declared.line.Line.{Line}
 use Rattle.snapshot.specs.declared.line.Line.TheVariants.{Head as Begins, Remembered, Entity, Side, End}
 use Rattle.snapshot.specs.Words.{version_number}
 use Rattle.snapshot.specs.LineData.{if_some, nat_data, int_data, event_data, held_data, line_data}
-use Rattle.snapshot.specs.Fit.{IsFitEvent, IsFit}
+use Rattle.snapshot.specs.Fit.{IsFitEvent, IsFitLine}
 use Rattle.snapshot.specs.Writable.{IsWritable}
 
 int_writable : (z : ℤ) → FitsSigned w64 z → IsWritable (int_data z)
@@ -43,7 +43,7 @@ held_some : (o : Option (Held Bytes)) → IfSome o (λ h. h.revision < 2 ^ 64) �
 held_some None fits = tt
 held_some (Some h) fits = ((refl, tt), (tt, (tt, (fits, tt))))
 
-pub line_writable : (line : Line) → IsFit line → IsWritable (line_data line)
+pub line_writable : (line : Line) → IsFitLine line → IsWritable (line_data line)
 line_writable (Begins h) fit = (
   (refl, (refl, (refl, (refl, (refl, tt))))),
   (

@@ -20,7 +20,7 @@ use Rattle.snapshot.specs.declared.line.Line.TheVariants.{Remembered, Side, End}
 use Rattle.reorder_buffer.specs.Buffered.{Buffered, after_taking}
 use Rattle.snapshot.specs.Waiting.{IsAtRest}
 use Rattle.snapshot.proofs.TakenBack.{taken_back}
-use Rattle.snapshot.specs.Whole.{Saved, Loading, unbegun, begun, ended, head_of, entity_line, lines_before_end, lines_of, beginning, remembering, recording, noting, after_line, after_lines, whole, saved_in}
+use Rattle.snapshot.specs.Whole.{Saved, Loading, unbegun, begun, ended, head_of, entity_line, lines_before_end, snapshot_lines, beginning, remembering, recording, noting, after_line, after_lines, whole, saved_in}
 
 -- ---- lists of lines
 
@@ -160,7 +160,7 @@ module _ (s : Saved) where
         ∙ ap (with_records (with_side (with_buffer w b) p.side)) (records_back p.records)
 
     -- the lines of a state at rest are read as that state
-    pub saved_back : saved_in (lines_of s) ≡ Some s
+    pub saved_back : saved_in (snapshot_lines s) ≡ Some s
     saved_back =
         let last = End (length (lines_before_end s)) ∷ [] in
         let made : Saved = record s { state = recorded_in } in

@@ -8,11 +8,11 @@ use Rattle.entity_model.specs.EntityId.{IsId}
 use Rattle.snapshot.specs.declared.line.Line.{Line}
 use Rattle.snapshot.specs.Fit.{IsFitEvent, IsFitRecord, IsFitEntry}
 use Rattle.snapshot.specs.LineText.{line_text, line_of}
-use Rattle.snapshot.specs.Whole.{Saved, lines_before_end, lines_of, saved_in}
+use Rattle.snapshot.specs.Whole.{Saved, lines_before_end, snapshot_lines, saved_in}
 
 -- the bytes of a snapshot: each line with a line feed
 abbrev pub file_text : Saved → List ℕ
-file_text s = ended_lines (map line_text (lines_of s))
+file_text s = ended_lines (map line_text (snapshot_lines s))
 
 -- the byte stands before the first line, and there is one
 abbrev pub onto_line : ℕ → List (List ℕ) → Option (List (List ℕ))

@@ -32,9 +32,9 @@ abbrev pub IsFitEntry : Entry → Type 0
 IsFitEntry (Late e) = IsFitEvent e
 IsFitEntry (Revision e r cause) = IsFitEvent e × (r < 2 ^ 64)
 
-abbrev pub IsFit : Line → Type 0
-IsFit (Begins h) = IsFitHead h
-IsFit (Remembered e) = IsFitEvent e
-IsFit (Entity x r) = IsId x × IsFitRecord r
-IsFit (Side entry) = IsFitEntry entry
-IsFit (End n) = n < 2 ^ 64
+abbrev pub IsFitLine : Line → Type 0
+IsFitLine (Begins h) = IsFitHead h
+IsFitLine (Remembered e) = IsFitEvent e
+IsFitLine (Entity x r) = IsId x × IsFitRecord r
+IsFitLine (Side entry) = IsFitEntry entry
+IsFitLine (End n) = n < 2 ^ 64

@@ -46,8 +46,8 @@ lines_before_end s =
     ++ (map Side s.state.played.side ++ map entity_line (finite.entries s.state.played.records)))
 
 -- the lines of a snapshot
-abbrev pub lines_of : Saved → List Line
-lines_of s = lines_before_end s ++ End (length (lines_before_end s)) ∷ []
+abbrev pub snapshot_lines : Saved → List Line
+snapshot_lines s = lines_before_end s ++ End (length (lines_before_end s)) ∷ []
 
 -- ---- read
 

@@ -6,7 +6,7 @@ ghost use Rattle.rising.specs.Rising.{Each};
 ghost use Rattle.std.specs.Str.{IsUtf8};
 ghost use Rattle.entity_json.specs.Document.{unfit_of};
 ghost use Rattle.entity_model.specs.declared.id.EntityId.{EntityId};
-ghost use Rattle.entity_model.specs.declared.delivery.Delivery.{Delivery};
+ghost use Rattle.delivery.specs.declared.Delivery.{Delivery};
 ghost use Rattle.reorder_buffer.specs.Buffered.{Buffered, after_raising, after_taking, nothing_taken_within};
 ghost use Rattle.replay_model.specs.Acceptance.{mark};
 ghost use Rattle.std.specs.FinMap as finite;
@@ -17,9 +17,9 @@ ghost use Rattle.replay_model.specs.Entries.{HoldsUnlessOpen};
 ghost use Rattle.replay_model.specs.Play.{Played, Replies};
 ghost use Rattle.replay_model.specs.ReplayState.{following};
 ghost use Rattle.snapshot.specs.declared.line.Line.{Line};
-ghost use Rattle.snapshot.specs.Fit.{IsFit};
+ghost use Rattle.snapshot.specs.Fit.{IsFitLine};
 ghost use Rattle.snapshot.specs.LineText.{line_text, line_of};
-ghost use Rattle.snapshot.specs.Whole.{Saved, lines_before_end, lines_of, saved_in};
+ghost use Rattle.snapshot.specs.Whole.{Saved, lines_before_end, snapshot_lines, saved_in};
 ghost use Rattle.snapshot.specs.Deliveries.{IsFitDelivery};
 ghost use Rattle.snapshot.specs.File.{IsFitSaved, file_text, saved_in_bytes};
 ghost use Rattle.snapshot.specs.Waiting.{IsAtRest, at_mark, not_reached};
@@ -27,14 +27,14 @@ ghost use Rattle.snapshot.specs.Waiting.{IsAtRest, at_mark, not_reached};
 /// The text of a line is one line, and is read as that line.
 pub fn lines_read_back()
     ensures one_line { (line : Line) → IsOneLine (line_text line) }
-    ensures reads_back { (line : Line) → IsFit line → line_of (line_text line) ≡ Some line }
+    ensures reads_back { (line : Line) → IsFitLine line → line_of (line_text line) ≡ Some line }
 {}
 
 /// The lines of a snapshot, and their bytes, are read as what was saved. No shorter prefix of the lines or of the bytes is read as anything.
 pub fn snapshots_read_back()
-    ensures lines { (s : Saved) → IsAtRest s.state.buffer → saved_in (lines_of s) ≡ Some s }
+    ensures lines { (s : Saved) → IsAtRest s.state.buffer → saved_in (snapshot_lines s) ≡ Some s }
     ensures bytes { (s : Saved) → IsAtRest s.state.buffer → IsFitSaved s → saved_in_bytes (file_text s) ≡ Some s }
-    ensures lines_cut { (s : Saved) (n : ℕ) → n < length (lines_of s) → saved_in (take n (lines_of s)) ≡ None }
+    ensures lines_cut { (s : Saved) (n : ℕ) → n < length (snapshot_lines s) → saved_in (take n (snapshot_lines s)) ≡ None }
     ensures bytes_cut { (s : Saved) (k : ℕ) → IsFitSaved s → k < length (file_text s) → saved_in_bytes (take k (file_text s)) ≡ None }
 {}
 

@@ -4,7 +4,7 @@ ghost use Rattle.std.specs.Prelude.{◌≡◌, IfOk, Some, string_bytes};
 ghost use Rattle.wq_io.specs.Lines.{IsOneLine};
 ghost use Rattle.serde_json.specs.View.{view};
 ghost use Rattle.serde_json.specs.Read.{read as data_of};
-ghost use Rattle.snapshot.specs.Fit.{IsFit};
+ghost use Rattle.snapshot.specs.Fit.{IsFitLine};
 ghost use Rattle.snapshot.specs.LineText.{line_text, line_of};
 
 use crate::line::Line;
@@ -18,7 +18,7 @@ use std::alloc::Global;
 pub fn write(alloc: Global, line: &Line) -> Result<String, OutOfMemory>
     ensures text { IfOk result (λ s. string_bytes s ≡ line_text line.now) }
     ensures one_line { IfOk result (λ s. IsOneLine (string_bytes s)) }
-    ensures reads_back { IfOk result (λ s. IsFit line.now → line_of (string_bytes s) ≡ Some line.now) }
+    ensures reads_back { IfOk result (λ s. IsFitLine line.now → line_of (string_bytes s) ≡ Some line.now) }
 {
     Ok(line_value(alloc, line)?.to_string(alloc)?)
 }

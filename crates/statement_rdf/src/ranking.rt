@@ -27,8 +27,8 @@ fn highest_ranks(
     alloc: Global,
     statements: &[Statement],
 ) -> Result<BTreeMap<EntityId, Rank>, OutOfMemory>
-    ensures { IfOk result (λ highest. (property : Id) (place : ℕ) →
-        has_rank_above place (get entity_cmp highest property) ≡ list_any (is_ranked_above property place) statements.now) }
+    ensures { IfOk result (λ highest. (property : Id) (number : ℕ) →
+        has_rank_above number (get entity_cmp highest property) ≡ list_any (is_ranked_above property number) statements.now) }
 {
     let mut highest = BTreeMap::new(alloc);
     for statement in statements {
@@ -39,9 +39,9 @@ fn highest_ranks(
 
 // Takes a statement into account.
 fn raise(highest: &mut BTreeMap<EntityId, Rank>, statement: &Statement) -> Result<(), OutOfMemory>
-    ensures { OnOk result ((property : Id) (place : ℕ) →
-        has_rank_above place (get entity_cmp highest.new property)
-        ≡ has_rank_above place (get entity_cmp highest.old property) || is_ranked_above property place statement.now) }
+    ensures { OnOk result ((property : Id) (number : ℕ) →
+        has_rank_above number (get entity_cmp highest.new property)
+        ≡ has_rank_above number (get entity_cmp highest.old property) || is_ranked_above property number statement.now) }
 {
     let known = highest.get(&statement.property).copied();
     if is_above(statement.rank, known) {

@@ -3,7 +3,7 @@
 ghost use Rattle.std.specs.Prelude.{◌≡◌, ◌++◌, IfOk, string_bytes};
 ghost use Rattle.statement_rdf.specs.Role.{node_prefix, role_text, value_prefix};
 
-use rdf_term::{OutOfMemory, Piece, Text};
+use rdf_term::{CowText, OutOfMemory, Text};
 use rdf_vocabulary::Prefix;
 use std::alloc::Global;
 
@@ -15,7 +15,7 @@ pub enum Role<'a> {
     /// It qualifies the statement.
     Qualifier,
     /// It tells of the source; the reference is named by its hash.
-    Reference(Piece<'a>),
+    Reference(CowText<'a>),
 }
 
 impl<'a> Role<'a> {

@@ -11,7 +11,7 @@ use crate::node::statement_name;
 use crate::role::Role;
 use crate::snak::{emit_no_value, emit_object, emit_snak, emit_snaks};
 use entity_model::{Content, Rank, Reference, Snak, Statement};
-use rdf_term::{OutOfMemory, Piece};
+use rdf_term::{CowText, OutOfMemory};
 use rdf_vocabulary::{Predicate, Prefix, Resource};
 use std::alloc::Global;
 use triple_sink::{Setting, TermRef, TripleSink, emit_about, emit_class};
@@ -190,7 +190,7 @@ fn emit_reference<S: TripleSink>(
 {
     let source = TermRef::Named(Prefix::Wdref, reference.hash.as_str());
     emit_source(setting.alloc, node, &source, out)?;
-    let role = Role::Reference(Piece::borrowed(reference.hash.as_str()));
+    let role = Role::Reference(CowText::borrowed(reference.hash.as_str()));
     let snaks = reference.snaks.as_slice();
     emit_snaks(setting, &source, labels, &role, snaks, out)
 }

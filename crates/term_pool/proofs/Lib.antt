@@ -1,5 +1,5 @@
 pub mod Beside
-pub mod Foreign
+pub mod OthersTexts
 pub mod Fronts
 pub mod Indexed
 pub mod Lying

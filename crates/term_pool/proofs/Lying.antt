@@ -11,7 +11,7 @@ use Rattle.term_pool.specs.declared.slots.Entry.{Entry}
 use Rattle.term_pool.specs.declared.pool.Pool.{Pool}
 use Rattle.std.specs.Prelude.{vec_items}
 use Rattle.term_pool.specs.Index.{Forgets, IsIndexed, Points, hash_of}
-use Rattle.term_pool.specs.Pool.{LiesIn, IsCanonical, IsNowhere, IsTextual, Interned, Released, count_at, count_of, one_if, terms, text_at, text_of}
+use Rattle.term_pool.specs.Pool.{LiesIn, IsCanonical, IsNowhere, IsTextual, Interned, Released, count_at, count_of, one_if, terms, text_in_slot, live_text}
 use Rattle.term_pool.specs.Counting.{Recounts}
 use Rattle.term_pool.specs.Making.{HasSame}
 use Rattle.term_pool.proofs.Indexed.{index_added, index_removed, index_same}
@@ -22,11 +22,11 @@ pub record Stands (pool : Pool) (texts : Texts) (slot : ℕ) (text : List ℕ) :
   pub there : get pool.slots slot ≡ Some entry
   pub is : bytes_of texts entry.piece ≡ Some text
 
-standing : (texts : Texts) (o : Option Entry) (text : List ℕ) → text_of texts o ≡ Some text → (entry : Entry) × (o ≡ Some entry) × (bytes_of texts entry.piece ≡ Some text)
+standing : (texts : Texts) (o : Option Entry) (text : List ℕ) → live_text texts o ≡ Some text → (entry : Entry) × (o ≡ Some entry) × (bytes_of texts entry.piece ≡ Some text)
 standing texts None text h = cc
 standing texts (Some entry) text h = (entry, refl, h)
 
-pub stands : (pool : Pool) (texts : Texts) (slot : ℕ) (text : List ℕ) → text_at pool texts slot ≡ Some text → Stands pool texts slot text
+pub stands : (pool : Pool) (texts : Texts) (slot : ℕ) (text : List ℕ) → text_in_slot pool texts slot ≡ Some text → Stands pool texts slot text
 stands pool texts slot text h = let s = standing texts (get pool.slots slot) text h in record { entry = s.0; there = s.1; is = s.2 }
 
 -- a slot that is used has an entry
@@ -42,18 +42,18 @@ pub used : (pool : Pool) (slot : ℕ) → 0 < count_at pool slot → Used pool s
 used pool slot h = let s = using (get pool.slots slot) h in record { entry = s.0; there = s.1 }
 
 -- the entry of a slot has a text
-pub text_there : (pool : Pool) (texts : Texts) → LiesIn pool texts → (slot : ℕ) (entry : Entry) → get pool.slots slot ≡ Some entry → (text : List ℕ) × (text_at pool texts slot ≡ Some text)
-text_there pool texts lies slot entry h = let t = lies.textual slot entry h in (t.text, ap (text_of texts) h ∙ t.is)
+pub text_there : (pool : Pool) (texts : Texts) → LiesIn pool texts → (slot : ℕ) (entry : Entry) → get pool.slots slot ≡ Some entry → (text : List ℕ) × (text_in_slot pool texts slot ≡ Some text)
+text_there pool texts lies slot entry h = let t = lies.textual slot entry h in (t.text, ap (live_text texts) h ∙ t.is)
 
 -- a slot with a text is used
-pub used_at : (pool : Pool) (texts : Texts) → LiesIn pool texts → (slot : ℕ) (text : List ℕ) → text_at pool texts slot ≡ Some text → 0 < count_at pool slot
+pub used_at : (pool : Pool) (texts : Texts) → LiesIn pool texts → (slot : ℕ) (text : List ℕ) → text_in_slot pool texts slot ≡ Some text → 0 < count_at pool slot
 used_at pool texts lies slot text h =
     let s = stands pool texts slot text h in
     let t = lies.textual slot s.entry s.there in
     omega (arith, t.counted, ap count_of s.there)
 
 -- a slot without a text is empty
-pub empty : (pool : Pool) (texts : Texts) → LiesIn pool texts → (slot : ℕ) → text_at pool texts slot ≡ None → get pool.slots slot ≡ None
+pub empty : (pool : Pool) (texts : Texts) → LiesIn pool texts → (slot : ℕ) → text_in_slot pool texts slot ≡ None → get pool.slots slot ≡ None
 empty pool texts lies slot h = at (get pool.slots slot) refl
   where
     at : (o : Option Entry) → get pool.slots slot ≡ o → get pool.slots slot ≡ None
@@ -63,17 +63,17 @@ empty pool texts lies slot h = at (get pool.slots slot) refl
 module _ (p q : Pool) (r s : Texts) (slot : ℕ) (others : (x : ℕ) → x ≢ slot → get q.slots x ≡ get p.slots x) where
   -- a piece that is another's keeps the text of the slot
   kept_text : LiesIn p r → (mine : Piece) → ((x : ℕ) (e : Entry) → x ≢ slot → get p.slots x ≡ Some e → e.piece ≢ mine) → ((y : Piece) → y ≢ mine → bytes_of s y ≡ bytes_of r y)
-      → (x : ℕ) → x ≢ slot → text_at q s x ≡ text_at p r x
-  kept_text lies mine another bytes x ne = ap (text_of s) (others x ne) ∙ at (get p.slots x) refl
+      → (x : ℕ) → x ≢ slot → text_in_slot q s x ≡ text_in_slot p r x
+  kept_text lies mine another bytes x ne = ap (live_text s) (others x ne) ∙ at (get p.slots x) refl
     where
-      at : (o : Option Entry) → get p.slots x ≡ o → text_of s o ≡ text_of r o
+      at : (o : Option Entry) → get p.slots x ≡ o → live_text s o ≡ live_text r o
       at None e = refl
       at (Some entry) e = bytes entry.piece (another x entry ne e)
 
   module _ (lies : LiesIn p r) (entry : Entry) (text : List ℕ) (bytes : (y : Piece) → y ≢ entry.piece → bytes_of s y ≡ bytes_of r y) where
     -- ---- a term comes
 
-    pub texts_added : bytes_of r entry.piece ≡ None → (x : ℕ) → x ≢ slot → text_at q s x ≡ text_at p r x
+    pub texts_added : bytes_of r entry.piece ≡ None → (x : ℕ) → x ≢ slot → text_in_slot q s x ≡ text_in_slot p r x
     texts_added dead = kept_text lies entry.piece (λ x e ne h same.
         let t = lies.textual x e h in let none : None ≡ Some t.text = sym dead ∙ ap (bytes_of r) (sym same) ∙ t.is in cc) bytes
 
@@ -81,31 +81,31 @@ module _ (p q : Pool) (r s : Texts) (slot : ℕ) (others : (x : ℕ) → x ≢ s
         → Points (map_get ◌==◌ p.by_hash) (map_get ◌==◌ q.by_hash) p.more.items q.more.items (hash_of p.keys text) slot → q.keys ≡ p.keys → terms q ≤ q.limit → LiesIn q s
     lies_added dead vacant there is counted canonical nowhere points keys few =
         let same = texts_added dead in
-        let at : text_at q s slot ≡ Some text = ap (text_of s) there ∙ is in
+        let at : text_in_slot q s slot ≡ Some text = ap (live_text s) there ∙ is in
         record {
           textual = λ x e h. ⊎_elim
               (λ eq. let one : Some entry ≡ Some e = sym there ∙ ap (get q.slots) (sym eq) ∙ h in let this : entry ≡ e = cc in
               subst (IsTextual s) this (record { text = text; is = is; canonical = canonical; counted = counted }))
               (λ ne. let t = lies.textual x e (sym (others x ne) ∙ h) in
-              record { text = t.text; is = ap (text_of s) (sym h) ∙ same x ne ∙ ap (text_of r) (sym (others x ne) ∙ h) ∙ t.is; canonical = t.canonical; counted = t.counted })
+              record { text = t.text; is = ap (live_text s) (sym h) ∙ same x ne ∙ ap (live_text r) (sym (others x ne) ∙ h) ∙ t.is; canonical = t.canonical; counted = t.counted })
               (cases_eq x slot);
           once = λ x y t a b. ⊎_elim
               (λ e. ⊎_elim (λ f. e ∙ sym f)
-              (λ f. absurd (let one : Some text ≡ Some t = sym at ∙ ap (text_at q s) (sym e) ∙ a in let eq : text ≡ t = cc in nowhere.nowhere y (sym (same y f) ∙ b ∙ ap Some (sym eq))))
+              (λ f. absurd (let one : Some text ≡ Some t = sym at ∙ ap (text_in_slot q s) (sym e) ∙ a in let eq : text ≡ t = cc in nowhere.nowhere y (sym (same y f) ∙ b ∙ ap Some (sym eq))))
               (cases_eq y slot))
               (λ e. ⊎_elim
-              (λ f. absurd (let one : Some text ≡ Some t = sym at ∙ ap (text_at q s) (sym f) ∙ b in let eq : text ≡ t = cc in nowhere.nowhere x (sym (same x e) ∙ a ∙ ap Some (sym eq))))
+              (λ f. absurd (let one : Some text ≡ Some t = sym at ∙ ap (text_in_slot q s) (sym f) ∙ b in let eq : text ≡ t = cc in nowhere.nowhere x (sym (same x e) ∙ a ∙ ap Some (sym eq))))
               (λ f. lies.once x y t (sym (same x e) ∙ a) (sym (same y f) ∙ b))
               (cases_eq y slot))
               (cases_eq x slot);
-          indexed = subst (λ k. IsIndexed k (text_at q s) (map_get ◌==◌ q.by_hash) q.more.items) (sym keys) (index_added p.keys (text_at p r) (text_at q s) (map_get ◌==◌ p.by_hash) (map_get ◌==◌ q.by_hash) p.more.items slot text same q.more.items lies.indexed (ap (text_of r) vacant) at points);
+          indexed = subst (λ k. IsIndexed k (text_in_slot q s) (map_get ◌==◌ q.by_hash) q.more.items) (sym keys) (index_added p.keys (text_in_slot p r) (text_in_slot q s) (map_get ◌==◌ p.by_hash) (map_get ◌==◌ q.by_hash) p.more.items slot text same q.more.items lies.indexed (ap (live_text r) vacant) at points);
           few = few;
         }
 
     pub interned_added : bytes_of r entry.piece ≡ None → get p.slots slot ≡ None → get q.slots slot ≡ Some entry → bytes_of s entry.piece ≡ Some text → entry.count ≡ 1 → IsNowhere p r text → Interned p r q s slot text
     interned_added dead vacant there is one nowhere = record {
-      there = ap (text_of s) there ∙ is;
-      was = inr (ap (text_of r) vacant, nowhere);
+      there = ap (live_text s) there ∙ is;
+      was = inr (ap (live_text r) vacant, nowhere);
       others = texts_added dead;
       counts = λ x. ⊎_elim
           (λ e. let now : count_at q x ≡ 1 = ap (count_at q) e ∙ ap count_of there ∙ one in
@@ -117,10 +117,10 @@ module _ (p q : Pool) (r s : Texts) (slot : ℕ) (others : (x : ℕ) → x ≢ s
 
     -- ---- a term goes
 
-    pub texts_removed : get p.slots slot ≡ Some entry → (x : ℕ) → x ≢ slot → text_at q s x ≡ text_at p r x
+    pub texts_removed : get p.slots slot ≡ Some entry → (x : ℕ) → x ≢ slot → text_in_slot q s x ≡ text_in_slot p r x
     texts_removed there = kept_text lies entry.piece (λ x e ne h same.
         let t = lies.textual x e h in
-        ne (lies.once x slot t.text (ap (text_of r) h ∙ t.is) (ap (text_of r) there ∙ ap (bytes_of r) (sym same) ∙ t.is))) bytes
+        ne (lies.once x slot t.text (ap (live_text r) h ∙ t.is) (ap (live_text r) there ∙ ap (bytes_of r) (sym same) ∙ t.is))) bytes
 
     pub released_removed : get p.slots slot ≡ Some entry → entry.count ≡ 1 → get q.slots slot ≡ None → Released p r q s slot
     released_removed there one gone = record {
@@ -143,12 +143,12 @@ module _ (p q : Pool) (r s : Texts) (slot : ℕ) (others : (x : ℕ) → x ≢ s
           textual = λ x e h.
               let ne : x ≢ slot = λ eq. let none : None ≡ Some e = sym gone ∙ ap (get q.slots) (sym eq) ∙ h in cc in
               let t = lies.textual x e (sym (others x ne) ∙ h) in
-              record { text = t.text; is = ap (text_of s) (sym h) ∙ same x ne ∙ ap (text_of r) (sym (others x ne) ∙ h) ∙ t.is; canonical = t.canonical; counted = t.counted };
+              record { text = t.text; is = ap (live_text s) (sym h) ∙ same x ne ∙ ap (live_text r) (sym (others x ne) ∙ h) ∙ t.is; canonical = t.canonical; counted = t.counted };
           once = λ x y t a b.
-              let left : x ≢ slot = λ eq. let none : None ≡ Some t = sym (ap (text_of s) gone) ∙ ap (text_at q s) (sym eq) ∙ a in cc in
-              let right : y ≢ slot = λ eq. let none : None ≡ Some t = sym (ap (text_of s) gone) ∙ ap (text_at q s) (sym eq) ∙ b in cc in
+              let left : x ≢ slot = λ eq. let none : None ≡ Some t = sym (ap (live_text s) gone) ∙ ap (text_in_slot q s) (sym eq) ∙ a in cc in
+              let right : y ≢ slot = λ eq. let none : None ≡ Some t = sym (ap (live_text s) gone) ∙ ap (text_in_slot q s) (sym eq) ∙ b in cc in
               lies.once x y t (sym (same x left) ∙ a) (sym (same y right) ∙ b);
-          indexed = subst (λ k. IsIndexed k (text_at q s) (map_get ◌==◌ q.by_hash) q.more.items) (sym keys) (index_removed p.keys (text_at p r) (text_at q s) (map_get ◌==◌ p.by_hash) (map_get ◌==◌ q.by_hash) p.more.items slot text same q.more.items lies.indexed (ap (text_of r) there ∙ is) forgets fewer kept (ap (text_of s) gone));
+          indexed = subst (λ k. IsIndexed k (text_in_slot q s) (map_get ◌==◌ q.by_hash) q.more.items) (sym keys) (index_removed p.keys (text_in_slot p r) (text_in_slot q s) (map_get ◌==◌ p.by_hash) (map_get ◌==◌ q.by_hash) p.more.items slot text same q.more.items lies.indexed (ap (live_text r) there ∙ is) forgets fewer kept (ap (live_text s) gone));
           few = few;
         }
 
@@ -156,18 +156,18 @@ module _ (p q : Pool) (r s : Texts) (slot : ℕ) (others : (x : ℕ) → x ≢ s
 pub lies_same : (p q : Pool) (r : Texts) → LiesIn p r → HasSame p q → LiesIn q r
 lies_same p q r lies h =
     let slots : (x : ℕ) → get q.slots x ≡ get p.slots x = λ x. ap (λ l. get l x) h.slots in
-    let texts : (x : ℕ) → text_at q r x ≡ text_at p r x = λ x. ap (text_of r) (slots x) in
+    let texts : (x : ℕ) → text_in_slot q r x ≡ text_in_slot p r x = λ x. ap (live_text r) (slots x) in
     record {
       textual = λ x e g. lies.textual x e (sym (slots x) ∙ g);
       once = λ x y t a b. lies.once x y t (sym (texts x) ∙ a) (sym (texts y) ∙ b);
-      indexed = subst (λ k. IsIndexed k (text_at q r) (map_get ◌==◌ q.by_hash) q.more.items) (sym h.keys) (subst (λ l. IsIndexed p.keys (text_at q r) (map_get ◌==◌ q.by_hash) l) (sym h.more)
-          (index_same p.keys (text_at p r) (text_at q r) (map_get ◌==◌ p.by_hash) (map_get ◌==◌ q.by_hash) p.more.items lies.indexed texts h.by_hash));
+      indexed = subst (λ k. IsIndexed k (text_in_slot q r) (map_get ◌==◌ q.by_hash) q.more.items) (sym h.keys) (subst (λ l. IsIndexed p.keys (text_in_slot q r) (map_get ◌==◌ q.by_hash) l) (sym h.more)
+          (index_same p.keys (text_in_slot p r) (text_in_slot q r) (map_get ◌==◌ p.by_hash) (map_get ◌==◌ q.by_hash) p.more.items lies.indexed texts h.by_hash));
       few = omega (arith, lies.few, ap (λ l. slab_len l) h.slots, h.limit);
     }
 
 -- the same slots have the same texts and counts
-pub same_texts : (p q : Pool) (r : Texts) → HasSame p q → (x : ℕ) → text_at q r x ≡ text_at p r x
-same_texts p q r h x = ap (λ l. text_of r (get l x)) h.slots
+pub same_texts : (p q : Pool) (r : Texts) → HasSame p q → (x : ℕ) → text_in_slot q r x ≡ text_in_slot p r x
+same_texts p q r h x = ap (λ l. live_text r (get l x)) h.slots
 
 pub same_counts : (p q : Pool) → HasSame p q → (x : ℕ) → count_at q x ≡ count_at p x
 same_counts p q h x = ap (λ l. count_of (get l x)) h.slots
@@ -185,12 +185,12 @@ interned_from p m q r s slot text h i = record {
 
 -- another count in a slot
 module _ (p q : Pool) (r : Texts) (slot count : ℕ) (h : Recounts p.slots q.slots slot count) where
-  pub texts_recounted : (x : ℕ) → text_at q r x ≡ text_at p r x
+  pub texts_recounted : (x : ℕ) → text_in_slot q r x ≡ text_in_slot p r x
   texts_recounted x = ⊎_elim
-      (λ e. ap (text_at q r) e ∙ ap (text_of r) h.is ∙ ap (text_of r) (sym h.there) ∙ ap (text_at p r) (sym e))
-      (λ ne. ap (text_of r) (h.others x ne)) (cases_eq x slot)
+      (λ e. ap (text_in_slot q r) e ∙ ap (live_text r) h.is ∙ ap (live_text r) (sym h.there) ∙ ap (text_in_slot p r) (sym e))
+      (λ ne. ap (live_text r) (h.others x ne)) (cases_eq x slot)
 
-  pub interned_recounted : (text : List ℕ) → count ≡ count_at p slot + 1 → text_at p r slot ≡ Some text → Interned p r q r slot text
+  pub interned_recounted : (text : List ℕ) → count ≡ count_at p slot + 1 → text_in_slot p r slot ≡ Some text → Interned p r q r slot text
   interned_recounted text more is = record {
     there = texts_recounted slot ∙ is;
     was = inl is;
@@ -221,7 +221,7 @@ module _ (p q : Pool) (r : Texts) (slot count : ℕ) (h : Recounts p.slots q.slo
         subst (IsTextual r) this (record { text = was.text; is = was.is; canonical = was.canonical; counted = positive }))
         (λ ne. lies.textual x e (sym (h.others x ne) ∙ g)) (cases_eq x slot);
     once = λ x y t a b. lies.once x y t (sym (texts_recounted x) ∙ a) (sym (texts_recounted y) ∙ b);
-    indexed = subst (λ k. IsIndexed k (text_at q r) (map_get ◌==◌ q.by_hash) q.more.items) (sym keys) (subst (λ l. IsIndexed p.keys (text_at q r) (map_get ◌==◌ q.by_hash) l) (ap (λ m. vec_items m) (sym more))
-        (index_same p.keys (text_at p r) (text_at q r) (map_get ◌==◌ p.by_hash) (map_get ◌==◌ q.by_hash) p.more.items lies.indexed texts_recounted (λ hash. ap (λ m. map_get ◌==◌ m hash) by_hash)));
+    indexed = subst (λ k. IsIndexed k (text_in_slot q r) (map_get ◌==◌ q.by_hash) q.more.items) (sym keys) (subst (λ l. IsIndexed p.keys (text_in_slot q r) (map_get ◌==◌ q.by_hash) l) (ap (λ m. vec_items m) (sym more))
+        (index_same p.keys (text_in_slot p r) (text_in_slot q r) (map_get ◌==◌ p.by_hash) (map_get ◌==◌ q.by_hash) p.more.items lies.indexed texts_recounted (λ hash. ap (λ m. map_get ◌==◌ m hash) by_hash)));
     few = omega (arith, lies.few, h.as_many, limit);
   }

@@ -13,7 +13,7 @@ pub record HasSame (old new : Pool) : Type 0 where
   pub limit : new.limit ≡ old.limit
 
 -- there is room for a term more, in this slot
-pub record HasRoom (pool : Pool) (number : ℕ) : Type 0 where
+pub record HasSpareSlot (pool : Pool) (number : ℕ) : Type 0 where
   pub slots : HasRoomFor pool.slots 1
   pub by_hash : 0 < spare pool.by_hash
   pub more : vec_len pool.more < vec_capacity pool.more

@@ -21,22 +21,22 @@ pub record IsCanonical (text : List ℕ) : Type 0 where
   pub fit : IsFitAndShort term
 
 -- the text of what stands in a slot
-abbrev pub text_of : Texts → Option Entry → Option (List ℕ)
-text_of texts None = None
-text_of texts (Some entry) = bytes_of texts entry.piece
+abbrev pub live_text : Texts → Option Entry → Option (List ℕ)
+live_text texts None = None
+live_text texts (Some entry) = bytes_of texts entry.piece
 
 -- the canonical text of the term in a slot: none where the slot is empty
-abbrev pub text_at : Pool → Texts → ℕ → Option (List ℕ)
-text_at pool texts slot = text_of texts (get pool.slots slot)
+abbrev pub text_in_slot : Pool → Texts → ℕ → Option (List ℕ)
+text_in_slot pool texts slot = live_text texts (get pool.slots slot)
 
 -- the term that a text reads as
-abbrev pub term_in : Option (List ℕ) → Option Term
-term_in None = None
-term_in (Some text) = read text
+abbrev pub readable_term : Option (List ℕ) → Option Term
+readable_term None = None
+readable_term (Some text) = read text
 
 -- the term in a slot: none where the slot is empty
 unfoldable pub term_at : Pool → Texts → ℕ → Option Term
-term_at pool texts slot = term_in (text_at pool texts slot)
+term_at pool texts slot = readable_term (text_in_slot pool texts slot)
 
 abbrev pub count_of : Option Entry → ℕ
 count_of None = 0
@@ -63,8 +63,8 @@ abbrev pub owns : Pool → Piece → Bool
 owns pool piece = list_any (has_piece piece) pool.slots.slots
 
 -- the text of a piece that isn't the pool's: none where it is, and where it isn't live
-unfoldable pub foreign : Pool → Texts → Piece → Option (List ℕ)
-foreign pool texts piece = cond (owns pool piece) None (bytes_of texts piece)
+unfoldable pub beside : Pool → Texts → Piece → Option (List ℕ)
+beside pool texts piece = cond (owns pool piece) None (bytes_of texts piece)
 
 -- the piece of a slot has the text of a fit and short term, and the term is used
 pub record IsTextual (texts : Texts) (entry : Entry) : Type 0 where
@@ -77,31 +77,31 @@ pub record IsTextual (texts : Texts) (entry : Entry) : Type 0 where
 -- each is found, and there are no more terms than the limit says
 pub record LiesIn (pool : Pool) (texts : Texts) : Type 0 where
   pub textual : (slot : ℕ) (entry : Entry) → get pool.slots slot ≡ Some entry → IsTextual texts entry
-  pub once : (slot other : ℕ) (text : List ℕ) → text_at pool texts slot ≡ Some text → text_at pool texts other ≡ Some text → slot ≡ other
-  pub indexed : IsIndexed pool.keys (text_at pool texts) (map_get ◌==◌ pool.by_hash) pool.more.items
+  pub once : (slot other : ℕ) (text : List ℕ) → text_in_slot pool texts slot ≡ Some text → text_in_slot pool texts other ≡ Some text → slot ≡ other
+  pub indexed : IsIndexed pool.keys (text_in_slot pool texts) (map_get ◌==◌ pool.by_hash) pool.more.items
   pub few : terms pool ≤ pool.limit
 
 -- no slot has this text
 pub record IsNowhere (pool : Pool) (texts : Texts) (text : List ℕ) : Type 0 where
-  pub nowhere : (slot : ℕ) → text_at pool texts slot ≢ Some text
+  pub nowhere : (slot : ℕ) → text_in_slot pool texts slot ≢ Some text
 
 -- every slot has the term and the count that it had
 pub record SameSlots (old : Pool) (before : Texts) (new : Pool) (after : Texts) : Type 0 where
-  pub texts : (slot : ℕ) → text_at new after slot ≡ text_at old before slot
+  pub texts : (slot : ℕ) → text_in_slot new after slot ≡ text_in_slot old before slot
   pub counts : (slot : ℕ) → count_at new slot ≡ count_at old slot
 
 -- the slot has this text, which it had or which was in no slot, and is used once more; the others have theirs
 pub record Interned (old : Pool) (before : Texts) (new : Pool) (after : Texts) (slot : ℕ) (text : List ℕ) : Type 0 where
-  pub there : text_at new after slot ≡ Some text
-  pub was : (text_at old before slot ≡ Some text) ⊎ ((text_at old before slot ≡ None) × IsNowhere old before text)
-  pub others : (other : ℕ) → other ≢ slot → text_at new after other ≡ text_at old before other
+  pub there : text_in_slot new after slot ≡ Some text
+  pub was : (text_in_slot old before slot ≡ Some text) ⊎ ((text_in_slot old before slot ≡ None) × IsNowhere old before text)
+  pub others : (other : ℕ) → other ≢ slot → text_in_slot new after other ≡ text_in_slot old before other
   pub counts : (other : ℕ) → count_at new other ≡ count_at old other + one_if (slot == other)
 
 -- the slot is used once less, and the slots that are still used have their terms
 pub record Released (old : Pool) (before : Texts) (new : Pool) (after : Texts) (slot : ℕ) : Type 0 where
   pub counts : (other : ℕ) → count_at new other + one_if (slot == other) ≡ count_at old other
-  pub texts : (other : ℕ) → 0 < count_at new other → text_at new after other ≡ text_at old before other
+  pub texts : (other : ℕ) → 0 < count_at new other → text_in_slot new after other ≡ text_in_slot old before other
 
 -- the region's pieces that aren't the pool's are as they were, and there are no others
-abbrev pub KeepsForeign : Pool → Texts → Pool → Texts → Type 0
-KeepsForeign old before new after = (piece : Piece) → foreign new after piece ≡ foreign old before piece
+abbrev pub KeepsBeside : Pool → Texts → Pool → Texts → Type 0
+KeepsBeside old before new after = (piece : Piece) → beside new after piece ≡ beside old before piece

@@ -3,7 +3,7 @@
 ghost use Rattle.std.specs.Prelude.{◌≡◌, ◌≢◌, Some, IfSome, IfNone, IsTrue, ◌↔◌};
 ghost use Rattle.std.specs.List.{All};
 ghost use Rattle.rdf_term.specs.Text.{term_text};
-ghost use Rattle.term_pool.specs.Pool.{LiesIn, IsNowhere, text_at};
+ghost use Rattle.term_pool.specs.Pool.{LiesIn, IsNowhere, text_in_slot};
 
 use crate::hash::term_hash;
 use crate::matcher::is_text_of;
@@ -17,7 +17,7 @@ impl Pool {
     /// piece, and not written.
     pub fn find(&self, region: &Region, term: &Term) -> Option<Slot>
         requires { LiesIn self.now region.now }
-        ensures found { IfSome result (λ slot. text_at self.now region.now slot.number ≡ Some (term_text term.now)) }
+        ensures found { IfSome result (λ slot. text_in_slot self.now region.now slot.number ≡ Some (term_text term.now)) }
         ensures nowhere { IfNone result (IsNowhere self.now region.now (term_text term.now)) }
     {
         let hash = term_hash(&self.keys, term);
@@ -32,7 +32,7 @@ impl Pool {
     // Whether this term is in the slot of this number. It takes no memory.
     fn has_term(&self, region: &Region, number: u32, term: &Term) -> bool
         requires { LiesIn self.now region.now }
-        ensures { IsTrue result ↔ (text_at self.now region.now number ≡ Some (term_text term.now)) }
+        ensures { IsTrue result ↔ (text_in_slot self.now region.now number ≡ Some (term_text term.now)) }
     {
         match self.slots.get(number as usize) {
             Some(entry) => {
@@ -46,8 +46,8 @@ impl Pool {
     // The slot of a term among those whose hash points at another one.
     fn find_more_terms(&self, region: &Region, term: &Term) -> Option<Slot>
         requires { LiesIn self.now region.now }
-        ensures found { IfSome result (λ slot. text_at self.now region.now slot.number ≡ Some (term_text term.now)) }
-        ensures nowhere { IfNone result (All (λ number. text_at self.now region.now number ≢ Some (term_text term.now)) self.now.more.items) }
+        ensures found { IfSome result (λ slot. text_in_slot self.now region.now slot.number ≡ Some (term_text term.now)) }
+        ensures nowhere { IfNone result (All (λ number. text_in_slot self.now region.now number ≢ Some (term_text term.now)) self.now.more.items) }
     {
         for number in &self.more {
             if self.has_term(region, *number, term) {

@@ -35,9 +35,9 @@ pub struct Pool {
 }
 
 impl Pool {
-    ghost use Rattle.term_pool.specs.Pool.{LiesIn, IsCanonical, IsNowhere, Interned, KeepsForeign, Released, SameSlots, count_at, most_uses, terms, text_at};
+    ghost use Rattle.term_pool.specs.Pool.{LiesIn, IsCanonical, IsNowhere, Interned, KeepsBeside, Released, SameSlots, count_at, most_uses, terms, text_in_slot};
     ghost use Rattle.term_pool.specs.Index.{hash_of};
-    ghost use Rattle.term_pool.specs.Making.{HasRoom, HasSame};
+    ghost use Rattle.term_pool.specs.Making.{HasSpareSlot, HasSame};
 
     /// A pool without terms, which takes no memory. Its hashes are keyed by `keys`.
     pub fn new(alloc: Global, keys: RandomState, limit: u32) -> Pool
@@ -74,7 +74,7 @@ impl Pool {
     pub fn text<'a>(&self, region: &'a Region, slot: Slot) -> &'a [u8]
         requires lies { LiesIn self.now region.now }
         requires used { 0 < count_at self.now slot.number }
-        ensures { text_at self.now region.now slot.number ≡ Some result.now }
+        ensures { text_in_slot self.now region.now slot.number ≡ Some result.now }
     {
         let Some(entry) = self.slots.get(slot.number as usize) else {
             unreachable!()
@@ -86,7 +86,7 @@ impl Pool {
     /// The slot of the term with this canonical text, if it is there. It takes no memory.
     pub fn find_text(&self, region: &Region, text: &[u8]) -> Option<Slot>
         requires { LiesIn self.now region.now }
-        ensures found { IfSome result (λ slot. text_at self.now region.now slot.number ≡ Some text.now) }
+        ensures found { IfSome result (λ slot. text_in_slot self.now region.now slot.number ≡ Some text.now) }
         ensures nowhere { IfNone result (IsNowhere self.now region.now text.now) }
     {
         self.find_hashed(region, text_hash(&self.keys, text), text)
@@ -96,7 +96,7 @@ impl Pool {
     fn find_hashed(&self, region: &Region, hash: u64, text: &[u8]) -> Option<Slot>
         requires lies { LiesIn self.now region.now }
         requires hash { hash ≡ hash_of self.now.keys text.now }
-        ensures found { IfSome result (λ slot. text_at self.now region.now slot.number ≡ Some text.now) }
+        ensures found { IfSome result (λ slot. text_in_slot self.now region.now slot.number ≡ Some text.now) }
         ensures nowhere { IfNone result (IsNowhere self.now region.now text.now) }
     {
         if let Some(number) = self.by_hash.get(&hash) {
@@ -121,8 +121,8 @@ impl Pool {
         // Full comes just where the term isn't there and as many are as the limit says, unless memory was refused.
         ensures full { result ≡ Err PoolFault.Full → IsNowhere self.old region.old (term_text term.now) × (self.old.limit ≤ terms self.old) }
         ensures within { OnOk result (IsNowhere self.old region.old (term_text term.now) → terms self.old < self.old.limit) }
-        ensures again { OnOk result ((slot : ℕ) → text_at self.old region.old slot ≡ Some (term_text term.now) → count_at self.old slot < most_uses) }
-        ensures foreign { KeepsForeign self.old region.old self.new region.new }
+        ensures again { OnOk result ((slot : ℕ) → text_in_slot self.old region.old slot ≡ Some (term_text term.now) → count_at self.old slot < most_uses) }
+        ensures beside { KeepsBeside self.old region.old self.new region.new }
         ensures limit { self.new.limit ≡ self.old.limit }
     {
         let mut text = Vec::new(self.alloc);
@@ -143,8 +143,8 @@ impl Pool {
         ensures first { IfOk result (λ slot. IsNowhere self.old region.old text.now → count_at self.new slot.number ≡ 1) }
         ensures err { OnErr result (SameSlots self.old region.old self.new region.new) }
         ensures full { (result ≡ Err PoolFault.Full) ↔ (IsNowhere self.old region.old text.now × (self.old.limit ≤ terms self.old)) }
-        ensures again { (slot : ℕ) → text_at self.old region.old slot ≡ Some text.now → (IsOk result ↔ (count_at self.old slot < most_uses)) }
-        ensures foreign { KeepsForeign self.old region.old self.new region.new }
+        ensures again { (slot : ℕ) → text_in_slot self.old region.old slot ≡ Some text.now → (IsOk result ↔ (count_at self.old slot < most_uses)) }
+        ensures beside { KeepsBeside self.old region.old self.new region.new }
         ensures limit { self.new.limit ≡ self.old.limit }
     {
         let hash = text_hash(&self.keys, text);
@@ -164,7 +164,7 @@ impl Pool {
         requires used { 0 < count_at self.old slot.number }
         ensures lies { LiesIn self.new region.new }
         ensures released { Released self.old region.old self.new region.new slot.number }
-        ensures foreign { KeepsForeign self.old region.old self.new region.new }
+        ensures beside { KeepsBeside self.old region.old self.new region.new }
         ensures limit { self.new.limit ≡ self.old.limit }
     {
         if is_last(&self.slots, slot.number) {
@@ -177,7 +177,7 @@ impl Pool {
     /// Whether there is a term in the slot of this number that has this text. It takes no memory and no look-up.
     pub fn has_text(&self, region: &Region, number: u32, text: &[u8]) -> bool
         requires { LiesIn self.now region.now }
-        ensures { IsTrue result ↔ (text_at self.now region.now number ≡ Some text.now) }
+        ensures { IsTrue result ↔ (text_in_slot self.now region.now number ≡ Some text.now) }
     {
         match self.slots.get(number as usize) {
             Some(entry) => {
@@ -191,8 +191,8 @@ impl Pool {
     // The slot with this text among those whose hash points at another one.
     fn find_more(&self, region: &Region, text: &[u8]) -> Option<Slot>
         requires { LiesIn self.now region.now }
-        ensures found { IfSome result (λ slot. text_at self.now region.now slot.number ≡ Some text.now) }
-        ensures nowhere { IfNone result (All (λ number. text_at self.now region.now number ≢ Some text.now) self.now.more.items) }
+        ensures found { IfSome result (λ slot. text_in_slot self.now region.now slot.number ≡ Some text.now) }
+        ensures nowhere { IfNone result (All (λ number. text_in_slot self.now region.now number ≢ Some text.now) self.now.more.items) }
     {
         for number in &self.more {
             if self.has_text(region, *number, text) {
@@ -205,7 +205,7 @@ impl Pool {
     // Makes room for a term more, and gives the number of its slot.
     fn make_room(&mut self) -> Result<u32, OutOfMemory>
         ensures same { HasSame self.old self.new }
-        ensures room { IfOk result (HasRoom self.new) }
+        ensures room { IfOk result (HasSpareSlot self.new) }
     {
         self.slots.reserve(1)?;
         self.by_hash.reserve(1)?;
@@ -224,7 +224,7 @@ impl Pool {
         ensures first { IfOk result (λ slot. count_at self.new slot.number ≡ 1) }
         ensures err { OnErr result (SameSlots self.old region.old self.new region.new) }
         ensures full { (result ≡ Err PoolFault.Full) ↔ (self.old.limit ≤ terms self.old) }
-        ensures foreign { KeepsForeign self.old region.old self.new region.new }
+        ensures beside { KeepsBeside self.old region.old self.new region.new }
         ensures limit { self.new.limit ≡ self.old.limit }
     {
         if self.slots.len() >= self.limit as usize {
@@ -247,7 +247,7 @@ impl Pool {
         requires last { count_at self.old slot.number ≡ 1 }
         ensures lies { LiesIn self.new region.new }
         ensures released { Released self.old region.old self.new region.new slot.number }
-        ensures foreign { KeepsForeign self.old region.old self.new region.new }
+        ensures beside { KeepsBeside self.old region.old self.new region.new }
         ensures limit { self.new.limit ≡ self.old.limit }
     {
         let hash = text_hash(&self.keys, self.text(region, slot));

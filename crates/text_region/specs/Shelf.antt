@@ -7,8 +7,8 @@ pub record IsShelf (size : ℕ) (bytes : List ℕ) (lengths : List (Option ℕ))
   pub small : size ≤ 33554432
   pub whole : length bytes ≡ length lengths * size
   pub fits : (number len : ℕ) → slice_index_or lengths number None ≡ Some len → len ≤ size
-  pub free : (place : ℕ) → place < length spare → (d : ℕ) → (slice_index_or spare place d < length lengths) × (slice_index_or lengths (slice_index_or spare place d) None ≡ None)
-  pub once : (place other : ℕ) → place < length spare → other < length spare → (d : ℕ) → slice_index_or spare place d ≡ slice_index_or spare other d → place ≡ other
+  pub free : (index : ℕ) → index < length spare → (d : ℕ) → (slice_index_or spare index d < length lengths) × (slice_index_or lengths (slice_index_or spare index d) None ≡ None)
+  pub once : (index other : ℕ) → index < length spare → other < length spare → (d : ℕ) → slice_index_or spare index d ≡ slice_index_or spare other d → index ≡ other
   pub counted : count_by is_some lengths + length spare ≡ length lengths
   pub few : length lengths ≤ 2 ^ 32
   pub room : length lengths ≤ capacity

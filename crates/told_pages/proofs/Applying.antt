@@ -6,6 +6,6 @@ use Rattle.replay_model.specs.ReplayState.{ReplayState}
 use Rattle.world.specs.Applying.{Applies}
 use Rattle.world.specs.declared.applied.Applied.{Applied}
 
-pub applies-fewer : (told : Option Contents) (place : List ℕ) (old new : ReplayState) (applied : Applied) → Applies told place old new applied →
+pub applies-fewer : (known : Option Contents) (folder : List ℕ) (old new : ReplayState) (applied : Applied) → Applies known folder old new applied →
     length new.buffer.waiting < length old.buffer.waiting
-applies-fewer told place old new applied a = rw a.new_is (shorter_without _ applied.event old.buffer.waiting a.due)
+applies-fewer known folder old new applied a = rw a.new_is (shorter_without _ applied.event old.buffer.waiting a.due)

@@ -10,7 +10,7 @@ use Rattle.rdf_term.specs.declared.term.Term.{Term}
 use Rattle.rdf_term.specs.declared.triple.Triple.{Triple}
 use Rattle.rdf_term.specs.Order.{term_cmp, term_cmp-total, triple_cmp, triple_cmp-total}
 use Rattle.rdf_term.proofs.Texts.{term_cmp-IsAntisymmetric, triple_cmp-IsAntisymmetric}
-use Rattle.entity_model.specs.declared.delivery.Delivery.{Delivery}
+use Rattle.delivery.specs.declared.Delivery.{Delivery}
 use Rattle.entity_model.specs.declared.event.Event.{Event}
 use Rattle.entity_model.specs.declared.id.EntityId.{EntityId}
 use Rattle.entity_model.specs.declared.mapping.MappingVersion.{MappingVersion}
@@ -34,13 +34,13 @@ use Rattle.told_pages.proofs.Named.{HoldsNamed, IsNamed}
 
 module _ (ds : List Delivery) where
   -- where an entity holds by version Two, this version is told
-  abbrev pub SecondTold : List EntityId → Type 0
-  SecondTold second = (x : EntityId) → has entity_cmp x second ≡ true → In Two (versions_told ds)
+  abbrev pub ByTwoTold : List EntityId → Type 0
+  ByTwoTold by_two = (x : EntityId) → has entity_cmp x by_two ≡ true → In Two (versions_told ds)
 
-  version_told : (second : List EntityId) → SecondTold second → (x : EntityId) → In (version_at second x) (versions_told ds)
-  version_told second told x = by (has entity_cmp x second) refl
+  version_told : (by_two : List EntityId) → ByTwoTold by_two → (x : EntityId) → In (version_at by_two x) (versions_told ds)
+  version_told by_two told x = by (has entity_cmp x by_two) refl
     where
-      by : (b : Bool) → has entity_cmp x second ≡ b → In (cond b Two One) (versions_told ds)
+      by : (b : Bool) → has entity_cmp x by_two ≡ b → In (cond b Two One) (versions_told ds)
       by true is = told x is
       by false is = inl refl
 
@@ -58,14 +58,14 @@ module _ (contents : ℕ → Option Bytes) (ds : List Delivery) where
       gathered (terms_by contents (page_events ds)) v k (versions_told ds) told
       (gathered (λ (q : Event). flat_map terms_of (triples_there (meaning v) contents q.entity q.rev)) e k (page_events ds) is_page of_event)
 
-  module _ (records : Records) (version : MappingVersion) (second : List EntityId) (told : In version (versions_told ds)) (second_told : SecondTold ds second)
+  module _ (records : Records) (version : MappingVersion) (by_two : List EntityId) (told : In version (versions_told ds)) (by_two_told : ByTwoTold ds by_two)
       (named : (x : EntityId) → HoldsNamed contents (events ds) x (record_of records x).held) where
     abbrev held_meaning : Meaning Triple
-    held_meaning = meaning_by meaning second
+    held_meaning = meaning_by meaning by_two
 
     held_terms : (x : EntityId) (held : Option (Held Bytes)) → HoldsNamed contents (events ds) x held → (t : Triple) (k : Term) → In t (triples_held held_meaning x held) → In k (terms_of t) → In k (terms_there contents ds)
     held_terms x None is t k means is_of = absurd means
-    held_terms x (Some h) is t k means is_of = page_terms (version_at second x) x h.revision h.content (version_told ds second second_told x) is.0 is.1 t k means is_of
+    held_terms x (Some h) is t k means is_of = page_terms (version_at by_two x) x h.revision h.content (version_told ds by_two by_two_told x) is.0 is.1 t k means is_of
 
     union_terms : (t : Triple) (k : Term) → In t (union triple_cmp held_meaning records) → In k (terms_of t) → In k (terms_there contents ds)
     union_terms t k there is_of =

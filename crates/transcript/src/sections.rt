@@ -44,7 +44,7 @@ pub fn print_answer<K: Sink>(
     world: &World,
     out: &mut K,
 ) -> Result<(), Unwritten>
-    ensures { Prints (ask_section number (rows (union triple_cmp (meaning_by meaning world.now.second) world.now.replay.played.records) pattern.now))
+    ensures { Prints (ask_section number (rows (union triple_cmp (meaning_by meaning world.now.by_two) world.now.replay.played.records) pattern.now))
         (output K.Sink out.old) (output K.Sink out.new) result }
 {
     let rows = world.matching(pattern)?;
@@ -62,7 +62,7 @@ pub fn print_closing<K: Sink>(
     world: &World,
     out: &mut K,
 ) -> Result<(), Unwritten>
-    ensures { Prints (closing_of (union triple_cmp (meaning_by meaning world.now.second) world.now.replay.played.records) (chosen sections) world.now.replay.played)
+    ensures { Prints (closing_of (union triple_cmp (meaning_by meaning world.now.by_two) world.now.replay.played.records) (chosen sections) world.now.replay.played)
         (output K.Sink out.old) (output K.Sink out.new) result }
 {
     print_export(alloc, sections.export, world, out)?;
@@ -77,7 +77,7 @@ fn print_export<K: Sink>(
     world: &World,
     out: &mut K,
 ) -> Result<(), Unwritten>
-    ensures { Prints (cond wanted (export_section (union triple_cmp (meaning_by meaning world.now.second) world.now.replay.played.records)) [])
+    ensures { Prints (cond wanted (export_section (union triple_cmp (meaning_by meaning world.now.by_two) world.now.replay.played.records)) [])
         (output K.Sink out.old) (output K.Sink out.new) result }
 {
     if !wanted {
@@ -91,11 +91,7 @@ fn print_export<K: Sink>(
 ///
 /// # Errors
 /// The output could not be written, or memory was refused: then a prefix of the section was written, and nothing else.
-pub fn print_triples<K: Sink>(
-    alloc: Global,
-    rows: &Rows<'_>,
-    out: &mut K,
-) -> Result<(), Unwritten>
+pub fn print_triples<K: Sink>(alloc: Global, rows: &Rows<'_>, out: &mut K) -> Result<(), Unwritten>
     ensures { Prints (export_section rows.now) (output K.Sink out.old) (output K.Sink out.new) result }
 {
     let head = export_line(alloc, rows.len())?;

@@ -27,9 +27,9 @@ fn print_rows<K: Sink>(alloc: Global, rows: &Rows<'_>, out: &mut K) -> Result<()
     ensures { Prints (flat_map triple_text rows.now) (output K.Sink out.old) (output K.Sink out.new) result }
 {
     let mut line = Vec::new(alloc);
-    for place in 0..rows.len() {
+    for index in 0..rows.len() {
         line.clear();
-        rows.write(place, &mut line)?;
+        rows.write(index, &mut line)?;
         write_all(line.as_slice(), out)?;
     }
     Ok(())

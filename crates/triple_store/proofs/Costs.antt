@@ -3,10 +3,10 @@ use Rattle.std.proofs.Common.{◌≡◌, ℕ, zero, suc, ◌+◌, ◌-◌, ◌*�
 use Rattle.std.proofs.Math.Nat.{mul-le-mul_left}
 use Rattle.std.specs.Cmp.{IsTotalOrder}
 use Rattle.std.specs.FinMap as map
-use Rattle.block_index.specs.Steps.{Within}
+use Rattle.block_index.specs.Steps.{WithinSteps}
 use Rattle.slot_index.specs.declared.key.Key.{Key}
 use Rattle.slot_index.specs.Keys.{key_cmp-total}
-use Rattle.slot_index.specs.Counts.{Counts as KeyCounts, count_of, lowered, raised, with_count}
+use Rattle.slot_index.specs.Counts.{KeyCounts, count_of, lowered, raised, with_count}
 use Rattle.text_region.specs.Region.{Texts}
 use Rattle.triple_store.specs.declared.catalog.Catalog.{Catalog}
 use Rattle.triple_store.specs.Costs.{Costs}
@@ -116,10 +116,10 @@ pub not_patched : (n m texts adds removes before after : ℕ) → texts ≡ adds
 not_patched n m texts adds removes before after e f = at_most n m texts adds (texts + 0) (adds + removes) before after (omega arith) (omega arith) f
 
 -- a look-up is allowed where one goes
-looked_up : (n before after : ℕ) → Within n 8 before after → Costs n n 0 1 before after
+looked_up : (n before after : ℕ) → WithinSteps n 8 before after → Costs n n 0 1 before after
 looked_up n before after h = record { forward = h.0; grown = omega arith; within = λ d few. omega (arith, h.1 d (omega arith)) }
 
-pub one_looked_up : (n i before mid after : ℕ) → Costs n n 0 i before mid → Within n 8 mid after → Costs n n 0 (i + 1) before after
+pub one_looked_up : (n i before mid after : ℕ) → Costs n n 0 i before mid → WithinSteps n 8 mid after → Costs n n 0 (i + 1) before after
 one_looked_up n i before mid after h look = both n n n 0 0 i 1 before mid after h (looked_up n mid after look)
 
 -- of two passes

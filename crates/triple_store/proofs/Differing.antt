@@ -24,7 +24,7 @@ use Rattle.slot_index.specs.Keys.{key_cmp, key_cmp-total, key_cmp-IsAntisymmetri
 use Rattle.slot_index.specs.Counts as keyed
 use Rattle.triple_store.specs.declared.catalog.Catalog.{Catalog}
 use Rattle.triple_store.specs.Counts.{Counts, HaveOwners, count_of}
-use Rattle.triple_store.specs.Moves.{Removes, Takes, meant}
+use Rattle.triple_store.specs.Moves.{Removes, TakesIn, triples_at}
 use Rattle.triple_store.specs.Slots.{HasCanonicalTexts, HasTriple, triple_at, triple_of}
 use Rattle.triple_store.specs.Stored.{IsStored, counts_in, is_key}
 use Rattle.triple_texts.specs.declared.triple_text.TripleText.{TripleText}
@@ -34,13 +34,13 @@ use Rattle.triple_store.specs.Telling.{AreLinesOf, IsChange, LinesIf, TellsIf, s
 use Rattle.triple_store.specs.declared.telling.Change.{Change}
 use Rattle.triple_store.specs.declared.telling.Telling.{Telling}
 use Rattle.triple_store.specs.declared.telling.Telling.TheVariants.{Nothing, Change as TheChange}
-use Rattle.triple_store.proofs.Exchanged.{gone_then, had_meant, had_there, keys_meant, keys_there, meant-difference, same_test}
+use Rattle.triple_store.proofs.Exchanged.{gone_then, had_triples, had_there, keys_triples, keys_there, triples_at-difference, same_test}
 use Rattle.triple_store.proofs.Keyed.{has_key, keys_rising}
 use Rattle.triple_store.proofs.Live.{count_image, key_same}
 use Rattle.triple_store.proofs.Ordered.{distinct_sorted, sorted_triples}
 use Rattle.triple_store.proofs.Taking.{none_taken}
 use Rattle.triple_store.proofs.Unchanged.{mapped_distinct}
-use Rattle.triple_store.proofs.Standing.{has-meant, meant-has, owned, stored_if, stored_key}
+use Rattle.triple_store.proofs.Standing.{has-triples_at, triples_at-has, owned, stored_if, stored_key}
 use Rattle.triple_store.proofs.Storing.{live_stored}
 
 -- ---- one triple
@@ -106,30 +106,30 @@ module _ (st : Catalog) (r : Texts) (stored : IsStored st r) (keys others : List
   has_one : Key → Bool
   has_one k = keyed.count_of st.index k == 1
 
-  pub has-sole : (t : Triple) → has triple_cmp t (sorted triple_cmp (meant st r (sole st keys others))) ≡ (has triple_cmp t (meant st r (difference key_cmp keys others)) && (count_of (counts_in st r) t == 1))
+  pub has-sole : (t : Triple) → has triple_cmp t (sorted triple_cmp (triples_at st r (sole st keys others))) ≡ (has triple_cmp t (triples_at st r (difference key_cmp keys others)) && (count_of (counts_in st r) t == 1))
   has-sole t =
       let m = triple_at st.pool r in
       let rest = difference key_cmp keys others in
-      has-sorted triple_cmp-total t (meant st r (sole st keys others))
-      ∙ same_test (has triple_cmp t (meant st r (sole st keys others))) (has triple_cmp t (meant st r rest) && (count_of (counts_in st r) t == 1))
+      has-sorted triple_cmp-total t (triples_at st r (sole st keys others))
+      ∙ same_test (has triple_cmp t (triples_at st r (sole st keys others))) (has triple_cmp t (triples_at st r rest) && (count_of (counts_in st r) t == 1))
       (λ h.
-      let one : (k : Key) × (has key_cmp k (sole st keys others) ≡ true) × (m k ≡ t) = meant-has m (sole st keys others) t h in
+      let one : (k : Key) × (has key_cmp k (sole st keys others) ≡ true) × (m k ≡ t) = triples_at-has m (sole st keys others) t h in
       let both : ((keyed.count_of st.index one.0 == 1) && has key_cmp one.0 rest) ≡ true = sym (has-filter key_cmp key_cmp-IsAntisymmetric (λ k. keyed.count_of st.index k == 1) one.0 rest) ∙ one.1 in
       let there = and_right (keyed.count_of st.index one.0 == 1) (has key_cmp one.0 rest) both in
       let sole_one = and_left (keyed.count_of st.index one.0 == 1) (has key_cmp one.0 rest) both in
-      subst (λ (u : Triple). (has triple_cmp u (meant st r rest) && (count_of (counts_in st r) u == 1)) ≡ true) one.2
-      (both_hold _ _ (has-meant m rest one.0 there) (ap (λ n. n == 1) (its_count one.0 (of_keys one.0 there)) ∙ sole_one)))
+      subst (λ (u : Triple). (has triple_cmp u (triples_at st r rest) && (count_of (counts_in st r) u == 1)) ≡ true) one.2
+      (both_hold _ _ (has-triples_at m rest one.0 there) (ap (λ n. n == 1) (its_count one.0 (of_keys one.0 there)) ∙ sole_one)))
       (λ h.
-      let here = and_left (has triple_cmp t (meant st r rest)) (count_of (counts_in st r) t == 1) h in
-      let single = and_right (has triple_cmp t (meant st r rest)) (count_of (counts_in st r) t == 1) h in
-      let one : (k : Key) × (has key_cmp k rest ≡ true) × (m k ≡ t) = meant-has m rest t here in
+      let here = and_left (has triple_cmp t (triples_at st r rest)) (count_of (counts_in st r) t == 1) h in
+      let single = and_right (has triple_cmp t (triples_at st r rest)) (count_of (counts_in st r) t == 1) h in
+      let one : (k : Key) × (has key_cmp k rest ≡ true) × (m k ≡ t) = triples_at-has m rest t here in
       let count : (keyed.count_of st.index one.0 == 1) ≡ true = ap (λ n. n == 1) (sym (its_count one.0 (of_keys one.0 one.1)) ∙ ap (count_of (counts_in st r)) one.2) ∙ single in
-      subst (λ (u : Triple). has triple_cmp u (meant st r (sole st keys others)) ≡ true) one.2
-      (has-meant m (sole st keys others) one.0 (has-filter key_cmp key_cmp-IsAntisymmetric (λ k. keyed.count_of st.index k == 1) one.0 rest ∙ both_hold _ _ count one.1)))
+      subst (λ (u : Triple). has triple_cmp u (triples_at st r (sole st keys others)) ≡ true) one.2
+      (has-triples_at m (sole st keys others) one.0 (has-filter key_cmp key_cmp-IsAntisymmetric (λ k. keyed.count_of st.index k == 1) one.0 rest ∙ both_hold _ _ count one.1)))
 
 -- ---- what came and what is gone
 
-module _ (st : Catalog) (r : Texts) (now : Catalog) (s : Texts) (had keys : List Key) (done : List Triple) (stored : IsStored st r) (all : (key : Key) → has key_cmp key had ≡ true → is_key st key ≡ true) (h : Takes st r now s had keys done) (new : Catalog) (u : Texts) (less : Removes now s new u (difference key_cmp had (sorted key_cmp keys))) where
+module _ (st : Catalog) (r : Texts) (now : Catalog) (s : Texts) (had keys : List Key) (done : List Triple) (stored : IsStored st r) (all : (key : Key) → has key_cmp key had ≡ true → is_key st key ≡ true) (h : TakesIn st r now s had keys done) (new : Catalog) (u : Texts) (less : Removes now s new u (difference key_cmp had (sorted key_cmp keys))) where
   before : Counts
   before = counts_in st r
 
@@ -144,40 +144,40 @@ module _ (st : Catalog) (r : Texts) (now : Catalog) (s : Texts) (had keys : List
   there_these = keys_there st r now s had keys done stored all h
 
   out : Triple → Bool
-  out t = has triple_cmp t (meant now s (difference key_cmp had these))
+  out t = has triple_cmp t (triples_at now s (difference key_cmp had these))
 
-  pub came_list : sorted triple_cmp (meant now s (sole now these had)) ≡ difference triple_cmp (map.keys (counts_in new u)) (map.keys (counts_in st r))
-  came_list = same_rising triple_cmp-total triple_cmp-IsAntisymmetric _ _ (IsRising-sorted triple_cmp-total (meant now s (sole now these had))) (IsRising-filter triple_cmp (λ x. not (has triple_cmp x (map.keys (counts_in st r)))) _ (keys_rising (counts_in new u)))
+  pub came_list : sorted triple_cmp (triples_at now s (sole now these had)) ≡ difference triple_cmp (map.keys (counts_in new u)) (map.keys (counts_in st r))
+  came_list = same_rising triple_cmp-total triple_cmp-IsAntisymmetric _ _ (IsRising-sorted triple_cmp-total (triples_at now s (sole now these had))) (IsRising-filter triple_cmp (λ x. not (has triple_cmp x (map.keys (counts_in st r)))) _ (keys_rising (counts_in new u)))
       (λ t.
       has-sole now s h.stored these had there_these t
-      ∙ ap (λ b. b && (count_of (counts_in now s) t == 1)) (meant-difference now s h.stored these had there_these there_had t ∙ ap (λ b. not (has triple_cmp t (meant now s had)) && b) (keys_meant st r now s had keys done stored all h t) ∙ ap (λ ts. not (has triple_cmp t ts) && has triple_cmp t done) (had_meant st r now s had keys done stored all h))
-      ∙ came_test (count_of (counts_in st r) t) (count_of (counts_in now s) t) (count_of (counts_in new u) t) (has triple_cmp t done) (has triple_cmp t (meant st r had)) (has triple_cmp t (meant now s (difference key_cmp had these))) (gone_then st r now s had keys done stored all h new u less t) (h.counts t) (less.counts t)
+      ∙ ap (λ b. b && (count_of (counts_in now s) t == 1)) (triples_at-difference now s h.stored these had there_these there_had t ∙ ap (λ b. not (has triple_cmp t (triples_at now s had)) && b) (keys_triples st r now s had keys done stored all h t) ∙ ap (λ ts. not (has triple_cmp t ts) && has triple_cmp t done) (had_triples st r now s had keys done stored all h))
+      ∙ came_test (count_of (counts_in st r) t) (count_of (counts_in now s) t) (count_of (counts_in new u) t) (has triple_cmp t done) (has triple_cmp t (triples_at st r had)) (has triple_cmp t (triples_at now s (difference key_cmp had these))) (gone_then st r now s had keys done stored all h new u less t) (h.counts t) (less.counts t)
       ∙ ap (λ b. not b && nat_lt 0 (count_of (counts_in new u) t)) (sym (stored_test (counts_in st r) t (owned st r stored)))
       ∙ ap (λ b. not (has triple_cmp t (map.keys (counts_in st r))) && b) (sym (stored_test (counts_in new u) t (owned new u less.stored)))
       ∙ sym (has-difference triple_cmp-total t (map.keys (counts_in new u)) (map.keys (counts_in st r))))
 
-  pub gone_list : sorted triple_cmp (meant now s (sole now had these)) ≡ difference triple_cmp (map.keys (counts_in st r)) (map.keys (counts_in new u))
-  gone_list = same_rising triple_cmp-total triple_cmp-IsAntisymmetric _ _ (IsRising-sorted triple_cmp-total (meant now s (sole now had these))) (IsRising-filter triple_cmp (λ x. not (has triple_cmp x (map.keys (counts_in new u)))) _ (keys_rising (counts_in st r)))
+  pub gone_list : sorted triple_cmp (triples_at now s (sole now had these)) ≡ difference triple_cmp (map.keys (counts_in st r)) (map.keys (counts_in new u))
+  gone_list = same_rising triple_cmp-total triple_cmp-IsAntisymmetric _ _ (IsRising-sorted triple_cmp-total (triples_at now s (sole now had these))) (IsRising-filter triple_cmp (λ x. not (has triple_cmp x (map.keys (counts_in new u)))) _ (keys_rising (counts_in st r)))
       (λ t.
       has-sole now s h.stored had these there_had t
       ∙ ap (λ b. b && (count_of (counts_in now s) t == 1)) (gone_then st r now s had keys done stored all h new u less t)
-      ∙ gone_test (count_of (counts_in st r) t) (count_of (counts_in now s) t) (count_of (counts_in new u) t) (has triple_cmp t done) (has triple_cmp t (meant st r had)) (has triple_cmp t (meant now s (difference key_cmp had these))) (gone_then st r now s had keys done stored all h new u less t) (h.counts t) (less.counts t)
+      ∙ gone_test (count_of (counts_in st r) t) (count_of (counts_in now s) t) (count_of (counts_in new u) t) (has triple_cmp t done) (has triple_cmp t (triples_at st r had)) (has triple_cmp t (triples_at now s (difference key_cmp had these))) (gone_then st r now s had keys done stored all h new u less t) (h.counts t) (less.counts t)
       ∙ ap (λ b. not b && nat_lt 0 (count_of (counts_in st r) t)) (sym (stored_test (counts_in new u) t (owned new u less.stored)))
       ∙ ap (λ b. not (has triple_cmp t (map.keys (counts_in new u))) && b) (sym (stored_test (counts_in st r) t (owned st r stored)))
       ∙ sym (has-difference triple_cmp-total t (map.keys (counts_in st r)) (map.keys (counts_in new u))))
 
   -- so lines of these tell the change
-  pub is_change : (change : Change) → AreLinesOf change.came (sorted triple_cmp (meant now s (sole now these had))) → AreLinesOf change.gone (sorted triple_cmp (meant now s (sole now had these))) → IsChange (counts_in st r) (counts_in new u) change
+  pub is_change : (change : Change) → AreLinesOf change.came (sorted triple_cmp (triples_at now s (sole now these had))) → AreLinesOf change.gone (sorted triple_cmp (triples_at now s (sole now had these))) → IsChange (counts_in st r) (counts_in new u) change
   is_change change came gone = record { came = subst (AreLinesOf change.came) came_list came; gone = subst (AreLinesOf change.gone) gone_list gone }
 
-  pub tells_if : (telling : Telling) (change : Option Change) → LinesIf telling (sorted triple_cmp (meant now s (sole now these had))) (sorted triple_cmp (meant now s (sole now had these))) change → TellsIf telling (counts_in st r) (counts_in new u) change
+  pub tells_if : (telling : Telling) (change : Option Change) → LinesIf telling (sorted triple_cmp (triples_at now s (sole now these had))) (sorted triple_cmp (triples_at now s (sole now had these))) change → TellsIf telling (counts_in st r) (counts_in new u) change
   tells_if TheChange (Some change) lines = is_change change lines.0 lines.1
   tells_if TheChange None lines = lines
   tells_if Nothing (Some change) lines = lines
   tells_if Nothing None lines = lines
 
 -- where an owner's triples all go, none came
-pub is_released : (st : Catalog) (r : Texts) (old : List Key) (new : Catalog) (u : Texts) → IsStored st r → ((key : Key) → has key_cmp key old ≡ true → is_key st key ≡ true) → Removes st r new u (difference key_cmp old []) → (telling : Telling) (change : Option Change) → LinesIf telling (sorted triple_cmp (meant st r (sole st [] old))) (sorted triple_cmp (meant st r (sole st old []))) change → TellsIf telling (counts_in st r) (counts_in new u) change
+pub is_released : (st : Catalog) (r : Texts) (old : List Key) (new : Catalog) (u : Texts) → IsStored st r → ((key : Key) → has key_cmp key old ≡ true → is_key st key ≡ true) → Removes st r new u (difference key_cmp old []) → (telling : Telling) (change : Option Change) → LinesIf telling (sorted triple_cmp (triples_at st r (sole st [] old))) (sorted triple_cmp (triples_at st r (sole st old []))) change → TellsIf telling (counts_in st r) (counts_in new u) change
 is_released st r old new u stored all less = tells_if st r st r old [] [] stored all (none_taken st r old stored) new u less
 
 -- ---- rows and lines
@@ -185,7 +185,7 @@ is_released st r old new u stored all less = tells_if st r st r old [] [] stored
 -- keys that rise have each its own triple, so their triples in order are the rising list
 module _ (st : Catalog) (r : Texts) (keys : List Key) (before after : List TripleText) (h : IsStored st r) (rises : IsRising key_cmp keys) (all : (k : Key) → has key_cmp k keys ≡ true → is_key st k ≡ true)
     (means : mapped triple_of before ≡ mapped (triple_at st.pool r) keys) (canonical : All HasCanonicalTexts before) (p : IsPermutation before after) (s : IsSorted text_cmp after) where
-  pub rows_in_order : mapped triple_of after ≡ sorted triple_cmp (meant st r keys)
+  pub rows_in_order : mapped triple_of after ≡ sorted triple_cmp (triples_at st r keys)
   rows_in_order =
       let m = triple_at st.pool r in
       let live = live_stored st r h in
@@ -197,7 +197,7 @@ module _ (st : Catalog) (r : Texts) (keys : List Key) (before after : List Tripl
       (sorted_triples after (All-permutation HasCanonicalTexts before after p canonical) s)
 
   pub rows_rise : IsRising triple_cmp (mapped triple_of after)
-  rows_rise = subst (IsRising triple_cmp) (sym rows_in_order) (IsRising-sorted triple_cmp-total (meant st r keys))
+  rows_rise = subst (IsRising triple_cmp) (sym rows_in_order) (IsRising-sorted triple_cmp-total (triples_at st r keys))
 
 -- the keys with one owner rise, and are among the keys
 pub sole_rises : (st : Catalog) (keys others : List Key) → IsRising key_cmp keys → IsRising key_cmp (sole st keys others)
@@ -210,12 +210,12 @@ sole_among st keys others k h =
     and_right (not (has key_cmp k others)) (has key_cmp k keys) (sym (has-difference key_cmp-total k keys others) ∙ among)
 
 -- one line more
-pub more_lines : (rows : List Triple) (place : ℕ) (text front : List ℕ) → place < length rows → IfSome (slice_get rows place) (λ t. text ≡ front ++ triple_text t) → front ≡ flat_map triple_text (take place rows) → text ≡ flat_map triple_text (take (place + 1) rows)
-more_lines rows place text front within h is =
+pub more_lines : (rows : List Triple) (index : ℕ) (text front : List ℕ) → index < length rows → IfSome (slice_get rows index) (λ t. text ≡ front ++ triple_text t) → front ≡ flat_map triple_text (take index rows) → text ≡ flat_map triple_text (take (index + 1) rows)
+more_lines rows index text front within h is =
     let d : Triple = record { subject = Blank []; predicate = Blank []; object = Blank [] } in
-    let here : Triple = get_or rows place d in
-    let end : text ≡ front ++ triple_text here = subst (λ (o : Option Triple). IfSome o (λ t. text ≡ front ++ triple_text t)) (slice_get-get_or rows place d within) h in
+    let here : Triple = get_or rows index d in
+    let end : text ≡ front ++ triple_text here = subst (λ (o : Option Triple). IfSome o (λ t. text ≡ front ++ triple_text t)) (slice_get-get_or rows index d within) h in
     end ∙ ap (λ l. l ++ triple_text here) is
-    ∙ ap (λ l. flat_map triple_text (take place rows) ++ l) (sym (append-nil (triple_text here)))
-    ∙ sym (flat_map-append triple_text (take place rows) (here ∷ []))
-    ∙ sym (ap (flat_map triple_text) (take_more rows place d within))
+    ∙ ap (λ l. flat_map triple_text (take index rows) ++ l) (sym (append-nil (triple_text here)))
+    ∙ sym (flat_map-append triple_text (take index rows) (here ∷ []))
+    ∙ sym (ap (flat_map triple_text) (take_more rows index d within))

@@ -17,8 +17,8 @@ use Rattle.rdf_term.proofs.Texts.{term_cmp-IsAntisymmetric, undo-term_text}
 use Rattle.text_region.specs.Region.{Texts, bytes_of}
 use Rattle.term_pool.specs.declared.slots.Entry.{Entry}
 use Rattle.term_pool.specs.declared.pool.Pool.{Pool}
-use Rattle.term_pool.specs.Pool.{IsCanonical, IsNowhere, IsTextual, LiesIn, terms, text_of}
-use Rattle.triple_store.specs.Holding.{HasTermsOf}
+use Rattle.term_pool.specs.Pool.{IsCanonical, IsNowhere, IsTextual, LiesIn, terms, live_text}
+use Rattle.triple_store.specs.Interning.{HasTermsOf}
 use Rattle.triple_store.specs.Room.{distinct}
 use Rattle.triple_store.specs.Slots.{term_in}
 
@@ -85,7 +85,7 @@ slotted r (Some e ∷ rest) t h =
 -- each slot has a text of its own
 record AreApart (r : Texts) (slots : List (Option Entry)) : Type 0 where
   textual : (i : ℕ) (e : Entry) → get_or slots i None ≡ Some e → IsTextual r e
-  once : (i j : ℕ) (text : List ℕ) → text_of r (get_or slots i None) ≡ Some text → text_of r (get_or slots j None) ≡ Some text → i ≡ j
+  once : (i j : ℕ) (text : List ℕ) → live_text r (get_or slots i None) ≡ Some text → live_text r (get_or slots j None) ≡ Some text → i ≡ j
 
 behind : (r : Texts) (first : Option Entry) (slots : List (Option Entry)) → AreApart r (first ∷ slots) → AreApart r slots
 behind r first slots a = record {
@@ -107,7 +107,7 @@ distinct_terms r (Some e ∷ rest) a = (
       (λ h. let s = slotted r rest _ h in
       let t = a.textual 0 e refl in
       let u = a.textual (suc s.slot) s.entry s.there in
-      let same = a.once 0 (suc s.slot) t.text t.is (ap (text_of r) s.there ∙ sym (term_of r s.entry u) ∙ ap (λ x. Some (term_text x)) (sym s.is) ∙ term_of r e t ∙ t.is) in
+      let same = a.once 0 (suc s.slot) t.text t.is (ap (live_text r) s.there ∙ sym (term_of r s.entry u) ∙ ap (λ x. Some (term_text x)) (sym s.is) ∙ term_of r e t ∙ t.is) in
       absurd (omega arith))
       (λ h. clash h refl),
   distinct_terms r rest (behind r (Some e) rest a),
@@ -127,7 +127,7 @@ as_many p r ts lies h =
       fewer term_cmp-total term_cmp-IsAntisymmetric mine ts (λ t there.
           let s = slotted r p.slots.slots t there in
           let u = lies.textual s.slot s.entry s.there in
-          ap (λ x. has term_cmp x ts) (s.is ∙ ap term_in u.is) ∙ h.each s.slot u.text (ap (text_of r) s.there ∙ u.is)),
+          ap (λ x. has term_cmp x ts) (s.is ∙ ap term_in u.is) ∙ h.each s.slot u.text (ap (live_text r) s.there ∙ u.is)),
     )
 
 -- and one more, where it has a term that the pool hasn't
@@ -137,7 +137,7 @@ one_more p r ts text lies canonical nowhere h there =
     let fresh : has term_cmp (undo text) mine ≡ false = both_ways (has term_cmp (undo text) mine) false
     (λ g. let s = slotted r p.slots.slots (undo text) g in
     let u = lies.textual s.slot s.entry s.there in
-    absurd (nowhere.nowhere s.slot (ap (text_of r) s.there ∙ sym (term_of r s.entry u) ∙ ap (λ x. Some (term_text x)) (sym s.is)
+    absurd (nowhere.nowhere s.slot (ap (live_text r) s.there ∙ sym (term_of r s.entry u) ∙ ap (λ x. Some (term_text x)) (sym s.is)
     ∙ ap Some (ap term_text (ap undo canonical.is ∙ undo-term_text canonical.term) ∙ sym canonical.is))))
     (λ g. clash g refl) in
     let n = length-distinct term_cmp-total term_cmp-IsAntisymmetric (undo text ∷ mine) (fresh, distinct_terms r p.slots.slots (apart p r lies)) in
@@ -148,6 +148,6 @@ one_more p r ts text lies canonical nowhere h there =
       | false ↦ λ _ later.
           let s = slotted r p.slots.slots t later in
           let u = lies.textual s.slot s.entry s.there in
-          ap (λ x. has term_cmp x ts) (s.is ∙ ap term_in u.is) ∙ h.each s.slot u.text (ap (text_of r) s.there ∙ u.is)
+          ap (λ x. has term_cmp x ts) (s.is ∙ ap term_in u.is) ∙ h.each s.slot u.text (ap (live_text r) s.there ∙ u.is)
     ] refl g) in
     omega arith

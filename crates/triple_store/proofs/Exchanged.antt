@@ -15,11 +15,11 @@ use Rattle.triple_store.specs.declared.catalog.Catalog.{Catalog}
 use Rattle.triple_store.specs.Counts.{Exchanges, count_of}
 use Rattle.triple_store.specs.Slots.{triple_at}
 use Rattle.triple_store.specs.Stored.{AreKeysOf, HasKey, IsStored, KeepsKeys, counts_in, is_key}
-use Rattle.triple_store.specs.Moves.{Removes, Takes, meant}
+use Rattle.triple_store.specs.Moves.{Removes, TakesIn, triples_at}
 use Rattle.triple_store.proofs.Owners.{same_counts}
 use Rattle.triple_store.proofs.Removing.{apart}
 use Rattle.triple_store.proofs.Live.{tells}
-use Rattle.triple_store.proofs.Standing.{counted_key, has-meant, meant-has, owned}
+use Rattle.triple_store.proofs.Standing.{counted_key, has-triples_at, triples_at-has, owned}
 use Rattle.triple_store.proofs.Taking.{had_key, never}
 
 -- tests that imply each other
@@ -38,15 +38,15 @@ both_pass false b e f = absurd (true≢false (sym e))
 
 module _ (st : Catalog) (r : Texts) where
   -- the triples of which keys are those are the triples that they stand for
-  pub same_gone : (old : List Key) (gone : List Triple) → AreKeysOf st r old gone → (t : Triple) → has triple_cmp t gone ≡ has triple_cmp t (meant st r old)
+  pub same_gone : (old : List Key) (gone : List Triple) → AreKeysOf st r old gone → (t : Triple) → has triple_cmp t gone ≡ has triple_cmp t (triples_at st r old)
   same_gone old gone h t =
       let m = triple_at st.pool r in
-      same_test (has triple_cmp t gone) (has triple_cmp t (meant st r old))
+      same_test (has triple_cmp t gone) (has triple_cmp t (triples_at st r old))
       (λ there.
       let one : (key : Key) × HasKey st r key t × (has key_cmp key old ≡ true) = h.all t there in
-      subst (λ (u : Triple). has triple_cmp u (meant st r old) ≡ true) (tells st.pool r one.0 t one.1.has) (has-meant m old one.0 one.2))
+      subst (λ (u : Triple). has triple_cmp u (triples_at st r old) ≡ true) (tells st.pool r one.0 t one.1.has) (has-triples_at m old one.0 one.2))
       (λ there.
-      let one : (key : Key) × (has key_cmp key old ≡ true) × (m key ≡ t) = meant-has m old t there in
+      let one : (key : Key) × (has key_cmp key old ≡ true) × (m key ≡ t) = triples_at-has m old t there in
       let its : (u : Triple) × HasKey st r one.0 u × (has triple_cmp u gone ≡ true) = h.each one.0 one.1 in
       subst (λ (u : Triple). has triple_cmp u gone ≡ true) (sym (tells st.pool r one.0 its.0 its.1.has) ∙ one.2) its.2)
 
@@ -56,29 +56,29 @@ module _ (st : Catalog) (r : Texts) where
   -- where all keys of an owner went
   pub released : (new : Catalog) (u : Texts) (old : List Key) → Removes st r new u (difference key_cmp old []) → (gone : List Triple) → AreKeysOf st r old gone → Exchanges (counts_in st r) (counts_in new u) gone []
   released new u old h gone keys = record {
-    counts = λ t. omega (arith, h.counts t, ap one_if (same_gone old gone keys t ∙ ap (λ ks. has triple_cmp t (meant st r ks)) (sym (all_gone old))));
+    counts = λ t. omega (arith, h.counts t, ap one_if (same_gone old gone keys t ∙ ap (λ ks. has triple_cmp t (triples_at st r ks)) (sym (all_gone old))));
   }
 
 -- which triples keys stand for, of which those of others are left out
 module _ (st : Catalog) (r : Texts) (stored : IsStored st r) where
-  pub meant-difference : (xs ys : List Key) → ((k : Key) → has key_cmp k xs ≡ true → is_key st k ≡ true) → ((k : Key) → has key_cmp k ys ≡ true → is_key st k ≡ true) → (t : Triple) → has triple_cmp t (meant st r (difference key_cmp xs ys)) ≡ (not (has triple_cmp t (meant st r ys)) && has triple_cmp t (meant st r xs))
-  meant-difference xs ys there others t =
+  pub triples_at-difference : (xs ys : List Key) → ((k : Key) → has key_cmp k xs ≡ true → is_key st k ≡ true) → ((k : Key) → has key_cmp k ys ≡ true → is_key st k ≡ true) → (t : Triple) → has triple_cmp t (triples_at st r (difference key_cmp xs ys)) ≡ (not (has triple_cmp t (triples_at st r ys)) && has triple_cmp t (triples_at st r xs))
+  triples_at-difference xs ys there others t =
       let m = triple_at st.pool r in
-      same_test (has triple_cmp t (meant st r (difference key_cmp xs ys))) (not (has triple_cmp t (meant st r ys)) && has triple_cmp t (meant st r xs))
+      same_test (has triple_cmp t (triples_at st r (difference key_cmp xs ys))) (not (has triple_cmp t (triples_at st r ys)) && has triple_cmp t (triples_at st r xs))
       (λ h.
-      let one : (key : Key) × (has key_cmp key (difference key_cmp xs ys) ≡ true) × (m key ≡ t) = meant-has m (difference key_cmp xs ys) t h in
+      let one : (key : Key) × (has key_cmp key (difference key_cmp xs ys) ≡ true) × (m key ≡ t) = triples_at-has m (difference key_cmp xs ys) t h in
       let both : (not (has key_cmp one.0 ys) && has key_cmp one.0 xs) ≡ true = sym (has-difference key_cmp-total one.0 xs ys) ∙ one.1 in
       let of_xs : has key_cmp one.0 xs ≡ true = and_right (not (has key_cmp one.0 ys)) (has key_cmp one.0 xs) both in
       let out : has key_cmp one.0 ys ≡ false = not_so (has key_cmp one.0 ys) (and_left (not (has key_cmp one.0 ys)) (has key_cmp one.0 xs) both) in
-      subst (λ (u : Triple). (not (has triple_cmp u (meant st r ys)) && has triple_cmp u (meant st r xs)) ≡ true) one.2
-      (both_pass _ _ (ap not (apart st r stored ys one.0 (there one.0 of_xs) others out)) (has-meant m xs one.0 of_xs)))
+      subst (λ (u : Triple). (not (has triple_cmp u (triples_at st r ys)) && has triple_cmp u (triples_at st r xs)) ≡ true) one.2
+      (both_pass _ _ (ap not (apart st r stored ys one.0 (there one.0 of_xs) others out)) (has-triples_at m xs one.0 of_xs)))
       (λ h.
-      let of_xs : has triple_cmp t (meant st r xs) ≡ true = and_right (not (has triple_cmp t (meant st r ys))) (has triple_cmp t (meant st r xs)) h in
-      let out : has triple_cmp t (meant st r ys) ≡ false = not_so (has triple_cmp t (meant st r ys)) (and_left (not (has triple_cmp t (meant st r ys))) (has triple_cmp t (meant st r xs)) h) in
-      let one : (key : Key) × (has key_cmp key xs ≡ true) × (m key ≡ t) = meant-has m xs t of_xs in
-      let apart_ : has key_cmp one.0 ys ≡ false = never (has key_cmp one.0 ys) (λ e. clash (subst (λ (u : Triple). has triple_cmp u (meant st r ys) ≡ true) one.2 (has-meant m ys one.0 e)) out) in
-      subst (λ (u : Triple). has triple_cmp u (meant st r (difference key_cmp xs ys)) ≡ true) one.2
-      (has-meant m (difference key_cmp xs ys) one.0 (has-difference key_cmp-total one.0 xs ys ∙ both_pass _ _ (ap not apart_) one.1)))
+      let of_xs : has triple_cmp t (triples_at st r xs) ≡ true = and_right (not (has triple_cmp t (triples_at st r ys))) (has triple_cmp t (triples_at st r xs)) h in
+      let out : has triple_cmp t (triples_at st r ys) ≡ false = not_so (has triple_cmp t (triples_at st r ys)) (and_left (not (has triple_cmp t (triples_at st r ys))) (has triple_cmp t (triples_at st r xs)) h) in
+      let one : (key : Key) × (has key_cmp key xs ≡ true) × (m key ≡ t) = triples_at-has m xs t of_xs in
+      let apart_ : has key_cmp one.0 ys ≡ false = never (has key_cmp one.0 ys) (λ e. clash (subst (λ (u : Triple). has triple_cmp u (triples_at st r ys) ≡ true) one.2 (has-triples_at m ys one.0 e)) out) in
+      subst (λ (u : Triple). has triple_cmp u (triples_at st r (difference key_cmp xs ys)) ≡ true) one.2
+      (has-triples_at m (difference key_cmp xs ys) one.0 (has-difference key_cmp-total one.0 xs ys ∙ both_pass _ _ (ap not apart_) one.1)))
 
 mapped_alike : (f g : Key → Triple) (keys : List Key) → ((k : Key) → has key_cmp k keys ≡ true → f k ≡ g k) → mapped f keys ≡ mapped g keys
 mapped_alike f g [] h = refl
@@ -102,7 +102,7 @@ lost_none now new true gone out is e f some = omega (arith, f, ap one_if is, som
 lost_none now new false gone out is e f some = absurd (true≢false (sym e))
 
 -- after triples came, and before others go
-module _ (st : Catalog) (r : Texts) (now : Catalog) (s : Texts) (had keys : List Key) (done : List Triple) (stored : IsStored st r) (all : (key : Key) → has key_cmp key had ≡ true → is_key st key ≡ true) (h : Takes st r now s had keys done) where
+module _ (st : Catalog) (r : Texts) (now : Catalog) (s : Texts) (had keys : List Key) (done : List Triple) (stored : IsStored st r) (all : (key : Key) → has key_cmp key had ≡ true → is_key st key ≡ true) (h : TakesIn st r now s had keys done) where
   abbrev pub in_order : List Key
   in_order = sorted key_cmp keys
 
@@ -116,21 +116,21 @@ module _ (st : Catalog) (r : Texts) (now : Catalog) (s : Texts) (had keys : List
   keys_there key there = let one : (t : Triple) × HasKey now s key t × (has triple_cmp t done ≡ true) = h.each key (of_keys key there) in one.1.stored
 
   -- the owner's keys stand for what they stood for
-  pub had_meant : meant now s had ≡ meant st r had
-  had_meant = mapped_alike (triple_at now.pool s) (triple_at st.pool r) had (λ k there. tells now.pool s k (triple_at st.pool r k) (had_key st r now s had keys done stored all h k there).has)
+  pub had_triples : triples_at now s had ≡ triples_at st r had
+  had_triples = mapped_alike (triple_at now.pool s) (triple_at st.pool r) had (λ k there. tells now.pool s k (triple_at st.pool r k) (had_key st r now s had keys done stored all h k there).has)
 
   -- and those that came for the triples that are done
-  pub keys_meant : (t : Triple) → has triple_cmp t (meant now s in_order) ≡ has triple_cmp t done
-  keys_meant t =
+  pub keys_triples : (t : Triple) → has triple_cmp t (triples_at now s in_order) ≡ has triple_cmp t done
+  keys_triples t =
       let m = triple_at now.pool s in
-      same_test (has triple_cmp t (meant now s in_order)) (has triple_cmp t done)
+      same_test (has triple_cmp t (triples_at now s in_order)) (has triple_cmp t done)
       (λ there.
-      let one : (key : Key) × (has key_cmp key in_order ≡ true) × (m key ≡ t) = meant-has m in_order t there in
+      let one : (key : Key) × (has key_cmp key in_order ≡ true) × (m key ≡ t) = triples_at-has m in_order t there in
       let its : (u : Triple) × HasKey now s one.0 u × (has triple_cmp u done ≡ true) = h.each one.0 (of_keys one.0 one.1) in
       subst (λ (u : Triple). has triple_cmp u done ≡ true) (sym (tells now.pool s one.0 its.0 its.1.has) ∙ one.2) its.2)
       (λ there.
       let one : (key : Key) × HasKey now s key t × (has key_cmp key keys ≡ true) = h.all t there in
-      subst (λ (u : Triple). has triple_cmp u (meant now s in_order) ≡ true) (tells now.pool s one.0 t one.1.has) (has-meant m in_order one.0 (has-sorted key_cmp-total one.0 keys ∙ one.2)))
+      subst (λ (u : Triple). has triple_cmp u (triples_at now s in_order) ≡ true) (tells now.pool s one.0 t one.1.has) (has-triples_at m in_order one.0 (has-sorted key_cmp-total one.0 keys ∙ one.2)))
 
   module _ (new : Catalog) (u : Texts) where
     -- what keeps its owners keeps its key
@@ -139,20 +139,20 @@ module _ (st : Catalog) (r : Texts) (now : Catalog) (s : Texts) (had keys : List
 
     -- the old ones that didn't come again are gone
     module _ (less : Removes now s new u (difference key_cmp had in_order)) where
-      pub gone_then : (t : Triple) → has triple_cmp t (meant now s (difference key_cmp had in_order)) ≡ (not (has triple_cmp t done) && has triple_cmp t (meant st r had))
+      pub gone_then : (t : Triple) → has triple_cmp t (triples_at now s (difference key_cmp had in_order)) ≡ (not (has triple_cmp t done) && has triple_cmp t (triples_at st r had))
       gone_then t =
-          meant-difference now s h.stored had in_order had_there keys_there t
-          ∙ ap (λ b. not b && has triple_cmp t (meant now s had)) (keys_meant t)
-          ∙ ap (λ ts. not (has triple_cmp t done) && has triple_cmp t ts) had_meant
+          triples_at-difference now s h.stored had in_order had_there keys_there t
+          ∙ ap (λ b. not b && has triple_cmp t (triples_at now s had)) (keys_triples t)
+          ∙ ap (λ ts. not (has triple_cmp t done) && has triple_cmp t ts) had_triples
 
       pub exchanged : (gone : List Triple) → AreKeysOf st r had gone → Exchanges (counts_in st r) (counts_in new u) gone done
       exchanged gone its = record {
         counts = λ t. ap (λ b. count_of (counts_in new u) t + one_if b) (same_gone st r had gone its t)
-            ∙ balanced (count_of (counts_in st r) t) (count_of (counts_in now s) t) (count_of (counts_in new u) t) (has triple_cmp t done) (has triple_cmp t (meant st r had)) (has triple_cmp t (meant now s (difference key_cmp had in_order))) (gone_then t) (h.counts t) (less.counts t);
+            ∙ balanced (count_of (counts_in st r) t) (count_of (counts_in now s) t) (count_of (counts_in new u) t) (has triple_cmp t done) (has triple_cmp t (triples_at st r had)) (has triple_cmp t (triples_at now s (difference key_cmp had in_order))) (gone_then t) (h.counts t) (less.counts t);
       }
 
       stands : (key : Key) (t : Triple) → HasKey now s key t → has triple_cmp t done ≡ true → HasKey new u key t
-      stands key t is there = less.keeps.kept key t is (lost_none (count_of (counts_in now s) t) (count_of (counts_in new u) t) (has triple_cmp t done) (has triple_cmp t (meant st r had)) (has triple_cmp t (meant now s (difference key_cmp had in_order))) (gone_then t) there (less.counts t) (counted_key now s h.stored key t is))
+      stands key t is there = less.keeps.kept key t is (lost_none (count_of (counts_in now s) t) (count_of (counts_in new u) t) (has triple_cmp t done) (has triple_cmp t (triples_at st r had)) (has triple_cmp t (triples_at now s (difference key_cmp had in_order))) (gone_then t) there (less.counts t) (counted_key now s h.stored key t is))
 
       pub are_keys : AreKeysOf new u in_order done
       are_keys = record {
@@ -169,6 +169,6 @@ module _ (st : Catalog) (r : Texts) (now : Catalog) (s : Texts) (had keys : List
     module _ (less : Removes now s new u (difference key_cmp in_order had)) where
       pub undone_counts : counts_in new u ≡ counts_in st r
       undone_counts = same_counts (counts_in new u) (counts_in st r) (owned new u less.stored) (owned st r stored) (λ t.
-          undone (count_of (counts_in st r) t) (count_of (counts_in now s) t) (count_of (counts_in new u) t) (has triple_cmp t done) (has triple_cmp t (meant st r had)) (has triple_cmp t (meant now s (difference key_cmp in_order had)))
-          (meant-difference now s h.stored in_order had keys_there had_there t ∙ ap (λ b. not (has triple_cmp t (meant now s had)) && b) (keys_meant t) ∙ ap (λ ts. not (has triple_cmp t ts) && has triple_cmp t done) had_meant)
+          undone (count_of (counts_in st r) t) (count_of (counts_in now s) t) (count_of (counts_in new u) t) (has triple_cmp t done) (has triple_cmp t (triples_at st r had)) (has triple_cmp t (triples_at now s (difference key_cmp in_order had)))
+          (triples_at-difference now s h.stored in_order had keys_there had_there t ∙ ap (λ b. not (has triple_cmp t (triples_at now s had)) && b) (keys_triples t) ∙ ap (λ ts. not (has triple_cmp t ts) && has triple_cmp t done) had_triples)
           (h.counts t) (less.counts t))

@@ -13,21 +13,21 @@ use Rattle.slab.specs.Slab.{get}
 use Rattle.text_region.specs.Region.{Texts}
 use Rattle.term_pool.specs.declared.slots.Entry.{Entry}
 use Rattle.term_pool.specs.declared.pool.Pool.{Pool}
-use Rattle.term_pool.specs.Pool.{IsCanonical, IsNowhere, Interned, LiesIn, Released, SameSlots, count_at, count_of, terms, text_at, text_of}
+use Rattle.term_pool.specs.Pool.{IsCanonical, IsNowhere, Interned, LiesIn, Released, SameSlots, count_at, count_of, terms, text_in_slot, live_text}
 use Rattle.term_pool.proofs.Lying.{text_there, used, used_at}
 use Rattle.slot_index.specs.declared.key.Key.{Key}
 use Rattle.triple_texts.specs.declared.triple_text.TripleText.{TripleText}
-use Rattle.triple_store.specs.Holding.{HasTermsOf, Held, KeepsTexts}
+use Rattle.triple_store.specs.Interning.{HasTermsOf, InternsTriple, KeepsTexts}
 use Rattle.triple_store.specs.Room.{distinct, terms_of}
 use Rattle.triple_store.specs.Slots.{IsAllOf}
 use Rattle.triple_store.proofs.Distinct.{one_more}
 
 -- a slot that isn't used has no text
-pub unused : (p : Pool) (r : Texts) (x : ℕ) → LiesIn p r → count_at p x ≡ 0 → text_at p r x ≡ None
+pub unused : (p : Pool) (r : Texts) (x : ℕ) → LiesIn p r → count_at p x ≡ 0 → text_in_slot p r x ≡ None
 unused p r x lies none = at (get p.slots x) refl
   where
-    at : (o : Option Entry) → get p.slots x ≡ o → text_at p r x ≡ None
-    at None e = ap (text_of r) e
+    at : (o : Option Entry) → get p.slots x ≡ o → text_in_slot p r x ≡ None
+    at None e = ap (live_text r) e
     at (Some entry) e = let t = lies.textual x entry e in absurd (omega (arith, t.counted, ap count_of e))
 
 -- the terms are those that were there where the counts are
@@ -44,8 +44,8 @@ pub keeps_interned : (p q : Pool) (r s : Texts) (slot : ℕ) (text : List ℕ) �
 keeps_interned p q r s slot text i = record {
   kept = λ x t e. ⊎_elim
       (λ same. ⊎_elim
-      (λ a. let one : Some t ≡ Some text = sym e ∙ ap (text_at p r) same ∙ a in ap (text_at q s) same ∙ i.there ∙ sym one)
-      (λ b. let none : None ≡ Some t = sym b.0 ∙ ap (text_at p r) (sym same) ∙ e in absurd cc)
+      (λ a. let one : Some t ≡ Some text = sym e ∙ ap (text_in_slot p r) same ∙ a in ap (text_in_slot q s) same ∙ i.there ∙ sym one)
+      (λ b. let none : None ≡ Some t = sym b.0 ∙ ap (text_in_slot p r) (sym same) ∙ e in absurd cc)
       i.was)
       (λ ne. i.others x ne ∙ e)
       (cases_eq x slot);
@@ -66,7 +66,7 @@ undone p q m u r s n v slot text before after i same released =
     let counts : (x : ℕ) → count_at u x ≡ count_at p x = λ x. omega (arith, released.counts x, same.counts x, i.counts x) in
     same_slots p u r v before after (keeps_released p m u r n v slot before (keeps_same p q m r s n (keeps_interned p q r s slot text i) same) released (λ x. omega (arith, counts x))) counts
 
-pub held : (p a b q : Pool) (r s t v : Texts) (key : Key) (of : TripleText) → Interned p r a s key.first of.subject.now → Interned a s b t key.second of.predicate.now → Interned b t q v key.third of.object.now → Held p r q v key of
+pub held : (p a b q : Pool) (r s t v : Texts) (key : Key) (of : TripleText) → Interned p r a s key.first of.subject.now → Interned a s b t key.second of.predicate.now → Interned b t q v key.third of.object.now → InternsTriple p r q v key of
 held p a b q r s t v key of i j k =
     let first = keeps_interned p a r s key.first of.subject.now i in
     let second = keeps_interned a b s t key.second of.predicate.now j in
@@ -85,7 +85,7 @@ held p a b q r s t v key of i j k =
 pub terms_interned : (p q : Pool) (r s : Texts) (slot : ℕ) (text : List ℕ) (ts : List Term) → Interned p r q s slot text → HasTermsOf p r ts → has term_cmp (undo text) ts ≡ true → HasTermsOf q s ts
 terms_interned p q r s slot text ts i h there = record {
   each = λ x t e. ⊎_elim
-      (λ same. let one : Some text ≡ Some t = sym i.there ∙ ap (text_at q s) (sym same) ∙ e in let eq : text ≡ t = cc in subst (λ y. has term_cmp (undo y) ts ≡ true) eq there)
+      (λ same. let one : Some text ≡ Some t = sym i.there ∙ ap (text_in_slot q s) (sym same) ∙ e in let eq : text ≡ t = cc in subst (λ y. has term_cmp (undo y) ts ≡ true) eq there)
       (λ ne. h.each x t (sym (i.others x ne) ∙ e))
       (cases_eq x slot);
 }

@@ -17,7 +17,7 @@ use Rattle.slot_index.specs.declared.key.Key.{Key}
 use Rattle.slot_index.specs.Keys.{key_cmp}
 use Rattle.triple_store.specs.declared.catalog.Catalog.{Catalog}
 use Rattle.triple_store.specs.Counts.{count_of, raised}
-use Rattle.triple_store.specs.Moves.{Takes}
+use Rattle.triple_store.specs.Moves.{TakesIn}
 use Rattle.triple_store.specs.Room.{distinct, room_for, terms_of}
 use Rattle.triple_store.specs.Slots.{HasCanonicalTexts, HasTermsIn, HasTexts, HasTriple, IsAllOf, triple_of}
 use Rattle.triple_store.specs.Stored.{HasKey, IsStored, beside, counts_in, is_key, limit_of}
@@ -61,9 +61,9 @@ row_canonical triples i texts low h fit =
     }
 
 -- the next triple of a list, after those before it came
-module _ (st : Catalog) (r : Texts) (now : Catalog) (s : Texts) (had keys added : List Key) (triples : List Triple) (i : ℕ) (texts : TripleText) (low : i < length triples) (at : IfSome (slice_get triples i) (IsTextOf texts)) (stored : IsStored st r) (all : (key : Key) → has key_cmp key had ≡ true → is_key st key ≡ true) (h : Takes st r now s had keys (take i triples)) (held : (key : Key) → has key_cmp key (had ++ added) ≡ has key_cmp key (had ++ keys)) where
+module _ (st : Catalog) (r : Texts) (now : Catalog) (s : Texts) (had keys added : List Key) (triples : List Triple) (i : ℕ) (texts : TripleText) (low : i < length triples) (at : IfSome (slice_get triples i) (IsTextOf texts)) (stored : IsStored st r) (all : (key : Key) → has key_cmp key had ≡ true → is_key st key ≡ true) (h : TakesIn st r now s had keys (take i triples)) (held : (key : Key) → has key_cmp key (had ++ added) ≡ has key_cmp key (had ++ keys)) where
   -- its key is at hand
-  pub next_held : (key : Key) → HasTexts now.pool s key texts → has key_cmp key (had ++ added) ≡ true → Takes st r now s had (keys ++ key ∷ []) (take (i + 1) triples)
+  pub next_held : (key : Key) → HasTexts now.pool s key texts → has key_cmp key (had ++ added) ≡ true → TakesIn st r now s had (keys ++ key ∷ []) (take (i + 1) triples)
   next_held key is there =
       let one = row triples i texts low at in
       rw one.more (held_taken st r now s had keys (take i triples) stored all h key (triple_of texts) (sym (held key) ∙ there) (texts_triple now.pool s key texts (triple_of texts) one.is is))
@@ -73,7 +73,7 @@ module _ (st : Catalog) (r : Texts) (now : Catalog) (s : Texts) (had keys added 
     none_held : (key : Key) → HasTriple now.pool s key (triple_of texts) → has key_cmp key (had ++ keys) ≡ false
     none_held key is = sym (held key) ∙ none key (triple_texts now.pool s key texts (triple_of texts) (row triples i texts low at).is is)
 
-    pub next_new : (new : Catalog) (u : Texts) (key : Key) → IsStored new u → counts_in new u ≡ raised (counts_in now s) (triple_of texts) → HasKey new u key (triple_of texts) → ((k : Key) (t : Triple) → HasKey now s k t → HasKey new u k t) → ((piece : Piece) → beside new u piece ≡ beside now s piece) → limit_of new ≡ limit_of now → Takes st r new u had (keys ++ key ∷ []) (take (i + 1) triples)
+    pub next_new : (new : Catalog) (u : Texts) (key : Key) → IsStored new u → counts_in new u ≡ raised (counts_in now s) (triple_of texts) → HasKey new u key (triple_of texts) → ((k : Key) (t : Triple) → HasKey now s k t → HasKey new u k t) → ((piece : Piece) → beside new u piece ≡ beside now s piece) → limit_of new ≡ limit_of now → TakesIn st r new u had (keys ++ key ∷ []) (take (i + 1) triples)
     next_new new u key after more one later others limit = rw (row triples i texts low at).more (new_taken st r now s had keys (take i triples) stored all h new u key (triple_of texts) none_held after more one later others limit)
 
     -- it may be counted once more

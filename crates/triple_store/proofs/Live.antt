@@ -12,11 +12,11 @@ use Rattle.rdf_term.specs.Undo.{undo}
 use Rattle.rdf_term.proofs.Texts.{triple_cmp-IsAntisymmetric, undo-term_text}
 use Rattle.text_region.specs.Region.{Texts}
 use Rattle.term_pool.specs.declared.pool.Pool.{Pool}
-use Rattle.term_pool.specs.Pool.{LiesIn, count_at, text_at, text_of}
+use Rattle.term_pool.specs.Pool.{LiesIn, count_at, text_in_slot, live_text}
 use Rattle.term_pool.proofs.Lying.{if_same, used}
 use Rattle.slot_index.specs.declared.key.Key.{Key}
 use Rattle.slot_index.specs.Keys.{key_cmp, key_cmp-total, key_cmp-IsAntisymmetric, same_key}
-use Rattle.slot_index.specs.Counts.{Counts as KeyCounts}
+use Rattle.slot_index.specs.Counts.{KeyCounts}
 use Rattle.slot_index.specs.Counts as keyed
 use Rattle.triple_store.specs.Counts.{count_of, with_count}
 use Rattle.triple_store.specs.Slots.{HasTriple, term_in, triple_at, uses}
@@ -45,11 +45,11 @@ key_same p r k l t lies h g = λ i. record {
 }
 
 -- a slot that is used has the text of its term
-pub live_slot : (p : Pool) (r : Texts) (x : ℕ) → LiesIn p r → 0 < count_at p x → text_at p r x ≡ Some (term_text (term_in (text_at p r x)))
+pub live_slot : (p : Pool) (r : Texts) (x : ℕ) → LiesIn p r → 0 < count_at p x → text_in_slot p r x ≡ Some (term_text (term_in (text_in_slot p r x)))
 live_slot p r x lies some =
     let u = used p x some in
     let t = lies.textual x u.entry u.there in
-    let is : text_at p r x ≡ Some t.text = ap (text_of r) u.there ∙ t.is in
+    let is : text_in_slot p r x ≡ Some t.text = ap (live_text r) u.there ∙ t.is in
     let back : undo t.text ≡ t.canonical.term = ap undo t.canonical.is ∙ undo-term_text t.canonical.term in
     is ∙ ap Some (t.canonical.is ∙ ap term_text (sym back) ∙ ap (λ o. term_text (term_in o)) (sym is))
 

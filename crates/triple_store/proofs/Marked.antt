@@ -91,10 +91,10 @@ module _ {K : Type 0} (R : K → K → Ordering) where
     last a b c = or_assoc c a b ∙ or_comm c (a || b)
 
     -- one of the old ones more
-    pub more_kept : (place : ℕ) → length marks ≡ length old → slice_get old place ≡ Some (get_or met i d) → (q : K) → has R q (marked old (slice_set marks place true) ++ rest) ≡ has R q (take (i + 1) met)
-    more_kept place l e q =
-        has-append R q (marked old (slice_set marks place true)) rest
-        ∙ ap (λ b. b || has R q rest) (has-mark q (get_or met i d) old marks place l e)
+    pub more_kept : (index : ℕ) → length marks ≡ length old → slice_get old index ≡ Some (get_or met i d) → (q : K) → has R q (marked old (slice_set marks index true) ++ rest) ≡ has R q (take (i + 1) met)
+    more_kept index l e q =
+        has-append R q (marked old (slice_set marks index true)) rest
+        ∙ ap (λ b. b || has R q rest) (has-mark q (get_or met i d) old marks index l e)
         ∙ last (has R q (marked old marks)) (has R q rest) (eq_by_cmp R q (get_or met i d))
         ∙ ap (λ b. b || eq_by_cmp R q (get_or met i d)) (sym (has-append R q (marked old marks) rest) ∙ same q)
         ∙ sym (next_met q)

@@ -19,13 +19,13 @@ use Rattle.rdf_term.specs.Pattern.{agrees, agrees_at}
 use Rattle.rdf_term.proofs.Texts.{term_cmp-IsAntisymmetric, triple_cmp-IsAntisymmetric, undo-term_text}
 use Rattle.text_region.specs.Region.{Texts}
 use Rattle.term_pool.specs.declared.pool.Pool.{Pool}
-use Rattle.term_pool.specs.Pool.{IsCanonical, IsNowhere, LiesIn, count_at, text_at}
+use Rattle.term_pool.specs.Pool.{IsCanonical, IsNowhere, LiesIn, count_at, text_in_slot}
 use Rattle.term_pool.proofs.Lying.{stands}
 use Rattle.slot_index.specs.declared.key.Key.{Key}
 use Rattle.slot_index.specs.declared.pattern.SlotPattern.{SlotPattern}
 use Rattle.slot_index.specs.Keys.{key_cmp, key_cmp-total, key_cmp-IsAntisymmetric, same_key}
-use Rattle.slot_index.specs.Patterns.{agrees as slots_agree}
-use Rattle.slot_index.specs.Counts.{Counts as KeyCounts}
+use Rattle.slot_index.specs.Patterns.{slots_agree}
+use Rattle.slot_index.specs.Counts.{KeyCounts}
 use Rattle.slot_index.proofs.Passing.{count-map, count_by-cons, has_counted, one_if}
 use Rattle.triple_store.specs.Slots.{term_in, triple_at}
 use Rattle.triple_store.specs.Stored.{image}
@@ -111,7 +111,7 @@ all_three a b c x y z e f g = ap (λ t. t && (b && c)) e ∙ ap (λ t. x && (t &
 -- ---- the slots of terms
 
 -- what is in a slot is canonical
-pub canonical_at : (p : Pool) (r : Texts) (x : ℕ) (text : List ℕ) → LiesIn p r → text_at p r x ≡ Some text → IsCanonical text
+pub canonical_at : (p : Pool) (r : Texts) (x : ℕ) (text : List ℕ) → LiesIn p r → text_in_slot p r x ≡ Some text → IsCanonical text
 canonical_at p r x text lies h =
     let s = stands p r x text h in
     let t = lies.textual x s.entry s.there in
@@ -120,38 +120,38 @@ canonical_at p r x text lies h =
     subst IsCanonical same t.canonical
 
 -- the slot of a term is the one that it agrees with
-pub wants_slot : (p : Pool) (r : Texts) (t : Term) (n slot : ℕ) → LiesIn p r → text_at p r n ≡ Some (term_text t) → 0 < count_at p slot → eq_by_cmp term_cmp t (term_in (text_at p r slot)) ≡ eq_by_cmp nat_cmp n slot
+pub wants_slot : (p : Pool) (r : Texts) (t : Term) (n slot : ℕ) → LiesIn p r → text_in_slot p r n ≡ Some (term_text t) → 0 < count_at p slot → eq_by_cmp term_cmp t (term_in (text_in_slot p r slot)) ≡ eq_by_cmp nat_cmp n slot
 wants_slot p r t n slot lies there some =
-    both_ways (eq_by_cmp term_cmp t (term_in (text_at p r slot))) (eq_by_cmp nat_cmp n slot)
-    (λ e. let same = term_cmp-IsAntisymmetric t (term_in (text_at p r slot)) (equal _ e) in
+    both_ways (eq_by_cmp term_cmp t (term_in (text_in_slot p r slot))) (eq_by_cmp nat_cmp n slot)
+    (λ e. let same = term_cmp-IsAntisymmetric t (term_in (text_in_slot p r slot)) (equal _ e) in
     let one = lies.once n slot (term_text t) there (live_slot p r slot lies some ∙ ap (λ u. Some (term_text u)) (sym same)) in
     ap (eq_by_cmp nat_cmp n) (sym one) ∙ ap is_eq (tied_itself nat_cmp_total n))
     (λ e. let one = nat_cmp-IsAntisymmetric n slot (equal _ e) in
-    let back : term_in (text_at p r slot) ≡ t = ap (λ x. term_in (text_at p r x)) (sym one) ∙ ap term_in there ∙ undo-term_text t in
+    let back : term_in (text_in_slot p r slot) ≡ t = ap (λ x. term_in (text_in_slot p r x)) (sym one) ∙ ap term_in there ∙ undo-term_text t in
     ap (eq_by_cmp term_cmp t) back ∙ ap is_eq (tied_itself term_cmp-total t))
 
-pub wants_none : (p : Pool) (r : Texts) (t : Term) (slot : ℕ) → LiesIn p r → IsNowhere p r (term_text t) → 0 < count_at p slot → eq_by_cmp term_cmp t (term_in (text_at p r slot)) ≡ false
+pub wants_none : (p : Pool) (r : Texts) (t : Term) (slot : ℕ) → LiesIn p r → IsNowhere p r (term_text t) → 0 < count_at p slot → eq_by_cmp term_cmp t (term_in (text_in_slot p r slot)) ≡ false
 wants_none p r t slot lies nowhere some =
-    both_ways (eq_by_cmp term_cmp t (term_in (text_at p r slot))) false
-    (λ e. let same = term_cmp-IsAntisymmetric t (term_in (text_at p r slot)) (equal _ e) in
+    both_ways (eq_by_cmp term_cmp t (term_in (text_in_slot p r slot))) false
+    (λ e. let same = term_cmp-IsAntisymmetric t (term_in (text_in_slot p r slot)) (equal _ e) in
     absurd (nowhere.nowhere slot (live_slot p r slot lies some ∙ ap (λ u. Some (term_text u)) (sym same))))
     (λ e. clash e refl)
 
 -- a triple doesn't agree where one of its slots doesn't
 module _ (p : Pool) (r : Texts) (pattern : Pattern) (k : Key) where
-  pub subject_fails : agrees_at pattern.subject (term_in (text_at p r k.first)) ≡ false → agrees pattern (triple_at p r k) ≡ false
+  pub subject_fails : agrees_at pattern.subject (term_in (text_in_slot p r k.first)) ≡ false → agrees pattern (triple_at p r k) ≡ false
   unfolding triple_at
-  subject_fails e = ap (λ t. t && (agrees_at pattern.predicate (term_in (text_at p r k.second)) && agrees_at pattern.object (term_in (text_at p r k.third)))) e
+  subject_fails e = ap (λ t. t && (agrees_at pattern.predicate (term_in (text_in_slot p r k.second)) && agrees_at pattern.object (term_in (text_in_slot p r k.third)))) e
 
-  pub predicate_fails : agrees_at pattern.predicate (term_in (text_at p r k.second)) ≡ false → agrees pattern (triple_at p r k) ≡ false
+  pub predicate_fails : agrees_at pattern.predicate (term_in (text_in_slot p r k.second)) ≡ false → agrees pattern (triple_at p r k) ≡ false
   unfolding triple_at
   predicate_fails e =
-      ap (λ t. agrees_at pattern.subject (term_in (text_at p r k.first)) && (t && agrees_at pattern.object (term_in (text_at p r k.third)))) e
-      ∙ and_none (agrees_at pattern.subject (term_in (text_at p r k.first)))
+      ap (λ t. agrees_at pattern.subject (term_in (text_in_slot p r k.first)) && (t && agrees_at pattern.object (term_in (text_in_slot p r k.third)))) e
+      ∙ and_none (agrees_at pattern.subject (term_in (text_in_slot p r k.first)))
 
-  pub object_fails : agrees_at pattern.object (term_in (text_at p r k.third)) ≡ false → agrees pattern (triple_at p r k) ≡ false
+  pub object_fails : agrees_at pattern.object (term_in (text_in_slot p r k.third)) ≡ false → agrees pattern (triple_at p r k) ≡ false
   unfolding triple_at
   object_fails e =
-      ap (λ t. agrees_at pattern.subject (term_in (text_at p r k.first)) && (agrees_at pattern.predicate (term_in (text_at p r k.second)) && t)) e
-      ∙ ap (λ t. agrees_at pattern.subject (term_in (text_at p r k.first)) && t) (and_none (agrees_at pattern.predicate (term_in (text_at p r k.second))))
-      ∙ and_none (agrees_at pattern.subject (term_in (text_at p r k.first)))
+      ap (λ t. agrees_at pattern.subject (term_in (text_in_slot p r k.first)) && (agrees_at pattern.predicate (term_in (text_in_slot p r k.second)) && t)) e
+      ∙ ap (λ t. agrees_at pattern.subject (term_in (text_in_slot p r k.first)) && t) (and_none (agrees_at pattern.predicate (term_in (text_in_slot p r k.second))))
+      ∙ and_none (agrees_at pattern.subject (term_in (text_in_slot p r k.first)))

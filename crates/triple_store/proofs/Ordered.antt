@@ -27,7 +27,7 @@ use Rattle.term_pool.specs.Pool.{LiesIn}
 use Rattle.slot_index.specs.declared.key.Key.{Key}
 use Rattle.slot_index.specs.declared.pattern.SlotPattern.{SlotPattern}
 use Rattle.slot_index.specs.Keys.{key_cmp, key_cmp-total, key_cmp-IsAntisymmetric}
-use Rattle.slot_index.specs.Patterns.{agrees as slots_agree}
+use Rattle.slot_index.specs.Patterns.{slots_agree}
 use Rattle.slot_index.proofs.Passing.{count-map, count_by-cons, has_counted, one_if}
 use Rattle.triple_texts.specs.declared.triple_text.TripleText.{TripleText}
 use Rattle.triple_store.specs.declared.catalog.Catalog.{Catalog}

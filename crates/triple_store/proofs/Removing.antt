@@ -21,10 +21,10 @@ use Rattle.triple_store.specs.declared.catalog.Catalog.{Catalog}
 use Rattle.triple_store.specs.Counts.{count_of, lowered}
 use Rattle.triple_store.specs.Slots.{triple_at}
 use Rattle.triple_store.specs.Stored.{HasKey, IsStored, KeepsKeys, beside, counts_in, is_key, limit_of}
-use Rattle.triple_store.specs.Moves.{Removes, meant}
+use Rattle.triple_store.specs.Moves.{Removes, triples_at}
 use Rattle.triple_store.proofs.Owners.{same_triple, count_of-lowered}
 use Rattle.triple_store.proofs.Live.{key_same, tells}
-use Rattle.triple_store.proofs.Standing.{counted_key, meant-has, stored_key}
+use Rattle.triple_store.proofs.Standing.{counted_key, triples_at-has, stored_key}
 
 module _ {K : Type 0} {R : K → K → Ordering} (o : IsTotalOrder R) where
   above_at : (k : K) (xs : List K) (i : ℕ) (d : K) → i < length xs → Above R k xs → R k (get_or xs i d) ≡ Less
@@ -77,16 +77,16 @@ none_removed st r stored = record {
 
 -- what one more key finds, which isn't among those that are gone
 record IsNext (st : Catalog) (r : Texts) (now : Catalog) (s : Texts) (keys : List Key) (key : Key) (t : Triple) : Type 0 where
-  pub out : has triple_cmp t (meant st r keys) ≡ false
+  pub out : has triple_cmp t (triples_at st r keys) ≡ false
   pub there : HasKey now s key t
 
 -- a key that isn't among others stands for a triple that theirs don't
-pub apart : (st : Catalog) (r : Texts) → IsStored st r → (keys : List Key) (key : Key) → is_key st key ≡ true → ((k : Key) → has key_cmp k keys ≡ true → is_key st k ≡ true) → has key_cmp key keys ≡ false → has triple_cmp (triple_at st.pool r key) (meant st r keys) ≡ false
+pub apart : (st : Catalog) (r : Texts) → IsStored st r → (keys : List Key) (key : Key) → is_key st key ≡ true → ((k : Key) → has key_cmp k keys ≡ true → is_key st k ≡ true) → has key_cmp key keys ≡ false → has triple_cmp (triple_at st.pool r key) (triples_at st r keys) ≡ false
 apart st r stored keys key is all new =
     let m = triple_at st.pool r in
-    elim (has triple_cmp (m key) (meant st r keys)) as (λ b. has triple_cmp (m key) (meant st r keys) ≡ b → b ≡ false) [
+    elim (has triple_cmp (m key) (triples_at st r keys)) as (λ b. has triple_cmp (m key) (triples_at st r keys) ≡ b → b ≡ false) [
       | true ↦ λ e.
-          let one : (k : Key) × (has key_cmp k keys ≡ true) × (m k ≡ m key) = meant-has m keys (m key) e in
+          let one : (k : Key) × (has key_cmp k keys ≡ true) × (m k ≡ m key) = triples_at-has m keys (m key) e in
           let its = subst (HasKey st r one.0) one.2 (stored_key st r stored one.0 (all one.0 one.1)) in
           let same = key_same st.pool r one.0 key (m key) stored.lies its.has (stored_key st r stored key is).has in
           clash (subst (λ (k : Key). has key_cmp k keys ≡ true) same one.1) new
@@ -103,9 +103,9 @@ next st r now s keys key stored h is all new =
 pub still : (st : Catalog) (r : Texts) (now : Catalog) (s : Texts) (keys : List Key) (key : Key) → IsStored st r → Removes st r now s keys → is_key st key ≡ true → ((k : Key) → has key_cmp k keys ≡ true → is_key st k ≡ true) → has key_cmp key keys ≡ false → is_key now key ≡ true
 still st r now s keys key stored h is all new = (next st r now s keys key stored h is all new).there.stored
 
-has-meant_more : (m : Key → Triple) (keys : List Key) (key : Key) (q : Triple) → has triple_cmp q (mapped m (keys ++ key ∷ [])) ≡ (has triple_cmp q (mapped m keys) || same_triple q (m key))
-has-meant_more m [] key q = or_none (same_triple q (m key))
-has-meant_more m (k ∷ keys) key q = ap (λ b. same_triple q (m k) || b) (has-meant_more m keys key q) ∙ sym (or_assoc (same_triple q (m k)) (has triple_cmp q (mapped m keys)) (same_triple q (m key)))
+has-triples_more : (m : Key → Triple) (keys : List Key) (key : Key) (q : Triple) → has triple_cmp q (mapped m (keys ++ key ∷ [])) ≡ (has triple_cmp q (mapped m keys) || same_triple q (m key))
+has-triples_more m [] key q = or_none (same_triple q (m key))
+has-triples_more m (k ∷ keys) key q = ap (λ b. same_triple q (m k) || b) (has-triples_more m keys key q) ∙ sym (or_assoc (same_triple q (m k)) (has triple_cmp q (mapped m keys)) (same_triple q (m key)))
 
 -- one owner less of a triple that wasn't among those that have one less
 pub one_less : (now before after : ℕ) (gone same : Bool) → (same ≡ true → (gone ≡ false) × (0 < now)) → now + one_if gone ≡ before → after ≡ now - one_if same → after + one_if (gone || same) ≡ before
@@ -122,11 +122,11 @@ one_removed st r now s new u keys key stored h is all fresh after low keeps othe
     let same : triple_at now.pool s key ≡ t = tells now.pool s key t one.there.has in
     let less : (q : Triple) → count_of (counts_in new u) q ≡ count_of (counts_in now s) q - one_if (same_triple q t) = λ q.
     ap (λ c. count_of c q) (low ∙ ap (lowered (counts_in now s)) same) ∙ count_of-lowered (counts_in now s) t q in
-    let is_it : (q : Triple) → same_triple q t ≡ true → (has triple_cmp q (meant st r keys) ≡ false) × (0 < count_of (counts_in now s) q) = λ q e.
-    subst (λ (x : Triple). (has triple_cmp x (meant st r keys) ≡ false) × (0 < count_of (counts_in now s) x)) (sym (triple_cmp-IsAntisymmetric q t (equal _ e))) (one.out, some) in
+    let is_it : (q : Triple) → same_triple q t ≡ true → (has triple_cmp q (triples_at st r keys) ≡ false) × (0 < count_of (counts_in now s) q) = λ q e.
+    subst (λ (x : Triple). (has triple_cmp x (triples_at st r keys) ≡ false) × (0 < count_of (counts_in now s) x)) (sym (triple_cmp-IsAntisymmetric q t (equal _ e))) (one.out, some) in
     record {
       stored = after;
-      counts = λ q. ap (λ b. count_of (counts_in new u) q + one_if b) (has-meant_more m keys key q) ∙ one_less (count_of (counts_in now s) q) _ _ _ (same_triple q t) (is_it q) (h.counts q) (less q);
+      counts = λ q. ap (λ b. count_of (counts_in new u) q + one_if b) (has-triples_more m keys key q) ∙ one_less (count_of (counts_in now s) q) _ _ _ (same_triple q t) (is_it q) (h.counts q) (less q);
       keeps = record { kept = λ k q was some. keeps.kept k q (h.keeps.kept k q was (omega (arith, some, less q))) some };
       beside = λ piece. others piece ∙ h.beside piece;
       limit = limit ∙ h.limit;

@@ -19,7 +19,7 @@ use Rattle.triple_store.specs.Counts.{count_of}
 use Rattle.triple_store.specs.Room.{distinct, room_for, terms_of}
 use Rattle.triple_store.specs.Slots.{HasTermsIn, IsAllOf}
 use Rattle.triple_store.specs.Stored.{counts_in, limit_of}
-use Rattle.triple_store.specs.Moves.{Takes, meant}
+use Rattle.triple_store.specs.Moves.{TakesIn, triples_at}
 use Rattle.triple_store.proofs.Owners.{same_triple}
 use Rattle.triple_store.proofs.Removing.{in_take}
 use Rattle.triple_store.proofs.Standing.{owned, stored_if}
@@ -43,17 +43,17 @@ is_one true b h = refl
 is_one false b h = absurd (omega (arith, h))
 
 -- what is stored while triples come was stored, or is one of those
-pub stored_then : (st : Catalog) (r : Texts) (now : Catalog) (s : Texts) (had keys : List Key) (done : List Triple) → Takes st r now s had keys done → (t : Triple) → map.contains_key (counts_in now s) t ≡ true → has triple_cmp t (map.keys (counts_in st r) ++ done) ≡ true
+pub stored_then : (st : Catalog) (r : Texts) (now : Catalog) (s : Texts) (had keys : List Key) (done : List Triple) → TakesIn st r now s had keys done → (t : Triple) → map.contains_key (counts_in now s) t ≡ true → has triple_cmp t (map.keys (counts_in st r) ++ done) ≡ true
 stored_then st r now s had keys done h t there =
     let some = owned now s h.stored t there in
     let all = map.keys (counts_in st r) in
     ⊎_elim
     (λ was. has-append triple_cmp t all done ∙ or_left _ _ (sym (map.contains_key-keys (counts_in st r) t) ∙ stored_if (counts_in st r) t was))
-    (λ came. has-append triple_cmp t all done ∙ or_true (has triple_cmp t all) _ (is_one (has triple_cmp t done) (not (has triple_cmp t (meant st r had))) came))
-    (positive_sum (count_of (counts_in st r) t) (one_if (has triple_cmp t done && not (has triple_cmp t (meant st r had)))) (omega (arith, some, h.counts t)))
+    (λ came. has-append triple_cmp t all done ∙ or_true (has triple_cmp t all) _ (is_one (has triple_cmp t done) (not (has triple_cmp t (triples_at st r had))) came))
+    (positive_sum (count_of (counts_in st r) t) (one_if (has triple_cmp t done && not (has triple_cmp t (triples_at st r had)))) (omega (arith, some, h.counts t)))
 
 -- where one triple of them found no room there is none for all
-pub no_room : (st : Catalog) (r : Texts) (now : Catalog) (s : Texts) (had keys : List Key) (new : List Triple) (i : ℕ) (t : Triple) → Takes st r now s had keys (take i new) → has triple_cmp t new ≡ true → ((terms : List Term) → HasTermsIn (counts_in now s) terms → IsAllOf (terms_of t) terms → limit_of now < distinct terms) → limit_of st < room_for (counts_in st r) new
+pub no_room : (st : Catalog) (r : Texts) (now : Catalog) (s : Texts) (had keys : List Key) (new : List Triple) (i : ℕ) (t : Triple) → TakesIn st r now s had keys (take i new) → has triple_cmp t new ≡ true → ((terms : List Term) → HasTermsIn (counts_in now s) terms → IsAllOf (terms_of t) terms → limit_of now < distinct terms) → limit_of st < room_for (counts_in st r) new
 no_room st r now s had keys new i t h among full =
     let all = map.keys (counts_in st r) ++ new in
     let within : (u : Triple) → has triple_cmp u (map.keys (counts_in st r) ++ take i new) ≡ true → has triple_cmp u all ≡ true = λ u e.

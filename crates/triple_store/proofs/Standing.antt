@@ -17,7 +17,7 @@ use Rattle.term_pool.specs.declared.pool.Pool.{Pool}
 use Rattle.term_pool.specs.Pool.{LiesIn}
 use Rattle.slot_index.specs.declared.key.Key.{Key}
 use Rattle.slot_index.specs.Keys.{key_cmp, key_cmp-total, key_cmp-IsAntisymmetric, same_key}
-use Rattle.slot_index.specs.Counts.{Counts as KeyCounts}
+use Rattle.slot_index.specs.Counts.{KeyCounts}
 use Rattle.triple_texts.specs.declared.triple_text.TripleText.{TripleText}
 use Rattle.triple_texts.specs.Texts.{IsTextOf}
 use Rattle.triple_store.specs.declared.catalog.Catalog.{Catalog}
@@ -68,31 +68,31 @@ stored_key store texts h key is = record { stored = is; has = (are_live store te
 -- what triples of slots stand for, by a meaning
 module _ (m : Key → Triple) where
   -- the triple of one that is there is there
-  pub has-meant : (keys : List Key) (key : Key) → has key_cmp key keys ≡ true → has triple_cmp (m key) (mapped m keys) ≡ true
-  has-meant [] key h = absurd (true≢false (sym h))
-  has-meant (k ∷ keys) key h =
+  pub has-triples_at : (keys : List Key) (key : Key) → has key_cmp key keys ≡ true → has triple_cmp (m key) (mapped m keys) ≡ true
+  has-triples_at [] key h = absurd (true≢false (sym h))
+  has-triples_at (k ∷ keys) key h =
       elim (same_key key k) as (λ b. same_key key k ≡ b → (b || has key_cmp key keys) ≡ true → has triple_cmp (m key) (mapped m (k ∷ keys)) ≡ true) [
         | true ↦ λ e _. subst (λ (x : Key). has triple_cmp (m key) (m x ∷ mapped m keys) ≡ true) (key_cmp-IsAntisymmetric key k (equal _ e)) (has_itself triple_cmp-total (m key) (mapped m keys))
-        | false ↦ λ _ rest. or_true (eq_by_cmp triple_cmp (m key) (m k)) _ (has-meant keys key rest)
+        | false ↦ λ _ rest. or_true (eq_by_cmp triple_cmp (m key) (m k)) _ (has-triples_at keys key rest)
       ] refl h
 
   -- and a triple that is there is that of one
-  pub meant-has : (keys : List Key) (t : Triple) → has triple_cmp t (mapped m keys) ≡ true → (key : Key) × (has key_cmp key keys ≡ true) × (m key ≡ t)
-  meant-has [] t h = absurd (true≢false (sym h))
-  meant-has (k ∷ keys) t h =
+  pub triples_at-has : (keys : List Key) (t : Triple) → has triple_cmp t (mapped m keys) ≡ true → (key : Key) × (has key_cmp key keys ≡ true) × (m key ≡ t)
+  triples_at-has [] t h = absurd (true≢false (sym h))
+  triples_at-has (k ∷ keys) t h =
       elim (eq_by_cmp triple_cmp t (m k)) as (λ b. eq_by_cmp triple_cmp t (m k) ≡ b → (b || has triple_cmp t (mapped m keys)) ≡ true → (key : Key) × (has key_cmp key (k ∷ keys) ≡ true) × (m key ≡ t)) [
         | true ↦ λ e _. (k, has_itself key_cmp-total k keys, sym (triple_cmp-IsAntisymmetric t (m k) (equal _ e)))
-        | false ↦ λ _ rest. let one : (key : Key) × (has key_cmp key keys ≡ true) × (m key ≡ t) = meant-has keys t rest in (one.0, or_true (same_key one.0 k) _ one.1, one.2)
+        | false ↦ λ _ rest. let one : (key : Key) × (has key_cmp key keys ≡ true) × (m key ≡ t) = triples_at-has keys t rest in (one.0, or_true (same_key one.0 k) _ one.1, one.2)
       ] refl h
 
-  keys_meant : (es : List (Key × ℕ)) (t : Triple) → has triple_cmp t (keys_of (mapped (λ e. (m e.0, e.1)) es)) ≡ has triple_cmp t (mapped m (keys_of es))
-  keys_meant [] t = refl
-  keys_meant (e ∷ es) t = ap (λ b. eq_by_cmp triple_cmp t (m e.0) || b) (keys_meant es t)
+  keys_triples : (es : List (Key × ℕ)) (t : Triple) → has triple_cmp t (keys_of (mapped (λ e. (m e.0, e.1)) es)) ≡ has triple_cmp t (mapped m (keys_of es))
+  keys_triples [] t = refl
+  keys_triples (e ∷ es) t = ap (λ b. eq_by_cmp triple_cmp t (m e.0) || b) (keys_triples es t)
 
   -- the triples that are stored are those of the triples of slots
   pub contains-image : (counts : KeyCounts) (t : Triple) → map.contains_key (image m counts) t ≡ has triple_cmp t (mapped m (map.keys counts))
   unfolding image
-  contains-image counts t = ap is_some (got triple_cmp-total t (mapped (λ e. (m e.0, e.1)) (map.entries counts))) ∙ is_some-lookup (eq_by_cmp triple_cmp t) (mapped (λ e. (m e.0, e.1)) (map.entries counts)) ∙ keys_meant (map.entries counts) t
+  contains-image counts t = ap is_some (got triple_cmp-total t (mapped (λ e. (m e.0, e.1)) (map.entries counts))) ∙ is_some-lookup (eq_by_cmp triple_cmp t) (mapped (λ e. (m e.0, e.1)) (map.entries counts)) ∙ keys_triples (map.entries counts) t
 
 owned_stored : (v : Option ℕ) → 0 < unwrap_or v 0 → is_some v ≡ true
 owned_stored None h = absurd (omega (arith, h))
@@ -111,7 +111,7 @@ module _ (store : Catalog) (texts : Texts) (h : IsStored store texts) where
   pub key_stored : (t : Triple) → map.contains_key (counts_in store texts) t ≡ true → (key : Key) × HasKey store texts key t
   key_stored t there =
       let m = triple_at store.pool texts in
-      let one : (key : Key) × (has key_cmp key (map.keys store.index) ≡ true) × (m key ≡ t) = meant-has m (map.keys store.index) t (sym (contains-image m store.index t) ∙ there) in
+      let one : (key : Key) × (has key_cmp key (map.keys store.index) ≡ true) × (m key ≡ t) = triples_at-has m (map.keys store.index) t (sym (contains-image m store.index t) ∙ there) in
       (one.0, subst (HasKey store texts one.0) one.2 (stored_key store texts h one.0 (map.contains_key-keys store.index one.0 ∙ one.1)))
 
   -- which has an owner

@@ -19,19 +19,19 @@ use Rattle.rdf_term.proofs.Texts.{term_cmp-IsAntisymmetric, undo-term_text}
 use Rattle.text_region.specs.Region.{Texts, bytes_of}
 use Rattle.term_pool.specs.declared.slots.Entry.{Entry}
 use Rattle.term_pool.specs.declared.pool.Pool.{Pool}
-use Rattle.term_pool.specs.Pool.{terms, text_at, text_of}
+use Rattle.term_pool.specs.Pool.{terms, text_in_slot, live_text}
 use Rattle.term_pool.proofs.Lying.{if_other, used_at}
 use Rattle.slot_index.specs.declared.key.Key.{Key}
 use Rattle.slot_index.specs.Keys.{key_cmp, key_cmp-total, same_key}
 use Rattle.triple_store.specs.declared.catalog.Catalog.{Catalog}
-use Rattle.triple_store.specs.Holding.{HasTermsOf}
-use Rattle.triple_store.specs.Moves.{Takes}
+use Rattle.triple_store.specs.Interning.{HasTermsOf}
+use Rattle.triple_store.specs.Moves.{TakesIn}
 use Rattle.triple_store.specs.Room.{distinct, room_for, terms_of}
 use Rattle.triple_store.specs.Slots.{HasTriple, term_in, triple_at, used, uses}
 use Rattle.triple_store.specs.Stored.{HasKey, IsStored, counts_in, limit_of}
 use Rattle.triple_store.proofs.Distinct.{as_many, fewer}
 use Rattle.triple_store.proofs.Rooming.{positive_sum, terms_among}
-use Rattle.triple_store.proofs.Standing.{contains-image, has-meant, key_stored, stored_key}
+use Rattle.triple_store.proofs.Standing.{contains-image, has-triples_at, key_stored, stored_key}
 use Rattle.triple_store.proofs.Taking.{one_of, or_left}
 
 module _ {K : Type 0} (R : K → K → Ordering) where
@@ -60,7 +60,7 @@ length-in_slots r [] = refl
 length-in_slots r (None ∷ rest) = omega (arith, length-in_slots r rest, sum_by-cons (λ (o : Option Entry). cond (is_some o) 1 0) None rest)
 length-in_slots r (Some e ∷ rest) = omega (arith, length-in_slots r rest, sum_by-cons (λ (o : Option Entry). cond (is_some o) 1 0) (Some e) rest)
 
-slot_in : (r : Texts) (slots : List (Option Entry)) (i : ℕ) (t : Term) → text_of r (get_or slots i None) ≡ Some (term_text t) → has term_cmp t (in_slots r slots) ≡ true
+slot_in : (r : Texts) (slots : List (Option Entry)) (i : ℕ) (t : Term) → live_text r (get_or slots i None) ≡ Some (term_text t) → has term_cmp t (in_slots r slots) ≡ true
 slot_in r [] i t h = cc
 slot_in r (None ∷ rest) zero t h = cc
 slot_in r (None ∷ rest) (suc i) t h = slot_in r rest i t h
@@ -69,10 +69,10 @@ slot_in r (Some e ∷ rest) zero t h =
 slot_in r (Some e ∷ rest) (suc i) t h = or_true (eq_by_cmp term_cmp t (term_in (bytes_of r e.piece))) _ (slot_in r rest i t h)
 
 -- terms each of which is in a slot are no more than the slots
-no_more : (p : Pool) (r : Texts) (ts : List Term) → ((t : Term) → has term_cmp t ts ≡ true → (slot : ℕ) × (text_at p r slot ≡ Some (term_text t))) → distinct ts ≤ terms p
+no_more : (p : Pool) (r : Texts) (ts : List Term) → ((t : Term) → has term_cmp t ts ≡ true → (slot : ℕ) × (text_in_slot p r slot ≡ Some (term_text t))) → distinct ts ≤ terms p
 no_more p r ts each =
     let mine = in_slots r p.slots.slots in
-    omega (arith, fewer term_cmp-total term_cmp-IsAntisymmetric ts mine (λ t there. let one : (slot : ℕ) × (text_at p r slot ≡ Some (term_text t)) = each t there in slot_in r p.slots.slots one.0 t one.1), length-sorted term_cmp mine, length-in_slots r p.slots.slots)
+    omega (arith, fewer term_cmp-total term_cmp-IsAntisymmetric ts mine (λ t there. let one : (slot : ℕ) × (text_in_slot p r slot ≡ Some (term_text t)) = each t there in slot_in r p.slots.slots one.0 t one.1), length-sorted term_cmp mine, length-in_slots r p.slots.slots)
 
 -- a term of a list of triples is one of a triple
 pub term_of : (ts : List Triple) (x : Term) → has term_cmp x (flat_map terms_of ts) ≡ true → (t : Triple) × (has triple_cmp t ts ≡ true) × (has term_cmp x (terms_of t) ≡ true)
@@ -84,7 +84,7 @@ term_of (t ∷ ts) x h =
     (one_of (has term_cmp x (terms_of t)) (has term_cmp x (flat_map terms_of ts)) (sym (has-append term_cmp x (terms_of t) (flat_map terms_of ts)) ∙ h))
 
 -- the terms of a triple that slots stand for are in slots
-pub in_slot : (p : Pool) (r : Texts) (key : Key) (t : Triple) → HasTriple p r key t → (x : Term) → has term_cmp x (terms_of t) ≡ true → (slot : ℕ) × (text_at p r slot ≡ Some (term_text x))
+pub in_slot : (p : Pool) (r : Texts) (key : Key) (t : Triple) → HasTriple p r key t → (x : Term) → has term_cmp x (terms_of t) ≡ true → (slot : ℕ) × (text_in_slot p r slot ≡ Some (term_text x))
 in_slot p r key t h x there =
     let is : (y : Term) → eq_by_cmp term_cmp x y ≡ true → y ≡ x = λ y e. sym (term_cmp-IsAntisymmetric x y (equal _ e)) in
     ⊎_elim
@@ -96,10 +96,10 @@ in_slot p r key t h x there =
     (one_of (eq_by_cmp term_cmp x t.subject) (eq_by_cmp term_cmp x t.predicate || (eq_by_cmp term_cmp x t.object || false)) there)
 
 -- where all that came is stored, there is room for it beside what was stored
-pub room_within : (st : Catalog) (r : Texts) (now : Catalog) (s : Texts) (had keys : List Key) (triples : List Triple) → IsStored st r → Takes st r now s had keys triples → room_for (counts_in st r) triples ≤ limit_of st
+pub room_within : (st : Catalog) (r : Texts) (now : Catalog) (s : Texts) (had keys : List Key) (triples : List Triple) → IsStored st r → TakesIn st r now s had keys triples → room_for (counts_in st r) triples ≤ limit_of st
 room_within st r now s had keys triples stored h =
     let before = map.keys (counts_in st r) in
-    let each : (t : Term) → has term_cmp t (flat_map terms_of (before ++ triples)) ≡ true → (slot : ℕ) × (text_at now.pool s slot ≡ Some (term_text t)) = λ t there.
+    let each : (t : Term) → has term_cmp t (flat_map terms_of (before ++ triples)) ≡ true → (slot : ℕ) × (text_in_slot now.pool s slot ≡ Some (term_text t)) = λ t there.
     let one : (u : Triple) × (has triple_cmp u (before ++ triples) ≡ true) × (has term_cmp t (terms_of u) ≡ true) = term_of (before ++ triples) t there in
     ⊎_elim
     (λ was. let key : (k : Key) × HasKey st r k one.0 = key_stored st r stored one.0 (map.contains_key-keys (counts_in st r) one.0 ∙ was) in in_slot now.pool s key.0 one.0 (h.kept key.0 one.0 key.1).has t one.2)
@@ -116,13 +116,13 @@ used_key (k ∷ keys) slot h =
     (λ later. let one : (key : Key) × (has key_cmp key keys ≡ true) × (0 < uses slot key) = used_key keys slot later in (one.0, or_true (same_key one.0 k) _ one.1, one.2))
     (positive_sum (uses slot k) (used keys slot) (omega (arith, h, sum_by-cons (uses slot) k keys)))
 
-read_back : (p : Pool) (r : Texts) (a slot : ℕ) (text : List ℕ) (t : Term) → a ≡ slot → text_at p r a ≡ Some (term_text t) → text_at p r slot ≡ Some text → undo text ≡ t
+read_back : (p : Pool) (r : Texts) (a slot : ℕ) (text : List ℕ) (t : Term) → a ≡ slot → text_in_slot p r a ≡ Some (term_text t) → text_in_slot p r slot ≡ Some text → undo text ≡ t
 read_back p r a slot text t e h g =
-    let both : Some text ≡ Some (term_text t) = sym g ∙ ap (text_at p r) (sym e) ∙ h in
+    let both : Some text ≡ Some (term_text t) = sym g ∙ ap (text_in_slot p r) (sym e) ∙ h in
     ap (λ o. term_in o) both ∙ undo-term_text t
 
 -- what a slot has is a term of the triple at whose place it is
-its_term : (p : Pool) (r : Texts) (key : Key) (t : Triple) (slot : ℕ) (text : List ℕ) → HasTriple p r key t → 0 < uses slot key → text_at p r slot ≡ Some text → has term_cmp (undo text) (terms_of t) ≡ true
+its_term : (p : Pool) (r : Texts) (key : Key) (t : Triple) (slot : ℕ) (text : List ℕ) → HasTriple p r key t → 0 < uses slot key → text_in_slot p r slot ≡ Some text → has term_cmp (undo text) (terms_of t) ≡ true
 its_term p r key t slot text h some at =
     ⊎_elim
     (λ a. subst (λ (x : Term). has term_cmp x (terms_of t) ≡ true) (sym (read_back p r key.first slot text t.subject a h.subject at)) (has_itself term_cmp-total t.subject (t.predicate ∷ t.object ∷ [])))
@@ -142,7 +142,7 @@ has_terms st r h = record {
       let keys = map.keys st.index in
       let one : (key : Key) × (has key_cmp key keys ≡ true) × (0 < uses slot key) = used_key keys slot (omega (arith, h.counted slot, used_at st.pool r h.lies slot text at)) in
       let stored : has triple_cmp (m one.0) (map.keys (counts_in st r) ++ []) ≡ true =
-      has-append triple_cmp (m one.0) (map.keys (counts_in st r)) [] ∙ or_left _ false (sym (map.contains_key-keys (counts_in st r) (m one.0)) ∙ contains-image m st.index (m one.0) ∙ has-meant m keys one.0 one.1) in
+      has-append triple_cmp (m one.0) (map.keys (counts_in st r)) [] ∙ or_left _ false (sym (map.contains_key-keys (counts_in st r) (m one.0)) ∙ contains-image m st.index (m one.0) ∙ has-triples_at m keys one.0 one.1) in
       (terms_among (map.keys (counts_in st r) ++ []) (m one.0) stored).each (undo text) (its_term st.pool r one.0 (m one.0) slot text (stored_key st r h one.0 (map.contains_key-keys st.index one.0 ∙ one.1)).has one.2 at);
 }
 
@@ -150,7 +150,7 @@ has_terms st r h = record {
 pub terms_counted : (st : Catalog) (r : Texts) → IsStored st r → terms st.pool ≡ room_for (counts_in st r) []
 terms_counted st r h =
     let all = map.keys (counts_in st r) ++ [] in
-    let each : (t : Term) → has term_cmp t (flat_map terms_of all) ≡ true → (slot : ℕ) × (text_at st.pool r slot ≡ Some (term_text t)) = λ t there.
+    let each : (t : Term) → has term_cmp t (flat_map terms_of all) ≡ true → (slot : ℕ) × (text_in_slot st.pool r slot ≡ Some (term_text t)) = λ t there.
     let one : (u : Triple) × (has triple_cmp u all ≡ true) × (has term_cmp t (terms_of u) ≡ true) = term_of all t there in
     let key : (k : Key) × HasKey st r k one.0 = key_stored st r h one.0 (map.contains_key-keys (counts_in st r) one.0 ∙ sym (or_none (has triple_cmp one.0 (map.keys (counts_in st r)))) ∙ sym (has-append triple_cmp one.0 (map.keys (counts_in st r)) []) ∙ one.1) in
     in_slot st.pool r key.0 one.0 key.1.has t one.2 in

@@ -15,17 +15,17 @@ use Rattle.rdf_term.specs.Undo.{undo}
 use Rattle.rdf_term.proofs.Texts.{undo-term_text}
 use Rattle.text_region.specs.Region.{Texts}
 use Rattle.term_pool.specs.declared.pool.Pool.{Pool}
-use Rattle.term_pool.specs.Pool.{IsCanonical, LiesIn, count_at, one_if, text_at}
+use Rattle.term_pool.specs.Pool.{IsCanonical, LiesIn, count_at, one_if, text_in_slot}
 use Rattle.term_pool.proofs.Lying.{if_other, used_at}
 use Rattle.slot_index.specs.declared.key.Key.{Key}
 use Rattle.slot_index.specs.Keys.{key_cmp, key_cmp-total, key_cmp-IsAntisymmetric, same_key}
-use Rattle.slot_index.specs.Counts.{Counts as KeyCounts}
+use Rattle.slot_index.specs.Counts.{KeyCounts}
 use Rattle.slot_index.specs.Counts as keyed
 use Rattle.slot_index.proofs.Owners as keyed_owners
 use Rattle.triple_texts.specs.declared.triple_text.TripleText.{TripleText}
 use Rattle.triple_store.specs.declared.catalog.Catalog.{Catalog}
 use Rattle.triple_store.specs.Counts.{count_of, lowered, raised}
-use Rattle.triple_store.specs.Holding.{HasTermsOf, Held, KeepsTexts, LetGo}
+use Rattle.triple_store.specs.Interning.{HasTermsOf, InternsTriple, KeepsTexts, ReleasesTriple}
 use Rattle.triple_store.specs.Slots.{HasCanonicalTexts, HasTermsIn, HasTexts, HasTriple, term_in, triple_at, triple_of, uses}
 use Rattle.triple_store.specs.Slots as slots
 use Rattle.triple_store.specs.Stored.{HasKey, IsStored, KeepsKeys, counts_in, image}
@@ -126,10 +126,10 @@ pub now_there : (c : KeyCounts) (k : Key) → map.contains_key (keyed.raised c k
 now_there c k = stored_counted (keyed.raised c k) k (omega (arith, keyed_owners.count_of-raised c k k, ap one_if (ap is_eq (tied_itself key_cmp-total k))))
 
 -- what held the terms lets go of them again
-pub keeps_let_go : (p q u : Pool) (r s v : Texts) (k : Key) → LiesIn p r → KeepsTexts p r q s → LetGo q s u v k → ((x : ℕ) → count_at u x ≡ count_at p x) → KeepsTexts p r u v
-keeps_let_go p q u r s v k lies keeps gone counts = record { kept = λ x t e. gone.texts x (omega (arith, used_at p r lies x t e, counts x)) ∙ keeps.kept x t e }
+pub keeps_released : (p q u : Pool) (r s v : Texts) (k : Key) → LiesIn p r → KeepsTexts p r q s → ReleasesTriple q s u v k → ((x : ℕ) → count_at u x ≡ count_at p x) → KeepsTexts p r u v
+keeps_released p q u r s v k lies keeps gone counts = record { kept = λ x t e. gone.texts x (omega (arith, used_at p r lies x t e, counts x)) ∙ keeps.kept x t e }
 
-pub back : (p q u : Pool) (r s v : Texts) (k : Key) (of : TripleText) → Held p r q s k of → LetGo q s u v k → (x : ℕ) → count_at u x ≡ count_at p x
+pub back : (p q u : Pool) (r s v : Texts) (k : Key) (of : TripleText) → InternsTriple p r q s k of → ReleasesTriple q s u v k → (x : ℕ) → count_at u x ≡ count_at p x
 back p q u r s v k of held gone x = omega (arith, held.counts x, gone.counts x)
 
 -- ---- the places of a slot
@@ -160,8 +160,8 @@ terms_stored st r ts h all = record {
       let t = triple_at st.pool r u.key in
       let stored : map.contains_key (counts_in st r) t ≡ true = ap is_some (get_image st.pool r st.index h.lies live u.key t (live.live u.key there)) ∙ there in
       let three = three t ts (all.each t stored) in
-      let at : (x : ℕ) → x ≡ slot → has term_cmp (term_in (text_at st.pool r x)) ts ≡ true → has term_cmp (undo text) ts ≡ true =
-      λ x same in_it. subst (λ y. has term_cmp y ts ≡ true) (ap (λ y. term_in (text_at st.pool r y)) same ∙ ap term_in e) in_it in
+      let at : (x : ℕ) → x ≡ slot → has term_cmp (term_in (text_in_slot st.pool r x)) ts ≡ true → has term_cmp (undo text) ts ≡ true =
+      λ x same in_it. subst (λ y. has term_cmp y ts ≡ true) (ap (λ y. term_in (text_in_slot st.pool r y)) same ∙ ap term_in e) in_it in
       ⊎_elim (λ a. at u.key.first a three.subject)
       (λ a. ⊎_elim (λ b. at u.key.second b three.predicate)
       (λ b. ⊎_elim (λ d. at u.key.third d three.object)
@@ -191,7 +191,7 @@ module _ (st new : Catalog) (r s : Texts) (h : IsStored st r) where
   owned_after : (k : Key) (n : ℕ) → new.index ≡ keyed.with_count st.index k n → keyed.HaveOwners new.index
   owned_after k n e = subst keyed.HaveOwners (sym e) (keyed_owners.HaveOwners-with_count st.index k n h.owned)
 
-  pub stored_new : (k : Key) (of : TripleText) → new.index ≡ keyed.raised st.index k → keyed.count_of st.index k ≡ 0 → LiesIn new.pool s → Held st.pool r new.pool s k of → IsStored new s
+  pub stored_new : (k : Key) (of : TripleText) → new.index ≡ keyed.raised st.index k → keyed.count_of st.index k ≡ 0 → LiesIn new.pool s → InternsTriple st.pool r new.pool s k of → IsStored new s
   stored_new k of e none lies held = record {
     lies = lies;
     counted = λ slot. omega (arith, held.counts slot, h.counted slot, used_new st.index k slot h.owned none, ap (λ c. slots.used (map.keys c) slot) e);
@@ -206,8 +206,8 @@ module _ (st new : Catalog) (r s : Texts) (h : IsStored st r) where
   }
 
 -- slots that are still used have the triple that they had
-pub triple_let_go : (p q : Pool) (r s : Texts) (k l : Key) (t : Triple) → LetGo p r q s k → HasTriple p r l t → 0 < count_at q l.first → 0 < count_at q l.second → 0 < count_at q l.third → HasTriple q s l t
-triple_let_go p q r s k l t gone h a b c = record {
+pub triple_released : (p q : Pool) (r s : Texts) (k l : Key) (t : Triple) → ReleasesTriple p r q s k → HasTriple p r l t → 0 < count_at q l.first → 0 < count_at q l.second → 0 < count_at q l.third → HasTriple q s l t
+triple_released p q r s k l t gone h a b c = record {
   subject = gone.texts l.first a ∙ h.subject;
   predicate = gone.texts l.second b ∙ h.predicate;
   object = gone.texts l.third c ∙ h.object;
@@ -221,11 +221,11 @@ used_slots q c l counted there = (
 )
 
 -- a triple that was stored keeps its slots where the terms are held and let go of
-pub again : (st : Catalog) (q u : Pool) (r s v : Texts) (k : Key) (of : TripleText) → IsStored st r → HasCanonicalTexts of → 0 < keyed.count_of st.index k → Held st.pool r q s k of → LetGo q s u v k → HasTriple u v k (triple_of of)
+pub again : (st : Catalog) (q u : Pool) (r s v : Texts) (k : Key) (of : TripleText) → IsStored st r → HasCanonicalTexts of → 0 < keyed.count_of st.index k → InternsTriple st.pool r q s k of → ReleasesTriple q s u v k → HasTriple u v k (triple_of of)
 again st q u r s v k of h canonical some held gone =
     let counts = back st.pool q u r s v k of held gone in
     let used = used_slots u st.index k (λ slot. counts slot ∙ h.counted slot) (stored_counted st.index k some) in
-    triple_let_go q u s v k k (triple_of of) gone (has_triple q s k of canonical held.has) used.0 used.1 used.2
+    triple_released q u s v k k (triple_of of) gone (has_triple q s k of canonical held.has) used.0 used.1 used.2
 
 -- ---- one owner less
 
@@ -261,7 +261,7 @@ module _ (st : Catalog) (r : Texts) (k : Key) (h : IsStored st r) (there : map.c
       };
     }
 
-  module _ (new : Catalog) (s : Texts) (e : new.index ≡ keyed.lowered st.index k) (one : keyed.count_of st.index k ≡ 1) (gone_k : LetGo st.pool r new.pool s k) where
+  module _ (new : Catalog) (s : Texts) (e : new.index ≡ keyed.lowered st.index k) (one : keyed.count_of st.index k ≡ 1) (gone_k : ReleasesTriple st.pool r new.pool s k) where
     counted_gone : (slot : ℕ) → count_at new.pool slot ≡ slots.used (map.keys (keyed.lowered st.index k)) slot
     counted_gone slot = omega (arith, gone_k.counts slot, h.counted slot, used_gone st.index k slot one)
 
@@ -275,7 +275,7 @@ module _ (st : Catalog) (r : Texts) (k : Key) (h : IsStored st r) (there : map.c
     left_triple : (l : Key) (t : Triple) → map.contains_key (keyed.lowered st.index k) l ≡ true → HasTriple st.pool r l t → HasTriple new.pool s l t
     left_triple l t in_it has_l =
         let used = used_slots new.pool (keyed.lowered st.index k) l counted_gone in_it in
-        triple_let_go st.pool new.pool r s k l t gone_k has_l used.0 used.1 used.2
+        triple_released st.pool new.pool r s k l t gone_k has_l used.0 used.1 used.2
 
     same_image : counts_in new s ≡ image (triple_at st.pool r) (keyed.lowered st.index k)
     same_image =

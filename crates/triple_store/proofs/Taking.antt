@@ -19,10 +19,10 @@ use Rattle.triple_store.specs.declared.catalog.Catalog.{Catalog}
 use Rattle.triple_store.specs.Counts.{count_of, raised}
 use Rattle.triple_store.specs.Slots.{HasTriple, triple_at}
 use Rattle.triple_store.specs.Stored.{HasKey, IsStored, beside, counts_in, is_key, limit_of}
-use Rattle.triple_store.specs.Moves.{Takes, meant}
+use Rattle.triple_store.specs.Moves.{TakesIn, triples_at}
 use Rattle.triple_store.proofs.Owners.{same_triple, count_of-raised}
 use Rattle.triple_store.proofs.Live.{tells}
-use Rattle.triple_store.proofs.Standing.{has-meant, meant-has, stored_key}
+use Rattle.triple_store.proofs.Standing.{has-triples_at, triples_at-has, stored_key}
 
 -- one more element at the end of a list
 pub has-push : {K : Type 0} (R : K → K → Ordering) (q : K) (xs : List K) (x : K) → has R q (xs ++ x ∷ []) ≡ (has R q xs || eq_by_cmp R q x)
@@ -60,7 +60,7 @@ one_more old now new done gone true more is k e f =
 one_more old now new done gone false more is k e f = omega (arith, e, f, ap (λ b. one_if (b && not gone)) (is ∙ or_none done))
 
 -- no triple is taken yet
-pub none_taken : (st : Catalog) (r : Texts) (had : List Key) → IsStored st r → Takes st r st r had [] []
+pub none_taken : (st : Catalog) (r : Texts) (had : List Key) → IsStored st r → TakesIn st r st r had [] []
 none_taken st r had stored = record {
   stored = stored;
   each = λ key h. absurd (true≢false (sym h));
@@ -71,7 +71,7 @@ none_taken st r had stored = record {
   limit = refl;
 }
 
-module _ (st : Catalog) (r : Texts) (now : Catalog) (s : Texts) (had keys : List Key) (done : List Triple) (stored : IsStored st r) (all : (key : Key) → has key_cmp key had ≡ true → is_key st key ≡ true) (h : Takes st r now s had keys done) where
+module _ (st : Catalog) (r : Texts) (now : Catalog) (s : Texts) (had keys : List Key) (done : List Triple) (stored : IsStored st r) (all : (key : Key) → has key_cmp key had ≡ true → is_key st key ≡ true) (h : TakesIn st r now s had keys done) where
   -- a key of the owner stands for what it stood for
   pub had_key : (key : Key) → has key_cmp key had ≡ true → HasKey now s key (triple_at st.pool r key)
   had_key key there = h.kept key (triple_at st.pool r key) (stored_key st r stored key (all key there))
@@ -79,7 +79,7 @@ module _ (st : Catalog) (r : Texts) (now : Catalog) (s : Texts) (had keys : List
   -- a key that is at hand stands for a triple that is done, or that the owner had
   record IsKnown (key : Key) (t : Triple) : Type 0 where
     pub its : HasKey now s key t
-    pub known : (has triple_cmp t done ≡ true) ⊎ (has triple_cmp t (meant st r had) ≡ true)
+    pub known : (has triple_cmp t done ≡ true) ⊎ (has triple_cmp t (triples_at st r had) ≡ true)
 
   known : (key : Key) (t : Triple) → has key_cmp key (had ++ keys) ≡ true → HasTriple now.pool s key t → IsKnown key t
   known key t there is =
@@ -89,7 +89,7 @@ module _ (st : Catalog) (r : Texts) (now : Catalog) (s : Texts) (had keys : List
       let k = had_key key old in
       record {
         its = record { stored = k.stored; has = is };
-        known = inr (subst (λ (u : Triple). has triple_cmp u (meant st r had) ≡ true) (same (triple_at st.pool r key) k) (has-meant (triple_at st.pool r) had key old));
+        known = inr (subst (λ (u : Triple). has triple_cmp u (triples_at st r had) ≡ true) (same (triple_at st.pool r key) k) (has-triples_at (triple_at st.pool r) had key old));
       })
       (λ new.
       let k : (u : Triple) × HasKey now s key u × (has triple_cmp u done ≡ true) = h.each key new in
@@ -120,15 +120,15 @@ module _ (st : Catalog) (r : Texts) (now : Catalog) (s : Texts) (had keys : List
         (one_of (has triple_cmp v done) (same_triple v t) (sym (has-push triple_cmp v done t) ∙ there))
 
   -- one triple more whose key is at hand
-  pub held_taken : (key : Key) (t : Triple) → has key_cmp key (had ++ keys) ≡ true → HasTriple now.pool s key t → Takes st r now s had (keys ++ key ∷ []) (done ++ t ∷ [])
+  pub held_taken : (key : Key) (t : Triple) → has key_cmp key (had ++ keys) ≡ true → HasTriple now.pool s key t → TakesIn st r now s had (keys ++ key ∷ []) (done ++ t ∷ [])
   held_taken key t there is =
       let k = known key t there is in
       record {
         stored = h.stored;
         each = each_more now s (λ k t is. is) key t k.its;
         all = all_more now s (λ k t is. is) key t k.its;
-        counts = λ v. stays (count_of (counts_in st r) v) (count_of (counts_in now s) v) (has triple_cmp v done) (has triple_cmp v (meant st r had)) (same_triple v t) _ (has-push triple_cmp v done t)
-            (λ same. subst (λ (x : Triple). (has triple_cmp x done ≡ true) ⊎ (has triple_cmp x (meant st r had) ≡ true)) (sym (triple_cmp-IsAntisymmetric v t (equal _ same))) k.known) (h.counts v);
+        counts = λ v. stays (count_of (counts_in st r) v) (count_of (counts_in now s) v) (has triple_cmp v done) (has triple_cmp v (triples_at st r had)) (same_triple v t) _ (has-push triple_cmp v done t)
+            (λ same. subst (λ (x : Triple). (has triple_cmp x done ≡ true) ⊎ (has triple_cmp x (triples_at st r had) ≡ true)) (sym (triple_cmp-IsAntisymmetric v t (equal _ same))) k.known) (h.counts v);
         kept = h.kept;
         beside = h.beside;
         limit = h.limit;
@@ -137,28 +137,28 @@ module _ (st : Catalog) (r : Texts) (now : Catalog) (s : Texts) (had keys : List
   -- a triple none of whose keys is at hand is neither done nor one that the owner had
   record IsNew (t : Triple) : Type 0 where
     pub done_ : has triple_cmp t done ≡ false
-    pub gone : has triple_cmp t (meant st r had) ≡ false
+    pub gone : has triple_cmp t (triples_at st r had) ≡ false
 
   is_new : (t : Triple) → ((key : Key) → HasTriple now.pool s key t → has key_cmp key (had ++ keys) ≡ false) → IsNew t
   is_new t none = record {
     done_ = never (has triple_cmp t done) (λ there.
         let one : (key : Key) × HasKey now s key t × (has key_cmp key keys ≡ true) = h.all t there in
         clash (has-append key_cmp one.0 had keys ∙ or_true _ _ one.2) (none one.0 one.1.has));
-    gone = never (has triple_cmp t (meant st r had)) (λ there.
-        let one : (key : Key) × (has key_cmp key had ≡ true) × (triple_at st.pool r key ≡ t) = meant-has (triple_at st.pool r) had t there in
+    gone = never (has triple_cmp t (triples_at st r had)) (λ there.
+        let one : (key : Key) × (has key_cmp key had ≡ true) × (triple_at st.pool r key ≡ t) = triples_at-has (triple_at st.pool r) had t there in
         clash (has-append key_cmp one.0 had keys ∙ or_left _ _ one.1) (none one.0 (subst (HasTriple now.pool s one.0) one.2 (had_key one.0 one.1).has)));
   }
 
   -- one triple more that is counted once more
-  pub new_taken : (new : Catalog) (u : Texts) (key : Key) (t : Triple) → ((key : Key) → HasTriple now.pool s key t → has key_cmp key (had ++ keys) ≡ false) → IsStored new u → counts_in new u ≡ raised (counts_in now s) t → HasKey new u key t → ((k : Key) (t : Triple) → HasKey now s k t → HasKey new u k t) → ((piece : Piece) → beside new u piece ≡ beside now s piece) → limit_of new ≡ limit_of now → Takes st r new u had (keys ++ key ∷ []) (done ++ t ∷ [])
+  pub new_taken : (new : Catalog) (u : Texts) (key : Key) (t : Triple) → ((key : Key) → HasTriple now.pool s key t → has key_cmp key (had ++ keys) ≡ false) → IsStored new u → counts_in new u ≡ raised (counts_in now s) t → HasKey new u key t → ((k : Key) (t : Triple) → HasKey now s k t → HasKey new u k t) → ((piece : Piece) → beside new u piece ≡ beside now s piece) → limit_of new ≡ limit_of now → TakesIn st r new u had (keys ++ key ∷ []) (done ++ t ∷ [])
   new_taken new u key t none after more one later others limit =
       let n = is_new t none in
       record {
         stored = after;
         each = each_more new u later key t one;
         all = all_more new u later key t one;
-        counts = λ v. one_more (count_of (counts_in st r) v) (count_of (counts_in now s) v) (count_of (counts_in new u) v) (has triple_cmp v done) (has triple_cmp v (meant st r had)) (same_triple v t) _ (has-push triple_cmp v done t)
-            (λ same. subst (λ (x : Triple). (has triple_cmp x done ≡ false) × (has triple_cmp x (meant st r had) ≡ false)) (sym (triple_cmp-IsAntisymmetric v t (equal _ same))) (n.done_, n.gone))
+        counts = λ v. one_more (count_of (counts_in st r) v) (count_of (counts_in now s) v) (count_of (counts_in new u) v) (has triple_cmp v done) (has triple_cmp v (triples_at st r had)) (same_triple v t) _ (has-push triple_cmp v done t)
+            (λ same. subst (λ (x : Triple). (has triple_cmp x done ≡ false) × (has triple_cmp x (triples_at st r had) ≡ false)) (sym (triple_cmp-IsAntisymmetric v t (equal _ same))) (n.done_, n.gone))
             (h.counts v) (ap (λ c. count_of c v) more ∙ count_of-raised (counts_in now s) t v);
         kept = λ k v was. later k v (h.kept k v was);
         beside = λ piece. others piece ∙ h.beside piece;
@@ -166,7 +166,7 @@ module _ (st : Catalog) (r : Texts) (now : Catalog) (s : Texts) (had keys : List
       }
 
   -- after a fault all is as it was
-  pub none_more : (new : Catalog) (u : Texts) → IsStored new u → counts_in new u ≡ counts_in now s → ((k : Key) (t : Triple) → HasKey now s k t → HasKey new u k t) → ((piece : Piece) → beside new u piece ≡ beside now s piece) → limit_of new ≡ limit_of now → Takes st r new u had keys done
+  pub none_more : (new : Catalog) (u : Texts) → IsStored new u → counts_in new u ≡ counts_in now s → ((k : Key) (t : Triple) → HasKey now s k t → HasKey new u k t) → ((piece : Piece) → beside new u piece ≡ beside now s piece) → limit_of new ≡ limit_of now → TakesIn st r new u had keys done
   none_more new u after same later others limit = record {
     stored = after;
     each = λ key there. let was : (t : Triple) × HasKey now s key t × (has triple_cmp t done ≡ true) = h.each key there in (was.0, later key was.0 was.1, was.2);
@@ -179,8 +179,8 @@ module _ (st : Catalog) (r : Texts) (now : Catalog) (s : Texts) (had keys : List
 
   -- it has as many owners as before
   pub as_many : (t : Triple) → ((key : Key) → HasTriple now.pool s key t → has key_cmp key (had ++ keys) ≡ false) → count_of (counts_in now s) t ≡ count_of (counts_in st r) t
-  as_many t none = let n = is_new t none in omega (arith, h.counts t, ap (λ b. one_if (b && not (has triple_cmp t (meant st r had)))) n.done_)
+  as_many t none = let n = is_new t none in omega (arith, h.counts t, ap (λ b. one_if (b && not (has triple_cmp t (triples_at st r had)))) n.done_)
 
 -- where as many keys came as there are triples, all are done
-pub whole_taken : (st : Catalog) (r : Texts) (now : Catalog) (s : Texts) (had keys : List Key) (triples : List Triple) (n : ℕ) → n ≡ length triples → Takes st r now s had keys (take n triples) → Takes st r now s had keys triples
-whole_taken st r now s had keys triples n e h = subst (Takes st r now s had keys) (ap (λ k. take k triples) e ∙ take-length triples) h
+pub whole_taken : (st : Catalog) (r : Texts) (now : Catalog) (s : Texts) (had keys : List Key) (triples : List Triple) (n : ℕ) → n ≡ length triples → TakesIn st r now s had keys (take n triples) → TakesIn st r now s had keys triples
+whole_taken st r now s had keys triples n e h = subst (TakesIn st r now s had keys) (ap (λ k. take k triples) e ∙ take-length triples) h

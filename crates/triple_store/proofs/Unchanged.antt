@@ -20,14 +20,14 @@ use Rattle.text_region.specs.Peak.{IsNew}
 use Rattle.text_region.specs.Region.{Texts, blocks_of, bytes_of}
 use Rattle.term_pool.specs.declared.slots.Entry.{Entry}
 use Rattle.term_pool.specs.declared.pool.Pool.{Pool}
-use Rattle.term_pool.specs.Pool.{LiesIn, count_at, foreign, has_piece, terms}
+use Rattle.term_pool.specs.Pool.{LiesIn, count_at, beside as pool_beside, has_piece, terms}
 use Rattle.term_pool.proofs.Beside.{MovesBeside}
 use Rattle.term_pool.proofs.Lying.{used_at}
 use Rattle.slot_index.specs.declared.key.Key.{Key}
 use Rattle.slot_index.specs.Keys.{key_cmp, key_cmp-total, key_cmp-IsAntisymmetric}
-use Rattle.slot_index.specs.Counts.{Counts as KeyCounts}
+use Rattle.slot_index.specs.Counts.{KeyCounts}
 use Rattle.triple_store.specs.declared.catalog.Catalog.{Catalog}
-use Rattle.triple_store.specs.Holding.{KeepsTexts}
+use Rattle.triple_store.specs.Interning.{KeepsTexts}
 use Rattle.triple_store.specs.Slots.{HasTriple, triple_at}
 use Rattle.triple_store.specs.Slots as slots
 use Rattle.triple_store.specs.Stored.{Changes, HasKey, IsStored, beside, counts_in, image}
@@ -62,8 +62,8 @@ no_piece piece [] e = refl
 no_piece piece (None ∷ rest) e = no_piece piece rest (omega (arith, e, sum_by-cons (λ (o : Option Entry). cond (is_some o) 1 0) None rest))
 no_piece piece (Some entry ∷ rest) e = absurd (omega (arith, e, sum_by-cons (λ (o : Option Entry). cond (is_some o) 1 0) (Some entry) rest))
 
-pub all_beside : (p : Pool) (r : Texts) (piece : Piece) → terms p ≡ 0 → foreign p r piece ≡ bytes_of r piece
-unfolding foreign
+pub all_beside : (p : Pool) (r : Texts) (piece : Piece) → terms p ≡ 0 → pool_beside p r piece ≡ bytes_of r piece
+unfolding pool_beside
 all_beside p r piece e = ap (λ b. cond b None (bytes_of r piece)) (no_piece piece p.slots.slots e)
 
 no_blocks : (blocks : Blocks) (number : ℕ) → length blocks ≡ 0 → block_at blocks number ≡ None
@@ -92,8 +92,8 @@ pub limited_counts : (st : Catalog) (r : Texts) (limit : ℕ) → counts_in (rec
 unfolding image triple_at
 limited_counts st r limit = refl
 
-pub limited_beside : (p : Pool) (r : Texts) (limit : ℕ) (piece : Piece) → foreign (record p { limit = limit }) r piece ≡ foreign p r piece
-unfolding foreign
+pub limited_beside : (p : Pool) (r : Texts) (limit : ℕ) (piece : Piece) → pool_beside (record p { limit = limit }) r piece ≡ pool_beside p r piece
+unfolding pool_beside
 limited_beside p r limit piece = refl
 
 -- ---- texts beside the store's

@@ -15,23 +15,23 @@ use Rattle.triple_store.specs.Slots.{triple_at}
 use Rattle.triple_store.specs.Stored.{HasKey, IsStored, KeepsKeys, beside, counts_in, limit_of}
 
 -- the triples that the keys stand for
-abbrev pub meant : Catalog → Texts → List Key → List Triple
-meant store texts keys = mapped (triple_at store.pool texts) keys
+abbrev pub triples_at : Catalog → Texts → List Key → List Triple
+triples_at store texts keys = mapped (triple_at store.pool texts) keys
 
 -- the triples of the keys have one owner less
 pub record Removes (old : Catalog) (before : Texts) (new : Catalog) (after : Texts) (keys : List Key) : Type 0 where
   pub stored : IsStored new after
-  pub counts : (triple : Triple) → count_of (counts_in new after) triple + one_if (has triple_cmp triple (meant old before keys)) ≡ count_of (counts_in old before) triple
+  pub counts : (triple : Triple) → count_of (counts_in new after) triple + one_if (has triple_cmp triple (triples_at old before keys)) ≡ count_of (counts_in old before) triple
   pub keeps : KeepsKeys old before new after
   pub beside : (piece : Piece) → beside new after piece ≡ beside old before piece
   pub limit : limit_of new ≡ limit_of old
 
 -- the keys are those of the triples, which have one owner more but for those that the owner had
-pub record Takes (old : Catalog) (before : Texts) (new : Catalog) (after : Texts) (had keys : List Key) (triples : List Triple) : Type 0 where
+pub record TakesIn (old : Catalog) (before : Texts) (new : Catalog) (after : Texts) (had keys : List Key) (triples : List Triple) : Type 0 where
   pub stored : IsStored new after
   pub each : (key : Key) → has key_cmp key keys ≡ true → (triple : Triple) × HasKey new after key triple × (has triple_cmp triple triples ≡ true)
   pub all : (triple : Triple) → has triple_cmp triple triples ≡ true → (key : Key) × HasKey new after key triple × (has key_cmp key keys ≡ true)
-  pub counts : (triple : Triple) → count_of (counts_in new after) triple ≡ count_of (counts_in old before) triple + one_if (has triple_cmp triple triples && not (has triple_cmp triple (meant old before had)))
+  pub counts : (triple : Triple) → count_of (counts_in new after) triple ≡ count_of (counts_in old before) triple + one_if (has triple_cmp triple triples && not (has triple_cmp triple (triples_at old before had)))
   pub kept : (key : Key) (triple : Triple) → HasKey old before key triple → HasKey new after key triple
   pub beside : (piece : Piece) → beside new after piece ≡ beside old before piece
   pub limit : limit_of new ≡ limit_of old

@@ -10,7 +10,7 @@ use Rattle.rdf_term.specs.Text.{term_text}
 use Rattle.rdf_term.specs.Undo.{undo}
 use Rattle.text_region.specs.Region.{Texts}
 use Rattle.term_pool.specs.declared.pool.Pool.{Pool}
-use Rattle.term_pool.specs.Pool.{IsCanonical, one_if, text_at}
+use Rattle.term_pool.specs.Pool.{IsCanonical, one_if, text_in_slot}
 use Rattle.slot_index.specs.declared.key.Key.{Key}
 use Rattle.triple_texts.specs.declared.triple_text.TripleText.{TripleText}
 use Rattle.triple_store.specs.Counts.{Counts}
@@ -24,16 +24,16 @@ term_in (Some text) = undo text
 -- the triple of the terms in three slots
 unfoldable pub triple_at : Pool → Texts → Key → Triple
 triple_at pool texts key = record {
-  subject = term_in (text_at pool texts key.first);
-  predicate = term_in (text_at pool texts key.second);
-  object = term_in (text_at pool texts key.third);
+  subject = term_in (text_in_slot pool texts key.first);
+  predicate = term_in (text_in_slot pool texts key.second);
+  object = term_in (text_in_slot pool texts key.third);
 }
 
 -- the three slots have the texts of the triple's terms
 pub record HasTriple (pool : Pool) (texts : Texts) (key : Key) (triple : Triple) : Type 0 where
-  pub subject : text_at pool texts key.first ≡ Some (term_text triple.subject)
-  pub predicate : text_at pool texts key.second ≡ Some (term_text triple.predicate)
-  pub object : text_at pool texts key.third ≡ Some (term_text triple.object)
+  pub subject : text_in_slot pool texts key.first ≡ Some (term_text triple.subject)
+  pub predicate : text_in_slot pool texts key.second ≡ Some (term_text triple.predicate)
+  pub object : text_in_slot pool texts key.third ≡ Some (term_text triple.object)
 
 -- at how many places a slot stands in a triple, and in triples
 abbrev pub uses : ℕ → Key → ℕ
@@ -54,9 +54,9 @@ pub record HasCanonicalTexts (of : TripleText) : Type 0 where
 
 -- the three slots have these texts
 pub record HasTexts (pool : Pool) (texts : Texts) (key : Key) (of : TripleText) : Type 0 where
-  pub subject : text_at pool texts key.first ≡ Some of.subject.now
-  pub predicate : text_at pool texts key.second ≡ Some of.predicate.now
-  pub object : text_at pool texts key.third ≡ Some of.object.now
+  pub subject : text_in_slot pool texts key.first ≡ Some of.subject.now
+  pub predicate : text_in_slot pool texts key.second ≡ Some of.predicate.now
+  pub object : text_in_slot pool texts key.third ≡ Some of.object.now
 
 -- each term of the first list is in the second
 pub record IsAllOf (some all : List Term) : Type 0 where

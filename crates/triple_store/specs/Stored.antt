@@ -7,10 +7,10 @@ use Rattle.rdf_term.specs.declared.triple.Triple.{Triple}
 use Rattle.rdf_term.specs.Order.{triple_cmp}
 use Rattle.text_region.specs.declared.piece.Piece.{Piece}
 use Rattle.text_region.specs.Region.{Texts}
-use Rattle.term_pool.specs.Pool.{LiesIn, count_at, foreign}
+use Rattle.term_pool.specs.Pool.{LiesIn, count_at, beside as pool_beside}
 use Rattle.slot_index.specs.declared.key.Key.{Key}
 use Rattle.slot_index.specs.Keys.{key_cmp}
-use Rattle.slot_index.specs.Counts.{Counts as KeyCounts, HaveOwners}
+use Rattle.slot_index.specs.Counts.{KeyCounts, HaveOwners}
 use Rattle.triple_store.specs.declared.catalog.Catalog.{Catalog}
 use Rattle.triple_store.specs.Counts.{Counts, count_of}
 use Rattle.triple_store.specs.Slots.{HasTriple, triple_at, used}
@@ -31,7 +31,7 @@ pub record IsStored (store : Catalog) (texts : Texts) : Type 0 where
 
 -- the text of a piece of the region beside the store's: none where the piece is the store's, and where it isn't live
 abbrev pub beside : Catalog → Texts → Piece → Option (List ℕ)
-beside store texts = foreign store.pool texts
+beside store texts = pool_beside store.pool texts
 
 -- how many terms there may be
 abbrev pub limit_of : Catalog → ℕ

@@ -5,7 +5,7 @@ ghost use Rattle.std.specs.FinMap as map;
 ghost use Rattle.rdf_term.specs.declared.term.Term.{Term};
 ghost use Rattle.rdf_term.specs.declared.triple.Triple.{Triple};
 ghost use Rattle.text_region.specs.declared.piece.Piece.{Piece as ThePiece};
-ghost use Rattle.term_pool.specs.Pool.{IsNowhere, LiesIn, text_at};
+ghost use Rattle.term_pool.specs.Pool.{IsNowhere, LiesIn, text_in_slot};
 ghost use Rattle.slot_index.specs.declared.key.Key.{Key as TheKey};
 ghost use Rattle.triple_store.specs.Costs.{Costs};
 ghost use Rattle.triple_store.specs.Counts.{count_of, lowered, raised};
@@ -15,7 +15,7 @@ ghost use Rattle.triple_store.specs.Stored.{HasKey, IsStored, KeepsKeys, beside,
 
 use crate::StoreFault;
 use crate::catalog::Catalog;
-use crate::holding::{hold, let_go};
+use crate::interning::{intern_triple, release_triple};
 use block_index::Steps;
 use slot_index::Key;
 use std::sync::ledger::Ledger;
@@ -83,18 +83,18 @@ impl Catalog {
         ensures limit { limit_of self.new ≡ limit_of self.old }
         ensures cost { Costs (map.len self.old.index) (map.len self.new.index) 1 0 steps.old steps.new }
     {
-        let key = match hold(&mut self.pool, region, texts) {
+        let key = match intern_triple(&mut self.pool, region, texts) {
             Ok(key) => key,
             Err(fault) => return Err(fault),
         };
         match self.index.raise(key, steps) {
             Ok(true) => Ok(key),
             Ok(false) => {
-                let_go(&mut self.pool, region, key);
+                release_triple(&mut self.pool, region, key);
                 Ok(key)
             }
             Err(_) => {
-                let_go(&mut self.pool, region, key);
+                release_triple(&mut self.pool, region, key);
                 Err(StoreFault::OutOfMemory)
             }
         }
@@ -112,7 +112,7 @@ impl Catalog {
         ensures cost { Costs (map.len self.old.index) (map.len self.new.index) 0 1 steps.old steps.new }
     {
         if self.index.lower(key, steps) {
-            let_go(&mut self.pool, region, key);
+            release_triple(&mut self.pool, region, key);
         }
     }
 }
@@ -120,7 +120,7 @@ impl Catalog {
 // The slot with this text; one is tried first.
 fn find_near(pool: &Pool, region: &Region, text: &[u8], near: Option<u32>) -> Option<u32>
     requires { LiesIn pool.now region.now }
-    ensures found { IfSome result (λ slot. text_at pool.now region.now slot ≡ Some text.now) }
+    ensures found { IfSome result (λ slot. text_in_slot pool.now region.now slot ≡ Some text.now) }
     ensures nowhere { IfNone result (IsNowhere pool.now region.now text.now) }
 {
     if let Some(number) = near {

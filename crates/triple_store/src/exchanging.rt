@@ -12,7 +12,7 @@ ghost use Rattle.slot_index.specs.declared.key.Key.{Key as TheKey};
 ghost use Rattle.slot_index.specs.Keys.{key_cmp};
 ghost use Rattle.triple_store.specs.Costs.{Costs};
 ghost use Rattle.triple_store.specs.Counts.{Exchanges, count_of};
-ghost use Rattle.triple_store.specs.Moves.{Takes};
+ghost use Rattle.triple_store.specs.Moves.{TakesIn};
 ghost use Rattle.triple_store.specs.Room.{room_for};
 ghost use Rattle.triple_store.specs.Slots.{HasTexts};
 ghost use Rattle.triple_store.specs.Stored.{AreKeysOf, IsStored, KeepsKeys, beside, counts_in, is_key, limit_of};
@@ -31,13 +31,13 @@ use std::sync::ledger::Ledger;
 use text_region::Region;
 use triple_texts::{TripleText, TripleTexts};
 
-// How many places of the walk are tried for the next triple: a triple or two may be gone.
+// How many indices of the walk are tried for the next triple: a triple or two may be gone.
 const TRIED: usize = 3;
 
-// How far ahead in the walk a place is looked for, which was found by a search.
+// How far ahead in the walk an index is looked for, which was found by a search.
 const AHEAD: usize = 64;
 
-// Where a triple is looked for first: among the keys that the owner had, from a place of their walk on, and in the slots of the key before it.
+// Where a triple is looked for first: among the keys that the owner had, from an index of their walk on, and in the slots of the key before it.
 #[derive(Clone, Copy)]
 struct Near<'a> {
     last: Option<Key>,
@@ -45,11 +45,11 @@ struct Near<'a> {
     next: usize,
 }
 
-// A key that is at hand, its place among the old ones where it was found there, and where the walk goes on.
+// A key that is at hand, its index among the old ones where it was found there, and where the walk goes on.
 #[derive(Clone, Copy)]
 struct Found {
     key: Key,
-    place: u32,
+    old_index: u32,
     next: usize,
 }
 
@@ -60,11 +60,11 @@ struct Swap<'a> {
     new: &'a TripleTexts,
 }
 
-// The keys of the triples that came, one by one, and the place of each among the keys that the owner had.
+// The keys of the triples that came, one by one, and the index of each among the keys that the owner had.
 #[derive(Drop)]
 struct Met {
     keys: Vec<Key>,
-    places: Vec<u32>,
+    old_indices: Vec<u32>,
 }
 
 impl Catalog {
@@ -131,8 +131,8 @@ impl Catalog {
             return Err(StoreFault::OutOfMemory);
         };
         let taken = self.take_in(region, Swap { old, new }, &mut met, steps);
-        let Met { keys, places } = met;
-        let keys = in_order(self.alloc, old.rising, keys, places.as_slice());
+        let Met { keys, old_indices } = met;
+        let keys = in_order(self.alloc, old.rising, keys, old_indices.as_slice());
         if let Err(fault) = taken {
             self.remove_beside(region, keys.slices().rising, old.rising, steps);
             return Err(fault);
@@ -165,9 +165,9 @@ impl Catalog {
         requires countable { (triple : Triple) → has triple_cmp triple swap.new.now ≡ true → count_of (counts_in self.old region.old) triple < 18446744073709551615 }
         requires none { met.old.keys.items ≡ [] }
         requires room { length swap.new.now ≤ vec_capacity met.old.keys }
-        requires none_placed { vec_len met.old.places ≡ 0 }
-        requires room_placed { length swap.new.now ≤ vec_capacity met.old.places }
-        ensures takes { Takes self.old region.old self.new region.new swap.entry.old.rising.now met.new.keys.items (take (vec_len met.new.keys) swap.entry.new.now) }
+        requires no_old_indices { vec_len met.old.old_indices ≡ 0 }
+        requires room_for_indices { length swap.new.now ≤ vec_capacity met.old.old_indices }
+        ensures takes { TakesIn self.old region.old self.new region.new swap.entry.old.rising.now met.new.keys.items (take (vec_len met.new.keys) swap.entry.new.now) }
         ensures whole { OnOk result (vec_len met.new.keys ≡ length swap.entry.new.now) }
         ensures full { result ≡ Err StoreFault.Full → limit_of self.old < room_for (counts_in self.old region.old) swap.entry.new.now }
         ensures free { swap.entry.new.now ≡ [] → IsOk result }
@@ -185,7 +185,7 @@ impl Catalog {
             };
             if let Some(found) = self.find_held(region, &texts, near, &added) {
                 met.keys.push_reserved(found.key);
-                met.places.push_reserved(found.place);
+                met.old_indices.push_reserved(found.old_index);
                 next = found.next;
                 continue;
             }
@@ -194,7 +194,7 @@ impl Catalog {
                 Err(fault) => return Err(fault),
             };
             met.keys.push_reserved(key);
-            met.places.push_reserved(NOWHERE);
+            met.old_indices.push_reserved(NOWHERE);
             if added.insert(key).is_err() {
                 return Err(StoreFault::OutOfMemory);
             }
@@ -221,14 +221,22 @@ impl Catalog {
         }
         let key = self.find_key(region, texts, near.last)?;
         let next = near.next;
-        if let Ok(place) = near.old.rising.binary_search(&key) {
-            let place = narrowed(place);
-            let next = behind(near.old.walk, next, place);
-            return Some(Found { key, place, next });
+        if let Ok(old_index) = near.old.rising.binary_search(&key) {
+            let old_index = narrowed(old_index);
+            let next = behind(near.old.walk, next, old_index);
+            return Some(Found {
+                key,
+                old_index,
+                next,
+            });
         }
         if added.contains(&key) {
-            let place = NOWHERE;
-            Some(Found { key, place, next })
+            let old_index = NOWHERE;
+            Some(Found {
+                key,
+                old_index,
+                next,
+            })
         } else {
             None
         }
@@ -243,14 +251,14 @@ impl Catalog {
     {
         for past in 0..TRIED {
             let at = near.next.saturating_add(past);
-            let place = *near.old.walk.get(at)?;
-            let Some(key) = near.old.rising.get(place as usize) else {
+            let old_index = *near.old.walk.get(at)?;
+            let Some(key) = near.old.rising.get(old_index as usize) else {
                 continue;
             };
             if self.has_texts(region, *key, texts) {
                 return Some(Found {
                     key: *key,
-                    place,
+                    old_index,
                     next: at.saturating_add(1),
                 });
             }
@@ -263,21 +271,21 @@ impl Catalog {
 fn no_keys_met(alloc: Global, room: usize) -> Result<Met, OutOfMemory>
     ensures none { IfOk result (λ met. met.keys.items ≡ []) }
     ensures room { IfOk result (λ met. room ≤ vec_capacity met.keys) }
-    ensures none_placed { IfOk result (λ met. vec_len met.places ≡ 0) }
-    ensures room_placed { IfOk result (λ met. room ≤ vec_capacity met.places) }
+    ensures no_old_indices { IfOk result (λ met. vec_len met.old_indices ≡ 0) }
+    ensures room_for_indices { IfOk result (λ met. room ≤ vec_capacity met.old_indices) }
     ensures free { room ≡ 0 → IsOk result }
 {
     Ok(Met {
         keys: Vec::with_capacity(alloc, room)?,
-        places: Vec::with_capacity(alloc, room)?,
+        old_indices: Vec::with_capacity(alloc, room)?,
     })
 }
 
-// Where the walk goes on behind a place that it comes to soon. A hint alone: where it doesn't, it goes on where it stood.
-fn behind(walk: &[u32], next: usize, place: u32) -> usize {
+// Where the walk goes on behind an index that it comes to soon. A hint alone: where it doesn't, it goes on where it stood.
+fn behind(walk: &[u32], next: usize, old_index: u32) -> usize {
     for past in 0..AHEAD {
         let at = next.saturating_add(past);
-        if walk.get(at) == Some(&place) {
+        if walk.get(at) == Some(&old_index) {
             return at.saturating_add(1);
         }
     }

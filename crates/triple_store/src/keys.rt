@@ -54,28 +54,28 @@ impl<'a> KeySlices<'a> {
     }
 }
 
-// The old keys that were met, by marks at their places, and the keys that were met besides.
+// The old keys that were met, by marks at their indices, and the keys that were met besides.
 #[derive(Drop)]
 struct Parted {
     kept: Vec<bool>,
     rest: Vec<Key>,
 }
 
-// The keys that were met one by one, in order, each once. For each the place among the old keys is told where it was
+// The keys that were met one by one, in order, each once. For each the index among the old keys is told where it was
 // found there. It always succeeds: where memory is refused, the keys are sorted in their place and have no walk.
-pub(crate) fn in_order(alloc: Global, old: &[Key], met: Vec<Key>, places: &[u32]) -> Keys
+pub(crate) fn in_order(alloc: Global, old: &[Key], met: Vec<Key>, old_indices: &[u32]) -> Keys
     requires { IsRising key_cmp old.now }
     ensures { result.rising.items ≡ sorted key_cmp met.items }
 {
     let mut met = met;
-    let Ok(rising) = merged(alloc, old, met.as_slice(), places) else {
+    let Ok(rising) = merged(alloc, old, met.as_slice(), old_indices) else {
         sort_keys(&mut met);
         return Keys {
             rising: met,
             walk: Vec::new(alloc),
         };
     };
-    let walk = match walk_of(alloc, old, met.as_slice(), places, rising.as_slice()) {
+    let walk = match walk_of(alloc, old, met.as_slice(), old_indices, rising.as_slice()) {
         Ok(walk) => walk,
         Err(_) => Vec::new(alloc),
     };
@@ -83,11 +83,16 @@ pub(crate) fn in_order(alloc: Global, old: &[Key], met: Vec<Key>, places: &[u32]
 }
 
 // The keys in order, each once: the old ones that were met stand in order, so only what came besides is sorted in.
-fn merged(alloc: Global, old: &[Key], met: &[Key], places: &[u32]) -> Result<Vec<Key>, OutOfMemory>
+fn merged(
+    alloc: Global,
+    old: &[Key],
+    met: &[Key],
+    old_indices: &[u32],
+) -> Result<Vec<Key>, OutOfMemory>
     requires { IsRising key_cmp old.now }
     ensures { IfOk result (λ keys. keys.items ≡ sorted key_cmp met.now) }
 {
-    let parted = split(alloc, old, met, places)?;
+    let parted = split(alloc, old, met, old_indices)?;
     let mut keys = kept_keys(alloc, old, parted.kept.as_slice(), met.len())?;
     let rest = parted.rest.as_slice();
     if rest.is_empty() {
@@ -99,8 +104,13 @@ fn merged(alloc: Global, old: &[Key], met: &[Key], places: &[u32]) -> Result<Vec
     Ok(keys)
 }
 
-// The old keys that were met where the places told them, by marks, and all other keys that were met, in the order in which they were.
-fn split(alloc: Global, old: &[Key], met: &[Key], places: &[u32]) -> Result<Parted, OutOfMemory>
+// The old keys that were met where the indices told them, by marks, and all other keys that were met, in the order in which they were.
+fn split(
+    alloc: Global,
+    old: &[Key],
+    met: &[Key],
+    old_indices: &[u32],
+) -> Result<Parted, OutOfMemory>
     ensures len { IfOk result (λ parted. length parted.kept.items ≡ length old.now) }
     ensures same { IfOk result (λ parted. (key : TheKey) → has key_cmp key (marked old.now parted.kept.items ++ parted.rest.items) ≡ has key_cmp key met.now) }
 {
@@ -108,21 +118,21 @@ fn split(alloc: Global, old: &[Key], met: &[Key], places: &[u32]) -> Result<Part
     kept.resize(old.len(), false)?;
     let mut rest = Vec::new(alloc);
     for (index, key) in met.iter().enumerate() {
-        match place_of(old, *key, places.get(index)) {
-            Some(place) => kept[place] = true,
+        match old_index_of(old, *key, old_indices.get(index)) {
+            Some(old_index) => kept[old_index] = true,
             None => rest.push(*key)?,
         }
     }
     Ok(Parted { kept, rest })
 }
 
-// The place of the key, where the hint tells it.
-fn place_of(old: &[Key], key: Key, hint: Option<&u32>) -> Option<usize>
-    ensures { IfSome result (λ place. slice_get old.now place ≡ Some key) }
+// The index of the key among the old ones, where the hint tells it.
+fn old_index_of(old: &[Key], key: Key, hint: Option<&u32>) -> Option<usize>
+    ensures { IfSome result (λ old_index. slice_get old.now old_index ≡ Some key) }
 {
-    let place = *hint? as usize;
-    if place < old.len() && old[place] == key {
-        Some(place)
+    let old_index = *hint? as usize;
+    if old_index < old.len() && old[old_index] == key {
+        Some(old_index)
     } else {
         None
     }
@@ -139,70 +149,70 @@ fn kept_keys(
     ensures { IfOk result (λ keys. keys.items ≡ marked old.now kept.now) }
 {
     let mut keys = Vec::with_capacity(alloc, room)?;
-    for (place, key) in old.iter().enumerate() {
-        if kept[place] {
+    for (index, key) in old.iter().enumerate() {
+        if kept[index] {
             keys.push(*key)?;
         }
     }
     Ok(keys)
 }
 
-// The places of the keys in the order in which they were met.
+// The indices of the keys in the order in which they were met.
 fn walk_of(
     alloc: Global,
     old: &[Key],
     met: &[Key],
-    places: &[u32],
+    old_indices: &[u32],
     rising: &[Key],
 ) -> Result<Vec<u32>, OutOfMemory>
     requires { IsRising key_cmp rising.now }
 {
-    let moved = moved_places(alloc, old, rising)?;
+    let moved = moved_indices(alloc, old, rising)?;
     let mut walk = Vec::with_capacity(alloc, met.len())?;
     for (index, key) in met.iter().enumerate() {
-        let place = match new_place(moved.as_slice(), places.get(index)) {
-            Some(place) => place,
-            None => place_in(rising, *key),
+        let new_index = match new_index_of(moved.as_slice(), old_indices.get(index)) {
+            Some(new_index) => new_index,
+            None => index_in(rising, *key),
         };
-        walk.push(place)?;
+        walk.push(new_index)?;
     }
     Ok(walk)
 }
 
 // Where each of the old keys stands among others, or would stand.
-fn moved_places(alloc: Global, old: &[Key], rising: &[Key]) -> Result<Vec<u32>, OutOfMemory>
+fn moved_indices(alloc: Global, old: &[Key], rising: &[Key]) -> Result<Vec<u32>, OutOfMemory>
     requires { IsRising key_cmp rising.now }
 {
     let mut moved = Vec::with_capacity(alloc, old.len())?;
     let mut next = 0;
     for key in old {
-        let place = match find_from(rising, *key, next) {
-            Ok(place) => place,
-            Err(place) => place,
+        let index = match find_from(rising, *key, next) {
+            Ok(index) => index,
+            Err(index) => index,
         };
-        moved.push(narrowed(place))?;
-        next = place.saturating_add(1);
+        moved.push(narrowed(index))?;
+        next = index.saturating_add(1);
     }
     Ok(moved)
 }
 
-// The new place of a key, where it had an old one.
-fn new_place(moved: &[u32], old: Option<&u32>) -> Option<u32> {
-    let place = moved.get(*old? as usize)?;
-    Some(*place)
+// The new index of a key, where it had an old one.
+fn new_index_of(moved: &[u32], old: Option<&u32>) -> Option<u32> {
+    let index = moved.get(*old? as usize)?;
+    Some(*index)
 }
 
-// The place of a key by a search.
-fn place_in(rising: &[Key], key: Key) -> u32 {
+// The index of a key by a search.
+fn index_in(rising: &[Key], key: Key) -> u32 {
     match rising.binary_search(&key) {
-        Ok(place) => narrowed(place),
+        Ok(index) => narrowed(index),
         Err(_) => NOWHERE,
     }
 }
 
-// The place as a hint has it.
-pub(crate) fn narrowed(place: usize) -> u32 {
-    u32::try_from(place).unwrap_or(NOWHERE)
+// The index as a hint has it.
+pub(crate) fn narrowed(index: usize) -> u32 {
+    u32::try_from(index).unwrap_or(NOWHERE)
 }
 
 // Puts keys in order, each once. It takes no memory.

@@ -2,9 +2,9 @@
 
 ghost use Rattle.std.specs.Prelude.{◌≡◌, ◌<◌, ℕ, true, IfNone, IfSome};
 ghost use Rattle.std.specs.FinMap as map;
-ghost use Rattle.block_index.specs.Steps.{Within};
+ghost use Rattle.block_index.specs.Steps.{WithinSteps};
 ghost use Rattle.rdf_term.specs.Pattern.{agrees, agrees_at};
-ghost use Rattle.term_pool.specs.Pool.{LiesIn, count_at, text_at};
+ghost use Rattle.term_pool.specs.Pool.{LiesIn, count_at, text_in_slot};
 ghost use Rattle.slot_index.specs.declared.key.Key.{Key as TheKey};
 ghost use Rattle.triple_store.specs.Counts.{count_of};
 ghost use Rattle.triple_store.specs.Matching.{key_agrees, slot_agrees};
@@ -29,7 +29,7 @@ impl Catalog {
     ) -> u64
         requires { IsStored self.now region.now }
         ensures count { result ≡ count_of (counts_in self.now region.now) triple.now }
-        ensures cost { Within (map.len (counts_in self.now region.now)) 8 steps.old steps.new }
+        ensures cost { WithinSteps (map.len (counts_in self.now region.now)) 8 steps.old steps.new }
     {
         match self.key_of(region, triple) {
             Some(key) => self.index.count(key, steps),
@@ -72,7 +72,7 @@ impl Catalog {
 // The slot that is wanted at a place, or none where each agrees; `None` where the wanted term is in no slot.
 fn slot_of(pool: &Pool, region: &Region, wanted: &Option<Term>) -> Option<Option<u32>>
     requires { LiesIn pool.now region.now }
-    ensures { (slot : ℕ) → 0 < count_at pool.now slot → agrees_at wanted.now (term_in (text_at pool.now region.now slot)) ≡ slot_agrees result slot }
+    ensures { (slot : ℕ) → 0 < count_at pool.now slot → agrees_at wanted.now (term_in (text_in_slot pool.now region.now slot)) ≡ slot_agrees result slot }
 {
     let Some(term) = wanted else {
         return Some(None);

@@ -3,7 +3,7 @@
 
 ghost use Rattle.std.specs.Prelude.{◌≡◌, ◌+◌, ◌<◌, ◌≤◌, length, IfOk};
 ghost use Rattle.std.specs.FinMap as map;
-ghost use Rattle.block_index.specs.Steps.{Within};
+ghost use Rattle.block_index.specs.Steps.{WithinSteps};
 ghost use Rattle.rdf_term.specs.Pattern.{rows};
 ghost use Rattle.triple_store.specs.Counts.{count_of};
 ghost use Rattle.triple_store.specs.StoreState.{counts_in};
@@ -31,7 +31,7 @@ impl Store {
     pub fn all(&self) -> Result<TripleSet, OutOfMemory>
         ensures rows { IfOk result (λ set. set ≡ map.keys (counts_in self.now)) }
     {
-        self.rows()?.triples(self.catalog.alloc)
+        self.rows()?.to_set(self.catalog.alloc)
     }
 
     /// The stored triples that agree with the pattern. A wanted term costs one look-up; then it is one range of one index, and
@@ -50,7 +50,7 @@ impl Store {
         steps: &mut Steps<L>,
     ) -> Result<Rows<'_>, OutOfMemory>
         ensures rows { IfOk result (λ found. found ≡ rows (map.keys (counts_in self.now)) pattern.now) }
-        ensures cost { IfOk result (λ found. Within (map.len (counts_in self.now)) (9 + length found) steps.old steps.new) }
+        ensures cost { IfOk result (λ found. WithinSteps (map.len (counts_in self.now)) (9 + length found) steps.old steps.new) }
         ensures forward { steps.old ≤ steps.new }
     {
         self.catalog.matching(&self.region, pattern, steps)
@@ -60,7 +60,7 @@ impl Store {
     pub fn matches(&self, pattern: &Pattern) -> Result<TripleSet, OutOfMemory>
         ensures rows { IfOk result (λ set. set ≡ rows (map.keys (counts_in self.now)) pattern.now) }
     {
-        self.matching(pattern)?.triples(self.catalog.alloc)
+        self.matching(pattern)?.to_set(self.catalog.alloc)
     }
 
     /// The same, counting the steps in the index, which are those of `matching_counting`.
@@ -70,11 +70,11 @@ impl Store {
         steps: &mut Steps<L>,
     ) -> Result<TripleSet, OutOfMemory>
         ensures rows { IfOk result (λ set. set ≡ rows (map.keys (counts_in self.now)) pattern.now) }
-        ensures cost { IfOk result (λ set. Within (map.len (counts_in self.now)) (9 + length set) steps.old steps.new) }
+        ensures cost { IfOk result (λ set. WithinSteps (map.len (counts_in self.now)) (9 + length set) steps.old steps.new) }
         ensures forward { steps.old ≤ steps.new }
     {
         self.matching_counting(pattern, steps)?
-            .triples(self.catalog.alloc)
+            .to_set(self.catalog.alloc)
     }
 
     /// How many entities own the triple, which takes no memory: three look-ups and one search in one index.
@@ -87,7 +87,7 @@ impl Store {
     /// The same, counting the steps in the index: at most eight more than the number of stored triples has binary digits.
     pub fn owners_counting<L: Ledger>(&self, triple: &Triple, steps: &mut Steps<L>) -> u64
         ensures count { result ≡ count_of (counts_in self.now) triple.now }
-        ensures cost { Within (map.len (counts_in self.now)) 8 steps.old steps.new }
+        ensures cost { WithinSteps (map.len (counts_in self.now)) 8 steps.old steps.new }
     {
         self.catalog.count(&self.region, triple, steps)
     }

@@ -90,10 +90,10 @@ impl Catalog {
         let mut next = 0;
         for key in keys {
             match find_from(others, *key, next) {
-                Ok(place) => next = place + 1,
-                Err(place) => {
+                Ok(index) => next = index + 1,
+                Err(index) => {
                     self.remove(region, *key, steps);
-                    next = place;
+                    next = index;
                 }
             }
         }

@@ -6,14 +6,14 @@ ghost use Rattle.std.specs.List.{All};
 ghost use Rattle.std.specs.List.Sorted.{IsPermutation, IsSorted};
 ghost use Rattle.std.specs.Ordering.{ordering_then};
 ghost use Rattle.rising.specs.Rising.{IsRising, has, sorted};
-ghost use Rattle.block_index.specs.Steps.{Within};
+ghost use Rattle.block_index.specs.Steps.{WithinSteps};
 ghost use Rattle.rdf_term.specs.Append.{Appends};
 ghost use Rattle.rdf_term.specs.Order.{bytes_cmp, triple_cmp};
 ghost use Rattle.rdf_term.specs.Pattern.{rows};
 ghost use Rattle.rdf_term.specs.Text.{triple_text};
 ghost use Rattle.slot_index.specs.declared.key.Key.{Key as TheKey};
 ghost use Rattle.slot_index.specs.Keys.{key_cmp};
-ghost use Rattle.triple_store.specs.Moves.{meant};
+ghost use Rattle.triple_store.specs.Moves.{triples_at};
 ghost use Rattle.triple_store.specs.Rows.{line_of, text_cmp};
 ghost use Rattle.triple_store.specs.Slots.{HasCanonicalTexts, HasTexts, triple_at, triple_of};
 ghost use Rattle.triple_store.specs.Stored.{IsStored, counts_in, is_key};
@@ -61,12 +61,12 @@ impl<'a> Rows<'a> {
     }
 
     /// Appends the line of the triple at a place from 0, its LF included. After `OutOfMemory` the buffer has what it had.
-    pub fn write(&self, place: usize, out: &mut Vec<u8>) -> Result<(), OutOfMemory>
-        requires { place < length self.now }
-        ensures ok { OnOk result (IfSome (slice_get self.now place) (λ triple. out.new.items ≡ out.old.items ++ triple_text triple)) }
+    pub fn write(&self, index: usize, out: &mut Vec<u8>) -> Result<(), OutOfMemory>
+        requires { index < length self.now }
+        ensures ok { OnOk result (IfSome (slice_get self.now index) (λ triple. out.new.items ≡ out.old.items ++ triple_text triple)) }
         ensures err { OnErr result (out.new.items ≡ out.old.items) }
     {
-        write_row(&self.rows[place], out)
+        write_row(&self.rows[index], out)
     }
 
     /// The lines of the triples, in their order.
@@ -75,14 +75,14 @@ impl<'a> Rows<'a> {
     {
         let mut text = Vec::new(alloc);
         let count = self.len();
-        for place in 0..count {
-            self.write(place, &mut text)?;
+        for index in 0..count {
+            self.write(index, &mut text)?;
         }
         Ok(TripleLines { count, text })
     }
 
     /// The triples in memory of their own.
-    pub fn triples(&self, alloc: Global) -> Result<TripleSet, OutOfMemory>
+    pub fn to_set(&self, alloc: Global) -> Result<TripleSet, OutOfMemory>
         ensures { IfOk result (λ set. set ≡ self.now) }
     {
         let triples = read_rows(alloc, self.rows.as_slice())?;
@@ -101,7 +101,7 @@ impl Catalog {
     ) -> Result<Rows<'a>, OutOfMemory>
         requires { IsStored self.now region.now }
         ensures rows { IfOk result (λ found. found ≡ rows (map.keys (counts_in self.now region.now)) pattern.now) }
-        ensures cost { IfOk result (λ found. Within (map.len (counts_in self.now region.now)) (9 + length found) steps.old steps.new) }
+        ensures cost { IfOk result (λ found. WithinSteps (map.len (counts_in self.now region.now)) (9 + length found) steps.old steps.new) }
         ensures forward { steps.old ≤ steps.new }
     {
         let Some(wanted) = self.slots_of(region, pattern) else {
@@ -124,7 +124,7 @@ impl Catalog {
         requires stored { IsStored self.now region.now }
         requires rising { IsRising key_cmp keys.now }
         requires there { (key : TheKey) → has key_cmp key keys.now ≡ true → is_key self.now key ≡ true }
-        ensures { IfOk result (λ rows. rows ≡ sorted triple_cmp (meant self.now region.now keys.now)) }
+        ensures { IfOk result (λ rows. rows ≡ sorted triple_cmp (triples_at self.now region.now keys.now)) }
     {
         let mut rows = self.texts_of(region, keys)?;
         sort_rows(&mut rows);

@@ -7,7 +7,7 @@ ghost use Rattle.rdf_term.specs.Order.{triple_cmp};
 ghost use Rattle.slot_index.specs.declared.key.Key.{Key as TheKey};
 ghost use Rattle.slot_index.specs.Keys.{key_cmp};
 ghost use Rattle.triple_store.specs.Costs.{Costs};
-ghost use Rattle.triple_store.specs.Moves.{meant};
+ghost use Rattle.triple_store.specs.Moves.{triples_at};
 ghost use Rattle.triple_store.specs.Stored.{IsStored, is_key};
 ghost use Rattle.triple_store.specs.Telling.{AreLinesOf, LinesIf, if_told, sole};
 
@@ -65,7 +65,7 @@ impl Catalog {
         requires rising_new { IsRising key_cmp new.now }
         requires there { (key : TheKey) → has key_cmp key old.now ≡ true → is_key self.now key ≡ true }
         requires there_new { (key : TheKey) → has key_cmp key new.now ≡ true → is_key self.now key ≡ true }
-        ensures lines { IfOk result (λ change. LinesIf telling (sorted triple_cmp (meant self.now region.now (sole self.now new.now old.now))) (sorted triple_cmp (meant self.now region.now (sole self.now old.now new.now))) change) }
+        ensures lines { IfOk result (λ change. LinesIf telling (sorted triple_cmp (triples_at self.now region.now (sole self.now new.now old.now))) (sorted triple_cmp (triples_at self.now region.now (sole self.now old.now new.now))) change) }
         ensures free { telling ≡ Telling.Nothing → IsOk result }
         ensures cost { Costs (map.len self.now.index) (map.len self.now.index) 0 (if_told telling (length new.now + length old.now)) steps.old steps.new }
     {
@@ -92,8 +92,8 @@ impl Catalog {
         requires rising_new { IsRising key_cmp new.now }
         requires there { (key : TheKey) → has key_cmp key old.now ≡ true → is_key self.now key ≡ true }
         requires there_new { (key : TheKey) → has key_cmp key new.now ≡ true → is_key self.now key ≡ true }
-        ensures came { IfOk result (λ change. AreLinesOf change.came (sorted triple_cmp (meant self.now region.now (sole self.now new.now old.now)))) }
-        ensures gone { IfOk result (λ change. AreLinesOf change.gone (sorted triple_cmp (meant self.now region.now (sole self.now old.now new.now)))) }
+        ensures came { IfOk result (λ change. AreLinesOf change.came (sorted triple_cmp (triples_at self.now region.now (sole self.now new.now old.now)))) }
+        ensures gone { IfOk result (λ change. AreLinesOf change.gone (sorted triple_cmp (triples_at self.now region.now (sole self.now old.now new.now)))) }
         ensures cost { Costs (map.len self.now.index) (map.len self.now.index) 0 (length new.now + length old.now) steps.old steps.new }
     {
         let came = self.sole_lines(region, new, old, steps)?;
@@ -113,7 +113,7 @@ impl Catalog {
         requires rising { IsRising key_cmp keys.now }
         requires others { IsRising key_cmp others.now }
         requires there { (key : TheKey) → has key_cmp key keys.now ≡ true → is_key self.now key ≡ true }
-        ensures lines { IfOk result (λ lines. AreLinesOf lines (sorted triple_cmp (meant self.now region.now (sole self.now keys.now others.now)))) }
+        ensures lines { IfOk result (λ lines. AreLinesOf lines (sorted triple_cmp (triples_at self.now region.now (sole self.now keys.now others.now)))) }
         ensures cost { Costs (map.len self.now.index) (map.len self.now.index) 0 (length keys.now) steps.old steps.new }
     {
         let found = self.sole_keys(keys, others, steps)?;
@@ -136,9 +136,9 @@ impl Catalog {
         let mut next = 0;
         for key in keys {
             match find_from(others, *key, next) {
-                Ok(place) => next = place + 1,
-                Err(place) => {
-                    next = place;
+                Ok(index) => next = index + 1,
+                Err(index) => {
+                    next = index;
                     if self.index.count(*key, steps) == 1 {
                         found.push(*key)?;
                     }

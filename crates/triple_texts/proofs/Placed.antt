@@ -9,8 +9,8 @@ use Rattle.rdf_term.specs.Text.{term_text}
 use Rattle.rdf_term.specs.Undo.{undo}
 use Rattle.rdf_term.proofs.Texts.{undo-term_text}
 use Rattle.triple_texts.specs.declared.span.Span.{Span}
-use Rattle.triple_texts.specs.declared.place.Place.{Place}
-use Rattle.triple_texts.specs.Places.{IsPlaceOf, IsSpanOf, LiesIn, span_end, text_in, triple_in}
+use Rattle.triple_texts.specs.declared.triple_spans.TripleSpans.{TripleSpans}
+use Rattle.triple_texts.specs.Spans.{AreSpansOf, IsSpanOf, LieIn, span_end, text_in, triple_in}
 
 -- a buffer that begins with another is that one with more
 longer : (before after : List ℕ) → take (length before) after ≡ before → after ≡ before ++ drop (length before) after
@@ -26,32 +26,32 @@ module _ (bytes more : List ℕ) where
   within_more : (span : Span) → span_end span ≤ length bytes → span_end span ≤ length (bytes ++ more)
   within_more span h = omega (arith, h, length-append bytes more)
 
-  triple_kept : (place : Place) → LiesIn bytes place → triple_in (bytes ++ more) place ≡ triple_in bytes place
-  triple_kept place lies =
-      let subject = text_kept place.subject lies.subject_within in
-      let predicate = text_kept place.predicate lies.predicate_within in
-      let object = text_kept place.object lies.object_within in
+  triple_kept : (spans : TripleSpans) → LieIn bytes spans → triple_in (bytes ++ more) spans ≡ triple_in bytes spans
+  triple_kept spans lies =
+      let subject = text_kept spans.subject lies.subject_within in
+      let predicate = text_kept spans.predicate lies.predicate_within in
+      let object = text_kept spans.object lies.object_within in
       λ i. record { subject = undo (subject i); predicate = undo (predicate i); object = undo (object i) }
 
-  lies_kept : (place : Place) → LiesIn bytes place → LiesIn (bytes ++ more) place
-  lies_kept place lies = record {
-    subject_within = within_more place.subject lies.subject_within;
-    predicate_within = within_more place.predicate lies.predicate_within;
-    object_within = within_more place.object lies.object_within;
-    subject = rw (text_kept place.subject lies.subject_within) lies.subject;
-    predicate = rw (text_kept place.predicate lies.predicate_within) lies.predicate;
-    object = rw (text_kept place.object lies.object_within) lies.object;
+  lies_kept : (spans : TripleSpans) → LieIn bytes spans → LieIn (bytes ++ more) spans
+  lies_kept spans lies = record {
+    subject_within = within_more spans.subject lies.subject_within;
+    predicate_within = within_more spans.predicate lies.predicate_within;
+    object_within = within_more spans.object lies.object_within;
+    subject = rw (text_kept spans.subject lies.subject_within) lies.subject;
+    predicate = rw (text_kept spans.predicate lies.predicate_within) lies.predicate;
+    object = rw (text_kept spans.object lies.object_within) lies.object;
   }
 
-  triples_more : (places : List Place) (place : Place) → AllByRecursion (LiesIn bytes) places → map (triple_in (bytes ++ more)) (places ++ place ∷ []) ≡ map (triple_in bytes) places ++ triple_in (bytes ++ more) place ∷ []
-  triples_more [] place all = refl
-  triples_more (x ∷ places) place all =
-      ap (λ t. t ∷ map (triple_in (bytes ++ more)) (places ++ place ∷ [])) (triple_kept x all.0)
-      ∙ ap (λ l. triple_in bytes x ∷ l) (triples_more places place all.1)
+  triples_more : (all_spans : List TripleSpans) (spans : TripleSpans) → AllByRecursion (LieIn bytes) all_spans → map (triple_in (bytes ++ more)) (all_spans ++ spans ∷ []) ≡ map (triple_in bytes) all_spans ++ triple_in (bytes ++ more) spans ∷ []
+  triples_more [] spans all = refl
+  triples_more (x ∷ all_spans) spans all =
+      ap (λ t. t ∷ map (triple_in (bytes ++ more)) (all_spans ++ spans ∷ [])) (triple_kept x all.0)
+      ∙ ap (λ l. triple_in bytes x ∷ l) (triples_more all_spans spans all.1)
 
-  lie_more : (places : List Place) (place : Place) → AllByRecursion (LiesIn bytes) places → LiesIn (bytes ++ more) place → AllByRecursion (LiesIn (bytes ++ more)) (places ++ place ∷ [])
-  lie_more [] place all lies = (lies, tt)
-  lie_more (x ∷ places) place all lies = (lies_kept x all.0, lie_more places place all.1 lies)
+  lie_more : (all_spans : List TripleSpans) (spans : TripleSpans) → AllByRecursion (LieIn bytes) all_spans → LieIn (bytes ++ more) spans → AllByRecursion (LieIn (bytes ++ more)) (all_spans ++ spans ∷ [])
+  lie_more [] spans all lies = (lies, tt)
+  lie_more (x ∷ all_spans) spans all lies = (lies_kept x all.0, lie_more all_spans spans all.1 lies)
 
 -- so is the span of a term's text, in a buffer that begins with this one
 pub span_kept : (before after : List ℕ) (term : Term) (span : Span) → take (length before) after ≡ before → IsSpanOf before term span → IsSpanOf after term span
@@ -82,38 +82,38 @@ appended_there before after term span is start len = rw is (record {
 canonical : (text : List ℕ) (term : Term) → text ≡ term_text term → term_text (undo text) ≡ text
 canonical text term e = ap (λ t. term_text (undo t)) e ∙ ap term_text (undo-term_text term) ∙ sym e
 
-module _ (bytes : List ℕ) (triple : Triple) (place : Place) (its : IsPlaceOf bytes triple place) where
-  triple_there : triple_in bytes place ≡ triple
+module _ (bytes : List ℕ) (triple : Triple) (spans : TripleSpans) (its : AreSpansOf bytes triple spans) where
+  triple_there : triple_in bytes spans ≡ triple
   triple_there =
       let subject = ap undo its.subject.is ∙ undo-term_text triple.subject in
       let predicate = ap undo its.predicate.is ∙ undo-term_text triple.predicate in
       let object = ap undo its.object.is ∙ undo-term_text triple.object in
       λ i. record { subject = subject i; predicate = predicate i; object = object i }
 
-  lies_there : LiesIn bytes place
+  lies_there : LieIn bytes spans
   lies_there = record {
     subject_within = its.subject.within;
     predicate_within = its.predicate.within;
     object_within = its.object.within;
-    subject = canonical (text_in bytes place.subject) triple.subject its.subject.is;
-    predicate = canonical (text_in bytes place.predicate) triple.predicate its.predicate.is;
-    object = canonical (text_in bytes place.object) triple.object its.object.is;
+    subject = canonical (text_in bytes spans.subject) triple.subject its.subject.is;
+    predicate = canonical (text_in bytes spans.predicate) triple.predicate its.predicate.is;
+    object = canonical (text_in bytes spans.object) triple.object its.object.is;
   }
 
 -- the triples with one more, in a buffer that begins with the one before
-module _ (before after : List ℕ) (triple : Triple) (place : Place) (kept : take (length before) after ≡ before) (its : IsPlaceOf after triple place) (places more : List Place) (pushed : more ≡ places ++ place ∷ []) (all : AllByRecursion (LiesIn before) places) where
-  pub one_more : map (triple_in after) more ≡ map (triple_in before) places ++ triple ∷ []
+module _ (before after : List ℕ) (triple : Triple) (spans : TripleSpans) (kept : take (length before) after ≡ before) (its : AreSpansOf after triple spans) (all_spans more : List TripleSpans) (pushed : more ≡ all_spans ++ spans ∷ []) (all : AllByRecursion (LieIn before) all_spans) where
+  pub one_more : map (triple_in after) more ≡ map (triple_in before) all_spans ++ triple ∷ []
   one_more =
       let rest = drop (length before) after in
       ap (map (triple_in after)) pushed
-      ∙ ap (λ bytes. map (triple_in bytes) (places ++ place ∷ [])) (longer before after kept)
-      ∙ triples_more before rest places place all
-      ∙ ap (λ bytes. map (triple_in before) places ++ triple_in bytes place ∷ []) (sym (longer before after kept))
-      ∙ ap (λ t. map (triple_in before) places ++ t ∷ []) (triple_there after triple place its)
+      ∙ ap (λ bytes. map (triple_in bytes) (all_spans ++ spans ∷ [])) (longer before after kept)
+      ∙ triples_more before rest all_spans spans all
+      ∙ ap (λ bytes. map (triple_in before) all_spans ++ triple_in bytes spans ∷ []) (sym (longer before after kept))
+      ∙ ap (λ t. map (triple_in before) all_spans ++ t ∷ []) (triple_there after triple spans its)
 
-  pub all_lie : AllByRecursion (LiesIn after) more
+  pub all_lie : AllByRecursion (LieIn after) more
   all_lie =
       let rest = drop (length before) after in
       let is = longer before after kept in
-      let there = subst (λ (bytes : List ℕ). LiesIn bytes place) is (lies_there after triple place its) in
-      rw pushed (subst (λ (bytes : List ℕ). AllByRecursion (LiesIn bytes) (places ++ place ∷ [])) (sym is) (lie_more before rest places place all there))
+      let there = subst (λ (bytes : List ℕ). LieIn bytes spans) is (lies_there after triple spans its) in
+      rw pushed (subst (λ (bytes : List ℕ). AllByRecursion (LieIn bytes) (all_spans ++ spans ∷ [])) (sym is) (lie_more before rest all_spans spans all there))

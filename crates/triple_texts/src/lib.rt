@@ -1,13 +1,13 @@
 //! Triples by the canonical texts of their terms, one after the other in one buffer.
 //!
-//! `triple_text` has the texts of a triple, `span` and `place` where they lie in a buffer, and `triple_texts` the triples: a sink
+//! `triple_text` has the texts of a triple, `span` and `triple_spans` where they lie in a buffer, and `triple_texts` the triples: a sink
 //! that takes them, and gives the texts of each. So a page is mapped without a text of its own for each term. `long_text` has what
 //! keeps a long subject of many triples from being written for each.
 #![tactic(auto)]
 
 mod long_text;
-mod place;
 mod span;
+mod triple_spans;
 mod triple_text;
 mod triple_texts;
 

@@ -66,14 +66,14 @@ fn is_iri(term: &TermRef<'_>, iri: &[u8]) -> bool
 fn is_joined(front: &str, back: &str, text: &[u8]) -> bool
     ensures { IsTrue result → text.now ≡ front.now ++ back.now }
 {
-    match after(front.as_bytes(), text) {
+    match strip_prefix(front.as_bytes(), text) {
         Some(rest) => rest == back.as_bytes(),
         None => false,
     }
 }
 
 // What follows the front in the text.
-fn after<'a>(front: &[u8], text: &'a [u8]) -> Option<&'a [u8]>
+fn strip_prefix<'a>(front: &[u8], text: &'a [u8]) -> Option<&'a [u8]>
     ensures { MatchOption result ((rest : List ℕ) → text.now ≢ front.now ++ rest) (λ rest. text.now ≡ front.now ++ rest.now) }
 {
     text.strip_prefix(front)

@@ -1,7 +1,7 @@
 // Where a text lies in a buffer.
 
 ghost use Rattle.std.specs.Prelude.{◌≡◌, ◌≤◌, length};
-ghost use Rattle.triple_texts.specs.Places.{span_end, text_in};
+ghost use Rattle.triple_texts.specs.Spans.{span_end, text_in};
 
 // Where a text begins in a buffer, and its length, in bytes.
 #[derive(Clone, Copy, Debug)]

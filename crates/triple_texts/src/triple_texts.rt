@@ -3,12 +3,12 @@
 ghost use Rattle.std.specs.Prelude.{◌≡◌, ◌<◌, ◌++◌, [], length, take, slice_get, IfSome, IfOk, OnOk, IsTrue};
 ghost use Rattle.rdf_term.specs.Text.{term_text};
 ghost use Rattle.triple_sink.specs.TermRef.{meant, meant_triple};
-ghost use Rattle.triple_texts.specs.Places.{IsPlaceOf, IsSpanOf};
+ghost use Rattle.triple_texts.specs.Spans.{AreSpansOf, IsSpanOf};
 ghost use Rattle.triple_texts.specs.Texts.{IsTextOf};
 
 use crate::long_text::{is_text, long_size, remember};
-use crate::place::Place;
 use crate::span::Span;
+use crate::triple_spans::TripleSpans;
 use crate::triple_text::TripleText;
 use rdf_term::OutOfMemory;
 use std::alloc::Global;
@@ -22,7 +22,7 @@ const TRIPLE_BYTES: usize = 128;
 #[derive(Debug, Drop)]
 pub struct TripleTexts {
     bytes: Vec<u8>,
-    places: Vec<Place>,
+    all_spans: Vec<TripleSpans>,
     // Where the last long subject of each size lies, once there was one.
     long: Vec<Span>,
 }
@@ -31,13 +31,13 @@ impl Model for TripleTexts {
     ghost use Rattle.std.specs.Prelude.{List, map};
     ghost use Rattle.std.specs.List.{AllByRecursion};
     ghost use Rattle.rdf_term.specs.declared.triple.Triple.{Triple};
-    ghost use Rattle.triple_texts.specs.Places.{LiesIn, triple_in};
+    ghost use Rattle.triple_texts.specs.Spans.{LieIn, triple_in};
 
     ghost Value = { List Triple };
 
-    ghost view = { λ texts. map (triple_in texts.bytes.items) texts.places.items };
+    ghost view = { λ texts. map (triple_in texts.bytes.items) texts.all_spans.items };
 
-    ghost invariant = { λ texts. AllByRecursion (LiesIn texts.bytes.items) texts.places.items };
+    ghost invariant = { λ texts. AllByRecursion (LieIn texts.bytes.items) texts.all_spans.items };
 }
 
 impl TripleTexts {
@@ -47,7 +47,7 @@ impl TripleTexts {
     {
         TripleTexts {
             bytes: Vec::new(alloc),
-            places: Vec::new(alloc),
+            all_spans: Vec::new(alloc),
             long: Vec::new(alloc),
         }
     }
@@ -57,7 +57,7 @@ impl TripleTexts {
         ensures { IfOk result (λ texts. texts ≡ []) }
     {
         Ok(TripleTexts {
-            places: Vec::with_capacity(alloc, bytes / TRIPLE_BYTES)?,
+            all_spans: Vec::with_capacity(alloc, bytes / TRIPLE_BYTES)?,
             bytes: Vec::with_capacity(alloc, bytes)?,
             long: Vec::new(alloc),
         })
@@ -67,7 +67,7 @@ impl TripleTexts {
     pub fn len(&self) -> usize
         ensures { result ≡ length self.now }
     {
-        self.places.len()
+        self.all_spans.len()
     }
 
     /// The texts of the triple at a place from 0.
@@ -75,7 +75,7 @@ impl TripleTexts {
         requires { index < length self.now }
         ensures { IfSome (slice_get self.now index) (IsTextOf result) }
     {
-        self.places[index].texts(&self.bytes)
+        self.all_spans[index].texts(&self.bytes)
     }
 }
 
@@ -96,18 +96,18 @@ impl TripleSink for TripleTexts {
         predicate: &TermRef<'_>,
         object: &TermRef<'_>,
     ) -> Result<(), OutOfMemory> {
-        self.places.reserve(1)?;
+        self.all_spans.reserve(1)?;
         let size = long_size(subject);
         let near = near(&self.long, size);
         match append_triple(subject, predicate, object, near, &mut self.bytes) {
-            Ok(place) => {
-                remember(&mut self.long, size, place.subject);
-                self.places.push_reserved(place);
+            Ok(spans) => {
+                remember(&mut self.long, size, spans.subject);
+                self.all_spans.push_reserved(spans);
                 Ok(())
             }
             Err(OutOfMemory) => {
                 // The buffer isn't what it was.
-                self.places.clear();
+                self.all_spans.clear();
                 Err(OutOfMemory)
             }
         }
@@ -126,14 +126,14 @@ fn append_triple(
     object: &TermRef<'_>,
     near: Option<Span>,
     bytes: &mut Vec<u8>,
-) -> Result<Place, OutOfMemory>
+) -> Result<TripleSpans, OutOfMemory>
     ensures kept { OnOk result (take (length bytes.old.items) bytes.new.items ≡ bytes.old.items) }
-    ensures place { IfOk result (IsPlaceOf bytes.new.items (meant_triple subject.now predicate.now object.now)) }
+    ensures spans { IfOk result (AreSpansOf bytes.new.items (meant_triple subject.now predicate.now object.now)) }
 {
     let subject = put(subject, near, bytes)?;
     let predicate = append(predicate, bytes)?;
     let object = append(object, bytes)?;
-    Ok(Place {
+    Ok(TripleSpans {
         subject,
         predicate,
         object,

@@ -10,7 +10,7 @@ ghost use Rattle.value_nodes.specs.Nodes.{bound_triples, globe_triples, value_pa
 
 use crate::simple::{emit_amount, emit_iri, emit_time};
 use entity_model::{GlobeParts, QuantityParts, TimeParts, Value};
-use rdf_term::{OutOfMemory, Piece};
+use rdf_term::{CowText, OutOfMemory};
 use rdf_vocabulary::{Datatype, Predicate, Prefix, Resource};
 use std::alloc::Global;
 use triple_sink::{TermRef, TripleSink, emit_about, emit_class};
@@ -85,7 +85,7 @@ fn emit_bound<S: TripleSink>(
     alloc: Global,
     node: &TermRef<'_>,
     predicate: Predicate,
-    bound: Option<&Piece<'_>>,
+    bound: Option<&CowText<'_>>,
     out: &mut S,
 ) -> Result<(), OutOfMemory>
     ensures gains { OnOk result (Gains S.items S.keeps out.old out.new
@@ -143,7 +143,7 @@ fn emit_globe_parts<S: TripleSink>(
 fn emit_precision<S: TripleSink>(
     alloc: Global,
     node: &TermRef<'_>,
-    precision: Option<&Piece<'_>>,
+    precision: Option<&CowText<'_>>,
     out: &mut S,
 ) -> Result<(), OutOfMemory>
     ensures gains { OnOk result (Gains S.items S.keeps out.old out.new

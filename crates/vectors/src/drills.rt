@@ -2,9 +2,10 @@
 
 ghost use Rattle.drill.specs.Drill.{IsSize};
 
+use delivery::Delivery;
 use drill::{DrillRevisions, deliveries};
 use entity_json::document;
-use entity_model::{Delivery, Document, EntityId, IdKind, Kind};
+use entity_model::{Document, EntityId, IdKind, Kind};
 use revisions::{NoRevision, Revisions};
 use std::process::Abort;
 use std::test::Fail;

@@ -1,7 +1,7 @@
 // The test suite of RFC 1321, what md5sum says of the texts that name a number's node in both versions of the mapping, and fields
 // that are told apart.
 
-use rdf_term::Piece;
+use rdf_term::CowText;
 use rdf_vocabulary::{hashed_name, push_field, push_optional_field};
 use std::test::Fail;
 
@@ -31,7 +31,7 @@ fn fields_are_told_apart(rt: HostRuntime) -> Result<(), Fail> {
     let mut fields = String::new(rt.alloc());
     push_field("äb", &mut fields)?;
     push_optional_field(None, &mut fields)?;
-    let empty = Piece::borrowed("");
+    let empty = CowText::borrowed("");
     push_optional_field(Some(&empty), &mut fields)?;
     assert_eq!(rt; fields.as_str(), "3:äb-0:");
     Ok(())

@@ -1,7 +1,7 @@
 // What no page shows: statements of an item's id, and more statements than a page can have. The crate `cases` tries the rest.
 
 use entity_model::{Content, EntityId, Rank, Snak, Statement};
-use rdf_term::{List, Piece};
+use rdf_term::{CowText, List};
 use statement_rdf::best;
 use std::alloc::Global;
 use std::test::Fail;
@@ -12,11 +12,11 @@ fn ranked(alloc: Global, property: &str, rank: Rank) -> Result<Statement<'static
     let main = Snak {
         property,
         place: 0,
-        datatype: Piece::borrowed("string"),
+        datatype: CowText::borrowed("string"),
         content: Content::NoValue,
     };
     Ok(Statement {
-        id: Piece::borrowed("x"),
+        id: CowText::borrowed("x"),
         property,
         rank,
         main,

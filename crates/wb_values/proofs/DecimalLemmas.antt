@@ -8,7 +8,7 @@ use Rattle.std.proofs.lemmas.List.Quantifiers.{position-Some}
 use Rattle.std.specs.Char.{is_ascii_digit}
 use Rattle.std.specs.List.{list_all, position, position_or_len}
 use Rattle.wb_values.specs.Decimal.{is_numeral, has_numerals, is_unsigned_decimal, is_decimal, IsSign, no_sign, plus_sign, minus_sign, IsFraction, no_fraction, point_digits, IsDecimal}
-use Rattle.wb_values.proofs.WrittenLemmas.{first_place}
+use Rattle.wb_values.proofs.WrittenLemmas.{first_index}
 
 -- a byte is a point
 abbrev is_point : ℕ → Bool
@@ -22,7 +22,7 @@ record IsUnsigned (text : List ℕ) : Type 0 where
   is_fraction : IsFraction fraction
   is : text ≡ whole ++ fraction
 
-unsigned_by : (text : List ℕ) (place : Option ℕ) → position is_point text ≡ place → has_numerals text place ≡ true → IsUnsigned text
+unsigned_by : (text : List ℕ) (index : Option ℕ) → position is_point text ≡ index → has_numerals text index ≡ true → IsUnsigned text
 unsigned_by text None e h =
     record { whole = text; fraction = []; is_whole = h; is_fraction = no_fraction; is = sym (append-nil text) }
 unsigned_by text (Some point) e h =
@@ -66,25 +66,25 @@ no_point (x ∷ xs) h =
     let other : not (is_point x) ≡ true = digit_no_point x n.0 in
     rw (other, no_point xs n.1)
 
-no_place : (p : ℕ → Bool) (xs : List ℕ) → list_all (λ x. not (p x)) xs ≡ true → position_or_len p xs ≡ length xs
-no_place p [] none = refl
-no_place p (x ∷ xs) none =
+no_index : (p : ℕ → Bool) (xs : List ℕ) → list_all (λ x. not (p x)) xs ≡ true → position_or_len p xs ≡ length xs
+no_index p [] none = refl
+no_index p (x ∷ xs) none =
     let n = and_parts (not (p x)) (list_all (λ x. not (p x)) xs) none in
-    rw n.0 (omega (arith, no_place p xs n.1))
+    rw n.0 (omega (arith, no_index p xs n.1))
 
 unsigned_complete : (whole fraction : List ℕ) → is_numeral whole ≡ true → IsFraction fraction → is_unsigned_decimal (whole ++ fraction) ≡ true
 unsigned_complete whole fraction w no_fraction =
     let n = no_point whole (and_parts _ (list_all is_ascii_digit whole) w).1 in
-    let place = no_place is_point whole n in
+    let index = no_index is_point whole n in
     let past : nat_lt (length whole) (length whole) ≡ false = grind (arith, nat_tests) in
-    rw (append-nil whole, place, past) w
+    rw (append-nil whole, index, past) w
 unsigned_complete whole fraction w (point_digits digits d) =
     let n = no_point whole (and_parts _ (list_all is_ascii_digit whole) w).1 in
-    let place = first_place is_point whole 46 digits n refl in
+    let index = first_index is_point whole 46 digits n refl in
     let within : nat_lt (length whole) (length (whole ++ (46 ∷ digits))) ≡ true = grind (arith, nat_tests, length-append whole (46 ∷ digits)) in
     let front = take-append_seam whole (46 ∷ digits) in
     let back : drop (length whole + 1) (whole ++ (46 ∷ digits)) ≡ digits = drop-append-add whole (46 ∷ digits) 1 in
-    rw (place, within, front, back, w, d)
+    rw (index, within, front, back, w, d)
 
 no_sign_complete : (whole fraction : List ℕ) → is_numeral whole ≡ true → IsFraction fraction → is_decimal (whole ++ fraction) ≡ true
 no_sign_complete [] fraction w f = absurd (false≢true w)

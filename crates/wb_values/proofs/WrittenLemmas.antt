@@ -117,11 +117,11 @@ written_sound text date clock e =
     }
 
 -- a list of which no element passes, and then one that does
-pub first_place : (p : ℕ → Bool) (xs : List ℕ) (y : ℕ) (ys : List ℕ) → list_all (λ x. not (p x)) xs ≡ true → p y ≡ true → position_or_len p (xs ++ (y ∷ ys)) ≡ length xs
-first_place p [] y ys none here = rw here
-first_place p (x ∷ xs) y ys none here =
+pub first_index : (p : ℕ → Bool) (xs : List ℕ) (y : ℕ) (ys : List ℕ) → list_all (λ x. not (p x)) xs ≡ true → p y ≡ true → position_or_len p (xs ++ (y ∷ ys)) ≡ length xs
+first_index p [] y ys none here = rw here
+first_index p (x ∷ xs) y ys none here =
     let n = and_parts (not (p x)) (list_all (λ x. not (p x)) xs) none in
-    rw n.0 (omega (arith, first_place p xs y ys n.1 here))
+    rw n.0 (omega (arith, first_index p xs y ys n.1 here))
 
 digits_hold_no_t : (xs : List ℕ) → list_all is_ascii_digit xs ≡ true → list_all (λ x. not (is_t x)) xs ≡ true
 digits_hold_no_t [] h = refl
@@ -154,7 +154,7 @@ date_complete text date r =
 -- what stands in a text is read from it
 pub written_complete : (text : List ℕ) (date : CalendarDate) (clock : List ℕ) → IsWrittenTime text date clock → written_time text ≡ Some (date, clock)
 written_complete text date clock r =
-    let place : position_or_len is_t (r.date ++ (84 ∷ clock)) ≡ length r.date = first_place is_t r.date 84 clock (date_no_t r.date date r.is_date) refl in
-    let front : date_part (r.date ++ (84 ∷ clock)) ≡ r.date = rw place (take-append_seam r.date (84 ∷ clock)) in
-    let back : clock_part (r.date ++ (84 ∷ clock)) ≡ clock = rw place (drop-append-add r.date (84 ∷ clock) 1) in
+    let index : position_or_len is_t (r.date ++ (84 ∷ clock)) ≡ length r.date = first_index is_t r.date 84 clock (date_no_t r.date date r.is_date) refl in
+    let front : date_part (r.date ++ (84 ∷ clock)) ≡ r.date = rw index (take-append_seam r.date (84 ∷ clock)) in
+    let back : clock_part (r.date ++ (84 ∷ clock)) ≡ clock = rw index (drop-append-add r.date (84 ∷ clock) 1) in
     rw (r.is, back, front, r.is_clock, date_complete r.date date r.is_date)

@@ -8,7 +8,7 @@ use crate::calendar::CalendarDate;
 use crate::gregorian_day::gregorian_day;
 use crate::written::written_time;
 use digits::two_digits;
-use rdf_term::{OutOfMemory, Piece, Text};
+use rdf_term::{CowText, OutOfMemory, Text};
 use std::alloc::Global;
 
 // How many bytes most dates and times have at most, as `-0044-03-15T00:00:00Z`.
@@ -18,9 +18,9 @@ const USUAL_LENGTH: usize = 24;
 #[derive(Debug, Drop)]
 pub enum TimeText<'a> {
     /// An `xsd:dateTime` of XML Schema 1.1 in the proleptic Gregorian calendar, with a year 0.
-    DateTime(Piece<'a>),
+    DateTime(CowText<'a>),
     /// The time's own text, which no date stands for.
-    Plain(Piece<'a>),
+    Plain(CowText<'a>),
 }
 
 /// The literal of a time as Wikibase writes it: `+2001-12-31T00:00:00Z` and the like.
@@ -40,7 +40,7 @@ pub fn time_literal<'a>(
 {
     match meant_time(text, precision, julian) {
         Some((day, clock)) => Ok(TimeText::DateTime(date_time(alloc, text, day, clock)?)),
-        None => Ok(TimeText::Plain(Piece::borrowed(text))),
+        None => Ok(TimeText::Plain(CowText::borrowed(text))),
     }
 }
 
@@ -58,15 +58,15 @@ fn date_time<'a>(
     time: &'a str,
     day: CalendarDate,
     clock: &str,
-) -> Result<Piece<'a>, OutOfMemory>
+) -> Result<CowText<'a>, OutOfMemory>
     ensures { IfOk result (λ text. text ≡ date_time_text day clock.now) }
 {
     if let Some(own) = time.strip_prefix("+") {
         if is_text_of(day, clock.as_bytes(), own.as_bytes()) {
-            return Ok(Piece::borrowed(own));
+            return Ok(CowText::borrowed(own));
         }
     }
-    Ok(Piece::owned(date_time_text(alloc, day, clock)?))
+    Ok(CowText::owned(date_time_text(alloc, day, clock)?))
 }
 
 // Whether the text is that of a day in a year of four digits, and of a clock.

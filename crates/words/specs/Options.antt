@@ -39,12 +39,12 @@ abbrev pub max_terms_of : Choices → ℕ
 max_terms_of c = unwrap_or c.max_terms 20000000
 
 -- the number that an item has, if it has one, is in the range that the table gives it
-abbrev pub IsWithin : List ℕ → Option ℕ → Type 0
-IsWithin name value = IfSome value (IsInRange (kind_in replay_table name))
+abbrev pub IsItemInRange : List ℕ → Option ℕ → Type 0
+IsItemInRange name value = IfSome value (IsInRange (kind_in replay_table name))
 
 -- the most bytes, the most terms and the horizon are in their ranges
 abbrev pub IsAllowed : Choices → Type 0
-IsAllowed c = IsWithin (codes "--max-bytes") c.max_bytes × IsWithin (codes "--max-terms") c.max_terms × IsWithin (codes "--horizon") c.horizon
+IsAllowed c = IsItemInRange (codes "--max-bytes") c.max_bytes × IsItemInRange (codes "--max-terms") c.max_terms × IsItemInRange (codes "--horizon") c.horizon
 
 -- what a follower is asked for: the most bytes of the input, where the words say them, and whether its triples are printed
 pub record FollowChoices : Type 0 where

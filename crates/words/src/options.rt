@@ -3,7 +3,7 @@
 ghost use Rattle.std.specs.Prelude.{◌≡◌, ◌≤◌, ◌^◌, codes, option_map};
 ghost use Rattle.words.specs.Items.{number_in};
 ghost use Rattle.words.specs.Table.{replay_table};
-ghost use Rattle.words.specs.Options.{IsAllowed, IsWithin, choices_of, follow_choices_of, follow_max_bytes_of, max_bytes_of, folder_of, max_terms_of};
+ghost use Rattle.words.specs.Options.{IsAllowed, IsItemInRange, choices_of, follow_choices_of, follow_max_bytes_of, max_bytes_of, folder_of, max_terms_of};
 ghost use Rattle.words.specs.declared.table.Command.TheVariants.{Replay, Follow};
 
 use crate::items::Request;
@@ -33,7 +33,7 @@ pub struct ReplayOptions<'a> {
 impl<'a> Model for ReplayOptions<'a> {
     ghost use Rattle.std.specs.Prelude.{codes};
     ghost use Rattle.std.specs.Option.{option_map};
-    ghost use Rattle.words.specs.Options.{Choices, IsWithin};
+    ghost use Rattle.words.specs.Options.{Choices, IsItemInRange};
 
     ghost Value = { Choices };
 
@@ -47,7 +47,7 @@ impl<'a> Model for ReplayOptions<'a> {
       side = a.side;
     } };
 
-    ghost invariant = { λ a. IsWithin (codes "--max-bytes") a.max_bytes × IsWithin (codes "--max-terms") a.max_terms × IsWithin (codes "--horizon") a.horizon };
+    ghost invariant = { λ a. IsItemInRange (codes "--max-bytes") a.max_bytes × IsItemInRange (codes "--max-terms") a.max_terms × IsItemInRange (codes "--horizon") a.horizon };
 }
 
 impl<'a> ReplayOptions<'a> {
@@ -126,7 +126,7 @@ impl<'a> ReplayOptions<'a> {
 fn max_terms_in(items: &Request<'_>) -> Option<u32>
     requires { items.now.command ≡ Replay }
     ensures value { result ≡ number_in replay_table (codes "--max-terms") items.now.items }
-    ensures within { IsWithin (codes "--max-terms") result }
+    ensures within { IsItemInRange (codes "--max-terms") result }
 {
     let terms = items.number("--max-terms")?;
     Some(terms as u32)

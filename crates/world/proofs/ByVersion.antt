@@ -75,17 +75,17 @@ module _ (x : EntityId) (xs : List EntityId) where
 pub taken_back : (ids : ByVersion) (kept : KeptRecords) (x : EntityId) (v : MappingVersion) (added : Bool) → AreBy ids kept → added ≡ not (has entity_cmp x (held_by ids v))
     → (if added then without_holder (with_holder ids x v) x v else with_holder ids x v) ≡ ids
 taken_back ids kept x One added h is =
-    by added ∙ ap (λ l. record ids { first = l }) (taken_list x ids.first h.first_rises (has entity_cmp x ids.first) added refl is)
+    by added ∙ ap (λ l. record ids { first = l }) (taken_list x ids.by_one h.by_one_rises (has entity_cmp x ids.by_one) added refl is)
   where
-    by : (b : Bool) → ◌≡◌ {A = ByVersion} (if b then record ids { first = remove_key (eq_by_cmp entity_cmp x) (insert_key entity_cmp ids.first x) } else record ids { first = insert_key entity_cmp ids.first x })
-        (record ids { first = if b then remove_key (eq_by_cmp entity_cmp x) (insert_key entity_cmp ids.first x) else insert_key entity_cmp ids.first x })
+    by : (b : Bool) → ◌≡◌ {A = ByVersion} (if b then record ids { first = remove_key (eq_by_cmp entity_cmp x) (insert_key entity_cmp ids.by_one x) } else record ids { by_one = insert_key entity_cmp ids.by_one x })
+        (record ids { by_one = if b then remove_key (eq_by_cmp entity_cmp x) (insert_key entity_cmp ids.by_one x) else insert_key entity_cmp ids.by_one x })
     by true = refl
     by false = refl
 taken_back ids kept x Two added h is =
-    by added ∙ ap (λ l. record ids { second = l }) (taken_list x ids.second h.second_rises (has entity_cmp x ids.second) added refl is)
+    by added ∙ ap (λ l. record ids { by_two = l }) (taken_list x ids.by_two h.by_two_rises (has entity_cmp x ids.by_two) added refl is)
   where
-    by : (b : Bool) → ◌≡◌ {A = ByVersion} (if b then record ids { second = remove_key (eq_by_cmp entity_cmp x) (insert_key entity_cmp ids.second x) } else record ids { second = insert_key entity_cmp ids.second x })
-        (record ids { second = if b then remove_key (eq_by_cmp entity_cmp x) (insert_key entity_cmp ids.second x) else insert_key entity_cmp ids.second x })
+    by : (b : Bool) → ◌≡◌ {A = ByVersion} (if b then record ids { by_two = remove_key (eq_by_cmp entity_cmp x) (insert_key entity_cmp ids.by_two x) } else record ids { by_two = insert_key entity_cmp ids.by_two x })
+        (record ids { by_two = if b then remove_key (eq_by_cmp entity_cmp x) (insert_key entity_cmp ids.by_two x) else insert_key entity_cmp ids.by_two x })
     by true = refl
     by false = refl
 
@@ -106,81 +106,81 @@ pub undone : (ids ids1 ids2 : ByVersion) (kept : KeptRecords) (x : EntityId) (v 
     → ids1 ≡ with_holder ids x v → added ≡ not (has entity_cmp x (held_by ids v)) → ids2 ≡ (if added then without_holder ids1 x v else ids1) → ids2 ≡ ids
 undone ids ids1 ids2 kept x v added h one is two = two ∙ ap (λ i. if added then without_holder i x v else i) one ∙ taken_back ids kept x v added h is
 
-pub moved_second : (ids : ByVersion) (x : EntityId) (v : MappingVersion) → (moved_to ids x v).second ≡ with_version v x ids.second
-moved_second ids x One = refl
-moved_second ids x Two = refl
+pub moved_by_two : (ids : ByVersion) (x : EntityId) (v : MappingVersion) → (moved_to ids x v).by_two ≡ with_version v x ids.by_two
+moved_by_two ids x One = refl
+moved_by_two ids x Two = refl
 
 module _ (ids ids2 : ByVersion) (kept : KeptRecords) (x : EntityId) (n : Record Kept) (h : AreBy ids kept)
-    (first_rises : IsRising entity_cmp ids2.first) (second_rises : IsRising entity_cmp ids2.second)
-    (first_same : (y : EntityId) → eq_by_cmp entity_cmp y x ≡ false → has entity_cmp y ids2.first ≡ has entity_cmp y ids.first)
-    (second_same : (y : EntityId) → eq_by_cmp entity_cmp y x ≡ false → has entity_cmp y ids2.second ≡ has entity_cmp y ids.second)
-    (here : (has entity_cmp x ids2.first || has entity_cmp x ids2.second) ≡ is_some n.held)
-    (apart : has entity_cmp x ids2.second ≡ true → has entity_cmp x ids2.first ≡ false) where
+    (by_one_rises : IsRising entity_cmp ids2.by_one) (by_two_rises : IsRising entity_cmp ids2.by_two)
+    (by_one_same : (y : EntityId) → eq_by_cmp entity_cmp y x ≡ false → has entity_cmp y ids2.by_one ≡ has entity_cmp y ids.by_one)
+    (by_two_same : (y : EntityId) → eq_by_cmp entity_cmp y x ≡ false → has entity_cmp y ids2.by_two ≡ has entity_cmp y ids.by_two)
+    (here : (has entity_cmp x ids2.by_one || has entity_cmp x ids2.by_two) ≡ is_some n.held)
+    (apart : has entity_cmp x ids2.by_two ≡ true → has entity_cmp x ids2.by_one ≡ false) where
   by_moved : AreBy ids2 (map.insert kept x n)
   by_moved = record {
-    first_rises = first_rises;
-    second_rises = second_rises;
+    by_one_rises = by_one_rises;
+    by_two_rises = by_two_rises;
     each = λ y. ⊎_elim
         (λ own.
-        ap (λ z. has entity_cmp z ids2.first || has entity_cmp z ids2.second) own.1 ∙ here
+        ap (λ z. has entity_cmp z ids2.by_one || has entity_cmp z ids2.by_two) own.1 ∙ here
         ∙ ap (λ (was : Record Kept). is_some was.held) (sym (kept_here kept x n)) ∙ ap (λ z. is_some (kept_of (map.insert kept x n) z).held) (sym own.1))
         (λ other.
-        ap (λ b. b || has entity_cmp y ids2.second) (first_same y other.0) ∙ ap (λ b. has entity_cmp y ids.first || b) (second_same y other.0)
+        ap (λ b. b || has entity_cmp y ids2.by_two) (by_one_same y other.0) ∙ ap (λ b. has entity_cmp y ids.by_one || b) (by_two_same y other.0)
         ∙ h.each y ∙ ap (λ (was : Record Kept). is_some was.held) (sym (kept_other kept x n y other.1)))
         (id_tells y x);
     once = λ y there. ⊎_elim
-        (λ own. ap (λ z. has entity_cmp z ids2.first) own.1 ∙ apart (ap (λ z. has entity_cmp z ids2.second) (sym own.1) ∙ there))
-        (λ other. first_same y other.0 ∙ h.once y (sym (second_same y other.0) ∙ there))
+        (λ own. ap (λ z. has entity_cmp z ids2.by_one) own.1 ∙ apart (ap (λ z. has entity_cmp z ids2.by_two) (sym own.1) ∙ there))
+        (λ other. by_one_same y other.0 ∙ h.once y (sym (by_two_same y other.0) ∙ there))
         (id_tells y x);
   }
 
 -- an entity's page is mapped by a version
 pub by_put : (ids : ByVersion) (kept : KeptRecords) (x : EntityId) (v : MappingVersion) (n : Record Kept) → AreBy ids kept → is_some n.held ≡ true → AreBy (moved_to ids x v) (map.insert kept x n)
 by_put ids kept x One n h holds =
-    by_moved ids (moved_to ids x One) kept x n h (put_rises x ids.first h.first_rises) (drop_rises x ids.second h.second_rises)
-    (put_other x ids.first) (drop_other x ids.second h.second_rises)
-    (ap (λ b. b || has entity_cmp x (moved_to ids x One).second) (put_own x ids.first) ∙ sym holds)
-    (λ there. absurd (true≢false (sym there ∙ drop_own x ids.second h.second_rises)))
+    by_moved ids (moved_to ids x One) kept x n h (put_rises x ids.by_one h.by_one_rises) (drop_rises x ids.by_two h.by_two_rises)
+    (put_other x ids.by_one) (drop_other x ids.by_two h.by_two_rises)
+    (ap (λ b. b || has entity_cmp x (moved_to ids x One).by_two) (put_own x ids.by_one) ∙ sym holds)
+    (λ there. absurd (true≢false (sym there ∙ drop_own x ids.by_two h.by_two_rises)))
 by_put ids kept x Two n h holds =
-    by_moved ids (moved_to ids x Two) kept x n h (drop_rises x ids.first h.first_rises) (put_rises x ids.second h.second_rises)
-    (drop_other x ids.first h.first_rises) (put_other x ids.second)
-    (or_true (has entity_cmp x (moved_to ids x Two).first) (has entity_cmp x (moved_to ids x Two).second) (put_own x ids.second) ∙ sym holds)
-    (λ _. drop_own x ids.first h.first_rises)
+    by_moved ids (moved_to ids x Two) kept x n h (drop_rises x ids.by_one h.by_one_rises) (put_rises x ids.by_two h.by_two_rises)
+    (drop_other x ids.by_one h.by_one_rises) (put_other x ids.by_two)
+    (or_true (has entity_cmp x (moved_to ids x Two).by_one) (has entity_cmp x (moved_to ids x Two).by_two) (put_own x ids.by_two) ∙ sym holds)
+    (λ _. drop_own x ids.by_one h.by_one_rises)
 
 -- an entity's page goes
 pub by_drop : (ids : ByVersion) (kept : KeptRecords) (x : EntityId) (n : Record Kept) → AreBy ids kept → is_some n.held ≡ false → AreBy (moved_out ids x) (map.insert kept x n)
 by_drop ids kept x n h holds =
-    by_moved ids (moved_out ids x) kept x n h (drop_rises x ids.first h.first_rises) (drop_rises x ids.second h.second_rises)
-    (drop_other x ids.first h.first_rises) (drop_other x ids.second h.second_rises)
-    (ap (λ b. b || has entity_cmp x (moved_out ids x).second) (drop_own x ids.first h.first_rises) ∙ drop_own x ids.second h.second_rises ∙ sym holds)
-    (λ _. drop_own x ids.first h.first_rises)
+    by_moved ids (moved_out ids x) kept x n h (drop_rises x ids.by_one h.by_one_rises) (drop_rises x ids.by_two h.by_two_rises)
+    (drop_other x ids.by_one h.by_one_rises) (drop_other x ids.by_two h.by_two_rises)
+    (ap (λ b. b || has entity_cmp x (moved_out ids x).by_two) (drop_own x ids.by_one h.by_one_rises) ∙ drop_own x ids.by_two h.by_two_rises ∙ sym holds)
+    (λ _. drop_own x ids.by_one h.by_one_rises)
 
 -- an entity's page stays
 pub by_keep : (ids : ByVersion) (kept : KeptRecords) (x : EntityId) (n : Record Kept) → AreBy ids kept → is_some n.held ≡ is_some (kept_of kept x).held → AreBy ids (map.insert kept x n)
 by_keep ids kept x n h same =
-    by_moved ids ids kept x n h h.first_rises h.second_rises (λ _ _. refl) (λ _ _. refl) (h.each x ∙ sym same) (h.once x)
+    by_moved ids ids kept x n h h.by_one_rises h.by_two_rises (λ _ _. refl) (λ _ _. refl) (h.each x ∙ sym same) (h.once x)
 
-module _ (second : List EntityId) (rising : IsRising entity_cmp second) (x : EntityId) where
+module _ (by_two : List EntityId) (rising : IsRising entity_cmp by_two) (x : EntityId) where
   -- the entity holds by its version then
-  pub version_own : (v : MappingVersion) → version_at (with_version v x second) x ≡ v
-  version_own One = ap (λ b. cond b Two One) (drop_own x second rising)
-  version_own Two = ap (λ b. cond b Two One) (put_own x second)
+  pub version_own : (v : MappingVersion) → version_at (with_version v x by_two) x ≡ v
+  version_own One = ap (λ b. cond b Two One) (drop_own x by_two rising)
+  version_own Two = ap (λ b. cond b Two One) (put_own x by_two)
 
   -- and others as they did
-  pub version_other : (v : MappingVersion) (y : EntityId) → y ≢ x → version_at (with_version v x second) y ≡ version_at second y
+  pub version_other : (v : MappingVersion) (y : EntityId) → y ≢ x → version_at (with_version v x by_two) y ≡ version_at by_two y
   version_other v y other = ⊎_elim (λ own. absurd (other own.1)) (λ apart. by v apart.0) (id_tells y x)
     where
-      by : (v : MappingVersion) → eq_by_cmp entity_cmp y x ≡ false → version_at (with_version v x second) y ≡ version_at second y
-      by One e = ap (λ b. cond b Two One) (drop_other x second rising y e)
-      by Two e = ap (λ b. cond b Two One) (put_other x second y e)
+      by : (v : MappingVersion) → eq_by_cmp entity_cmp y x ≡ false → version_at (with_version v x by_two) y ≡ version_at by_two y
+      by One e = ap (λ b. cond b Two One) (drop_other x by_two rising y e)
+      by Two e = ap (λ b. cond b Two One) (put_other x by_two y e)
 
   pub meaning_other : (meaning : MappingVersion → Meaning Triple) (v : MappingVersion) (y : EntityId) → y ≢ x → (rev : ℕ) (bytes : List ℕ)
-      → meaning_by meaning (with_version v x second) y rev bytes ≡ meaning_by meaning second y rev bytes
+      → meaning_by meaning (with_version v x by_two) y rev bytes ≡ meaning_by meaning by_two y rev bytes
   meaning_other meaning v y other rev bytes = ap (λ w. meaning w y rev bytes) (version_other v y other)
 
-  pub version_rises : (v : MappingVersion) → IsRising entity_cmp (with_version v x second)
-  version_rises One = drop_rises x second rising
-  version_rises Two = put_rises x second rising
+  pub version_rises : (v : MappingVersion) → IsRising entity_cmp (with_version v x by_two)
+  version_rises One = drop_rises x by_two rising
+  version_rises Two = put_rises x by_two rising
 
   differ_itself : (v : MappingVersion) → differ v v ≡ false
   differ_itself One = refl
@@ -190,18 +190,18 @@ module _ (second : List EntityId) (rising : IsRising entity_cmp second) (x : Ent
   has_stale v ids records q = has-filter entity_cmp entity_cmp_same (λ y. differ v (version_at ids y)) q (holders records) ∙ ap (λ b. differ v (version_at ids q) && b) (has-holders records q)
 
   -- an entity that is mapped anew isn't stale any more
-  pub stale_remapped : (v : MappingVersion) (records : Records) → stale_by v (with_version v x second) records ≡ remove_key (eq_by_cmp entity_cmp x) (stale_by v second records)
+  pub stale_remapped : (v : MappingVersion) (records : Records) → stale_by v (with_version v x by_two) records ≡ remove_key (eq_by_cmp entity_cmp x) (stale_by v by_two records)
   stale_remapped v records =
       let rises : (ids : List EntityId) → IsRising entity_cmp (stale_by v ids records) = λ ids. IsRising-filter entity_cmp (λ y. differ v (version_at ids y)) (holders records) (holders-rise records) in
-      same_rising entity_cmp_total entity_cmp_same (stale_by v (with_version v x second) records) (remove_key (eq_by_cmp entity_cmp x) (stale_by v second records))
-      (rises (with_version v x second)) (drop_rises x (stale_by v second records) (rises second))
-      (λ q. has_stale v (with_version v x second) records q ∙ ⊎_elim
+      same_rising entity_cmp_total entity_cmp_same (stale_by v (with_version v x by_two) records) (remove_key (eq_by_cmp entity_cmp x) (stale_by v by_two records))
+      (rises (with_version v x by_two)) (drop_rises x (stale_by v by_two records) (rises by_two))
+      (λ q. has_stale v (with_version v x by_two) records q ∙ ⊎_elim
       (λ own.
-      ap (λ w. differ v w && is_holder records q) (ap (version_at (with_version v x second)) own.1 ∙ version_own v) ∙ ap (λ b. b && is_holder records q) (differ_itself v)
-      ∙ sym (ap (λ z. has entity_cmp z (remove_key (eq_by_cmp entity_cmp x) (stale_by v second records))) own.1 ∙ drop_own x (stale_by v second records) (rises second)))
+      ap (λ w. differ v w && is_holder records q) (ap (version_at (with_version v x by_two)) own.1 ∙ version_own v) ∙ ap (λ b. b && is_holder records q) (differ_itself v)
+      ∙ sym (ap (λ z. has entity_cmp z (remove_key (eq_by_cmp entity_cmp x) (stale_by v by_two records))) own.1 ∙ drop_own x (stale_by v by_two records) (rises by_two)))
       (λ other.
-      ap (λ w. differ v w && is_holder records q) (version_other v q other.1) ∙ sym (has_stale v second records q)
-      ∙ sym (drop_other x (stale_by v second records) (rises second) q other.0))
+      ap (λ w. differ v w && is_holder records q) (version_other v q other.1) ∙ sym (has_stale v by_two records q)
+      ∙ sym (drop_other x (stale_by v by_two records) (rises by_two) q other.0))
       (id_tells q x))
 
 -- one fewer without the first
@@ -213,21 +213,21 @@ one_fewer x (y ∷ ys) e =
     ∙ omega arith
 
 module _ (ids : ByVersion) (kept : KeptRecords) (records : Records) (h : AreBy ids kept) (link : (x : EntityId) → is_holder records x ≡ is_some (kept_of kept x).held) where
-  named : (x : EntityId) → is_holder records x ≡ (has entity_cmp x ids.first || has entity_cmp x ids.second)
+  named : (x : EntityId) → is_holder records x ≡ (has entity_cmp x ids.by_one || has entity_cmp x ids.by_two)
   named x = link x ∙ sym (h.each x)
 
   -- the stale entities are those of the other version
-  pub stale_is : (v : MappingVersion) → stale_by v ids.second records ≡ held_by ids (other_version v)
+  pub stale_is : (v : MappingVersion) → stale_by v ids.by_two records ≡ held_by ids (other_version v)
   stale_is v =
-      same_rising entity_cmp_total entity_cmp_same (stale_by v ids.second records) (held_by ids (other_version v))
-      (IsRising-filter entity_cmp (λ y. differ v (version_at ids.second y)) (holders records) (holders-rise records)) (rises v)
-      (λ q. has_stale ids.second h.second_rises q v ids.second records q ∙ ap (λ b. differ v (version_at ids.second q) && b) (named q) ∙ by v q (has entity_cmp q ids.first) (has entity_cmp q ids.second) refl refl)
+      same_rising entity_cmp_total entity_cmp_same (stale_by v ids.by_two records) (held_by ids (other_version v))
+      (IsRising-filter entity_cmp (λ y. differ v (version_at ids.by_two y)) (holders records) (holders-rise records)) (rises v)
+      (λ q. has_stale ids.by_two h.by_two_rises q v ids.by_two records q ∙ ap (λ b. differ v (version_at ids.by_two q) && b) (named q) ∙ by v q (has entity_cmp q ids.by_one) (has entity_cmp q ids.by_two) refl refl)
     where
       rises : (v : MappingVersion) → IsRising entity_cmp (held_by ids (other_version v))
-      rises One = h.second_rises
-      rises Two = h.first_rises
+      rises One = h.by_two_rises
+      rises Two = h.by_one_rises
 
-      by : (v : MappingVersion) (q : EntityId) (a b : Bool) → has entity_cmp q ids.first ≡ a → has entity_cmp q ids.second ≡ b → (differ v (cond b Two One) && (a || b)) ≡ has entity_cmp q (held_by ids (other_version v))
+      by : (v : MappingVersion) (q : EntityId) (a b : Bool) → has entity_cmp q ids.by_one ≡ a → has entity_cmp q ids.by_two ≡ b → (differ v (cond b Two One) && (a || b)) ≡ has entity_cmp q (held_by ids (other_version v))
       by One q true true e f = sym f
       by One q false true e f = sym f
       by One q a false e f = sym f
@@ -237,10 +237,10 @@ module _ (ids : ByVersion) (kept : KeptRecords) (records : Records) (h : AreBy i
       by Two q false false e f = sym e
 
   -- those of version Two hold
-  pub second_holds : AreHolders ids.second records
-  second_holds = record {
-    rising = h.second_rises;
-    holding = λ x there. named x ∙ or_true (has entity_cmp x ids.first) (has entity_cmp x ids.second) there;
+  pub by_two_holds : AreHolders ids.by_two records
+  by_two_holds = record {
+    rising = h.by_two_rises;
+    holding = λ x there. named x ∙ or_true (has entity_cmp x ids.by_one) (has entity_cmp x ids.by_two) there;
   }
 
   no_ids : (xs : List EntityId) → length xs ≡ 0 → xs ≡ []
@@ -248,16 +248,16 @@ module _ (ids : ByVersion) (kept : KeptRecords) (records : Records) (h : AreBy i
   no_ids (y ∷ ys) e = absurd (omega arith)
 
   -- where none is stale all hold by the version
-  pub none_stale : (v : MappingVersion) → length (held_by ids (other_version v)) ≡ 0 → ids.second ≡ all_by v records
-  none_stale One none = no_ids ids.second none
+  pub none_stale : (v : MappingVersion) → length (held_by ids (other_version v)) ≡ 0 → ids.by_two ≡ all_by v records
+  none_stale One none = no_ids ids.by_two none
   none_stale Two none =
-      same_rising entity_cmp_total entity_cmp_same ids.second (holders records) h.second_rises (holders-rise records)
-      (λ q. sym (has-holders records q ∙ named q ∙ ap (λ xs. has entity_cmp q xs || has entity_cmp q ids.second) (no_ids ids.first none)))
+      same_rising entity_cmp_total entity_cmp_same ids.by_two (holders records) h.by_two_rises (holders-rise records)
+      (λ q. sym (has-holders records q ∙ named q ∙ ap (λ xs. has entity_cmp q xs || has entity_cmp q ids.by_two) (no_ids ids.by_one none)))
 
   -- the version by which an entity holds
-  pub version_is : (x : EntityId) (a b : Bool) → has entity_cmp x ids.first ≡ a → has entity_cmp x ids.second ≡ b → version_in ids.second records x ≡ cond b (Some Two) (cond a (Some One) None)
+  pub version_is : (x : EntityId) (a b : Bool) → has entity_cmp x ids.by_one ≡ a → has entity_cmp x ids.by_two ≡ b → version_in ids.by_two records x ≡ cond b (Some Two) (cond a (Some One) None)
   version_is x a b e f =
-      ap (λ c. cond c (Some (version_at ids.second x)) None) (named x ∙ ap (λ c. c || has entity_cmp x ids.second) e ∙ ap (λ c. a || c) f)
+      ap (λ c. cond c (Some (version_at ids.by_two x)) None) (named x ∙ ap (λ c. c || has entity_cmp x ids.by_two) e ∙ ap (λ c. a || c) f)
       ∙ ap (λ c. cond (a || b) (Some (cond c Two One)) None) f ∙ by a b
     where
       by : (a b : Bool) → ◌≡◌ {A = Option MappingVersion} (cond (a || b) (Some (cond b Two One)) None) (cond b (Some Two) (cond a (Some One) None))
@@ -274,20 +274,20 @@ module _ (ids : ByVersion) (kept : KeptRecords) (records : Records) (h : AreBy i
       there [] e = absurd (true≢false (sym (ap is_some e)))
       there (y ∷ ys) e = ap (λ z. has entity_cmp x (z ∷ ys)) (ap (λ o. unwrap_or o x) e) ∙ has_itself entity_cmp_total x ys
 
-      by : (v : MappingVersion) → has entity_cmp x (held_by ids v) ≡ true → (has entity_cmp x ids.first || has entity_cmp x ids.second) ≡ true
-      by One is = ap (λ b. b || has entity_cmp x ids.second) is
-      by Two is = or_true (has entity_cmp x ids.first) (has entity_cmp x ids.second) is
+      by : (v : MappingVersion) → has entity_cmp x (held_by ids v) ≡ true → (has entity_cmp x ids.by_one || has entity_cmp x ids.by_two) ≡ true
+      by One is = ap (λ b. b || has entity_cmp x ids.by_two) is
+      by Two is = or_true (has entity_cmp x ids.by_one) (has entity_cmp x ids.by_two) is
 
   pub first_is_holder : (v : MappingVersion) (first : Option EntityId) → first ≡ first_of (held_by ids v) → IfSome first (λ x. is_holder records x ≡ true)
   first_is_holder v None is = tt
   first_is_holder v (Some x) is = link x ∙ first_holds v x (sym is)
 
 -- each entity that is mapped anew leaves one stale entity fewer
-pub fewer : (v : MappingVersion) (second second2 : List EntityId) (records : Records) (entity : Option EntityId) → IsRising entity_cmp second
-    → entity ≡ first_of (stale_by v second records) → second2 ≡ with_version_of v entity second
-    → IfSome entity (λ _. length (stale_by v second2 records) + 1 ≡ length (stale_by v second records))
-fewer v second second2 records None rising is two = tt
-fewer v second second2 records (Some x) rising is two =
+pub fewer : (v : MappingVersion) (by_two by_two2 : List EntityId) (records : Records) (entity : Option EntityId) → IsRising entity_cmp by_two
+    → entity ≡ first_of (stale_by v by_two records) → by_two2 ≡ with_version_of v entity by_two
+    → IfSome entity (λ _. length (stale_by v by_two2 records) + 1 ≡ length (stale_by v by_two records))
+fewer v by_two by_two2 records None rising is two = tt
+fewer v by_two by_two2 records (Some x) rising is two =
     ap (λ (ids : List EntityId). length (stale_by v ids records) + 1) two
-    ∙ ap (λ (xs : List EntityId). length xs + 1) (stale_remapped second rising x v records)
-    ∙ one_fewer x (stale_by v second records) (sym is)
+    ∙ ap (λ (xs : List EntityId). length xs + 1) (stale_remapped by_two rising x v records)
+    ∙ one_fewer x (stale_by v by_two records) (sym is)

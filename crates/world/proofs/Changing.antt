@@ -39,17 +39,17 @@ tells TheChange old new before after was is (Some change) told = (
 -- what the store tells is the change of the union, where it is in step with the records before and after
 pub step_tells : (s s2 : StoreState) (ids ids2 : ByVersion) (kept kept2 : KeptRecords) → AreInStep s ids kept → AreInStep s2 ids2 kept2
     → (old new : Counts) → old ≡ counts_in s → new ≡ counts_in s2 → (telling : Telling) (change : Option Change) → TellsIf telling old new change
-    → Tells telling (union triple_cmp (meaning_by meaning ids.second) (seen s kept)) (union triple_cmp (meaning_by meaning ids2.second) (seen s2 kept2)) change
+    → Tells telling (union triple_cmp (meaning_by meaning ids.by_two) (seen s kept)) (union triple_cmp (meaning_by meaning ids2.by_two) (seen s2 kept2)) change
 step_tells s s2 ids ids2 kept kept2 h k old new was is telling change told = tells telling old new _ _
-    (ap (λ (counts : Counts). map.keys counts) was ∙ stored_union (meaning_by meaning ids.second) s kept h.kept)
-    (ap (λ (counts : Counts). map.keys counts) is ∙ stored_union (meaning_by meaning ids2.second) s2 kept2 k.kept)
+    (ap (λ (counts : Counts). map.keys counts) was ∙ stored_union (meaning_by meaning ids.by_two) s kept h.kept)
+    (ap (λ (counts : Counts). map.keys counts) is ∙ stored_union (meaning_by meaning ids2.by_two) s2 kept2 k.kept)
     change told
 
 -- where the store stays as it was, so does the union
 pub stored_still : (s : StoreState) (ids ids2 : ByVersion) (kept kept2 : KeptRecords) → AreInStep s ids kept → AreInStep s ids2 kept2
-    → union triple_cmp (meaning_by meaning ids2.second) (seen s kept2) ≡ union triple_cmp (meaning_by meaning ids.second) (seen s kept)
+    → union triple_cmp (meaning_by meaning ids2.by_two) (seen s kept2) ≡ union triple_cmp (meaning_by meaning ids.by_two) (seen s kept)
 stored_still s ids ids2 kept kept2 h k =
-    sym (stored_union (meaning_by meaning ids2.second) s kept2 k.kept) ∙ stored_union (meaning_by meaning ids.second) s kept h.kept
+    sym (stored_union (meaning_by meaning ids2.by_two) s kept2 k.kept) ∙ stored_union (meaning_by meaning ids.by_two) s kept h.kept
 
 -- ---- a change without lines
 

@@ -13,7 +13,7 @@ use Rattle.entity_model.specs.declared.document.Document.{Document}
 use Rattle.entity_model.specs.Document.{IsSmall}
 use Rattle.entity_model.specs.declared.unfit.Unfit.{Unfit}
 use Rattle.entity_model.specs.declared.unfit.Unfit.TheVariants.{Large}
-use Rattle.entity_json.specs.Document.{document_of, outcome_of, page_limit, unfit_by, unfit_of}
+use Rattle.entity_json.specs.Document.{document_of, document_or_cause, page_limit, unfit_by, unfit_of}
 use Rattle.entity_json.proofs.Fitness.{document_small}
 use Rattle.entity_rdf.proofs.Direct.{direct_fit}
 use Rattle.entity_model.specs.declared.mapping.MappingVersion.{MappingVersion}
@@ -43,23 +43,23 @@ found_fit v x rev bytes (Some document) is = document_fit v x rev document (docu
 pub meaning_fit : (v : MappingVersion) (x : EntityId) (rev : ℕ) (bytes : List ℕ) → AllByRecursion HasFitAndShortTerms (meaning v x rev bytes)
 meaning_fit v x rev bytes = found_fit v x rev bytes (document_of x bytes) refl
 
-held_fit : (second : List EntityId) (x : EntityId) (held : Option (Held Bytes)) → AllByRecursion HasFitAndShortTerms (triples_held (meaning_by meaning second) x held)
-held_fit second x None = tt
-held_fit second x (Some h) = meaning_fit (version_at second x) x h.revision h.content
+held_fit : (by_two : List EntityId) (x : EntityId) (held : Option (Held Bytes)) → AllByRecursion HasFitAndShortTerms (triples_held (meaning_by meaning by_two) x held)
+held_fit by_two x None = tt
+held_fit by_two x (Some h) = meaning_fit (version_at by_two x) x h.revision h.content
 
 anything : {A : Type 0} (xs : List A) → AllByRecursion (λ (x : A). Unit {0}) xs
 anything [] = tt
 anything (x ∷ xs) = (tt, anything xs)
 
 -- the triples of all that is held
-pub union_fit : (second : List EntityId) (records : Records) → AllByRecursion HasFitAndShortTerms (union triple_cmp (meaning_by meaning second) records)
-union_fit second records =
-    sorted_each HasFitAndShortTerms triple_cmp (flat_map (triples_at (meaning_by meaning second)) (map.entries records))
-    (flat_map_each (λ (entry : EntityId × Record Bytes). Unit {0}) HasFitAndShortTerms (triples_at (meaning_by meaning second)) (λ entry _. held_fit second entry.0 entry.1.held) (map.entries records) (anything (map.entries records)))
+pub union_fit : (by_two : List EntityId) (records : Records) → AllByRecursion HasFitAndShortTerms (union triple_cmp (meaning_by meaning by_two) records)
+union_fit by_two records =
+    sorted_each HasFitAndShortTerms triple_cmp (flat_map (triples_at (meaning_by meaning by_two)) (map.entries records))
+    (flat_map_each (λ (entry : EntityId × Record Bytes). Unit {0}) HasFitAndShortTerms (triples_at (meaning_by meaning by_two)) (λ entry _. held_fit by_two entry.0 entry.1.held) (map.entries records) (anything (map.entries records)))
 
 -- a page has few bytes
 pub page_short : (x : EntityId) (bytes : List ℕ) → unfit_of x bytes ≡ None → length bytes ≤ 33554432
-unfolding outcome_of
+unfolding document_or_cause
 page_short x bytes fit = by (nat_lt page_limit (length bytes)) refl _ fit
   where
     by : (b : Bool) → nat_lt page_limit (length bytes) ≡ b → (found : Result Document Unfit) → unfit_by (cond b (Err Large) found) ≡ None → length bytes ≤ 33554432
@@ -76,6 +76,6 @@ page_of v x rev bytes other ts is meant fit short = record {
 }
 
 -- a reply of a source that gives bytes gives a document
-pub reply_gives : (told : Option Contents) (place : List ℕ) (x : EntityId) (rev : ℕ) (reply : Result Bytes Cause) → IsReply told place x rev reply → GivesDocument unfit_of x reply
-reply_gives told place x rev (Ok bytes) is = is.0
-reply_gives told place x rev (Err cause) is = tt
+pub reply_gives : (known : Option Contents) (folder : List ℕ) (x : EntityId) (rev : ℕ) (reply : Result Bytes Cause) → IsReply known folder x rev reply → GivesDocument unfit_of x reply
+reply_gives known folder x rev (Ok bytes) is = is.0
+reply_gives known folder x rev (Err cause) is = tt

@@ -23,7 +23,7 @@ use Rattle.triple_store.specs.Updates.{AreStored}
 use Rattle.replay_model.specs.Records.{Bytes, Records, record_of}
 use Rattle.replay_model.specs.Union.{Meaning, owners, triples_held}
 use Rattle.world.specs.declared.kept.Kept.{Kept}
-use Rattle.world.specs.InStep.{IsCounted, IsHeld, IsKept, triples_kept}
+use Rattle.world.specs.InStep.{CountsOwners, IsHeld, IsKept, triples_kept}
 use Rattle.world.specs.Keeping.{KeptRecords, PieceTexts, held_with, kept_of, keys_held, piece_at, piece_held, record_with, records_with, seen}
 use Rattle.world.proofs.Owning.{counted_moved, has_owner, held_agrees}
 use Rattle.world.proofs.Pieced.{id_tells}
@@ -158,14 +158,14 @@ module _ (m m2 : Meaning Triple) (x : EntityId) (agree : (y : EntityId) → y �
   seen_put = seen_moved (beside s) (beside s2) kept x n texts
 
   put_counted : Exchanges (counts_in s) (counts_in s2) (triples_kept m (beside s) kept x) (triples_held m2 x (held_with (beside s2) n.held))
-      → IsCounted m2 (counts_in s2) (seen s2 (map.insert kept x n))
+      → CountsOwners m2 (counts_in s2) (seen s2 (map.insert kept x n))
   put_counted moves =
-      subst (λ (records : Records). IsCounted m2 (counts_in s2) records) (sym seen_put)
+      subst (λ (records : Records). CountsOwners m2 (counts_in s2) records) (sym seen_put)
       (counted_moved m m2 x agree (counts_in s) (counts_in s2) (seen s kept) (record_with (beside s2) n) h.counted
       (subst (λ (was : Record Bytes). Exchanges (counts_in s) (counts_in s2) (triples_held m x was.held) (triples_held m2 x (held_with (beside s2) n.held)))
       (sym (seen_of (beside s) kept x)) moves))
 
-  others_keyed : IsCounted m2 (counts_in s2) (seen s2 (map.insert kept x n)) → KeepsKeys s s2 → (y : EntityId) → y ≢ x
+  others_keyed : CountsOwners m2 (counts_in s2) (seen s2 (map.insert kept x n)) → KeepsKeys s s2 → (y : EntityId) → y ≢ x
       → AreKeysOf s2 (keys_held (kept_of (map.insert kept x n) y).held) (triples_kept m2 (beside s2) (map.insert kept x n) y)
   others_keyed counted keeps y other =
       let same : triples_kept m2 (beside s2) (map.insert kept x n) y ≡ triples_kept m (beside s) kept y =

@@ -17,18 +17,18 @@ use Rattle.entity_state.specs.Record.{held_revision, wants}
 use Rattle.side_output.specs.declared.entry.Cause.{Cause}
 use Rattle.revisions.specs.Revisions.{Contents}
 use Rattle.replay_model.specs.Play.{held_after_fetch, nothing_played}
-use Rattle.replay_model.specs.PlayedVersions.{second_after_event, second_remapped}
+use Rattle.replay_model.specs.PlayedVersions.{by_two_after_event, by_two_remapped}
 use Rattle.replay_model.specs.Records.{Bytes, Records, record_of}
 use Rattle.replay_model.specs.ReplayState.{ReplayState}
 use Rattle.replay_model.specs.Versions.{all_by, is_holder, with_version}
-use Rattle.replay_model.proofs.PlayedVersions.{second-event, second-remapped}
+use Rattle.replay_model.proofs.PlayedVersions.{by_two-event, by_two-remapped}
 use Rattle.replay_model.proofs.RecordOf.{record_of-empty}
 use Rattle.replay_model.proofs.Versions.{has-holders, holders-rise}
 use Rattle.world.specs.declared.applied.Applied.{Applied}
 use Rattle.world.specs.declared.applied.Outcome.{Outcome}
 use Rattle.world.specs.declared.applied.Outcome.TheVariants.{Same, Dropped}
 use Rattle.world.specs.Applying.{Applies, outcome_of_reply}
-use Rattle.world.specs.WorldState.{AreHolders, WorldState, second_after}
+use Rattle.world.specs.WorldState.{AreHolders, WorldState, by_two_after}
 
 -- one that isn't there is taken out
 without_absent : (x : EntityId) (xs : List EntityId) → has entity_cmp x xs ≡ false → remove_key (eq_by_cmp entity_cmp x) xs ≡ xs
@@ -38,44 +38,44 @@ without_absent x (y ∷ ys) absent =
     ∙ ap (λ zs. y ∷ zs) (without_absent x ys (or_false_right (eq_by_cmp entity_cmp x y) (has entity_cmp x ys) absent))
 
 -- an outcome says what the play says, where an entity that holds nothing isn't named
-by_outcome : (version : MappingVersion) (x : EntityId) (second : List EntityId) (before : Option (Held Bytes)) → (has entity_cmp x second ≡ true → is_some before ≡ true)
+by_outcome : (version : MappingVersion) (x : EntityId) (by_two : List EntityId) (before : Option (Held Bytes)) → (has entity_cmp x by_two ≡ true → is_some before ≡ true)
     → (fetching deleting : Bool) (rev : ℕ) (reply : Result Bytes Cause)
-    → second_after (cond fetching (outcome_of_reply reply) (cond deleting Dropped Same)) version x second
-    ≡ cond (fetching && is_ok reply) (with_version version x second)
-    (cond (is_some (cond fetching (held_after_fetch rev reply before) (cond deleting None before))) second (with_version One x second))
-by_outcome version x second before named = by
+    → by_two_after (cond fetching (outcome_of_reply reply) (cond deleting Dropped Same)) version x by_two
+    ≡ cond (fetching && is_ok reply) (with_version version x by_two)
+    (cond (is_some (cond fetching (held_after_fetch rev reply before) (cond deleting None before))) by_two (with_version One x by_two))
+by_outcome version x by_two before named = by
   where
-    left : (h : Option (Held Bytes)) → (has entity_cmp x second ≡ true → is_some h ≡ true) → second ≡ cond (is_some h) second (with_version One x second)
+    left : (h : Option (Held Bytes)) → (has entity_cmp x by_two ≡ true → is_some h ≡ true) → by_two ≡ cond (is_some h) by_two (with_version One x by_two)
     left (Some held) named = refl
-    left None named = sym (without_absent x second (absent (has entity_cmp x second) named))
+    left None named = sym (without_absent x by_two (absent (has entity_cmp x by_two) named))
       where
         absent : (b : Bool) → (b ≡ true → false ≡ true) → b ≡ false
         absent true h = sym (h refl)
         absent false h = refl
 
     by : (fetching deleting : Bool) (rev : ℕ) (reply : Result Bytes Cause)
-        → second_after (cond fetching (outcome_of_reply reply) (cond deleting Dropped Same)) version x second
-        ≡ cond (fetching && is_ok reply) (with_version version x second)
-        (cond (is_some (cond fetching (held_after_fetch rev reply before) (cond deleting None before))) second (with_version One x second))
+        → by_two_after (cond fetching (outcome_of_reply reply) (cond deleting Dropped Same)) version x by_two
+        ≡ cond (fetching && is_ok reply) (with_version version x by_two)
+        (cond (is_some (cond fetching (held_after_fetch rev reply before) (cond deleting None before))) by_two (with_version One x by_two))
     by true deleting rev (Ok bytes) = refl
     by true deleting rev (Err cause) = left before named
     by false true rev reply = refl
     by false false rev reply = left before named
 
 -- an application makes of the versions what the play says
-pub applied_by_play : (told : Option Contents) (place : List ℕ) (old new : WorldState) (applied : Applied) → (a : Applies told place old.replay new.replay applied) → AreHolders old.second old.replay.played.records
-    → second_after applied.outcome old.mapping applied.event.entity old.second
-    ≡ second_after_event old.mapping (λ _ _. a.reply) applied.event (record_of old.replay.played.records applied.event.entity) old.second
-applied_by_play told place old new applied a are =
+pub applied_by_play : (known : Option Contents) (folder : List ℕ) (old new : WorldState) (applied : Applied) → (a : Applies known folder old.replay new.replay applied) → AreHolders old.by_two old.replay.played.records
+    → by_two_after applied.outcome old.mapping applied.event.entity old.by_two
+    ≡ by_two_after_event old.mapping (λ _ _. a.reply) applied.event (record_of old.replay.played.records applied.event.entity) old.by_two
+applied_by_play known folder old new applied a are =
     let e : Event = applied.event in
     let r : Record Bytes = record_of old.replay.played.records e.entity in
-    ap (λ (o : Outcome). second_after o old.mapping e.entity old.second) a.outcome
-    ∙ by_outcome old.mapping e.entity old.second r.held (are.holding e.entity) (wants (state_after r.state e) (held_revision r.held)) (is_deleted (state_after r.state e).mode)
+    ap (λ (o : Outcome). by_two_after o old.mapping e.entity old.by_two) a.outcome
+    ∙ by_outcome old.mapping e.entity old.by_two r.held (are.holding e.entity) (wants (state_after r.state e) (held_revision r.held)) (is_deleted (state_after r.state e).mode)
     (state_after r.state e).rev a.reply
 
 -- and so does a change of the mapping
-pub remapped_by_play : (version : MappingVersion) (second : List EntityId) (records : Records) → AreHolders second records → second_remapped version records second ≡ all_by version records
-remapped_by_play version second records are = second-remapped version records second are.rising are.holding
+pub remapped_by_play : (version : MappingVersion) (by_two : List EntityId) (records : Records) → AreHolders by_two records → by_two_remapped version records by_two ≡ all_by version records
+remapped_by_play version by_two records are = by_two-remapped version records by_two are.rising are.holding
 
 -- where all hold by one version, those that are named hold
 all_are_holders : (version : MappingVersion) (records : Records) → AreHolders (all_by version records) records
@@ -83,17 +83,17 @@ all_are_holders One records = record { rising = tt; holding = λ x there. absurd
 all_are_holders Two records = record { rising = holders-rise records; holding = λ x there. sym (has-holders records x) ∙ there }
 
 -- after an application all that is held is mapped by the version by which all was
-pub applied_by_one : (told : Option Contents) (place : List ℕ) (old new : WorldState) (applied : Applied) → Applies told place old.replay new.replay applied → new.mapping ≡ old.mapping
-    → new.second ≡ second_after applied.outcome old.mapping applied.event.entity old.second → old.second ≡ all_by old.mapping old.replay.played.records → new.second ≡ all_by new.mapping new.replay.played.records
-applied_by_one told place old new applied a same second one =
-    let are : AreHolders old.second old.replay.played.records = subst (λ xs. AreHolders xs old.replay.played.records) (sym one) (all_are_holders old.mapping old.replay.played.records) in
-    second ∙ applied_by_play told place old new applied a are
-    ∙ ap (second_after_event old.mapping (λ _ _. a.reply) applied.event (record_of old.replay.played.records applied.event.entity)) one
-    ∙ second-event old.mapping (λ _ _. a.reply) old.replay.played applied.event
+pub applied_by_one : (known : Option Contents) (folder : List ℕ) (old new : WorldState) (applied : Applied) → Applies known folder old.replay new.replay applied → new.mapping ≡ old.mapping
+    → new.by_two ≡ by_two_after applied.outcome old.mapping applied.event.entity old.by_two → old.by_two ≡ all_by old.mapping old.replay.played.records → new.by_two ≡ all_by new.mapping new.replay.played.records
+applied_by_one known folder old new applied a same by_two one =
+    let are : AreHolders old.by_two old.replay.played.records = subst (λ xs. AreHolders xs old.replay.played.records) (sym one) (all_are_holders old.mapping old.replay.played.records) in
+    by_two ∙ applied_by_play known folder old new applied a are
+    ∙ ap (by_two_after_event old.mapping (λ _ _. a.reply) applied.event (record_of old.replay.played.records applied.event.entity)) one
+    ∙ by_two-event old.mapping (λ _ _. a.reply) old.replay.played applied.event
     ∙ ap (λ (w : ReplayState). all_by old.mapping w.played.records) (sym a.new_is) ∙ ap (λ v. all_by v new.replay.played.records) (sym same)
 
 -- where nothing was played, nobody is named
-pub none_named : (second : List EntityId) → AreHolders second nothing_played.records → second ≡ []
+pub none_named : (by_two : List EntityId) → AreHolders by_two nothing_played.records → by_two ≡ []
 none_named [] are = refl
 none_named (x ∷ xs) are =
     let held : is_holder nothing_played.records x ≡ true = are.holding x (has_itself entity_cmp_total x xs) in

@@ -18,7 +18,7 @@ use Rattle.replay_model.specs.Records.{Bytes, Records, record_of}
 use Rattle.replay_model.specs.Union.{Meaning, triples_at, triples_held, owners}
 use Rattle.replay_model.proofs.Owners.{owners-change}
 use Rattle.replay_model.proofs.Versions.{owners-agree}
-use Rattle.world.specs.InStep.{IsCounted}
+use Rattle.world.specs.InStep.{CountsOwners}
 use Rattle.world.proofs.Pieced.{id_tells}
 
 record_here : (records : Records) (x : EntityId) (r : Record Bytes) (y : EntityId) → eq_by_cmp entity_cmp y x ≡ true → record_of (map.insert records x r) y ≡ r
@@ -82,8 +82,8 @@ module _ (m n : Meaning Triple) (x : EntityId) (agree : (y : EntityId) → y ≢
       by y (Some h) e = absurd (true≢false (ap is_some e))
 
   -- the counts follow the record of an entity
-  pub counted_moved : (c d : Counts) (records : Records) (r : Record Bytes) → IsCounted m c records
-      → Exchanges c d (triples_held m x (record_of records x).held) (triples_held n x r.held) → IsCounted n d (map.insert records x r)
+  pub counted_moved : (c d : Counts) (records : Records) (r : Record Bytes) → CountsOwners m c records
+      → Exchanges c d (triples_held m x (record_of records x).held) (triples_held n x r.held) → CountsOwners n d (map.insert records x r)
   counted_moved c d records r h moves = record {
     owned = λ t.
         let was : count_of c t ≡ owners triple_cmp m records t = h.owned t in
@@ -94,14 +94,14 @@ module _ (m n : Meaning Triple) (x : EntityId) (agree : (y : EntityId) → y ≢
   }
 
 -- a triple has no more owners than there are records
-pub countable : (m : Meaning Triple) (counts : Counts) (records : Records) (n : ℕ) → IsCounted m counts records → map.len records < n → (t : Triple) → count_of counts t < n
+pub countable : (m : Meaning Triple) (counts : Counts) (records : Records) (n : ℕ) → CountsOwners m counts records → map.len records < n → (t : Triple) → count_of counts t < n
 countable m counts records n h few t =
     let owned : owners triple_cmp m records t ≤ map.len records = few_owners m records t in
     let same : count_of counts t ≡ owners triple_cmp m records t = h.owned t in
     omega arith
 
 -- without records no triple has an owner
-pub none_counted : (m : Meaning Triple) → IsCounted m map.empty map.empty
+pub none_counted : (m : Meaning Triple) → CountsOwners m map.empty map.empty
 none_counted m = record {
   owned = λ t.
       let few : owners triple_cmp m map.empty t ≤ map.len map.empty = few_owners m map.empty t in

@@ -19,17 +19,17 @@ use Rattle.triple_store.specs.Stored.{Changes}
 use Rattle.replay_model.specs.Records.{Bytes, Records, record_of}
 use Rattle.replay_model.specs.Union.{Meaning, owners, triples_held}
 use Rattle.world.specs.declared.kept.Kept.{Kept}
-use Rattle.world.specs.InStep.{IsCounted, IsHeld, IsKept, triples_kept}
-use Rattle.world.specs.Keeping.{Frees, KeptRecords, PieceTexts, held_with, kept_of, keys_held, piece_at, piece_held, record_with, seen}
+use Rattle.world.specs.InStep.{CountsOwners, IsHeld, IsKept, triples_kept}
+use Rattle.world.specs.Keeping.{FreesPiece, KeptRecords, PieceTexts, held_with, kept_of, keys_held, piece_at, piece_held, record_with, seen}
 use Rattle.world.proofs.Moving.{held_same, kept_here, kept_other, kept_put, keys_moved, keys_same, keys_stay, seen_again, seen_of, seen_put}
 use Rattle.world.proofs.Owning.{has_owner}
 use Rattle.world.proofs.Pieced.{beside as others_text, held_again, id_tells, moved_held}
 
-freed_other : (old : Option Piece) (f k : PieceTexts) → Frees old f k → (p : Piece) → old ≢ Some p → k p ≡ f p
+freed_other : (old : Option Piece) (f k : PieceTexts) → FreesPiece old f k → (p : Piece) → old ≢ Some p → k p ≡ f p
 freed_other None f k h p other = h p
 freed_other (Some q) f k h p other = h.others p (λ e. other (ap (λ z. Some z) (sym e)))
 
-freed_gone : (old : Option Piece) (f k : PieceTexts) → Frees old f k → (p : Piece) → old ≡ Some p → k p ≡ None
+freed_gone : (old : Option Piece) (f k : PieceTexts) → FreesPiece old f k → (p : Piece) → old ≡ Some p → k p ≡ None
 freed_gone None f k h p is = absurd (true≢false (sym (ap is_some is)))
 freed_gone (Some q) f k h p is = let same : q ≡ p = cc in ap k (sym same) ∙ h.is
 
@@ -57,7 +57,7 @@ module _ (m m2 : Meaning Triple) (x : EntityId) (agree : (y : EntityId) → y �
     (s s2 s3 : StoreState) (kept : KeptRecords) (n : Record Kept) (h : IsKept m s kept)
     (middle : (p : Piece) → piece_held n.held ≢ Some p → beside s2 p ≡ beside s p)
     (fresh : (p : Piece) → piece_held n.held ≡ Some p → (beside s p ≡ None) × (is_some (beside s2 p) ≡ true))
-    (freed : Frees (piece_at kept x) (beside s2) (beside s3)) where
+    (freed : FreesPiece (piece_at kept x) (beside s2) (beside s3)) where
   after_is : piece_at (map.insert kept x n) x ≡ piece_held n.held
   after_is = ap (λ (was : Record Kept). piece_held was.held) (kept_here kept x n)
 
@@ -113,7 +113,7 @@ module _ (m m2 : Meaning Triple) (x : EntityId) (agree : (y : EntityId) → y �
     (texts : (p : Piece) → beside s2 p ≡ beside s1 p)
     (counts : counts_in s3 ≡ counts_in s2)
     (put_kept : (key : Key) (t : Triple) → HasKey s2 key t → HasKey s3 key t)
-    (freed : Frees (piece_at kept x) (beside s2) (beside s3)) where
+    (freed : FreesPiece (piece_at kept x) (beside s2) (beside s3)) where
   page_middle : (p : Piece) → Some content.piece ≢ Some p → beside s2 p ≡ beside s p
   page_middle p other = texts p ∙ placed.others p (λ e. other (ap (λ z. Some z) (sym e)))
 
@@ -160,8 +160,8 @@ pub kept_refused : (m : Meaning Triple) (s s2 : StoreState) (kept : KeptRecords)
     → KeepsKeys s s2 → ((p : Piece) → beside s2 p ≡ beside s p) → IsKept m s2 kept
 kept_refused m s s2 kept h sound counts keeps texts = record {
   sound = sound;
-  counted = subst (λ (c : Counts). IsCounted m c (seen s2 kept)) (sym counts)
-      (subst (λ (records : Records). IsCounted m (counts_in s) records) (sym (seen_again (beside s) (beside s2) kept texts)) h.counted);
+  counted = subst (λ (c : Counts). CountsOwners m c (seen s2 kept)) (sym counts)
+      (subst (λ (records : Records). CountsOwners m (counts_in s) records) (sym (seen_again (beside s) (beside s2) kept texts)) h.counted);
   held = held_again (beside s) (beside s2) (piece_at kept) (piece_at kept) h.held texts (λ _. refl);
   keyed = λ x.
       let same : triples_kept m (beside s2) kept x ≡ triples_kept m (beside s) kept x =
@@ -207,7 +207,7 @@ module _ (m m2 : Meaning Triple) (x : EntityId) (agree : (y : EntityId) → y �
     (s s2 s3 : StoreState) (kept : KeptRecords) (state : State) (reconciled : Option Event)
     (h : IsKept m s kept)
     (texts : (p : Piece) → beside s2 p ≡ beside s p)
-    (freed : Frees (piece_at kept x) (beside s2) (beside s3)) where
+    (freed : FreesPiece (piece_at kept x) (beside s2) (beside s3)) where
   abbrev empty_record : Record Kept
   empty_record = record { state = state; held = None; reconciled = reconciled }
 

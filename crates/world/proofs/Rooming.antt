@@ -29,7 +29,7 @@ use Rattle.world.specs.declared.applied.Outcome.TheVariants.{Dropped, Same, Stor
 use Rattle.world.specs.Applying.{outcome_after, outcome_of_reply}
 use Rattle.replay_model.specs.Union.{Meaning, triples_at, triples_held, union}
 use Rattle.replay_model.proofs.Owners.{has-union, union-rises}
-use Rattle.world.specs.InStep.{IsCounted, IsKept}
+use Rattle.world.specs.InStep.{CountsOwners, IsKept}
 use Rattle.world.specs.Keeping.{KeptRecords, record_with, seen}
 use Rattle.world.specs.Meaning.{meaning}
 use Rattle.world.specs.Roomed.{HasRoom, room_with, triples_of_reply}
@@ -46,7 +46,7 @@ stored counts t h = by (map.get counts t) (h t)
     by (Some n) some = sym (lt-ltb 0 n (some refl))
 
 -- the stored triples are the union
-counted_union : (m : Meaning Triple) (counts : Counts) (records : Records) → HaveOwners counts → IsCounted m counts records → map.keys counts ≡ union triple_cmp m records
+counted_union : (m : Meaning Triple) (counts : Counts) (records : Records) → HaveOwners counts → CountsOwners m counts records → map.keys counts ≡ union triple_cmp m records
 counted_union m counts records owned h =
     same_rising triple_cmp-total triple_cmp-IsAntisymmetric (map.keys counts) (union triple_cmp m records)
     (rising_keys triple_cmp (map.entries counts) (map.entries_sorted counts))
@@ -109,8 +109,8 @@ no_triples m s kept h none =
     map.len-entries (counts_in s) ∙ sym (length-map (map.entries (counts_in s)) (λ e. e.0)) ∙ ap length keys
 
 -- without records nothing needs room
-pub nothing_held : (m : Meaning Triple) (records : Records) (room : ℕ) → map.len records ≡ 0 → HasRoom m room records
-nothing_held m records room none =
+pub nothing_held : (m : Meaning Triple) (records : Records) (limit : ℕ) → map.len records ≡ 0 → HasRoom m limit records
+nothing_held m records limit none =
     let entries : map.entries records ≡ [] = no_entries (map.entries records) (sym (map.len-entries records) ∙ none) in
     let zero : room_with m records [] ≡ 0 = ap (λ es. distinct (flat_map terms_of (sorted triple_cmp (flat_map (triples_at m) es) ++ []))) entries in
     omega arith

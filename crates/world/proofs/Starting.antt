@@ -15,7 +15,7 @@ use Rattle.entity_json.specs.Document.{unfit_of}
 use Rattle.replay_model.specs.Records.{Bytes, Records, record_of}
 use Rattle.replay_model.specs.Replies.{HoldsDocument}
 use Rattle.world.specs.declared.kept.Kept.{Kept}
-use Rattle.world.specs.InStep.{IsCounted, IsKept}
+use Rattle.world.specs.InStep.{CountsOwners, IsKept}
 use Rattle.world.specs.Keeping.{KeptRecords, held_with, kept_of, keys_held, piece_at, piece_held, record_with, seen}
 use Rattle.replay_model.specs.Union.{Meaning, triples_held}
 use Rattle.world.proofs.Owning.{none_counted}
@@ -31,8 +31,8 @@ none_kept x = ap (λ o. unwrap_or o blank) (map.get-empty entity_cmp x)
 nothing_kept : (m : Meaning Triple) (s : StoreState) → IsSound s → counts_in s ≡ map.empty → ((p : Piece) → beside s p ≡ None) → IsKept m s map.empty
 nothing_kept m s sound counts texts = record {
   sound = sound;
-  counted = subst (λ (c : Counts). IsCounted m c (seen s map.empty)) (sym counts)
-      (subst (λ (records : Records). IsCounted m map.empty records) (sym (seen_nothing s map.empty refl)) (none_counted m));
+  counted = subst (λ (c : Counts). CountsOwners m c (seen s map.empty)) (sym counts)
+      (subst (λ (records : Records). CountsOwners m map.empty records) (sym (seen_nothing s map.empty refl)) (none_counted m));
   held = record {
     live = λ x p is. absurd (none x p is);
     once = λ x y p is _. absurd (none x p is);
@@ -48,16 +48,16 @@ nothing_kept m s sound counts texts = record {
 pub starts : (m : Meaning Triple) (s : StoreState) (kept : KeptRecords) → IsSound s → counts_in s ≡ map.empty → ((p : Piece) → beside s p ≡ None) → kept ≡ map.empty → IsKept m s kept
 starts m s kept sound counts texts none = subst (IsKept m s) (sym none) (nothing_kept m s sound counts texts)
 
-pub started : (s : StoreState) (kept : KeptRecords) (second : List EntityId) (limit : ℕ) → kept ≡ map.empty → second ≡ [] → limit_of s ≡ limit
-    → ◌≡◌ {A = HoldingsState} (record { records = seen s kept; limit = limit_of s; second = second }) (record { records = map.empty; limit = limit; second = [] })
-started s kept second limit none no_second is i = record { records = seen_nothing s kept none i; limit = is i; second = no_second i }
+pub started : (s : StoreState) (kept : KeptRecords) (by_two : List EntityId) (limit : ℕ) → kept ≡ map.empty → by_two ≡ [] → limit_of s ≡ limit
+    → ◌≡◌ {A = HoldingsState} (record { records = seen s kept; limit = limit_of s; by_two = by_two }) (record { records = map.empty; limit = limit; by_two = [] })
+started s kept by_two limit none none_by_two is i = record { records = seen_nothing s kept none i; limit = is i; by_two = none_by_two i }
 
 -- and no entity holds a page
-pub none_by : (ids : ByVersion) (kept : KeptRecords) → ids ≡ record { first = []; second = [] } → kept ≡ map.empty → AreBy ids kept
+pub none_by : (ids : ByVersion) (kept : KeptRecords) → ids ≡ record { by_one = []; by_two = [] } → kept ≡ map.empty → AreBy ids kept
 none_by ids kept no_ids none =
-    subst (λ (i : ByVersion). AreBy i kept) (sym no_ids) (subst (AreBy (record { first = []; second = [] })) (sym none) (record {
-      first_rises = tt;
-      second_rises = tt;
+    subst (λ (i : ByVersion). AreBy i kept) (sym no_ids) (subst (AreBy (record { by_one = []; by_two = [] })) (sym none) (record {
+      by_one_rises = tt;
+      by_two_rises = tt;
       each = λ x. sym (ap (λ (was : Record Kept). is_some was.held) (none_kept x));
       once = λ x _. refl;
     }))

@@ -23,12 +23,12 @@ use Rattle.replay_model.specs.Versions.{is_holder, meaning_by, version_at, with_
 use Rattle.world.specs.declared.kept.Kept.{Kept}
 use Rattle.world.specs.Holders.{AreBy, ByVersion}
 use Rattle.world.specs.InStep.{AreInStep, IsKept}
-use Rattle.world.specs.Keeping.{Frees, KeptRecords, held_keys, held_with, kept_of, keys_held, piece_at, seen, with_keys}
+use Rattle.world.specs.Keeping.{FreesPiece, KeptRecords, held_keys, held_with, kept_of, keys_held, piece_at, seen, with_keys}
 use Rattle.world.specs.Meaning.{meaning}
 use Rattle.world.proofs.Anew.{anew_kept, anew_seen}
 use Rattle.world.specs.Roomed.{HasRoom}
 use Rattle.world.specs.WorldState.{AreHolders}
-use Rattle.world.proofs.ByVersion.{by_drop, by_keep, by_put, meaning_other, moved_out, moved_second, moved_to, second_holds, version_own}
+use Rattle.world.proofs.ByVersion.{by_drop, by_keep, by_put, meaning_other, moved_out, moved_by_two, moved_to, by_two_holds, version_own}
 use Rattle.world.proofs.Moving.{seen_of}
 use Rattle.world.proofs.Rooming.{room_held}
 use Rattle.world.proofs.Replacing.{came, came_seen, stayed, went, went_seen, with_bytes, with_page}
@@ -39,17 +39,17 @@ some_keys (Some h) keys is = refl
 
 module _ (s : StoreState) (ids : ByVersion) (kept : KeptRecords) (x : EntityId) (h : AreInStep s ids kept) where
   abbrev before : Meaning Triple
-  before = meaning_by meaning ids.second
+  before = meaning_by meaning ids.by_two
 
   -- the meaning once the entity holds by a version
   abbrev after : MappingVersion → Meaning Triple
-  after v = meaning_by meaning (with_version v x ids.second)
+  after v = meaning_by meaning (with_version v x ids.by_two)
 
   agree : (v : MappingVersion) (y : EntityId) → y ≢ x → (rev : ℕ) (bytes : Bytes) → after v y rev bytes ≡ before y rev bytes
-  agree v = meaning_other ids.second h.by.second_rises x meaning v
+  agree v = meaning_other ids.by_two h.by.by_two_rises x meaning v
 
-  own : (v : MappingVersion) → version_at (with_version v x ids.second) x ≡ v
-  own v = version_own ids.second h.by.second_rises x v
+  own : (v : MappingVersion) → version_at (with_version v x ids.by_two) x ≡ v
+  own v = version_own ids.by_two h.by.by_two_rises x v
 
   own_held : (v : MappingVersion) (held : Option (Held Bytes)) → triples_held (after v) x held ≡ triples_held (meaning v) x held
   own_held v None = refl
@@ -58,7 +58,7 @@ module _ (s : StoreState) (ids : ByVersion) (kept : KeptRecords) (x : EntityId) 
   stepped : (ids2 : ByVersion) (v : MappingVersion) (s2 : StoreState) (all : KeptRecords) → ids2 ≡ moved_to ids x v → IsKept (after v) s2 all → AreBy (moved_to ids x v) all → AreInStep s2 ids2 all
   stepped ids2 v s2 all is now by =
       subst (λ i. AreInStep s2 i all) (sym is) (record {
-        kept = subst (λ (s : List EntityId). IsKept (meaning_by meaning s) s2 all) (sym (moved_second ids x v)) now;
+        kept = subst (λ (s : List EntityId). IsKept (meaning_by meaning s) s2 all) (sym (moved_by_two ids x v)) now;
         by = by;
       })
 
@@ -71,7 +71,7 @@ module _ (s : StoreState) (ids : ByVersion) (kept : KeptRecords) (x : EntityId) 
       (texts : (p : Piece) → beside s2 p ≡ beside s1 p)
       (counts : counts_in s3 ≡ counts_in s2)
       (put_kept : (key : Key) (t : Triple) → HasKey s2 key t → HasKey s3 key t)
-      (freed : Frees (piece_at kept x) (beside s2) (beside s3)) where
+      (freed : FreesPiece (piece_at kept x) (beside s2) (beside s3)) where
     -- the records after a page came
     pub page_seen : seen s3 (map.insert kept x (with_page state reconciled rev content)) ≡ map.insert (seen s kept) x (with_bytes state reconciled rev bytes)
     page_seen = came_seen before (after v) x (agree v) s s1 s2 s3 kept state reconciled rev content bytes ts old h.kept placed place_kept place_counts keeps texts counts put_kept freed
@@ -92,7 +92,7 @@ module _ (s : StoreState) (ids : ByVersion) (kept : KeptRecords) (x : EntityId) 
 
   module _ (s2 s3 : StoreState) (state : State) (reconciled : Option Event)
       (texts : (p : Piece) → beside s2 p ≡ beside s p)
-      (freed : Frees (piece_at kept x) (beside s2) (beside s3)) where
+      (freed : FreesPiece (piece_at kept x) (beside s2) (beside s3)) where
     abbrev without : Record Kept
     without = record { state = state; held = None; reconciled = reconciled }
 
@@ -153,9 +153,9 @@ links s kept x = ap (λ (was : Record Bytes). is_some was.held) (seen_of (beside
     by (Some h) = refl
 
 -- what is held has room
-pub has_room : (s : StoreState) (ids : ByVersion) (kept : KeptRecords) → AreInStep s ids kept → HasRoom (meaning_by meaning ids.second) (limit_of s) (seen s kept)
-has_room s ids kept h = room_held (meaning_by meaning ids.second) s kept h.kept
+pub has_room : (s : StoreState) (ids : ByVersion) (kept : KeptRecords) → AreInStep s ids kept → HasRoom (meaning_by meaning ids.by_two) (limit_of s) (seen s kept)
+has_room s ids kept h = room_held (meaning_by meaning ids.by_two) s kept h.kept
 
 -- those of version Two hold
-pub are_holders : (s : StoreState) (ids : ByVersion) (kept : KeptRecords) → AreInStep s ids kept → AreHolders ids.second (seen s kept)
-are_holders s ids kept h = second_holds ids kept (seen s kept) h.by (links s kept)
+pub are_holders : (s : StoreState) (ids : ByVersion) (kept : KeptRecords) → AreInStep s ids kept → AreHolders ids.by_two (seen s kept)
+are_holders s ids kept h = by_two_holds ids kept (seen s kept) h.by (links s kept)

@@ -30,10 +30,10 @@ IsJudged x bytes (Err (NoDocument unfit)) = unfit_of x bytes ≡ Some unfit
 -- the reply is one that a source may give to the fetch of a revision of x: a document of x, or why there is none;
 -- where the source tells what it has, the reply agrees with it, and only a failure may come without regard to it
 abbrev pub IsReply : Option Contents → List ℕ → EntityId → ℕ → Result Bytes Cause → Type 0
-IsReply told place x r (Ok bytes) = (unfit_of x bytes ≡ None) × IfSome told (λ there. there place r ≡ Some bytes)
-IsReply told place x r (Err Missing) = IfSome told (λ there. there place r ≡ None)
-IsReply told place x r (Err Failed) = ⊤
-IsReply told place x r (Err (NoDocument unfit)) = IfSome told (λ there. HasUnfit unfit_of x unfit (there place r))
+IsReply known folder x r (Ok bytes) = (unfit_of x bytes ≡ None) × IfSome known (λ there. there folder r ≡ Some bytes)
+IsReply known folder x r (Err Missing) = IfSome known (λ there. there folder r ≡ None)
+IsReply known folder x r (Err Failed) = ⊤
+IsReply known folder x r (Err (NoDocument unfit)) = IfSome known (λ there. HasUnfit unfit_of x unfit (there folder r))
 
 -- what a fetch's reply leads to
 abbrev pub outcome_of_reply : Result Bytes Cause → Outcome
@@ -49,10 +49,10 @@ abbrev pub outcome_after : Record Bytes → Event → Result Bytes Cause → Out
 outcome_after r e reply = outcome_of (state_after r.state e) (held_revision r.held) reply
 
 -- the least due event was applied, with this reply to its fetch if it made one
-pub record Applies (told : Option Contents) (place : List ℕ) (old new : ReplayState) (applied : Applied) : Type 0 where
+pub record Applies (known : Option Contents) (folder : List ℕ) (old new : ReplayState) (applied : Applied) : Type 0 where
   pub due : first_due old.buffer ≡ Some applied.event
   pub reply : Result Bytes Cause
-  pub is_reply : IsReply told place applied.event.entity (state_after (record_of old.played.records applied.event.entity).state applied.event).rev reply
+  pub is_reply : IsReply known folder applied.event.entity (state_after (record_of old.played.records applied.event.entity).state applied.event).rev reply
   pub new_is : new ≡ record { buffer = after_dropping old.buffer; played = apply (λ e r. reply) old.played applied.event }
   pub outcome : applied.outcome ≡ outcome_after (record_of old.played.records applied.event.entity) applied.event reply
 

@@ -43,16 +43,16 @@ terms_code = coded× coded_ℕ (coded× (mapping_version.the_row).coded (coded_l
 abbrev pub holdings_code : Coded HoldingsState
 holdings_code =
     code_by (Records × (ℕ × List EntityId)) (coded× (map.code (entity_id.the_row).coded (record_code (coded_list coded_ℕ))) (coded× coded_ℕ (coded_list (entity_id.the_row).coded)))
-    (λ h. (h.records, (h.limit, h.second))) (λ c. record { records = c.0; limit = c.1.0; second = c.1.1 }) (λ _. refl)
+    (λ h. (h.records, (h.limit, h.by_two))) (λ c. record { records = c.0; limit = c.1.0; by_two = c.1.1 }) (λ _. refl)
 
 -- all of it
 abbrev pub world_code : Coded WorldState
 world_code =
     code_by (ReplayState × (ℕ × (MappingVersion × List EntityId))) (coded× state_code terms_code)
-    (λ w. (w.replay, (w.room, (w.mapping, w.second)))) (λ c. record { replay = c.0; room = c.1.0; mapping = c.1.1.0; second = c.1.1.1 }) (λ _. refl)
+    (λ w. (w.replay, (w.limit, (w.mapping, w.by_two)))) (λ c. record { replay = c.0; limit = c.1.0; mapping = c.1.1.0; by_two = c.1.1.1 }) (λ _. refl)
 
 -- the entities that hold, by version
 abbrev pub holders_code : Coded ByVersion
 holders_code =
     code_by (List EntityId × List EntityId) (coded× (coded_list (entity_id.the_row).coded) (coded_list (entity_id.the_row).coded))
-    (λ h. (h.first, h.second)) (λ c. record { first = c.0; second = c.1 }) (λ _. refl)
+    (λ h. (h.first, h.by_two)) (λ c. record { first = c.0; by_two = c.1 }) (λ _. refl)

@@ -12,8 +12,8 @@ use Rattle.world.specs.Keeping.{KeptRecords, kept_of}
 
 -- the entities that hold by version One, and those that hold by version Two
 pub record ByVersion : Type 0 where
-  pub first : List EntityId
-  pub second : List EntityId
+  pub by_one : List EntityId
+  pub by_two : List EntityId
 
 -- the version that isn't this one
 abbrev pub other_version : MappingVersion → MappingVersion
@@ -22,22 +22,22 @@ other_version Two = One
 
 -- those that hold by a version
 abbrev pub held_by : ByVersion → MappingVersion → List EntityId
-held_by ids One = ids.first
-held_by ids Two = ids.second
+held_by ids One = ids.by_one
+held_by ids Two = ids.by_two
 
 -- with x among those that hold by a version
 abbrev pub with_holder : ByVersion → EntityId → MappingVersion → ByVersion
-with_holder ids x One = record ids { first = insert_key entity_cmp ids.first x }
-with_holder ids x Two = record ids { second = insert_key entity_cmp ids.second x }
+with_holder ids x One = record ids { by_one = insert_key entity_cmp ids.by_one x }
+with_holder ids x Two = record ids { by_two = insert_key entity_cmp ids.by_two x }
 
 -- without x among those that hold by a version
 abbrev pub without_holder : ByVersion → EntityId → MappingVersion → ByVersion
-without_holder ids x One = record ids { first = remove_key (eq_by_cmp entity_cmp x) ids.first }
-without_holder ids x Two = record ids { second = remove_key (eq_by_cmp entity_cmp x) ids.second }
+without_holder ids x One = record ids { first = remove_key (eq_by_cmp entity_cmp x) ids.by_one }
+without_holder ids x Two = record ids { by_two = remove_key (eq_by_cmp entity_cmp x) ids.by_two }
 
 -- each entity that holds a document is named once, by one version, and no other is
 pub record AreBy (ids : ByVersion) (kept : KeptRecords) : Type 0 where
-  pub first_rises : IsRising entity_cmp ids.first
-  pub second_rises : IsRising entity_cmp ids.second
-  pub each : (x : EntityId) → (has entity_cmp x ids.first || has entity_cmp x ids.second) ≡ is_some (kept_of kept x).held
-  pub once : (x : EntityId) → has entity_cmp x ids.second ≡ true → has entity_cmp x ids.first ≡ false
+  pub by_one_rises : IsRising entity_cmp ids.by_one
+  pub by_two_rises : IsRising entity_cmp ids.by_two
+  pub each : (x : EntityId) → (has entity_cmp x ids.by_one || has entity_cmp x ids.by_two) ≡ is_some (kept_of kept x).held
+  pub once : (x : EntityId) → has entity_cmp x ids.by_two ≡ true → has entity_cmp x ids.by_one ≡ false

@@ -14,7 +14,7 @@ use Rattle.world.specs.Keeping.{KeptRecords, PieceTexts, held_with, kept_of, key
 use Rattle.world.specs.Meaning.{meaning}
 
 -- the count of each triple is the number of the entities that hold it
-pub record IsCounted (m : Meaning Triple) (counts : Counts) (records : Records) : Type 0 where
+pub record CountsOwners (m : Meaning Triple) (counts : Counts) (records : Records) : Type 0 where
   pub owned : (t : Triple) → count_of counts t ≡ owners triple_cmp m records t
 
 -- what each entity holds has a piece of its own, and no other piece is live
@@ -31,11 +31,11 @@ triples_kept m text kept x = triples_held m x (held_with text (kept_of kept x).h
 -- of each held page are those of its triples
 pub record IsKept (m : Meaning Triple) (store : StoreState) (kept : KeptRecords) : Type 0 where
   pub sound : IsSound store
-  pub counted : IsCounted m (counts_in store) (seen store kept)
+  pub counted : CountsOwners m (counts_in store) (seen store kept)
   pub held : IsHeld (beside store) (piece_at kept)
   pub keyed : (x : EntityId) → AreKeysOf store (keys_held (kept_of kept x).held) (triples_kept m (beside store) kept x)
 
 -- the same where each document means what it means by the version that its entity is named by
 pub record AreInStep (store : StoreState) (ids : ByVersion) (entities : KeptRecords) : Type 0 where
-  pub kept : IsKept (meaning_by meaning ids.second) store entities
+  pub kept : IsKept (meaning_by meaning ids.by_two) store entities
   pub by : AreBy ids entities

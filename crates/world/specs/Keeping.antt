@@ -69,6 +69,6 @@ abbrev pub piece_at : KeptRecords → EntityId → Option Piece
 piece_at kept x = piece_held (kept_of kept x).held
 
 -- the piece, if there is one, has no text any more, and every other has what it had
-abbrev pub Frees : Option Piece → PieceTexts → PieceTexts → Type 0
-Frees None old new = (piece : Piece) → new piece ≡ old piece
-Frees (Some gone) old new = Changes old new gone (old gone) None
+abbrev pub FreesPiece : Option Piece → PieceTexts → PieceTexts → Type 0
+FreesPiece None old new = (piece : Piece) → new piece ≡ old piece
+FreesPiece (Some gone) old new = Changes old new gone (old gone) None

@@ -25,7 +25,7 @@ room_with held records triples = distinct (flat_map terms_of (union triple_cmp h
 
 -- the triples of all that is held have no more different terms than there may be
 abbrev pub HasRoom : Meaning Triple → ℕ → Records → Type 0
-HasRoom held room records = room_with held records [] ≤ room
+HasRoom held limit records = room_with held records [] ≤ limit
 
 -- the triples that a reply brings
 abbrev pub triples_of_reply : MappingVersion → EntityId → ℕ → Result Bytes Cause → List Triple
@@ -36,13 +36,13 @@ triples_of_reply mapping x rev (Err cause) = []
 pub record Overfills (old : HoldingsState) (mapping : MappingVersion) (x : EntityId) (rev : ℕ) (reply : Result Bytes Cause) : Type 0 where
   pub bytes : Bytes
   pub is : reply ≡ Ok bytes
-  pub over : old.limit < room_with (meaning_by meaning old.second) old.records (meaning mapping x rev bytes)
+  pub over : old.limit < room_with (meaning_by meaning old.by_two) old.records (meaning mapping x rev bytes)
 
 -- the least due event wants a page that a source may give, and for whose triples there is no room
-pub record IsOverfull (told : Option Contents) (place : List ℕ) (old : WorldState) : Type 0 where
+pub record IsOverfull (known : Option Contents) (folder : List ℕ) (old : WorldState) : Type 0 where
   pub event : Event
   pub due : first_due old.replay.buffer ≡ Some event
   pub wanted : standing_wants (standing_after (standing_of (record_of old.replay.played.records event.entity)) event) ≡ true
   pub bytes : Bytes
-  pub is_reply : IsReply told place event.entity (state_after (record_of old.replay.played.records event.entity).state event).rev (Ok bytes)
-  pub over : old.room < room_with (meaning_by meaning old.second) old.replay.played.records (meaning old.mapping event.entity (state_after (record_of old.replay.played.records event.entity).state event).rev bytes)
+  pub is_reply : IsReply known folder event.entity (state_after (record_of old.replay.played.records event.entity).state event).rev (Ok bytes)
+  pub over : old.limit < room_with (meaning_by meaning old.by_two) old.replay.played.records (meaning old.mapping event.entity (state_after (record_of old.replay.played.records event.entity).state event).rev bytes)

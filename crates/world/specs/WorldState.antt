@@ -22,7 +22,7 @@ use Rattle.world.specs.declared.applied.Outcome.TheVariants.{Same, Stored, Dropp
 pub record HoldingsState : Type 0 where
   pub records : Records
   pub limit : ℕ
-  pub second : List EntityId
+  pub by_two : List EntityId
 
 -- with the side output
 abbrev pub played_of : HoldingsState → List Entry → Played
@@ -32,21 +32,21 @@ played_of held side = record { records = held.records; side = side }
 -- version Two
 pub record WorldState : Type 0 where
   pub replay : ReplayState
-  pub room : ℕ
+  pub limit : ℕ
   pub mapping : MappingVersion
-  pub second : List EntityId
+  pub by_two : List EntityId
 
 -- the triples of all that is held, each by the version that its entity's document is mapped by
 abbrev pub stored_in : HoldingsState → List Triple
-stored_in held = union triple_cmp (meaning_by meaning held.second) held.records
+stored_in held = union triple_cmp (meaning_by meaning held.by_two) held.records
 
 abbrev pub stored_of : WorldState → List Triple
-stored_of w = union triple_cmp (meaning_by meaning w.second) w.replay.played.records
+stored_of w = union triple_cmp (meaning_by meaning w.by_two) w.replay.played.records
 
 -- these entities, in rising order, hold a document each
-pub record AreHolders (second : List EntityId) (records : Records) : Type 0 where
-  pub rising : IsRising entity_cmp second
-  pub holding : (x : EntityId) → has entity_cmp x second ≡ true → is_holder records x ≡ true
+pub record AreHolders (by_two : List EntityId) (records : Records) : Type 0 where
+  pub rising : IsRising entity_cmp by_two
+  pub holding : (x : EntityId) → has entity_cmp x by_two ≡ true → is_holder records x ≡ true
 
 -- whether two versions aren't the same
 abbrev pub differ : MappingVersion → MappingVersion → Bool
@@ -57,7 +57,7 @@ differ Two Two = false
 
 -- the holders whose documents aren't mapped by the version in force
 abbrev pub stale_by : MappingVersion → List EntityId → Records → List EntityId
-stale_by mapping second records = filter (λ x. differ mapping (version_at second x)) (holders records)
+stale_by mapping by_two records = filter (λ x. differ mapping (version_at by_two x)) (holders records)
 
 -- the first of a list
 abbrev pub first_of : {A : Type 0} → List A → Option A
@@ -66,26 +66,26 @@ first_of (x ∷ xs) = Some x
 
 -- the same for the entity that is there, if one is
 abbrev pub with_version_of : MappingVersion → Option EntityId → List EntityId → List EntityId
-with_version_of version None second = second
-with_version_of version (Some x) second = with_version version x second
+with_version_of version None by_two = by_two
+with_version_of version (Some x) by_two = with_version version x by_two
 
 -- the entities that hold by version Two after an application of an event of x by the version in force
-abbrev pub second_after : Outcome → MappingVersion → EntityId → List EntityId → List EntityId
-second_after Same mapping x second = second
-second_after Stored mapping x second = with_version mapping x second
-second_after Dropped mapping x second = with_version One x second
-second_after (Sided cause) mapping x second = second
+abbrev pub by_two_after : Outcome → MappingVersion → EntityId → List EntityId → List EntityId
+by_two_after Same mapping x by_two = by_two
+by_two_after Stored mapping x by_two = with_version mapping x by_two
+by_two_after Dropped mapping x by_two = with_version One x by_two
+by_two_after (Sided cause) mapping x by_two = by_two
 
 -- the version by which what x holds is mapped, if it holds a document
 abbrev pub version_in : List EntityId → Records → EntityId → Option MappingVersion
-version_in second records x = cond (is_holder records x) (Some (version_at second x)) None
+version_in by_two records x = cond (is_holder records x) (Some (version_at by_two x)) None
 
 abbrev pub held_version : WorldState → EntityId → Option MappingVersion
-held_version w x = version_in w.second w.replay.played.records x
+held_version w x = version_in w.by_two w.replay.played.records x
 
 -- the entities whose held version isn't the one in force, in rising order
 abbrev pub stale : WorldState → List EntityId
-stale w = stale_by w.mapping w.second w.replay.played.records
+stale w = stale_by w.mapping w.by_two w.replay.played.records
 
 -- the least of them
 abbrev pub next_stale : WorldState → Option EntityId
@@ -93,7 +93,7 @@ next_stale w = first_of (stale w)
 
 -- the least of them, if there is one, holds by the version in force now
 abbrev pub remapped : WorldState → WorldState
-remapped w = record w { second = with_version_of w.mapping (next_stale w) w.second }
+remapped w = record w { by_two = with_version_of w.mapping (next_stale w) w.by_two }
 
 -- what the document of an entity means, if there is one
 abbrev pub triples_of : Meaning Triple → Records → Option EntityId → List Triple

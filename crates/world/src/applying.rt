@@ -11,7 +11,7 @@ ghost use Rattle.world.specs.Changing.{Tells};
 ghost use Rattle.world.specs.Fetched.{AreMeant, reply_or_any};
 ghost use Rattle.world.specs.Meaning.{meaning};
 ghost use Rattle.world.specs.Roomed.{HasRoom, Overfills, room_with, triples_of_reply};
-ghost use Rattle.world.specs.WorldState.{AreHolders, played_of, second_after, stored_in};
+ghost use Rattle.world.specs.WorldState.{AreHolders, played_of, by_two_after, stored_in};
 
 use crate::applied::{Effect, Outcome};
 use crate::fetching::Reply;
@@ -33,20 +33,20 @@ impl Holdings {
     ) -> Result<Effect, StoreFault>
         requires wanted { is_some reply ≡ standing_wants (standing_after (standing_of (record_of self.old.records event.entity)) event) }
         requires meant { AreMeant version event.entity (standing_after (standing_of (record_of self.old.records event.entity)) event).state.rev reply }
-        requires room { HasRoom (meaning_by meaning self.old.second) self.old.limit self.old.records }
-        requires holding { AreHolders self.old.second self.old.records }
+        requires room { HasRoom (meaning_by meaning self.old.by_two) self.old.limit self.old.records }
+        requires holding { AreHolders self.old.by_two self.old.records }
         ensures applied { OnOk result (played_of self.new side.new.entries ≡ played (λ _ _. reply_or_any reply) (played_of self.old side.old.entries) event) }
         ensures limit { self.new.limit ≡ self.old.limit }
-        ensures second { IfOk result (λ effect. self.new.second ≡ second_after effect.outcome version event.entity self.old.second) }
+        ensures by_two { IfOk result (λ effect. self.new.by_two ≡ by_two_after effect.outcome version event.entity self.old.by_two) }
         ensures change { IfOk result (λ effect. Tells telling (stored_in self.old) (stored_in self.new) effect.change) }
         ensures outcome { IfOk result (λ effect.
             effect.outcome ≡ outcome_after (record_of self.old.records event.entity) event (reply_or_any reply)) }
         ensures full { result ≡ Err Full → Overfills self.old version event.entity
             (standing_after (standing_of (record_of self.old.records event.entity)) event).state.rev (reply_or_any reply) }
-        ensures within { OnOk result (room_with (meaning_by meaning self.old.second) self.old.records
+        ensures within { OnOk result (room_with (meaning_by meaning self.old.by_two) self.old.records
             (triples_of_reply version event.entity (standing_after (standing_of (record_of self.old.records event.entity)) event).state.rev (reply_or_any reply)) ≤ self.old.limit) }
-        ensures held { HasRoom (meaning_by meaning self.new.second) self.new.limit self.new.records }
-        ensures holders { AreHolders self.new.second self.new.records }
+        ensures held { HasRoom (meaning_by meaning self.new.by_two) self.new.limit self.new.records }
+        ensures holders { AreHolders self.new.by_two self.new.records }
         ensures err { OnErr result (self.new ≡ self.old) }
         ensures err_entries { OnErr result (side.new.entries ≡ side.old.entries) }
     {

@@ -43,10 +43,10 @@ pub type Reply = Result<Page, Cause>;
 pub fn fetch<R: Revisions>(
     alloc: Global,
     revisions: &mut R,
-    place: &str,
+    folder: &str,
     wanted: Wanted,
 ) -> Result<Reply, OutOfMemory>
-    ensures reply { IfOk result (λ reply. IsReply (R.contents revisions.old) place.now wanted.id wanted.rev (reply_of reply)) }
+    ensures reply { IfOk result (λ reply. IsReply (R.contents revisions.old) folder.now wanted.id wanted.rev (reply_of reply)) }
     ensures meant { IfOk result (IsMeant wanted.version wanted.id wanted.rev) }
     ensures shown { IfOk result (λ reply. IsShown (outcome_of_reply (reply_of reply))
         (R.misses revisions.old) (R.misses revisions.new) (R.faults revisions.old) (R.faults revisions.new)) }
@@ -56,7 +56,7 @@ pub fn fetch<R: Revisions>(
     ensures more_misses { R.misses revisions.old ≤ R.misses revisions.new }
     ensures most { R.most_faults revisions.new ≡ R.most_faults revisions.old }
 {
-    match revisions.fetch(alloc, place, wanted.rev) {
+    match revisions.fetch(alloc, folder, wanted.rev) {
         Ok(bytes) => judge(alloc, wanted, bytes),
         Err(NoRevision::Missing) => Ok(Err(Cause::Missing)),
         Err(NoRevision::Failed) => Ok(Err(Cause::Failed)),

@@ -15,8 +15,8 @@ use std::marker::Model;
 /// The entities that hold a page: those whose page is mapped by version One, and those whose page is mapped by version Two.
 #[derive(Drop)]
 pub struct Holders {
-    first: BTreeSet<EntityId>,
-    second: BTreeSet<EntityId>,
+    by_one: BTreeSet<EntityId>,
+    by_two: BTreeSet<EntityId>,
 }
 
 impl Model for Holders {
@@ -27,17 +27,17 @@ impl Model for Holders {
 
     ghost coded = { holders_code };
 
-    ghost view = { λ a. record { first = a.first.keys; second = a.second.keys } };
+    ghost view = { λ a. record { by_one = a.by_one.keys; by_two = a.by_two.keys } };
 }
 
 impl Holders {
     /// No entity.
     pub fn new(alloc: Global) -> Holders
-        ensures { result ≡ record { first = []; second = [] } }
+        ensures { result ≡ record { by_one = []; by_two = [] } }
     {
         Holders {
-            first: BTreeSet::new(alloc),
-            second: BTreeSet::new(alloc),
+            by_one: BTreeSet::new(alloc),
+            by_two: BTreeSet::new(alloc),
         }
     }
 
@@ -48,8 +48,8 @@ impl Holders {
         ensures err { OnErr result (self.new ≡ self.old) }
     {
         let added = match version {
-            MappingVersion::One => self.first.insert(id)?,
-            MappingVersion::Two => self.second.insert(id)?,
+            MappingVersion::One => self.by_one.insert(id)?,
+            MappingVersion::Two => self.by_two.insert(id)?,
         };
         Ok(added)
     }
@@ -60,10 +60,10 @@ impl Holders {
     {
         match version {
             MappingVersion::One => {
-                self.first.remove(&id);
+                self.by_one.remove(&id);
             }
             MappingVersion::Two => {
-                self.second.remove(&id);
+                self.by_two.remove(&id);
             }
         }
     }
@@ -82,8 +82,8 @@ impl Holders {
         ensures { result ≡ has entity_cmp id (held_by self.now version) }
     {
         match version {
-            MappingVersion::One => self.first.contains(&id),
-            MappingVersion::Two => self.second.contains(&id),
+            MappingVersion::One => self.by_one.contains(&id),
+            MappingVersion::Two => self.by_two.contains(&id),
         }
     }
 
@@ -109,8 +109,8 @@ impl Holders {
         ensures { result.now.keys ≡ held_by self.now version }
     {
         match version {
-            MappingVersion::One => &self.first,
-            MappingVersion::Two => &self.second,
+            MappingVersion::One => &self.by_one,
+            MappingVersion::Two => &self.by_two,
         }
     }
 }

@@ -12,11 +12,11 @@ ghost use Rattle.replay_model.specs.Records.{record_of};
 ghost use Rattle.replay_model.specs.Versions.{meaning_by, with_version};
 ghost use Rattle.world.specs.Changing.{Tells};
 ghost use Rattle.world.specs.Fetched.{IsPageOf};
-ghost use Rattle.world.specs.Keeping.{Frees, kept_of, keys_held, piece_at};
+ghost use Rattle.world.specs.Keeping.{FreesPiece, kept_of, keys_held, piece_at};
 ghost use Rattle.world.specs.Meaning.{meaning};
 ghost use Rattle.world.specs.Roomed.{HasRoom, room_with};
 ghost use Rattle.world.specs.Standing.{unfetched_outcome, unless_deleted};
-ghost use Rattle.world.specs.WorldState.{AreHolders, second_after, stored_in};
+ghost use Rattle.world.specs.WorldState.{AreHolders, by_two_after, stored_in};
 
 use crate::applied::{Effect, Outcome};
 use crate::fetching::Page;
@@ -46,14 +46,14 @@ impl Holdings {
           held = Some (record { revision = after.state.rev; content = page.bytes });
           reconciled = after.reconciled;
         })) }
-        ensures second { OnOk result (self.new.second ≡ with_version version id self.old.second) }
+        ensures by_two { OnOk result (self.new.by_two ≡ with_version version id self.old.by_two) }
         ensures change { IfOk result (Tells telling (stored_in self.old) (stored_in self.new)) }
         ensures limit { self.new.limit ≡ self.old.limit }
         ensures err { OnErr result (self.new ≡ self.old) }
-        ensures full { result ≡ Err Full → self.old.limit < room_with (meaning_by meaning self.old.second) self.old.records (meaning version id after.state.rev page.bytes) }
-        ensures within { OnOk result (room_with (meaning_by meaning self.old.second) self.old.records (meaning version id after.state.rev page.bytes) ≤ self.old.limit) }
-        ensures held { HasRoom (meaning_by meaning self.new.second) self.new.limit self.new.records }
-        ensures holders { AreHolders self.new.second self.new.records }
+        ensures full { result ≡ Err Full → self.old.limit < room_with (meaning_by meaning self.old.by_two) self.old.records (meaning version id after.state.rev page.bytes) }
+        ensures within { OnOk result (room_with (meaning_by meaning self.old.by_two) self.old.records (meaning version id after.state.rev page.bytes) ≤ self.old.limit) }
+        ensures held { HasRoom (meaning_by meaning self.new.by_two) self.new.limit self.new.records }
+        ensures holders { AreHolders self.new.by_two self.new.records }
     {
         if make_room(&mut self.table, id).is_err() {
             return Err(StoreFault::OutOfMemory);
@@ -102,13 +102,13 @@ impl Holdings {
           held = unless_deleted after.state.mode (record_of self.old.records id).held;
           reconciled = after.reconciled;
         })) }
-        ensures second { OnOk result ((version : MappingVersion) → self.new.second ≡ second_after (unfetched_outcome after.state.mode) version id self.old.second) }
+        ensures by_two { OnOk result ((version : MappingVersion) → self.new.by_two ≡ by_two_after (unfetched_outcome after.state.mode) version id self.old.by_two) }
         ensures outcome { IfOk result (λ effect. effect.outcome ≡ unfetched_outcome after.state.mode) }
         ensures change { IfOk result (λ effect. Tells telling (stored_in self.old) (stored_in self.new) effect.change) }
         ensures limit { self.new.limit ≡ self.old.limit }
         ensures err { OnErr result (self.new ≡ self.old) }
-        ensures held { HasRoom (meaning_by meaning self.new.second) self.new.limit self.new.records }
-        ensures holders { AreHolders self.new.second self.new.records }
+        ensures held { HasRoom (meaning_by meaning self.new.by_two) self.new.limit self.new.records }
+        ensures holders { AreHolders self.new.by_two self.new.records }
     {
         match after.state.mode {
             Mode::Deleted => {
@@ -135,12 +135,12 @@ impl Holdings {
           held = (record_of self.old.records id).held;
           reconciled = after.reconciled;
         })) }
-        ensures second { self.new.second ≡ self.old.second }
+        ensures by_two { self.new.by_two ≡ self.old.by_two }
         ensures stored { OnOk result (stored_in self.new ≡ stored_in self.old) }
         ensures limit { self.new.limit ≡ self.old.limit }
         ensures err { OnErr result (self.new ≡ self.old) }
-        ensures held { HasRoom (meaning_by meaning self.new.second) self.new.limit self.new.records }
-        ensures holders { AreHolders self.new.second self.new.records }
+        ensures held { HasRoom (meaning_by meaning self.new.by_two) self.new.limit self.new.records }
+        ensures holders { AreHolders self.new.by_two self.new.records }
     {
         make_room(&mut self.table, id)?;
         keep_record(&mut self.table, id, after);
@@ -160,12 +160,12 @@ impl Holdings {
           held = None;
           reconciled = after.reconciled;
         })) }
-        ensures second { OnOk result (self.new.second ≡ with_version One id self.old.second) }
+        ensures by_two { OnOk result (self.new.by_two ≡ with_version One id self.old.by_two) }
         ensures change { IfOk result (Tells telling (stored_in self.old) (stored_in self.new)) }
         ensures limit { self.new.limit ≡ self.old.limit }
         ensures err { OnErr result (self.new ≡ self.old) }
-        ensures held { HasRoom (meaning_by meaning self.new.second) self.new.limit self.new.records }
-        ensures holders { AreHolders self.new.second self.new.records }
+        ensures held { HasRoom (meaning_by meaning self.new.by_two) self.new.limit self.new.records }
+        ensures holders { AreHolders self.new.by_two self.new.records }
     {
         make_room(&mut self.table, id)?;
         let change = self.store.release_with(keys_of(&self.table, id), telling)?;
@@ -195,7 +195,7 @@ fn replace(
     ensures sound { IsSound store.new }
     ensures counts { counts_in store.new ≡ counts_in store.old }
     ensures kept { (key : TheKey) (triple : Triple) → HasKey store.old key triple → HasKey store.new key triple }
-    ensures freed { Frees (piece_at table.old.records id) (beside store.old) (beside store.new) }
+    ensures freed { FreesPiece (piece_at table.old.records id) (beside store.old) (beside store.new) }
     ensures limit { limit_of store.new ≡ limit_of store.old }
 {
     let record = Record {

@@ -45,7 +45,7 @@ impl Model for Holdings {
 
     ghost coded = { holdings_code };
 
-    ghost view = { λ a. record { records = seen a.store a.table.records; limit = limit_of a.store; second = a.holders.second } };
+    ghost view = { λ a. record { records = seen a.store a.table.records; limit = limit_of a.store; by_two = a.holders.by_two } };
 
     ghost invariant = { λ a. AreInStep a.store a.holders a.table.records };
 }
@@ -53,7 +53,7 @@ impl Model for Holdings {
 impl Holdings {
     /// No record, and at most so many terms. The hashes of the table and of the store are keyed by `keys`.
     pub fn new(alloc: Global, keys: RandomState, limit: u32) -> Result<Holdings, OutOfMemory>
-        ensures { IfOk result (λ holdings. holdings ≡ record { records = map.empty; limit = limit; second = [] }) }
+        ensures { IfOk result (λ holdings. holdings ≡ record { records = map.empty; limit = limit; by_two = [] }) }
     {
         let store = Store::new(alloc, keys, limit)?;
         let table = Table::new(alloc, keys)?;
@@ -69,7 +69,7 @@ impl Holdings {
     pub fn set_limit(&mut self, limit: u32)
         requires { map.len self.old.records ≡ 0 }
         ensures limit { self.new ≡ record self.old { limit = limit } }
-        ensures held { HasRoom (meaning_by meaning self.new.second) self.new.limit self.new.records }
+        ensures held { HasRoom (meaning_by meaning self.new.by_two) self.new.limit self.new.records }
     {
         self.store.set_limit(limit);
     }
@@ -98,14 +98,14 @@ impl Holdings {
 
     /// The region, which has the texts of the terms of all that is held, and the held pages, and nothing else.
     pub fn region(&self) -> &Region
-        ensures { IsLaid (meaning_by meaning self.now.second) result.now self.now.records }
+        ensures { IsLaid (meaning_by meaning self.now.by_two) result.now self.now.records }
     {
         self.store.region()
     }
 
     /// How many different terms the triples of all that is held have.
     pub fn terms(&self) -> u32
-        ensures count { result ≡ room_with (meaning_by meaning self.now.second) self.now.records [] }
+        ensures count { result ≡ room_with (meaning_by meaning self.now.by_two) self.now.records [] }
         ensures within { result ≤ self.now.limit }
     {
         self.store.terms()

@@ -7,14 +7,14 @@ ghost use Rattle.rdf_term.specs.declared.triple.Triple.{Triple};
 ghost use Rattle.entity_model.specs.declared.id.EntityId.{EntityId};
 ghost use Rattle.entity_model.specs.declared.mapping.MappingVersion.{MappingVersion};
 ghost use Rattle.revisions.specs.Revisions.{Contents};
-ghost use Rattle.replay_model.specs.PlayedVersions.{second_after_event, second_remapped};
+ghost use Rattle.replay_model.specs.PlayedVersions.{by_two_after_event, by_two_remapped};
 ghost use Rattle.replay_model.specs.Records.{Records, record_of};
 ghost use Rattle.replay_model.specs.Versions.{all_by};
 ghost use Rattle.world.specs.declared.applied.Applied.{Applied};
 ghost use Rattle.world.specs.Applying.{Applies};
 ghost use Rattle.world.specs.Meaning.{meaning};
 ghost use Rattle.world.specs.Means.{Means};
-ghost use Rattle.world.specs.WorldState.{AreHolders, WorldState, second_after};
+ghost use Rattle.world.specs.WorldState.{AreHolders, WorldState, by_two_after};
 
 /// Bytes mean a triple exactly where they are a page of the entity with a document, a rule of the dump gives a triple for it, and
 /// this one is left of that by munging.
@@ -27,14 +27,14 @@ pub fn meaning_is_by_rules()
 /// that came; and once every page is mapped by the version in force, they are what the play makes of them at a line that brings this
 /// version. So where every page is mapped by the version in force, it is after an application.
 pub fn versions_follow_the_play()
-    ensures application { (told : Option Contents) (place : List ℕ) (old new : WorldState) (applied : Applied) →
-        (applies : Applies told place old.replay new.replay applied) → AreHolders old.second old.replay.played.records →
-        second_after applied.outcome old.mapping applied.event.entity old.second
-        ≡ second_after_event old.mapping (λ _ _. applies.reply) applied.event (record_of old.replay.played.records applied.event.entity) old.second }
-    ensures remapping { (version : MappingVersion) (second : List EntityId) (records : Records) → AreHolders second records →
-        second_remapped version records second ≡ all_by version records }
-    ensures one_version { (told : Option Contents) (place : List ℕ) (old new : WorldState) (applied : Applied) →
-        Applies told place old.replay new.replay applied → new.mapping ≡ old.mapping →
-        new.second ≡ second_after applied.outcome old.mapping applied.event.entity old.second →
-        old.second ≡ all_by old.mapping old.replay.played.records → new.second ≡ all_by new.mapping new.replay.played.records }
+    ensures application { (known : Option Contents) (folder : List ℕ) (old new : WorldState) (applied : Applied) →
+        (applies : Applies known folder old.replay new.replay applied) → AreHolders old.by_two old.replay.played.records →
+        by_two_after applied.outcome old.mapping applied.event.entity old.by_two
+        ≡ by_two_after_event old.mapping (λ _ _. applies.reply) applied.event (record_of old.replay.played.records applied.event.entity) old.by_two }
+    ensures remapping { (version : MappingVersion) (by_two : List EntityId) (records : Records) → AreHolders by_two records →
+        by_two_remapped version records by_two ≡ all_by version records }
+    ensures one_version { (known : Option Contents) (folder : List ℕ) (old new : WorldState) (applied : Applied) →
+        Applies known folder old.replay new.replay applied → new.mapping ≡ old.mapping →
+        new.by_two ≡ by_two_after applied.outcome old.mapping applied.event.entity old.by_two →
+        old.by_two ≡ all_by old.mapping old.replay.played.records → new.by_two ≡ all_by new.mapping new.replay.played.records }
 {}

@@ -41,16 +41,16 @@ impl Holdings {
     ) -> Result<Option<Change>, StoreFault>
         requires { is_holder self.old.records id ≡ true }
         ensures records { self.new.records ≡ self.old.records }
-        ensures second { OnOk result (self.new.second ≡ with_version version id self.old.second) }
+        ensures by_two { OnOk result (self.new.by_two ≡ with_version version id self.old.by_two) }
         ensures change { IfOk result (Tells telling (stored_in self.old) (stored_in self.new)) }
         ensures limit { self.new.limit ≡ self.old.limit }
         ensures err { OnErr result (self.new ≡ self.old) }
-        ensures full { result ≡ Err Full → self.old.limit < room_with (meaning_by meaning self.old.second) self.old.records
+        ensures full { result ≡ Err Full → self.old.limit < room_with (meaning_by meaning self.old.by_two) self.old.records
             (triples_held (meaning version) id (record_of self.old.records id).held) }
-        ensures within { OnOk result (room_with (meaning_by meaning self.old.second) self.old.records
+        ensures within { OnOk result (room_with (meaning_by meaning self.old.by_two) self.old.records
             (triples_held (meaning version) id (record_of self.old.records id).held) ≤ self.old.limit) }
-        ensures held { HasRoom (meaning_by meaning self.new.second) self.new.limit self.new.records }
-        ensures holders { AreHolders self.new.second self.new.records }
+        ensures held { HasRoom (meaning_by meaning self.new.by_two) self.new.limit self.new.records }
+        ensures holders { AreHolders self.new.by_two self.new.records }
     {
         // A triple has at most as many owners as there are records, so no count is at its last value.
         let entities = self.table.len();

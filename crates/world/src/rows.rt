@@ -18,36 +18,36 @@ impl World {
     /// The triples of all that is held. Their terms are fit and short.
     #[tactic(auto, using(crate::proofs::Fit::union_fit))]
     pub fn export(&self) -> Result<TripleSet, OutOfMemory>
-        ensures value { IfOk result (λ set. set ≡ union triple_cmp (meaning_by meaning self.now.second) self.now.replay.played.records) }
+        ensures value { IfOk result (λ set. set ≡ union triple_cmp (meaning_by meaning self.now.by_two) self.now.replay.played.records) }
         ensures fit { IfOk result (AllByRecursion HasFitAndShortTerms) }
     {
-        self.holdings.triples()
+        self.holdings.all()
     }
 
     /// The stored triples that agree with the pattern, in order, in memory of their own.
     pub fn matches(&self, pattern: &Pattern) -> Result<TripleSet, OutOfMemory>
-        ensures { IfOk result (λ set. set ≡ rows (union triple_cmp (meaning_by meaning self.now.second) self.now.replay.played.records) pattern.now) }
+        ensures { IfOk result (λ set. set ≡ rows (union triple_cmp (meaning_by meaning self.now.by_two) self.now.replay.played.records) pattern.now) }
     {
         self.holdings.matches(pattern)
     }
 
     /// How many entities hold the triple, which takes no memory.
     pub fn owners(&self, triple: &Triple) -> u64
-        ensures { result ≡ owners triple_cmp (meaning_by meaning self.now.second) self.now.replay.played.records triple.now }
+        ensures { result ≡ owners triple_cmp (meaning_by meaning self.now.by_two) self.now.replay.played.records triple.now }
     {
         self.holdings.owners(triple)
     }
 
     /// The triples of all that is held, in order, without a copy of their texts.
     pub fn rows(&self) -> Result<Rows<'_>, OutOfMemory>
-        ensures { IfOk result (λ found. found ≡ union triple_cmp (meaning_by meaning self.now.second) self.now.replay.played.records) }
+        ensures { IfOk result (λ found. found ≡ union triple_cmp (meaning_by meaning self.now.by_two) self.now.replay.played.records) }
     {
         self.holdings.rows()
     }
 
     /// Those of them that agree with the pattern, in order, without a copy of their texts.
     pub fn matching(&self, pattern: &Pattern) -> Result<Rows<'_>, OutOfMemory>
-        ensures { IfOk result (λ found. found ≡ rows (union triple_cmp (meaning_by meaning self.now.second) self.now.replay.played.records) pattern.now) }
+        ensures { IfOk result (λ found. found ≡ rows (union triple_cmp (meaning_by meaning self.now.by_two) self.now.replay.played.records) pattern.now) }
     {
         self.holdings.matching(pattern)
     }
@@ -55,36 +55,36 @@ impl World {
 
 impl Holdings {
     /// The triples of all that is held, in memory of their own.
-    pub fn triples(&self) -> Result<TripleSet, OutOfMemory>
-        ensures { IfOk result (λ set. set ≡ union triple_cmp (meaning_by meaning self.now.second) self.now.records) }
+    pub fn all(&self) -> Result<TripleSet, OutOfMemory>
+        ensures { IfOk result (λ set. set ≡ union triple_cmp (meaning_by meaning self.now.by_two) self.now.records) }
     {
         self.store.all()
     }
 
     /// Those of them that agree with the pattern, in memory of their own.
     pub fn matches(&self, pattern: &Pattern) -> Result<TripleSet, OutOfMemory>
-        ensures { IfOk result (λ set. set ≡ rows (union triple_cmp (meaning_by meaning self.now.second) self.now.records) pattern.now) }
+        ensures { IfOk result (λ set. set ≡ rows (union triple_cmp (meaning_by meaning self.now.by_two) self.now.records) pattern.now) }
     {
         self.store.matches(pattern)
     }
 
     /// How many entities hold the triple.
     pub fn owners(&self, triple: &Triple) -> u64
-        ensures { result ≡ owners triple_cmp (meaning_by meaning self.now.second) self.now.records triple.now }
+        ensures { result ≡ owners triple_cmp (meaning_by meaning self.now.by_two) self.now.records triple.now }
     {
         self.store.owners(triple)
     }
 
     // The triples of all that is held.
     pub(crate) fn rows(&self) -> Result<Rows<'_>, OutOfMemory>
-        ensures { IfOk result (λ found. found ≡ union triple_cmp (meaning_by meaning self.now.second) self.now.records) }
+        ensures { IfOk result (λ found. found ≡ union triple_cmp (meaning_by meaning self.now.by_two) self.now.records) }
     {
         self.store.rows()
     }
 
     // Those of them that agree with the pattern.
     pub(crate) fn matching(&self, pattern: &Pattern) -> Result<Rows<'_>, OutOfMemory>
-        ensures { IfOk result (λ found. found ≡ rows (union triple_cmp (meaning_by meaning self.now.second) self.now.records) pattern.now) }
+        ensures { IfOk result (λ found. found ≡ rows (union triple_cmp (meaning_by meaning self.now.by_two) self.now.records) pattern.now) }
     {
         self.store.matching(pattern)
     }

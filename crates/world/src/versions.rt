@@ -26,7 +26,7 @@ impl World {
     /// Sets the version in force. What is held stays mapped as it was; whatever is named as mapped by version Two is held.
     pub fn set_mapping(&mut self, version: MappingVersion)
         ensures set { self.new ≡ record self.old { mapping = version } }
-        ensures holders { AreHolders self.new.second self.new.replay.played.records }
+        ensures holders { AreHolders self.new.by_two self.new.replay.played.records }
     {
         self.mapping = version;
     }
@@ -48,7 +48,7 @@ impl World {
     /// How many entities there are whose held pages are mapped by another version than the one in force. It takes no memory.
     pub fn stale(&self) -> usize
         ensures count { result ≡ length (stale self.now) }
-        ensures none { result ≡ 0 → self.now.second ≡ all_by self.now.mapping self.now.replay.played.records }
+        ensures none { result ≡ 0 → self.now.by_two ≡ all_by self.now.mapping self.now.replay.played.records }
     {
         self.holdings.stale(self.mapping)
     }
@@ -60,12 +60,12 @@ impl World {
         ensures ok { OnOk result (self.new ≡ remapped self.old) }
         ensures entity { IfOk result (λ entity. entity ≡ next_stale self.old) }
         ensures fewer { IfOk result (λ entity. IfSome entity (λ _. length (stale self.new) + 1 ≡ length (stale self.old))) }
-        ensures full { IsErrOf result Full → self.old.room
-            < room_with (meaning_by meaning self.old.second) self.old.replay.played.records (triples_anew self.old) }
-        ensures within { OnOk result (room_with (meaning_by meaning self.old.second) self.old.replay.played.records
-            (triples_anew self.old) ≤ self.old.room) }
-        ensures held { HasRoom (meaning_by meaning self.new.second) self.new.room self.new.replay.played.records }
-        ensures holders { AreHolders self.new.second self.new.replay.played.records }
+        ensures full { IsErrOf result Full → self.old.limit
+            < room_with (meaning_by meaning self.old.by_two) self.old.replay.played.records (triples_anew self.old) }
+        ensures within { OnOk result (room_with (meaning_by meaning self.old.by_two) self.old.replay.played.records
+            (triples_anew self.old) ≤ self.old.limit) }
+        ensures held { HasRoom (meaning_by meaning self.new.by_two) self.new.limit self.new.replay.played.records }
+        ensures holders { AreHolders self.new.by_two self.new.replay.played.records }
         ensures err { OnErr result (self.new ≡ self.old) }
         ensures something { ¬ (IsErrOf result NothingDue) }
         ensures free { next_stale self.old ≡ None → IsOk result }
@@ -83,12 +83,12 @@ impl World {
         ensures entity { IfOk result (λ done. entity_of done ≡ next_stale self.old) }
         ensures fewer { IfOk result (λ done. IfSome done (λ _. length (stale self.new) + 1 ≡ length (stale self.old))) }
         ensures change { IfOk result (λ done. IfSome done (λ remapping. Tells telling (stored_of self.old) (stored_of self.new) remapping.change)) }
-        ensures full { IsErrOf result Full → self.old.room
-            < room_with (meaning_by meaning self.old.second) self.old.replay.played.records (triples_anew self.old) }
-        ensures within { OnOk result (room_with (meaning_by meaning self.old.second) self.old.replay.played.records
-            (triples_anew self.old) ≤ self.old.room) }
-        ensures held { HasRoom (meaning_by meaning self.new.second) self.new.room self.new.replay.played.records }
-        ensures holders { AreHolders self.new.second self.new.replay.played.records }
+        ensures full { IsErrOf result Full → self.old.limit
+            < room_with (meaning_by meaning self.old.by_two) self.old.replay.played.records (triples_anew self.old) }
+        ensures within { OnOk result (room_with (meaning_by meaning self.old.by_two) self.old.replay.played.records
+            (triples_anew self.old) ≤ self.old.limit) }
+        ensures held { HasRoom (meaning_by meaning self.new.by_two) self.new.limit self.new.replay.played.records }
+        ensures holders { AreHolders self.new.by_two self.new.replay.played.records }
         ensures err { OnErr result (self.new ≡ self.old) }
         ensures something { ¬ (IsErrOf result NothingDue) }
         ensures free { next_stale self.old ≡ None → IsOk result }
@@ -107,7 +107,7 @@ impl World {
 impl Holdings {
     /// The version by which the held page of an entity is mapped, if it holds one.
     pub fn held_version(&self, id: EntityId) -> Option<MappingVersion>
-        ensures { result ≡ version_in self.now.second self.now.records id }
+        ensures { result ≡ version_in self.now.by_two self.now.records id }
     {
         if self.holders.has(id, MappingVersion::Two) {
             Some(MappingVersion::Two)
@@ -120,7 +120,7 @@ impl Holdings {
 
     /// The least entity whose held page is mapped by another version than this one.
     pub fn next_stale(&self, version: MappingVersion) -> Option<EntityId>
-        ensures entity { result ≡ first_of (stale_by version self.now.second self.now.records) }
+        ensures entity { result ≡ first_of (stale_by version self.now.by_two self.now.records) }
         ensures holder { IfSome result (λ entity. is_holder self.now.records entity ≡ true) }
     {
         self.holders.least(other(version))
@@ -128,8 +128,8 @@ impl Holdings {
 
     /// How many such entities there are.
     pub fn stale(&self, version: MappingVersion) -> usize
-        ensures count { result ≡ length (stale_by version self.now.second self.now.records) }
-        ensures none { result ≡ 0 → self.now.second ≡ all_by version self.now.records }
+        ensures count { result ≡ length (stale_by version self.now.by_two self.now.records) }
+        ensures none { result ≡ 0 → self.now.by_two ≡ all_by version self.now.records }
     {
         self.holders.len(other(version))
     }

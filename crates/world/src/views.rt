@@ -24,15 +24,15 @@ use text_region::Region;
 impl World {
     /// The region, which has the texts of the terms of all that is held, each once, and the held pages, and nothing else.
     pub fn region(&self) -> &Region
-        ensures { IsLaid (meaning_by meaning self.now.second) result.now self.now.replay.played.records }
+        ensures { IsLaid (meaning_by meaning self.now.by_two) result.now self.now.replay.played.records }
     {
         self.holdings.region()
     }
 
     /// How many different terms the triples of all that is held have.
     pub fn terms(&self) -> u32
-        ensures count { result ≡ room_with (meaning_by meaning self.now.second) self.now.replay.played.records [] }
-        ensures within { result ≤ self.now.room }
+        ensures count { result ≡ room_with (meaning_by meaning self.now.by_two) self.now.replay.played.records [] }
+        ensures within { result ≤ self.now.limit }
     {
         self.holdings.terms()
     }
@@ -76,19 +76,19 @@ impl World {
         self.side.len()
     }
 
-    /// The entry of the side output at a place from 0.
-    pub fn side(&self, place: usize) -> Option<&Entry>
-        ensures { option_copied result ≡ slice_get self.now.replay.played.side place }
+    /// The entry of the side output at an index from 0.
+    pub fn side(&self, index: usize) -> Option<&Entry>
+        ensures { option_copied result ≡ slice_get self.now.replay.played.side index }
     {
-        self.side.get(place)
+        self.side.get(index)
     }
 
-    /// Whether the entry of the side output at a place from 0 is open.
-    pub fn side_open(&self, place: usize) -> bool
-        requires { place < length self.now.replay.played.side }
-        ensures { IfSome (slice_get self.now.replay.played.side place) (λ entry. result ≡ is_open_in self.now.replay.played.records entry) }
+    /// Whether the entry of the side output at an index from 0 is open.
+    pub fn side_open(&self, index: usize) -> bool
+        requires { index < length self.now.replay.played.side }
+        ensures { IfSome (slice_get self.now.replay.played.side index) (λ entry. result ≡ is_open_in self.now.replay.played.records entry) }
     {
-        match self.side(place) {
+        match self.side(index) {
             Some(entry) => self.is_open(entry),
             None => false,
         }

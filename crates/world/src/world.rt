@@ -15,7 +15,7 @@ ghost use Rattle.world.specs.Changing.{Tells};
 ghost use Rattle.world.specs.Fetched.{AreMeant, reply_of, reply_or_any};
 ghost use Rattle.world.specs.Meaning.{meaning};
 ghost use Rattle.world.specs.Roomed.{HasRoom, IsOverfull, room_with};
-ghost use Rattle.world.specs.WorldState.{AreHolders, second_after, stored_of};
+ghost use Rattle.world.specs.WorldState.{AreHolders, by_two_after, stored_of};
 ghost use Rattle.entity_model.specs.declared.mapping.MappingVersion.TheVariants.{One};
 ghost use Rattle.world.specs.declared.applied.Outcome.TheVariants.{Stored};
 ghost use Rattle.world.specs.declared.applied.WorldFault.TheVariants.{Full, Nothing as NothingDue};
@@ -33,8 +33,8 @@ use std::hash::RandomState;
 use std::marker::Model;
 use triple_store::{StoreFault, Telling};
 
-// For how many terms there is room, unless it is set otherwise.
-const ROOM: u32 = 20_000_000;
+// The limit of a world, unless it is set otherwise.
+const LIMIT: u32 = 20_000_000;
 
 /// The events that wait, the side output, the version of the mapping in force, and what the entities hold, with the triples that all held
 /// pages mean, each with the number of its owners. Contracts see the state of a replay, which the triples follow; for how many terms there is
@@ -66,23 +66,23 @@ impl Model for World {
 
     ghost view = { λ a. record {
       replay = record { buffer = a.buffer; played = played_of a.holdings a.side.entries };
-      room = a.holdings.limit;
+      limit = a.holdings.limit;
       mapping = a.mapping;
-      second = a.holdings.second;
+      by_two = a.holdings.by_two;
     } };
 
-    ghost invariant = { λ a. HoldsUnlessOpen (played_of a.holdings a.side.entries) × HasRoom (meaning_by meaning a.holdings.second) a.holdings.limit a.holdings.records
-        × AreHolders a.holdings.second a.holdings.records × ((x : EntityId) → HoldsDocument unfit_of x (record_of a.holdings.records x).held) };
+    ghost invariant = { λ a. HoldsUnlessOpen (played_of a.holdings a.side.entries) × HasRoom (meaning_by meaning a.holdings.by_two) a.holdings.limit a.holdings.records
+        × AreHolders a.holdings.by_two a.holdings.records × ((x : EntityId) → HoldsDocument unfit_of x (record_of a.holdings.records x).held) };
 }
 
 impl World {
     /// The world before the first delivery, without a horizon and with room for 20,000,000 terms. Version One of the mapping
     /// is in force. The hashes of its terms are keyed by `keys`.
     pub fn new(alloc: Global, keys: RandomState) -> Result<World, OutOfMemory>
-        ensures { IfOk result (λ world. world ≡ record { replay = nothing_delivered; room = 20000000; mapping = One; second = [] }) }
+        ensures { IfOk result (λ world. world ≡ record { replay = nothing_delivered; limit = 20000000; mapping = One; by_two = [] }) }
     {
         let buffer = Buffer::new(alloc)?;
-        let holdings = Holdings::new(alloc, keys, ROOM)?;
+        let holdings = Holdings::new(alloc, keys, LIMIT)?;
         Ok(World {
             alloc,
             buffer,
@@ -95,7 +95,7 @@ impl World {
     /// Sets for how many terms there is room. No event was applied yet.
     pub fn set_room(&mut self, terms: u32)
         requires { map.len self.old.replay.played.records ≡ 0 }
-        ensures { self.new ≡ record self.old { room = terms } }
+        ensures { self.new ≡ record self.old { limit = terms } }
     {
         self.holdings.set_limit(terms);
     }
@@ -151,18 +151,18 @@ impl World {
     pub fn apply_next<R: Revisions>(
         &mut self,
         revisions: &mut R,
-        place: &str,
+        folder: &str,
     ) -> Result<Applied, WorldFault>
-        ensures applied { IfOk result (λ applied. Applies (R.contents revisions.old) place.now self.old.replay self.new.replay applied) }
-        ensures room { self.new.room ≡ self.old.room }
+        ensures applied { IfOk result (λ applied. Applies (R.contents revisions.old) folder.now self.old.replay self.new.replay applied) }
+        ensures limit { self.new.limit ≡ self.old.limit }
         ensures mapping { self.new.mapping ≡ self.old.mapping }
-        ensures second { IfOk result (λ applied.
-            self.new.second ≡ second_after applied.outcome self.old.mapping applied.event.entity self.old.second) }
-        ensures within { IfOk result (λ applied. applied.outcome ≡ Stored → room_with (meaning_by meaning self.old.second) self.old.replay.played.records
-            (triples_held (meaning self.old.mapping) applied.event.entity (record_of self.new.replay.played.records applied.event.entity).held) ≤ self.old.room) }
-        ensures held { HasRoom (meaning_by meaning self.new.second) self.new.room self.new.replay.played.records }
-        ensures holders { AreHolders self.new.second self.new.replay.played.records }
-        ensures full { IsErrOf result Full → IsOverfull (R.contents revisions.old) place.now self.old }
+        ensures by_two { IfOk result (λ applied.
+            self.new.by_two ≡ by_two_after applied.outcome self.old.mapping applied.event.entity self.old.by_two) }
+        ensures within { IfOk result (λ applied. applied.outcome ≡ Stored → room_with (meaning_by meaning self.old.by_two) self.old.replay.played.records
+            (triples_held (meaning self.old.mapping) applied.event.entity (record_of self.new.replay.played.records applied.event.entity).held) ≤ self.old.limit) }
+        ensures held { HasRoom (meaning_by meaning self.new.by_two) self.new.limit self.new.replay.played.records }
+        ensures holders { AreHolders self.new.by_two self.new.replay.played.records }
+        ensures full { IsErrOf result Full → IsOverfull (R.contents revisions.old) folder.now self.old }
         ensures err { OnErr result (self.new ≡ self.old) }
         ensures nothing { IsErrOf result NothingDue ↔ (first_due self.old.replay.buffer ≡ None) }
 
@@ -177,7 +177,7 @@ impl World {
         ensures more_misses { R.misses revisions.old ≤ R.misses revisions.new }
         ensures most { R.most_faults revisions.new ≡ R.most_faults revisions.old }
     {
-        match self.apply_next_with(revisions, place, Telling::Nothing) {
+        match self.apply_next_with(revisions, folder, Telling::Nothing) {
             Ok(done) => Ok(done.applied),
             Err(fault) => Err(fault),
         }
@@ -188,20 +188,20 @@ impl World {
     pub fn apply_next_with<R: Revisions>(
         &mut self,
         revisions: &mut R,
-        place: &str,
+        folder: &str,
         telling: Telling,
     ) -> Result<Application, WorldFault>
-        ensures applied { IfOk result (λ done. Applies (R.contents revisions.old) place.now self.old.replay self.new.replay done.applied) }
-        ensures room { self.new.room ≡ self.old.room }
+        ensures applied { IfOk result (λ done. Applies (R.contents revisions.old) folder.now self.old.replay self.new.replay done.applied) }
+        ensures limit { self.new.limit ≡ self.old.limit }
         ensures mapping { self.new.mapping ≡ self.old.mapping }
-        ensures second { IfOk result (λ done.
-            self.new.second ≡ second_after done.applied.outcome self.old.mapping done.applied.event.entity self.old.second) }
+        ensures by_two { IfOk result (λ done.
+            self.new.by_two ≡ by_two_after done.applied.outcome self.old.mapping done.applied.event.entity self.old.by_two) }
         ensures change { IfOk result (λ done. Tells telling (stored_of self.old) (stored_of self.new) done.change) }
-        ensures within { IfOk result (λ done. done.applied.outcome ≡ Stored → room_with (meaning_by meaning self.old.second) self.old.replay.played.records
-            (triples_held (meaning self.old.mapping) done.applied.event.entity (record_of self.new.replay.played.records done.applied.event.entity).held) ≤ self.old.room) }
-        ensures held { HasRoom (meaning_by meaning self.new.second) self.new.room self.new.replay.played.records }
-        ensures holders { AreHolders self.new.second self.new.replay.played.records }
-        ensures full { IsErrOf result Full → IsOverfull (R.contents revisions.old) place.now self.old }
+        ensures within { IfOk result (λ done. done.applied.outcome ≡ Stored → room_with (meaning_by meaning self.old.by_two) self.old.replay.played.records
+            (triples_held (meaning self.old.mapping) done.applied.event.entity (record_of self.new.replay.played.records done.applied.event.entity).held) ≤ self.old.limit) }
+        ensures held { HasRoom (meaning_by meaning self.new.by_two) self.new.limit self.new.replay.played.records }
+        ensures holders { AreHolders self.new.by_two self.new.replay.played.records }
+        ensures full { IsErrOf result Full → IsOverfull (R.contents revisions.old) folder.now self.old }
         ensures err { OnErr result (self.new ≡ self.old) }
         ensures nothing { IsErrOf result NothingDue ↔ (first_due self.old.replay.buffer ≡ None) }
 
@@ -219,7 +219,7 @@ impl World {
         let Some(event) = self.buffer.least_due() else {
             return Err(WorldFault::Nothing);
         };
-        let reply = self.reply(revisions, place, &event)?;
+        let reply = self.reply(revisions, folder, &event)?;
         match self
             .holdings
             .apply(&mut self.side, self.mapping, event, reply, telling)
@@ -240,12 +240,12 @@ impl World {
     fn reply<R: Revisions>(
         &self,
         revisions: &mut R,
-        place: &str,
+        folder: &str,
         event: &Event,
     ) -> Result<Option<Reply>, OutOfMemory>
         ensures wanted { IfOk result (λ reply. is_some reply
             ≡ standing_wants (standing_after (standing_of (record_of self.now.replay.played.records event.now.entity)) event.now)) }
-        ensures reply { IfOk result (λ reply. IsReply (R.contents revisions.old) place.now event.now.entity
+        ensures reply { IfOk result (λ reply. IsReply (R.contents revisions.old) folder.now event.now.entity
             (state_after (record_of self.now.replay.played.records event.now.entity).state event.now).rev (reply_or_any reply)) }
         ensures meant { IfOk result (AreMeant self.now.mapping event.now.entity
             (standing_after (standing_of (record_of self.now.replay.played.records event.now.entity)) event.now).state.rev) }
@@ -268,7 +268,7 @@ impl World {
             rev: after.state.rev,
             version: self.mapping,
         };
-        let reply = fetch(self.alloc, revisions, place, wanted)?;
+        let reply = fetch(self.alloc, revisions, folder, wanted)?;
         Ok(Some(reply))
     }
 }

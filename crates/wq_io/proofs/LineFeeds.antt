@@ -35,7 +35,7 @@ before_feed-ends [] within = absurd (omega arith)
 before_feed-ends (b ∷ bs) within = ends_case b bs (before_feed bs) (b == line_feed) refl (before_feed-ends bs) within
 
 found : (bytes : List ℕ) (t : Bool) → nat_lt (before_feed bytes) (length bytes) ≡ t →
-    MatchOption (cond t (Some (before_feed bytes)) None) (IsOneLine bytes) (λ place. EndsAt place bytes)
+    MatchOption (cond t (Some (before_feed bytes)) None) (IsOneLine bytes) (λ index. EndsAt index bytes)
 found bytes true is =
     let within : before_feed bytes < length bytes = grind (arith, nat_tests) in
     record { within = within; in_line = before_feed-line bytes; is = before_feed-ends bytes within }
@@ -45,5 +45,5 @@ found bytes false is =
 
 -- the position of the first line feed, or one line
 pub line_feed_position : (bytes : List ℕ) →
-    MatchOption (position (λ b. b == line_feed) bytes) (IsOneLine bytes) (λ place. EndsAt place bytes)
+    MatchOption (position (λ b. b == line_feed) bytes) (IsOneLine bytes) (λ index. EndsAt index bytes)
 line_feed_position bytes = found bytes (nat_lt (before_feed bytes) (length bytes)) refl

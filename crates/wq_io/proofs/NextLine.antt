@@ -2,8 +2,8 @@
 use Rattle.std.proofs.Common.{refl, sym, ◌∙◌, ap, ◌≡◌, ◌↔◌, ℕ, ◌+◌, ◌<◌, ◌≤◌, Bool, true, false, List, [], ◌∷◌, Option, Some, None, IfSome, IsNone, MatchOption, ◌++◌, length, arith, append_assoc, length-append}
 use Rattle.std.proofs.lemmas.List.{take-append-le, append-nil}
 use Rattle.wq_io.specs.Streams.{AreFewEmpty, before_known, IsAtEnd, LastRead}
-use Rattle.wq_io.specs.Lines.{Reading, IsSound, IsOneLine, IsLineLong, GivesLine, HasCause, ReadsAsNeeded, TakesBytes, line_feed, lines, lines_of, before_lines, unread, room}
-use Rattle.wq_io.specs.Taking.{HasByte, IsOverLong, IsRefusedLine, ReadsByNeed, Takes}
+use Rattle.wq_io.specs.Lines.{Reading, IsSound, IsOneLine, IsLineLong, GivesLine, HasCause, ReadsAsNeeded, TakesBytes, line_feed, lines, input_lines, before_lines, unread, room}
+use Rattle.wq_io.specs.Taking.{HasByte, IsOverLong, IsLeftHeld, ReadsByNeed, TakesHeld}
 use Rattle.wq_io.specs.declared.lines.LineFault.{LineFault}
 use Rattle.wq_io.specs.declared.lines.LineFault.TheVariants.{ReadFault, TooLong, LineLong, OutOfMemory}
 use Rattle.wq_io.proofs.NeededReads.{HasRead, read_more, reads_as_needed, still_few, went_by}
@@ -57,7 +57,7 @@ at_end unread_start (Some xs) line (Some n) front end in_line none =
 -- the line ended: it is the first one of what was unread
 pub line_ended : (unread_start left : Option (List ℕ)) (line moved held held_now : List ℕ) →
     unread_start ≡ before_known line (before_known held left) → held ≡ moved ++ line_feed ∷ held_now → IsOneLine line → IsOneLine moved →
-    lines_of unread_start ≡ before_lines (line ++ moved) (lines_of (before_known held_now left))
+    input_lines unread_start ≡ before_lines (line ++ moved) (input_lines (before_known held_now left))
 line_ended unread_start None line moved held held_now front is in_line in_moved = rw front refl
 line_ended unread_start (Some xs) line moved held held_now front is in_line in_moved =
     let grouped : line ++ ((moved ++ line_feed ∷ held_now) ++ xs) ≡ (line ++ moved) ++ line_feed ∷ (held_now ++ xs) =
@@ -114,7 +114,7 @@ over_long unread_start (Some xs) line start now front in_line short consumed lim
 pub cause_of : (fault : LineFault) (start now : Reading) (left_start left : Option (List ℕ)) (line : List ℕ) (before after : ℕ) →
     unread start left_start ≡ before_known line (unread now left) → IsOneLine line → length line ≤ start.max_line →
     now.consumed ≡ start.consumed + length line → now.max_bytes ≡ start.max_bytes → now.max_line ≡ start.max_line → now.given ≡ start.given →
-    IsRefusedLine fault now line → HasCause fault start left_start before after
+    IsLeftHeld fault now line → HasCause fault start left_start before after
 cause_of ReadFault start now left_start left line before after front in_line short consumed limit longest given cause = absurd cause
 cause_of TooLong start now left_start left line before after front in_line short consumed limit longest given cause = absurd cause
 cause_of (LineLong number) start now left_start left line before after front in_line short consumed limit longest given cause =
@@ -146,7 +146,7 @@ going_stops start now next left_start left left_next line faults_start faults mo
 -- the call ends with a line
 pub going_gives : (start now next after : Reading) (left_start left left_next : Option (List ℕ)) (line line_now : List ℕ) (faults_start faults : ℕ)
     (most_start most : Option ℕ) (read_start read read_next : Option LastRead) → Going start now left_start left line faults_start faults most_start most read_start read →
-    ReadsByNeed now next left left_next read read_next → next ≡ record now { held = next.held; ended = next.ended } → Takes next after line line_now true →
+    ReadsByNeed now next left left_next read read_next → next ≡ record now { held = next.held; ended = next.ended } → TakesHeld next after line line_now true →
     ReadsAsNeeded start after left_start left_next read_start read_next
 going_gives start now next after left_start left left_next line line_now faults_start faults most_start most read_start read read_next going by_need others takes =
     let gone : List ℕ = takes.moved ++ line_feed ∷ [] in
@@ -188,7 +188,7 @@ last_counted (Some n) start next after left_start left read_start read reads is 
 pub going_on : (start now next after : Reading) (left_start left left_next : Option (List ℕ)) (line line_now : List ℕ) (faults_start faults faults_next : ℕ)
     (most_start most most_next : Option ℕ) (read_start read read_next : Option LastRead) →
     Going start now left_start left line faults_start faults most_start most read_start read → HasByte now next left left_next →
-    ReadsByNeed now next left left_next read read_next → Takes next after line line_now false → faults ≤ faults_next → most_next ≡ most →
+    ReadsByNeed now next left left_next read read_next → TakesHeld next after line line_now false → faults ≤ faults_next → most_next ≡ most →
     Going start after left_start left_next line_now faults_start faults_next most_start most_next read_start read_next
 going_on start now next after left_start left left_next line line_now faults_start faults faults_next most_start most most_next read_start read read_next going has by_need takes later same =
     let so_far = going_reads start now next left_start left left_next line faults_start faults most_start most read_start read read_next going by_need in

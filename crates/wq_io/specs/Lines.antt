@@ -48,8 +48,8 @@ abbrev pub ended_lines : List (List ℕ) → List ℕ
 ended_lines done = flat_map (λ line. line ++ line_feed ∷ []) done
 
 -- the lines of an input that is told
-abbrev pub lines_of : Option (List ℕ) → Option (List (List ℕ))
-lines_of known = option_map lines known
+abbrev pub input_lines : Option (List ℕ) → Option (List (List ℕ))
+input_lines known = option_map lines known
 
 -- the line, and then those that are told
 abbrev pub before_lines : List ℕ → Option (List (List ℕ)) → Option (List (List ℕ))
@@ -129,7 +129,7 @@ pub record ReadsAsNeeded (old new : Reading) (left left_now : Option (List ℕ))
 -- the next line was given, or there was none
 abbrev pub GivesLine : Option (List ℕ) → Option (List ℕ) → Option ℕ → List ℕ → Type 0
 GivesLine old new number line =
-    MatchOption number (IsAtEnd old × (new ≡ old)) (λ _. lines_of old ≡ before_lines line (lines_of new))
+    MatchOption number (IsAtEnd old × (new ≡ old)) (λ _. input_lines old ≡ before_lines line (input_lines new))
 
 -- the bytes that went into a line were the next ones: the line, and the line feed that ends it where the end of the source
 -- wasn't seen yet

@@ -4,7 +4,7 @@ use Rattle.wq_io.specs.Failing.{Counting}
 use Rattle.wq_io.specs.Streams.{LastRead}
 
 -- the bytes left, the most that one read gives, the calls, and the last one
-pub record Reads : Type 0 where
+pub record MemoryReads : Type 0 where
   pub left : List ℕ
   pub piece : ℕ
   pub calls : Counting

@@ -6,10 +6,10 @@ use Rattle.wq_io.specs.declared.lines.LineFault.{LineFault}
 use Rattle.wq_io.specs.declared.lines.LineFault.TheVariants.{ReadFault, TooLong, LineLong, OutOfMemory}
 
 -- the first line feed stands at the place
-pub record EndsAt (place : ℕ) (bytes : List ℕ) : Type 0 where
-  pub within : place < length bytes
-  pub in_line : IsOneLine (take place bytes)
-  pub is : bytes ≡ take place bytes ++ line_feed ∷ drop (suc place) bytes
+pub record EndsAt (index : ℕ) (bytes : List ℕ) : Type 0 where
+  pub within : index < length bytes
+  pub in_line : IsOneLine (take index bytes)
+  pub is : bytes ≡ take index bytes ++ line_feed ∷ drop (suc index) bytes
 
 -- a byte is held: nothing was read, or what a read gave is held now
 pub record HasByte (old new : Reading) (left_old left_new : Option (List ℕ)) : Type 0 where
@@ -56,7 +56,7 @@ ReadsByNeed old new left_old left_new read_old read_new =
     Refills old new left_old left_new read_old read_new ⊎ IsUncalled old new left_old left_new read_old read_new
 
 -- bytes of one line moved from what is held into the line; where it ended, its line feed went too
-pub record Takes (old new : Reading) (before after : List ℕ) (ended : Bool) : Type 0 where
+pub record TakesHeld (old new : Reading) (before after : List ℕ) (ended : Bool) : Type 0 where
   pub moved : List ℕ
   pub some : MatchBool ended ⊤ (0 < length moved)
   pub in_line : IsOneLine moved
@@ -77,8 +77,8 @@ pub record IsOverLong (old : Reading) (before : List ℕ) : Type 0 where
   pub within : length moved ≤ room old
 
 -- why held bytes aren't taken: the line has too many, within the limit, or memory was refused
-abbrev pub IsRefusedLine : LineFault → Reading → List ℕ → Type 0
-IsRefusedLine ReadFault old before = ⊥
-IsRefusedLine TooLong old before = ⊥
-IsRefusedLine (LineLong number) old before = (number ≡ old.given + 1) × IsOverLong old before
-IsRefusedLine OutOfMemory old before = ⊤
+abbrev pub IsLeftHeld : LineFault → Reading → List ℕ → Type 0
+IsLeftHeld ReadFault old before = ⊥
+IsLeftHeld TooLong old before = ⊥
+IsLeftHeld (LineLong number) old before = (number ≡ old.given + 1) × IsOverLong old before
+IsLeftHeld OutOfMemory old before = ⊤

@@ -3,7 +3,7 @@
 ghost use Rattle.std.specs.Prelude.{◌≡◌, ◌+◌, ◌<◌, ◌≤◌, ◌^◌, ◌↔◌, true, false, [], ◌∷◌, ◌++◌, length, take, drop, IsTrue, IfOk, IfErr, IfSome, OnOk, IsErr, is_err, MatchOption, MatchBool, vec_len, position, ◌==◌, ◌≢◌, IsNone, ◌⊎◌};
 ghost use Rattle.wq_io.specs.Streams.{before_known, IsAtEnd, Rose};
 ghost use Rattle.wq_io.specs.Lines.{fresh, taken, room, unread, input_length, GivesLine, GoesOn, HasCause, IsOneLine, IsSound, Leaves, ReadsAsNeeded, TakesBytes, line_feed, longest_line};
-ghost use Rattle.wq_io.specs.Taking.{EndsAt, HasByte, IsEnded, IsRefusedLine, IsUnreadable, ReadsByNeed, Refills, Takes};
+ghost use Rattle.wq_io.specs.Taking.{EndsAt, HasByte, IsEnded, IsLeftHeld, IsUnreadable, ReadsByNeed, Refills, TakesHeld};
 ghost use Rattle.wq_io.specs.declared.lines.LineFault.TheVariants.{ReadFault as NotRead, LineLong as OverLong, OutOfMemory as Refused};
 
 use crate::source::Source;
@@ -265,17 +265,17 @@ impl Lines {
         requires held { self.old.held ≢ [] }
         requires room { 0 < room self.old }
         requires short { length line.old.items ≤ self.old.max_line }
-        ensures takes { IfOk result (λ ended. Takes self.old self.new line.old.items line.new.items ended) }
-        ensures cause { IfErr result (λ fault. IsRefusedLine fault self.old line.old.items) }
+        ensures takes { IfOk result (λ ended. TakesHeld self.old self.new line.old.items line.new.items ended) }
+        ensures cause { IfErr result (λ fault. IsLeftHeld fault self.old line.old.items) }
         ensures unchanged { IsErr result → self.new ≡ self.old }
     {
         let number = self.given + 1;
         let max_line = self.max_line;
         let usable = self.usable();
         match line_feed_at(usable) {
-            Some(place) => {
-                append(line, &usable[..place], number, max_line)?;
-                self.advance(place + 1);
+            Some(index) => {
+                append(line, &usable[..index], number, max_line)?;
+                self.advance(index + 1);
                 Ok(true)
             }
             None => {
@@ -331,7 +331,7 @@ impl Lines {
 
 // The place of the first line feed.
 fn line_feed_at(bytes: &[u8]) -> Option<usize>
-    ensures { MatchOption result (IsOneLine bytes.now) (λ place. EndsAt place bytes.now) }
+    ensures { MatchOption result (IsOneLine bytes.now) (λ index. EndsAt index bytes.now) }
 {
     first_line_feed(bytes)
 }

@@ -64,9 +64,9 @@ pub struct MemorySource {
 
 impl Model for MemorySource {
     ghost use Rattle.std.specs.Prelude.{drop, ◌≤◌, vec_len};
-    ghost use Rattle.wq_io.specs.Memory.{Reads};
+    ghost use Rattle.wq_io.specs.Memory.{MemoryReads};
 
-    ghost Value = { Reads };
+    ghost Value = { MemoryReads };
 
     ghost view = { λ a. record {
       left = drop a.at a.bytes.items;

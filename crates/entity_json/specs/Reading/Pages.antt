@@ -66,13 +66,13 @@ unfoldable pub page_at : Tree → Option Page
 page_at t = page_by (member_of (codes "redirect") t) t
 
 -- where the page stands: the only entity, where entities are there
-abbrev pub place_by : Option Tree → Tree → Option Tree
-place_by None tree = Some tree
-place_by (Some entities) tree = only_of entities
+abbrev pub page_tree_by : Option Tree → Tree → Option Tree
+page_tree_by None tree = Some tree
+page_tree_by (Some entities) tree = only_of entities
 
-unfoldable pub place_of : Tree → Option Tree
-place_of tree = place_by (member_of (codes "entities") tree) tree
+unfoldable pub page_tree_of : Tree → Option Tree
+page_tree_of tree = page_tree_by (member_of (codes "entities") tree) tree
 
 -- the page of a text's value
 unfoldable pub page_of : Tree → Option Page
-page_of tree = place_of tree >>= page_at
+page_of tree = page_tree_of tree >>= page_at

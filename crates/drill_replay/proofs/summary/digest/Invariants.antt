@@ -4,5 +4,5 @@ use Rattle.md5.specs.Md5.{Holds}
 use Rattle.drill_replay.specs.Summary.{triple_lines}
 use Rattle.drill_replay.proofs.summary.digest.Given as goal
 
-abbrev pub invariant-loop-place : goal.invariant-loop-place
-invariant-loop-place l = Holds l.hasher (triple_lines (take l.place l.rows))
+abbrev pub invariant-loop-index : goal.invariant-loop-index
+invariant-loop-index l = Holds l.hasher (triple_lines (take l.index l.rows))

@@ -9,5 +9,5 @@ use Rattle.drill_replay.proofs.summary.rows.Goals as goal
 
 pub returns : goal.returns
 returns c =
-    subst (λ (second : List EntityId). IfOk c.rows.result (λ set. set ≡ union triple_cmp (meaning_by meaning second) c.args.world.now.replay.played.records))
+    subst (λ (by_two : List EntityId). IfOk c.rows.result (λ set. set ≡ union triple_cmp (meaning_by meaning by_two) c.args.world.now.replay.played.records))
     c.requires.1 c.rows.ensures

@@ -5,7 +5,7 @@ use Rattle.entity_json.specs.Joined.{numbered}
 use Rattle.entity_json.specs.Reading.Steps.{steps}
 use Rattle.entity_json.proofs.each.each_item.Given as goal
 
-abbrev pub invariant-loop-place : goal.invariant-loop-place
-invariant-loop-place g l =
+abbrev pub invariant-loop-index : goal.invariant-loop-index
+invariant-loop-index g l =
     let read = g.R.ItemReader.reads l.reader in
-    steps read (numbered l.place (map json_view (drop l.place l.items))) l.out ≡ steps read (numbered 0 (map json_view l.items)) l.initial.out
+    steps read (numbered l.index (map json_view (drop l.index l.items))) l.out ≡ steps read (numbered 0 (map json_view l.items)) l.initial.out

@@ -7,6 +7,6 @@ use Rattle.entity_rdf.proofs.statements.emit_judged.Given as goal
 
 abbrev pub invariant-loop-statement : goal.invariant-loop-statement
 invariant-loop-statement g l =
-    (l.place ≡ l.statement-index)
+    (l.index ≡ l.statement-index)
     × Gains g.S.TripleSink.items g.S.TripleSink.keeps l.fn.out l.out (flat_map (judged_triples l.setting.version l.fn.id l.statements) (take l.statement-index l.statements))
     × (g.S.TripleSink.rest l.out ≡ g.S.TripleSink.rest l.fn.out)

@@ -1,6 +1,6 @@
 use Rattle.std.proofs.Common.{◌≡◌, false, arith, ◌∙◌}
 use Rattle.std.proofs.lemmas.Grind.{common_steps}
-use Rattle.rdf_term.specs.declared.tag.Place.TheVariants.{Start}
+use Rattle.rdf_term.specs.declared.tag.TagState.TheVariants.{Start}
 use Rattle.rdf_term.specs.TagReader.{is_rest_of_tag}
 use Rattle.rdf_term.proofs.Tags.{is_tag_read}
 use Rattle.rdf_term.proofs.tag.is_tag.Goals as goal

@@ -3,10 +3,10 @@ use Rattle.replay_model.proofs.Explaining.{Explained-is, Explained-fetches, Expl
 use Rattle.replay_model.proofs.source_laws.replay_over_source_is_a_play.Goals as goal
 
 pub returns-clause-some_replies : goal.returns-clause-some_replies
-returns-clause-some_replies c unfit told play_of fetches_of made w x none = (Explained-is unfit told play_of fetches_of made w x none, Explained-fetches unfit told play_of fetches_of made w x none)
+returns-clause-some_replies c unfit known play_of fetches_of made w x none = (Explained-is unfit known play_of fetches_of made w x none, Explained-fetches unfit known play_of fetches_of made w x none)
 
 pub returns-clause-source : goal.returns-clause-source
-returns-clause-source c unfit told play_of fetches_of made w x none contents is = (Explained-source unfit told play_of fetches_of made w x none contents is, Explained-source_fetches unfit told play_of fetches_of made w x none contents is)
+returns-clause-source c unfit known play_of fetches_of made w x none contents is = (Explained-source unfit known play_of fetches_of made w x none contents is, Explained-source_fetches unfit known play_of fetches_of made w x none contents is)
 
 pub returns-clause-start : goal.returns-clause-start
 returns-clause-start c = Explained-start
@@ -24,7 +24,7 @@ pub returns-clause-the_end : goal.returns-clause-the_end
 returns-clause-the_end c = Explained-end
 
 pub returns-clause-next : goal.returns-clause-next
-returns-clause-next c unfit told play_of fetches_of made w e reply x some honest fits = (Explained-next unfit told play_of fetches_of made w e reply x some honest fits).explained
+returns-clause-next c unfit known play_of fetches_of made w e reply x some honest fits = (Explained-next unfit known play_of fetches_of made w e reply x some honest fits).explained
 
 pub returns-clause-ask : goal.returns-clause-ask
 returns-clause-ask c = Explained-ask

@@ -22,8 +22,8 @@ loop-preserved g c =
           (record { shown = call.shown; calls = call.calls; more_faults = call.more_faults; more_misses = call.more_misses })
           (applied_has_room _ _ _ c.loop.world c.apply_next.new.self.replay _ applied (rw before.2 at call.within))),
       gone-on g.R.Revisions _ _ _ before.1 (record { known = call.told; faults = call.more_faults; misses = call.more_misses; most = call.most }),
-      call.room ∙ before.2,
-      keeps-further c.args.world.now c.loop.world c.apply_next.new.self before.3 (applies-versions _ _ c.loop.world c.apply_next.new.self _ applied call.mapping call.second),
+      call.limit ∙ before.2,
+      keeps-further c.args.world.now c.loop.world c.apply_next.new.self before.3 (applies-versions _ _ c.loop.world c.apply_next.new.self _ applied call.mapping call.by_two),
     )
 
 pub loop-smaller : goal.loop-smaller
@@ -68,17 +68,17 @@ returns-in-Err-Full-clause-source g c =
 pub returns-in-Err-Nothing-clause-held : goal.returns-in-Err-Nothing-clause-held
 returns-in-Err-Nothing-clause-held g c =
     let call = c.in-Err-Nothing.ensures in
-    rw (call.room ∙ c.loop.invariant.2) at call.held
+    rw (call.limit ∙ c.loop.invariant.2) at call.held
 
 pub returns-in-Err-OutOfMemory-clause-held : goal.returns-in-Err-OutOfMemory-clause-held
 returns-in-Err-OutOfMemory-clause-held g c =
     let call = c.in-Err-OutOfMemory.ensures in
-    rw (call.room ∙ c.loop.invariant.2) at call.held
+    rw (call.limit ∙ c.loop.invariant.2) at call.held
 
 pub returns-in-Err-Full-clause-held : goal.returns-in-Err-Full-clause-held
 returns-in-Err-Full-clause-held g c =
     let call = c.in-Err-Full.ensures in
-    rw (call.room ∙ c.loop.invariant.2) at call.held
+    rw (call.limit ∙ c.loop.invariant.2) at call.held
 
 pub returns-in-Err-Nothing-clause-versions : goal.returns-in-Err-Nothing-clause-versions
 returns-in-Err-Nothing-clause-versions g c = keeps-still c.args.world.now c.loop.world c.apply_next.new.self c.in-Err-Nothing.ensures.err c.loop.invariant.3

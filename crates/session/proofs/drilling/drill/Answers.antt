@@ -2,7 +2,7 @@
 use Rattle.std.proofs.Common.{◌≡◌, ◌∙◌, ap, subst, map, string_bytes, IfErr, OnOk}
 use Rattle.std.specs.FinMap.{len-empty}
 use Rattle.std.proofs.lemmas.Result.{err_from_is_err_and}
-use Rattle.drill_replay.specs.Summary.{drilled, lines_of, summary_of}
+use Rattle.drill_replay.specs.Summary.{drilled, summary_lines, summary_of}
 use Rattle.transcript.specs.Printing.{output}
 use Rattle.session.specs.Drilling.{DrillStopped, HasDrilled}
 use Rattle.session.proofs.Drills.{all_printed, not_begun, printed_in_part, printed_on, silent_on}
@@ -25,16 +25,16 @@ returns-in_err-lines-clause-err g c =
 
 pub returns-clause-ok : goal.returns-clause-ok
 returns-clause-ok g c =
-    let are : map string_bytes c.as_slice.result.now ≡ lines_of (summary_of c.args.size) =
-    ap (map string_bytes) c.as_slice.ensures.value ∙ c.in_ok-lines.ensures ∙ ap lines_of c.in_ok-summary.ensures in
+    let are : map string_bytes c.as_slice.result.now ≡ summary_lines (summary_of c.args.size) =
+    ap (map string_bytes) c.as_slice.ensures.value ∙ c.in_ok-lines.ensures ∙ ap summary_lines c.in_ok-summary.ensures in
     let is : c.play.new.world.replay ≡ drilled c.args.size = c.in_ok-counts.ensures.ok in
     subst (λ o. OnOk c.print_lines.result (HasDrilled c.args.size o (output g.K.Sink c.print_lines.new.out) c.play.new.world.replay)) c.play.ensures.silent
     (all_printed string_bytes c.as_slice.result.now c.args.size _ _ _ are is c.print_lines.result c.print_lines.ensures)
 
 pub returns-clause-err : goal.returns-clause-err
 returns-clause-err g c =
-    let are : map string_bytes c.as_slice.result.now ≡ lines_of (summary_of c.args.size) =
-    ap (map string_bytes) c.as_slice.ensures.value ∙ c.in_ok-lines.ensures ∙ ap lines_of c.in_ok-summary.ensures in
+    let are : map string_bytes c.as_slice.result.now ≡ summary_lines (summary_of c.args.size) =
+    ap (map string_bytes) c.as_slice.ensures.value ∙ c.in_ok-lines.ensures ∙ ap summary_lines c.in_ok-summary.ensures in
     let is : c.play.new.world.replay ≡ drilled c.args.size = c.in_ok-counts.ensures.ok in
     subst (λ o. IfErr c.print_lines.result (λ why. DrillStopped why c.args.size o (output g.K.Sink c.print_lines.new.out) c.play.new.world.replay)) c.play.ensures.silent
     (printed_in_part string_bytes c.as_slice.result.now c.args.size _ _ _ are is c.print_lines.result c.play.ensures.begun c.print_lines.ensures)

@@ -9,5 +9,5 @@ pub returns-clause-first : goal.returns-clause-first
 returns-clause-first c =
     let is = ap (λ (w : WorldState). w.replay) c.set_mapping.ensures.set ∙ c.requires.world in (
       ap (λ (w : WorldState). w.mapping) c.set_mapping.ensures.set,
-      none_named c.set_mapping.new.self.second (subst (λ (w : ReplayState). AreHolders c.set_mapping.new.self.second w.played.records) is c.set_mapping.ensures.holders),
+      none_named c.set_mapping.new.self.by_two (subst (λ (w : ReplayState). AreHolders c.set_mapping.new.self.by_two w.played.records) is c.set_mapping.ensures.holders),
     )

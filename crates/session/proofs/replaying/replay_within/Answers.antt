@@ -63,11 +63,11 @@ returns-clause-held g c = rw (c.set_room.ensures, c.max_terms.ensures) at c.take
 pub take_all-requires-clause-held : goal.take_all-requires-clause-held
 take_all-requires-clause-held g c = rw (c.set_room.ensures, c.requires.world) (nothing_held _ nothing_played.records _ (len-empty _ _))
 
-pub returns-clause-room : goal.returns-clause-room
-returns-clause-room g c = rw (c.set_room.ensures, c.max_terms.ensures) at c.take_all.ensures.room
+pub returns-clause-limit : goal.returns-clause-limit
+returns-clause-limit g c = rw (c.set_room.ensures, c.max_terms.ensures) at c.take_all.ensures.limit
 
-pub returns-in_err-take_all-clause-room : goal.returns-in_err-take_all-clause-room
-returns-in_err-take_all-clause-room g c = rw (c.set_room.ensures, c.max_terms.ensures) at c.take_all.ensures.room
+pub returns-in_err-take_all-clause-limit : goal.returns-in_err-take_all-clause-limit
+returns-in_err-take_all-clause-limit g c = rw (c.set_room.ensures, c.max_terms.ensures) at c.take_all.ensures.limit
 
-pub returns-in_err-print_closing-clause-room : goal.returns-in_err-print_closing-clause-room
-returns-in_err-print_closing-clause-room g c = rw (c.set_room.ensures, c.max_terms.ensures) at c.take_all.ensures.room
+pub returns-in_err-print_closing-clause-limit : goal.returns-in_err-print_closing-clause-limit
+returns-in_err-print_closing-clause-limit g c = rw (c.set_room.ensures, c.max_terms.ensures) at c.take_all.ensures.limit

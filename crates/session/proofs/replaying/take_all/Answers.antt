@@ -14,8 +14,8 @@ returns-clause-ok g c =
     let before : Moment = moment g.S.Source g.R.Revisions g.K.Sink c.args.ports.now c.args.world.now in
     let between : Moment = moment g.S.Source g.R.Revisions g.K.Sink c.take_lines.new.ports c.take_lines.new.world in
     let taken = c.in_ok-take_lines.ensures.ok in
-    let applies = rw (c.in_ok-take_lines.ensures.further.revisions.known, c.folder.ensures, c.in_ok-take_lines.ensures.room ∙ c.requires.room) at c.in_ok-take_end.ensures.ok in
-    replayed run before _ taken.deliveries taken.read taken.are (end_taken run.setting taken.deliveries before.stage between.stage _ _ (mapped_in c.take_end.new.world) applies c.take_end.ensures.versions taken.at_rest)
+    let applies = rw (c.in_ok-take_lines.ensures.further.revisions.known, c.folder.ensures, c.in_ok-take_lines.ensures.limit ∙ c.requires.limit) at c.in_ok-take_end.ensures.ok in
+    replayed run before _ taken.deliveries taken.read taken.are (end_taken run.environment taken.deliveries before.stage between.stage _ _ (mapped_in c.take_end.new.world) applies c.take_end.ensures.versions taken.at_rest)
 
 pub returns-clause-further : goal.returns-clause-further
 returns-clause-further g c = fetched_on g.S.Source g.R.Revisions g.K.Sink _ c.take_lines.new.ports _ c.in_ok-take_lines.ensures.further c.in_ok-take_end.ensures.source
@@ -29,19 +29,19 @@ returns-in_err-take_end-clause-err g c =
     let before : Moment = moment g.S.Source g.R.Revisions g.K.Sink c.args.ports.now c.args.world.now in
     let between : Moment = moment g.S.Source g.R.Revisions g.K.Sink c.take_lines.new.ports c.take_lines.new.world in
     let taken = c.in_ok-take_lines.ensures.ok in
-    let stays = rw (c.in_ok-take_lines.ensures.further.revisions.known, c.folder.ensures, c.in_ok-take_lines.ensures.room ∙ c.requires.room) at c.in_err-take_end.ensures.err in
-    let held_up = rw (c.in_ok-take_lines.ensures.further.revisions.known, c.folder.ensures, c.in_ok-take_lines.ensures.room ∙ c.requires.room) at c.in_err-take_end.ensures.held_up in
+    let stays = rw (c.in_ok-take_lines.ensures.further.revisions.known, c.folder.ensures, c.in_ok-take_lines.ensures.limit ∙ c.requires.limit) at c.in_err-take_end.ensures.err in
+    let held_up = rw (c.in_ok-take_lines.ensures.further.revisions.known, c.folder.ensures, c.in_ok-take_lines.ensures.limit ∙ c.requires.limit) at c.in_err-take_end.ensures.held_up in
     let p = err_from_is_err_and c.from_residual-in_err-take_end.result c.from_residual-in_err-take_end.ensures.1 in
     rw (p.1, p.2) (halted _ run before _ held_up (inr (record {
       deliveries = taken.deliveries;
       read = taken.read;
-      within = end_begun run.setting taken.deliveries before.stage _ between.stage _ _ (mapped_in c.take_end.new.world) stays taken.at_rest;
+      within = end_begun run.environment taken.deliveries before.stage _ between.stage _ _ (mapped_in c.take_end.new.world) stays taken.at_rest;
       mapped = c.take_end.ensures.versions _ taken.at_rest.mapped;
       are = taken.are;
     })))
 
 pub returns-clause-held : goal.returns-clause-held
-returns-clause-held g c = rw c.in_ok-take_lines.ensures.room at c.take_end.ensures.held
+returns-clause-held g c = rw c.in_ok-take_lines.ensures.limit at c.take_end.ensures.held
 
 pub returns-in_err-take_end-clause-held : goal.returns-in_err-take_end-clause-held
-returns-in_err-take_end-clause-held g c = rw c.in_ok-take_lines.ensures.room at c.take_end.ensures.held
+returns-in_err-take_end-clause-held g c = rw c.in_ok-take_lines.ensures.limit at c.take_end.ensures.held

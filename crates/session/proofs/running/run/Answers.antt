@@ -8,7 +8,7 @@ use Rattle.session.specs.Following.{FollowEnding}
 use Rattle.session.specs.Headline.{ReplayEnding}
 use Rattle.session.specs.Moment.{moment, run_of, stage, world_at_start}
 use Rattle.session.specs.Remapping.{HoldsWithin}
-use Rattle.session.specs.Room.{room_of}
+use Rattle.session.specs.Room.{limit_of_plan}
 use Rattle.world.specs.WorldState.{WorldState}
 use Rattle.drill_replay.specs.Playing.{IsByFirst}
 use Rattle.session.proofs.Ongoing.{none_gone, written_on}
@@ -28,10 +28,10 @@ returns-in-Ok-clause-drill g c = λ size plan. no_drill _ _ size (ap Some (sym c
 pub returns-in-Ok-clause-follow : goal.returns-in-Ok-clause-follow
 returns-in-Ok-clause-follow g c = λ choices plan. replay_no_follow _ _ choices (ap Some (sym c.in-Some-Replay.field-0-is) ∙ c.in-Some-Replay.ensures.value ∙ plan)
 
-pub returns-in-Ok-clause-room : goal.returns-in-Ok-clause-room
-returns-in-Ok-clause-room g c = λ the plan.
-    for_plan (λ x. (c.replay.new.world.room ≡ room_of x) × HoldsWithin (room_of x) c.replay.new.world)
-    (Replay c.in-Some-Replay.options) the (ap Some (sym c.in-Some-Replay.field-0-is) ∙ c.in-Some-Replay.ensures.value ∙ plan) (c.replay.ensures.room, c.in-Ok.ensures.held)
+pub returns-in-Ok-clause-limit : goal.returns-in-Ok-clause-limit
+returns-in-Ok-clause-limit g c = λ the plan.
+    for_plan (λ x. (c.replay.new.world.limit ≡ limit_of_plan x) × HoldsWithin (limit_of_plan x) c.replay.new.world)
+    (Replay c.in-Some-Replay.options) the (ap Some (sym c.in-Some-Replay.field-0-is) ∙ c.in-Some-Replay.ensures.value ∙ plan) (c.replay.ensures.limit, c.in-Ok.ensures.held)
 
 -- ---- a replay that stopped
 
@@ -46,10 +46,10 @@ returns-in-Err-clause-drill g c = λ size plan. no_drill _ _ size (ap Some (sym 
 pub returns-in-Err-clause-follow : goal.returns-in-Err-clause-follow
 returns-in-Err-clause-follow g c = λ choices plan. replay_no_follow _ _ choices (ap Some (sym c.in-Some-Replay.field-0-is) ∙ c.in-Some-Replay.ensures.value ∙ plan)
 
-pub returns-in-Err-clause-room : goal.returns-in-Err-clause-room
-returns-in-Err-clause-room g c = λ the plan.
-    for_plan (λ x. (c.replay.new.world.room ≡ room_of x) × HoldsWithin (room_of x) c.replay.new.world)
-    (Replay c.in-Some-Replay.options) the (ap Some (sym c.in-Some-Replay.field-0-is) ∙ c.in-Some-Replay.ensures.value ∙ plan) (c.replay.ensures.room, c.in-Err.ensures.held)
+pub returns-in-Err-clause-limit : goal.returns-in-Err-clause-limit
+returns-in-Err-clause-limit g c = λ the plan.
+    for_plan (λ x. (c.replay.new.world.limit ≡ limit_of_plan x) × HoldsWithin (limit_of_plan x) c.replay.new.world)
+    (Replay c.in-Some-Replay.options) the (ap Some (sym c.in-Some-Replay.field-0-is) ∙ c.in-Some-Replay.ensures.value ∙ plan) (c.replay.ensures.limit, c.in-Err.ensures.held)
 
 -- ---- a drill that ended well
 
@@ -65,10 +65,10 @@ returns-in-Ok-drill-clause-drill g c = λ size plan.
 pub returns-in-Ok-drill-clause-follow : goal.returns-in-Ok-drill-clause-follow
 returns-in-Ok-drill-clause-follow g c = λ choices plan. drill_no_follow _ _ choices (ap Some (sym c.in-Some-Drill.field-0-is) ∙ c.in-Some-Drill.ensures.value ∙ plan)
 
-pub returns-in-Ok-drill-clause-room : goal.returns-in-Ok-drill-clause-room
-returns-in-Ok-drill-clause-room g c = λ the plan.
-    for_plan (λ x. (c.drill.new.world.room ≡ room_of x) × HoldsWithin (room_of x) c.drill.new.world)
-    (Drill c.in-Some-Drill.size) the (ap Some (sym c.in-Some-Drill.field-0-is) ∙ c.in-Some-Drill.ensures.value ∙ plan) (c.in-Ok-drill.ensures.room, c.in-Ok-drill.ensures.held)
+pub returns-in-Ok-drill-clause-limit : goal.returns-in-Ok-drill-clause-limit
+returns-in-Ok-drill-clause-limit g c = λ the plan.
+    for_plan (λ x. (c.drill.new.world.limit ≡ limit_of_plan x) × HoldsWithin (limit_of_plan x) c.drill.new.world)
+    (Drill c.in-Some-Drill.size) the (ap Some (sym c.in-Some-Drill.field-0-is) ∙ c.in-Some-Drill.ensures.value ∙ plan) (c.in-Ok-drill.ensures.limit, c.in-Ok-drill.ensures.held)
 
 pub returns-in-Ok-drill-clause-further : goal.returns-in-Ok-drill-clause-further
 returns-in-Ok-drill-clause-further g c = written_on g.S.Source g.R.Revisions g.K.Sink c.args.ports.now c.args.ports.now c.drill.new.out (none_gone g.S.Source g.R.Revisions g.K.Sink _) c.drill.ensures.written
@@ -81,10 +81,10 @@ returns-in-Err-drill-clause-replay g c = λ choices plan. no_replay _ choices _ 
 pub returns-in-Err-drill-clause-follow : goal.returns-in-Err-drill-clause-follow
 returns-in-Err-drill-clause-follow g c = λ choices plan. drill_no_follow _ _ choices (ap Some (sym c.in-Some-Drill.field-0-is) ∙ c.in-Some-Drill.ensures.value ∙ plan)
 
-pub returns-in-Err-drill-clause-room : goal.returns-in-Err-drill-clause-room
-returns-in-Err-drill-clause-room g c = λ the plan.
-    for_plan (λ x. (c.drill.new.world.room ≡ room_of x) × HoldsWithin (room_of x) c.drill.new.world)
-    (Drill c.in-Some-Drill.size) the (ap Some (sym c.in-Some-Drill.field-0-is) ∙ c.in-Some-Drill.ensures.value ∙ plan) (c.drill.ensures.room, c.drill.ensures.held)
+pub returns-in-Err-drill-clause-limit : goal.returns-in-Err-drill-clause-limit
+returns-in-Err-drill-clause-limit g c = λ the plan.
+    for_plan (λ x. (c.drill.new.world.limit ≡ limit_of_plan x) × HoldsWithin (limit_of_plan x) c.drill.new.world)
+    (Drill c.in-Some-Drill.size) the (ap Some (sym c.in-Some-Drill.field-0-is) ∙ c.in-Some-Drill.ensures.value ∙ plan) (c.drill.ensures.limit, c.drill.ensures.held)
 
 pub returns-in-Err-drill-clause-further : goal.returns-in-Err-drill-clause-further
 returns-in-Err-drill-clause-further g c = written_on g.S.Source g.R.Revisions g.K.Sink c.args.ports.now c.args.ports.now c.drill.new.out (none_gone g.S.Source g.R.Revisions g.K.Sink _) c.drill.ensures.written
@@ -100,13 +100,13 @@ returns-in-Ok-follow_records-clause-drill g c = λ size plan. follow_no_drill _ 
 pub returns-in-Ok-follow_records-clause-follow : goal.returns-in-Ok-follow_records-clause-follow
 returns-in-Ok-follow_records-clause-follow g c = λ choices plan.
     for_follow (λ x. FollowEnding Ended x (follow_moment g.S.Source g.K.Sink c.args.ports.now.events c.args.ports.now.out) (follow_moment g.S.Source g.K.Sink c.follow_records.new.ports.events c.follow_records.new.ports.out)
-    × (c.follow_records.new.ports ≡ record c.args.ports.now { events = c.follow_records.new.ports.events; out = c.follow_records.new.ports.out }) × (c.follow_records.new.world ≡ record c.args.world.now { room = 20000000 }))
+    × (c.follow_records.new.ports ≡ record c.args.ports.now { events = c.follow_records.new.ports.events; out = c.follow_records.new.ports.out }) × (c.follow_records.new.world ≡ record c.args.world.now { limit = 20000000 }))
     c.in-Some-Follow.options choices (ap Some (sym c.in-Some-Follow.field-0-is) ∙ c.in-Some-Follow.ensures.value ∙ plan) (c.in-Ok-follow_records.ensures.ok, c.follow_records.ensures.others, c.follow_records.ensures.empty)
 
-pub returns-in-Ok-follow_records-clause-room : goal.returns-in-Ok-follow_records-clause-room
-returns-in-Ok-follow_records-clause-room g c = λ the plan.
-    for_plan (λ x. (c.follow_records.new.world.room ≡ room_of x) × HoldsWithin (room_of x) c.follow_records.new.world)
-    (Follow c.in-Some-Follow.options) the (ap Some (sym c.in-Some-Follow.field-0-is) ∙ c.in-Some-Follow.ensures.value ∙ plan) (ap (λ (w : WorldState). w.room) c.follow_records.ensures.empty, c.follow_records.ensures.held)
+pub returns-in-Ok-follow_records-clause-limit : goal.returns-in-Ok-follow_records-clause-limit
+returns-in-Ok-follow_records-clause-limit g c = λ the plan.
+    for_plan (λ x. (c.follow_records.new.world.limit ≡ limit_of_plan x) × HoldsWithin (limit_of_plan x) c.follow_records.new.world)
+    (Follow c.in-Some-Follow.options) the (ap Some (sym c.in-Some-Follow.field-0-is) ∙ c.in-Some-Follow.ensures.value ∙ plan) (ap (λ (w : WorldState). w.limit) c.follow_records.ensures.empty, c.follow_records.ensures.held)
 
 -- ---- a follower that stopped
 
@@ -119,10 +119,10 @@ returns-in-Err-follow_records-clause-drill g c = λ size plan. follow_no_drill _
 pub returns-in-Err-follow_records-clause-follow : goal.returns-in-Err-follow_records-clause-follow
 returns-in-Err-follow_records-clause-follow g c = λ choices plan.
     for_follow (λ x. FollowEnding c.status-in-Err-follow_records.result x (follow_moment g.S.Source g.K.Sink c.args.ports.now.events c.args.ports.now.out) (follow_moment g.S.Source g.K.Sink c.follow_records.new.ports.events c.follow_records.new.ports.out)
-    × (c.follow_records.new.ports ≡ record c.args.ports.now { events = c.follow_records.new.ports.events; out = c.follow_records.new.ports.out }) × (c.follow_records.new.world ≡ record c.args.world.now { room = 20000000 }))
+    × (c.follow_records.new.ports ≡ record c.args.ports.now { events = c.follow_records.new.ports.events; out = c.follow_records.new.ports.out }) × (c.follow_records.new.world ≡ record c.args.world.now { limit = 20000000 }))
     c.in-Some-Follow.options choices (ap Some (sym c.in-Some-Follow.field-0-is) ∙ c.in-Some-Follow.ensures.value ∙ plan) (follow_stopped _ _ _ _ _ c.status-in-Err-follow_records.ensures.stops c.in-Err-follow_records.ensures.err, c.follow_records.ensures.others, c.follow_records.ensures.empty)
 
-pub returns-in-Err-follow_records-clause-room : goal.returns-in-Err-follow_records-clause-room
-returns-in-Err-follow_records-clause-room g c = λ the plan.
-    for_plan (λ x. (c.follow_records.new.world.room ≡ room_of x) × HoldsWithin (room_of x) c.follow_records.new.world)
-    (Follow c.in-Some-Follow.options) the (ap Some (sym c.in-Some-Follow.field-0-is) ∙ c.in-Some-Follow.ensures.value ∙ plan) (ap (λ (w : WorldState). w.room) c.follow_records.ensures.empty, c.follow_records.ensures.held)
+pub returns-in-Err-follow_records-clause-limit : goal.returns-in-Err-follow_records-clause-limit
+returns-in-Err-follow_records-clause-limit g c = λ the plan.
+    for_plan (λ x. (c.follow_records.new.world.limit ≡ limit_of_plan x) × HoldsWithin (limit_of_plan x) c.follow_records.new.world)
+    (Follow c.in-Some-Follow.options) the (ap Some (sym c.in-Some-Follow.field-0-is) ∙ c.in-Some-Follow.ensures.value ∙ plan) (ap (λ (w : WorldState). w.limit) c.follow_records.ensures.empty, c.follow_records.ensures.held)

@@ -41,7 +41,7 @@ returns-in_err-deliver-clause-err g c =
     let line = rw c.in-Some.is at c.in_ok-number.ensures.line in
     let bytes = rw c.in-Some.is at c.in_ok-number.ensures.bytes in
     let delivered = rw c.as_slice.ensures.value at c.in_ok-delivery.ensures.ok in
-    let cuts = rw (c.loop-line.invariant.1.revisions.known, c.folder-folder.ensures, c.loop-line.invariant.2 ∙ c.requires.room) at c.in_err-deliver.ensures.err in
+    let cuts = rw (c.loop-line.invariant.1.revisions.known, c.folder-folder.ensures, c.loop-line.invariant.2 ∙ c.requires.limit) at c.in_err-deliver.ensures.err in
     rw (p.1, p.2) (delivery_stops _ _ _ _ _ c.loop-line.invariant.0 c.next.new.line.items c.next.new.self _ _
     (moment g.S.Source g.R.Revisions g.K.Sink (record { events = c.next.new.source; revisions = c.deliver.new.revisions; out = c.deliver.new.out }) c.deliver.new.world) c.in_ok-delivery.delivery _
     (record { first = line; total = c.in_ok-number.ensures.length; takes = bytes; goes = c.in_ok-number.ensures.goes_on; reads = c.next.ensures.reads }) delivered (omega (arith, c.asks-asked.ensures.number)) _ cuts)
@@ -52,7 +52,7 @@ loop-line-preserved g c =
     let number = rw c.in-Some.is at c.in_ok-number.ensures.number in
     let bytes = rw c.in-Some.is at c.in_ok-number.ensures.bytes in
     let delivered = rw c.as_slice.ensures.value at c.in_ok-delivery.ensures.ok in
-    let takes = rw (c.loop-line.invariant.1.revisions.known, c.folder-folder.ensures, c.loop-line.invariant.2 ∙ c.requires.room) at c.in_ok-deliver.ensures.ok in
+    let takes = rw (c.loop-line.invariant.1.revisions.known, c.folder-folder.ensures, c.loop-line.invariant.2 ∙ c.requires.limit) at c.in_ok-deliver.ensures.ok in
     let one = c.asks-asked.ensures.at_most_one in
     let asked = c.asks-asked.ensures.number in (
       line_taken _ _ _ _ _ c.loop-line.invariant.0 c.next.new.line.items c.next.new.self _ _
@@ -60,7 +60,7 @@ loop-line-preserved g c =
           (record { first = line; total = c.in_ok-number.ensures.length; takes = bytes; goes = c.in_ok-number.ensures.goes_on; reads = c.next.ensures.reads }) delivered (omega (arith, asked))
           c.in_ok-number.ensures.later (sym number.1 ∙ number.0) c.in_ok-number.ensures.ended (omega (arith, asked, one)) takes,
       delivered_on g.S.Source g.R.Revisions g.K.Sink _ c.loop-line.ports _ _ _ c.loop-line.invariant.1 c.next.ensures.later c.next.ensures.most c.deliver.ensures.source c.deliver.ensures.written,
-      c.deliver.ensures.room ∙ c.loop-line.invariant.2,
+      c.deliver.ensures.limit ∙ c.loop-line.invariant.2,
       (rw c.loop-line.invariant.2 at c.deliver.ensures.held) c.loop-line.invariant.3,
     )
 

@@ -12,8 +12,8 @@ invariant-loop-line g l =
     (moment g.S.Source g.R.Revisions g.K.Sink l.fn.ports l.fn.world)
     (moment g.S.Source g.R.Revisions g.K.Sink l.ports l.world) l.lines l.asked
     × HaveGoneOn g.S.Source g.R.Revisions g.K.Sink l.fn.ports l.ports
-    × (l.world.room ≡ l.fn.world.room)
-    × HoldsWithin l.fn.world.room l.world
+    × (l.world.limit ≡ l.fn.world.limit)
+    × HoldsWithin l.fn.world.limit l.world
 
 abbrev pub decreases-loop-line : goal.decreases-loop-line
 decreases-loop-line g l = l.lines.max_bytes - l.lines.given

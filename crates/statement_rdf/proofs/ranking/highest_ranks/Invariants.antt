@@ -9,4 +9,4 @@ use Rattle.statement_rdf.proofs.ranking.highest_ranks.Given as goal
 
 abbrev pub invariant-loop-statement : goal.invariant-loop-statement
 invariant-loop-statement l =
-    (property : EntityId) (place : ℕ) → has_rank_above place (get entity_cmp l.highest property) ≡ list_any (is_ranked_above property place) (take l.statement-index l.statements)
+    (property : EntityId) (number : ℕ) → has_rank_above number (get entity_cmp l.highest property) ≡ list_any (is_ranked_above property number) (take l.statement-index l.statements)

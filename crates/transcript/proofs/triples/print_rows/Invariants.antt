@@ -5,5 +5,5 @@ use Rattle.rdf_term.specs.Text.{triple_text}
 use Rattle.transcript.specs.Printing.{Prints, output}
 use Rattle.transcript.proofs.triples.print_rows.Given as goal
 
-abbrev pub invariant-loop-place : goal.invariant-loop-place
-invariant-loop-place g l = Prints (flat_map triple_text (take l.place l.rows)) (output g.K.Sink l.fn.out) (output g.K.Sink l.out) (Ok tt)
+abbrev pub invariant-loop-index : goal.invariant-loop-index
+invariant-loop-index g l = Prints (flat_map triple_text (take l.index l.rows)) (output g.K.Sink l.fn.out) (output g.K.Sink l.out) (Ok tt)

@@ -13,15 +13,15 @@ loop-index-init c = record {
 
 pub index_mut-requires : goal.index_mut-requires
 index_mut-requires c =
-    let low : c.in-Some.place < length c.args.old.now = slice_get_within c.args.old.now c.in-Some.place _ c.in-Some.ensures in
+    let low : c.in-Some.old_index < length c.args.old.now = slice_get_within c.args.old.now c.in-Some.old_index _ c.in-Some.ensures in
     omega (arith, low, c.loop-index.invariant.len)
 
 pub loop-index-preserved : goal.loop-index-preserved
 loop-index-preserved c =
-    elim c.match-place_of.branch [
+    elim c.match-old_index_of.branch [
       | in-Some w ↦ rw (w.kept-is, w.rest-is) (record {
-        len = set_long c.loop-index.kept.items w.in-Some.place true ∙ c.loop-index.invariant.len;
-        same = more_kept key_cmp c.args.old.now c.args.met.now c.loop-index.kept.items c.loop-index.rest.items c.loop-index.index _ c.loop-index-test.true c.loop-index.invariant.same w.in-Some.place c.loop-index.invariant.len w.in-Some.ensures;
+        len = set_long c.loop-index.kept.items w.in-Some.old_index true ∙ c.loop-index.invariant.len;
+        same = more_kept key_cmp c.args.old.now c.args.met.now c.loop-index.kept.items c.loop-index.rest.items c.loop-index.index _ c.loop-index-test.true c.loop-index.invariant.same w.in-Some.old_index c.loop-index.invariant.len w.in-Some.ensures;
       })
       | in-None+in_ok-push-in-None w ↦ rw (w.kept-is, w.rest-is) (record {
         len = c.loop-index.invariant.len;

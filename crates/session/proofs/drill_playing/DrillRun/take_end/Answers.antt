@@ -17,7 +17,7 @@ returns-in-Ok-clause-ok c =
 pub returns-in-Ok-clause-left : goal.returns-in-Ok-clause-left
 returns-in-Ok-clause-left c =
     let call = c.in-Ok.ensures in
-    leaves_end c.args.self.now [] c.requires.taken.0 c.args.world.now c.requires.taken.1 c.take_end.new.revisions c.take_end.new.world call.versions call.room call.held
+    leaves_end c.args.self.now [] c.requires.taken.0 c.args.world.now c.requires.taken.1 c.take_end.new.revisions c.take_end.new.world call.versions call.limit call.held
 
 pub returns-in-Err-OutOfMemory-clause-err : goal.returns-in-Err-OutOfMemory-clause-err
 returns-in-Err-OutOfMemory-clause-err c =
@@ -27,4 +27,4 @@ returns-in-Err-OutOfMemory-clause-err c =
 pub returns-in-Err-OutOfMemory-clause-left : goal.returns-in-Err-OutOfMemory-clause-left
 returns-in-Err-OutOfMemory-clause-left c =
     let call = c.in-Err-OutOfMemory.ensures in
-    leaves_end c.args.self.now [] c.requires.taken.0 c.args.world.now c.requires.taken.1 c.take_end.new.revisions c.take_end.new.world call.versions call.room call.held
+    leaves_end c.args.self.now [] c.requires.taken.0 c.args.world.now c.requires.taken.1 c.take_end.new.revisions c.take_end.new.world call.versions call.limit call.held

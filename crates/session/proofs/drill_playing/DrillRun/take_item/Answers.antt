@@ -1,7 +1,7 @@
 -- The deliveries of the item are taken and counted, one after the other.
 use Rattle.std.proofs.Common.{◌≡◌, ◌∙◌, ◌+◌, ◌*◌, ◌++◌, [], ◌∷◌, suc, take, drop, sym, subst, append-nil, arith}
 use Rattle.transcript.specs.Printing.{output}
-use Rattle.drill.specs.Drill.{IsSize, deliveries_of, drill}
+use Rattle.drill.specs.Drill.{IsSize, item_deliveries, drill}
 use Rattle.drill_replay.specs.Playing.{IsPartOf}
 use Rattle.drill_replay.proofs.Drills.{part_in}
 use Rattle.drill_replay.proofs.Taking.{cut, few_more, one_more, whole}
@@ -37,7 +37,7 @@ refused-requires g c =
     let i = c.loop-delivery.delivery-index in
     let d = c.delivery-item.result in
     let run = c.loop-delivery.self in
-    let are : items ≡ deliveries_of (n + 1) = c.as_slice-delivery-items.ensures ∙ c.in_ok-list.ensures in
+    let are : items ≡ item_deliveries (n + 1) = c.as_slice-delivery-items.ensures ∙ c.in_ok-list.ensures in
     let rest : drill (n + 1) ≡ (drill n ++ take i items) ++ d ∷ drop (suc i) items = cut n items i d are c.loop-delivery-test.true c.delivery-item.is in
     let all = next_of run.size n _ (drop (suc i) items) d (omega (arith, c.loop-delivery.invariant.size_is, c.requires.next)) rest in
     (cut_off run _ all.0 d all.1 [] _ c.loop-delivery.world c.loop-delivery.invariant.taken c.deliver.new.revisions _ c.deliver.new.world (subst (λ k. IsSize k) (sym c.loop-delivery.invariant.size_is) c.requires.size) _ c.in-Err.ensures.err).refused
@@ -49,7 +49,7 @@ returns-in-Err-clause-part g c =
     let i = c.loop-delivery.delivery-index in
     let d = c.delivery-item.result in
     let run = c.loop-delivery.self in
-    let are : items ≡ deliveries_of (n + 1) = c.as_slice-delivery-items.ensures ∙ c.in_ok-list.ensures in
+    let are : items ≡ item_deliveries (n + 1) = c.as_slice-delivery-items.ensures ∙ c.in_ok-list.ensures in
     let rest : drill (n + 1) ≡ (drill n ++ take i items) ++ d ∷ drop (suc i) items = cut n items i d are c.loop-delivery-test.true c.delivery-item.is in
     let all = next_of run.size n _ (drop (suc i) items) d (omega (arith, c.loop-delivery.invariant.size_is, c.requires.next)) rest in
     let halted = cut_off run _ all.0 d all.1 [] _ c.loop-delivery.world c.loop-delivery.invariant.taken c.deliver.new.revisions _ c.deliver.new.world (subst (λ k. IsSize k) (sym c.loop-delivery.invariant.size_is) c.requires.size) _ c.in-Err.ensures.err in
@@ -62,11 +62,11 @@ returns-in-Err-clause-left g c =
     let i = c.loop-delivery.delivery-index in
     let d = c.delivery-item.result in
     let run = c.loop-delivery.self in
-    let are : items ≡ deliveries_of (n + 1) = c.as_slice-delivery-items.ensures ∙ c.in_ok-list.ensures in
+    let are : items ≡ item_deliveries (n + 1) = c.as_slice-delivery-items.ensures ∙ c.in_ok-list.ensures in
     let rest : drill (n + 1) ≡ (drill n ++ take i items) ++ d ∷ drop (suc i) items = cut n items i d are c.loop-delivery-test.true c.delivery-item.is in
     let all = next_of run.size n _ (drop (suc i) items) d (omega (arith, c.loop-delivery.invariant.size_is, c.requires.next)) rest in
     let halted = cut_off run _ all.0 d all.1 [] _ c.loop-delivery.world c.loop-delivery.invariant.taken c.deliver.new.revisions _ c.deliver.new.world (subst (λ k. IsSize k) (sym c.loop-delivery.invariant.size_is) c.requires.size) _ c.in-Err.ensures.err in
-    leaves_halted run.size _ d _ c.loop-delivery.world c.deliver.new.world halted c.loop-delivery.invariant.taken.room c.loop-delivery.invariant.taken.held c.deliver.ensures.room c.deliver.ensures.held
+    leaves_halted run.size _ d _ c.loop-delivery.world c.deliver.new.world halted c.loop-delivery.invariant.taken.limit c.loop-delivery.invariant.taken.held c.deliver.ensures.limit c.deliver.ensures.held
 
 pub returns-in-Err-clause-silent : goal.returns-in-Err-clause-silent
 returns-in-Err-clause-silent g c =
@@ -75,7 +75,7 @@ returns-in-Err-clause-silent g c =
     let i = c.loop-delivery.delivery-index in
     let d = c.delivery-item.result in
     let run = c.loop-delivery.self in
-    let are : items ≡ deliveries_of (n + 1) = c.as_slice-delivery-items.ensures ∙ c.in_ok-list.ensures in
+    let are : items ≡ item_deliveries (n + 1) = c.as_slice-delivery-items.ensures ∙ c.in_ok-list.ensures in
     let rest : drill (n + 1) ≡ (drill n ++ take i items) ++ d ∷ drop (suc i) items = cut n items i d are c.loop-delivery-test.true c.delivery-item.is in
     let all = next_of run.size n _ (drop (suc i) items) d (omega (arith, c.loop-delivery.invariant.size_is, c.requires.next)) rest in
     c.deliver.ensures.silent (silent run _ all.0 d all.1) ∙ c.loop-delivery.invariant.silent
@@ -87,7 +87,7 @@ loop-delivery-preserved g c =
     let i = c.loop-delivery.delivery-index in
     let d = c.delivery-item.result in
     let run = c.loop-delivery.self in
-    let are : items ≡ deliveries_of (n + 1) = c.as_slice-delivery-items.ensures ∙ c.in_ok-list.ensures in
+    let are : items ≡ item_deliveries (n + 1) = c.as_slice-delivery-items.ensures ∙ c.in_ok-list.ensures in
     let rest : drill (n + 1) ≡ (drill n ++ take i items) ++ d ∷ drop (suc i) items = cut n items i d are c.loop-delivery-test.true c.delivery-item.is in
     let all = next_of run.size n _ (drop (suc i) items) d (omega (arith, c.loop-delivery.invariant.size_is, c.requires.next)) rest in
     let call = c.in-Ok.ensures in
@@ -95,27 +95,27 @@ loop-delivery-preserved g c =
     record {
       size_is = before.size_is;
       taken = subst (λ l. HasTakenFirst (record run { pages = c.deliver.new.revisions; counts = c.add.new.self }) l (output g.K.Sink c.deliver.new.out) c.deliver.new.world) (one_more n items i d c.loop-delivery-test.true c.delivery-item.is)
-          (next_taken run _ all.0 d all.1 [] _ c.loop-delivery.world before.taken c.deliver.new.revisions c.add.new.self c.in-Ok.answer (output g.K.Sink c.deliver.new.out) c.deliver.new.world call.source.known call.ok call.answer c.add.ensures call.room call.held);
+          (next_taken run _ all.0 d all.1 [] _ c.loop-delivery.world before.taken c.deliver.new.revisions c.add.new.self c.in-Ok.answer (output g.K.Sink c.deliver.new.out) c.deliver.new.world call.source.known call.ok call.answer c.add.ensures call.limit call.held);
       few = few_more c.in-Ok.answer c.loop-delivery.self.counts c.add.new.self (6 * n + i) (6 * n + (i + 1)) c.add.ensures (omega arith) before.few;
       silent = c.deliver.ensures.silent (silent run _ all.0 d all.1) ∙ before.silent;
     }
 
 pub returns-clause-taken : goal.returns-clause-taken
 returns-clause-taken g c =
-    let are : c.as_slice-delivery-items.result.now ≡ deliveries_of (c.args.done + 1) = c.as_slice-delivery-items.ensures ∙ c.in_ok-list.ensures in
+    let are : c.as_slice-delivery-items.result.now ≡ item_deliveries (c.args.done + 1) = c.as_slice-delivery-items.ensures ∙ c.in_ok-list.ensures in
     subst (λ l. HasTakenFirst c.loop-delivery.self l (output g.K.Sink c.loop-delivery.out) c.loop-delivery.world)
     (whole c.args.done c.as_slice-delivery-items.result.now c.loop-delivery.delivery-index are c.loop-delivery-test.false) c.loop-delivery.invariant.taken
 
 pub returns-clause-part : goal.returns-clause-part
 returns-clause-part g c =
-    let are : c.as_slice-delivery-items.result.now ≡ deliveries_of (c.args.done + 1) = c.as_slice-delivery-items.ensures ∙ c.in_ok-list.ensures in
+    let are : c.as_slice-delivery-items.result.now ≡ item_deliveries (c.args.done + 1) = c.as_slice-delivery-items.ensures ∙ c.in_ok-list.ensures in
     let taken = subst (λ l. HasTakenFirst c.loop-delivery.self l (output g.K.Sink c.loop-delivery.out) c.loop-delivery.world)
     (whole c.args.done c.as_slice-delivery-items.result.now c.loop-delivery.delivery-index are c.loop-delivery-test.false) c.loop-delivery.invariant.taken in
     subst (λ k. IsPartOf k (drill (c.args.done + 1)) c.loop-delivery.world.replay) c.loop-delivery.invariant.size_is (part_at_rest c.loop-delivery.self _ _ c.loop-delivery.world taken)
 
 pub returns-clause-left : goal.returns-clause-left
 returns-clause-left g c =
-    let are : c.as_slice-delivery-items.result.now ≡ deliveries_of (c.args.done + 1) = c.as_slice-delivery-items.ensures ∙ c.in_ok-list.ensures in
+    let are : c.as_slice-delivery-items.result.now ≡ item_deliveries (c.args.done + 1) = c.as_slice-delivery-items.ensures ∙ c.in_ok-list.ensures in
     let taken = subst (λ l. HasTakenFirst c.loop-delivery.self l (output g.K.Sink c.loop-delivery.out) c.loop-delivery.world)
     (whole c.args.done c.as_slice-delivery-items.result.now c.loop-delivery.delivery-index are c.loop-delivery-test.false) c.loop-delivery.invariant.taken in
     let first = first_of c.loop-delivery.self.size (c.args.done + 1) (omega (arith, c.loop-delivery.invariant.size_is, c.requires.next)) in

@@ -1,7 +1,7 @@
 -- A stored triple has one owner, and as many as are counted beside it.
 use Rattle.std.proofs.Common.{◌+◌, ◌∙◌, sym, ap, subst}
 use Rattle.std.specs.FinMap as map
-use Rattle.block_index.specs.Steps.{Within}
+use Rattle.block_index.specs.Steps.{WithinSteps}
 use Rattle.slot_index.specs.Counts.{count_of, counts_of}
 use Rattle.slot_index.proofs.More.{counted_absent, counted_there, len-with_more}
 use Rattle.slot_index.proofs.counted.SlotIndex.count.Goals as goal
@@ -14,7 +14,7 @@ returns-then-find-clause-count g c =
 
 pub returns-then-find-clause-cost : goal.returns-then-find-clause-cost
 returns-then-find-clause-cost g c =
-    subst (λ n. Within n 8 c.args.steps.now c.find.new.steps) (sym (len-with_more c.self.inside.orders (counts_of c.self.inside.more.entries) c.find.ensures.rising) ∙ ap map.len c.self.view_is) c.find.ensures.cost
+    subst (λ n. WithinSteps n 8 c.args.steps.now c.find.new.steps) (sym (len-with_more c.self.inside.orders (counts_of c.self.inside.more.entries) c.find.ensures.rising) ∙ ap map.len c.self.view_is) c.find.ensures.cost
 
 pub returns-else-find-clause-count : goal.returns-else-find-clause-count
 returns-else-find-clause-count g c =
@@ -23,4 +23,4 @@ returns-else-find-clause-count g c =
 
 pub returns-else-find-clause-cost : goal.returns-else-find-clause-cost
 returns-else-find-clause-cost g c =
-    subst (λ n. Within n 8 c.args.steps.now c.find.new.steps) (sym (len-with_more c.self.inside.orders (counts_of c.self.inside.more.entries) c.find.ensures.rising) ∙ ap map.len c.self.view_is) c.find.ensures.cost
+    subst (λ n. WithinSteps n 8 c.args.steps.now c.find.new.steps) (sym (len-with_more c.self.inside.orders (counts_of c.self.inside.more.entries) c.find.ensures.rising) ∙ ap map.len c.self.view_is) c.find.ensures.cost

@@ -3,17 +3,17 @@ use Rattle.std.proofs.Common.{◌≡◌, ◌≢◌, ◌∙◌, ℕ, ◌==◌, So
 use Rattle.std.specs.HashMap.{get as map_get}
 use Rattle.slab.specs.Slab.{get, slab_len}
 use Rattle.term_pool.specs.Index.{Points, hash_of}
-use Rattle.term_pool.specs.Pool.{foreign}
-use Rattle.term_pool.proofs.Foreign.{foreign_added, foreign_same}
+use Rattle.term_pool.specs.Pool.{beside}
+use Rattle.term_pool.proofs.OthersTexts.{beside_added, beside_same}
 use Rattle.term_pool.proofs.Lying.{interned_added, interned_from, lies_added, lies_same, nowhere_same}
 use Rattle.term_pool.proofs.pool.Pool.add.Goals as goal
 
-pub returns-in_default-clause-foreign : goal.returns-in_default-clause-foreign
-returns-in_default-clause-foreign c = λ piece. foreign_same c.args.self.now c.make_room.new.self c.args.region.now piece (ap (λ s. s.slots) c.make_room.ensures.same.slots)
+pub returns-in_default-clause-beside : goal.returns-in_default-clause-beside
+returns-in_default-clause-beside c = λ piece. beside_same c.args.self.now c.make_room.new.self c.args.region.now piece (ap (λ s. s.slots) c.make_room.ensures.same.slots)
 
-pub returns-in_default-place-clause-foreign : goal.returns-in_default-place-clause-foreign
-returns-in_default-place-clause-foreign c = λ piece.
-    ap (λ r. foreign c.make_room.new.self r piece) c.in_default-place.ensures.err ∙ foreign_same c.args.self.now c.make_room.new.self c.args.region.now piece (ap (λ s. s.slots) c.make_room.ensures.same.slots)
+pub returns-in_default-place-clause-beside : goal.returns-in_default-place-clause-beside
+returns-in_default-place-clause-beside c = λ piece.
+    ap (λ r. beside c.make_room.new.self r piece) c.in_default-place.ensures.err ∙ beside_same c.args.self.now c.make_room.new.self c.args.region.now piece (ap (λ s. s.slots) c.make_room.ensures.same.slots)
 
 -- where the term comes
 number : (c : goal.After-point) → c.insert_reserved.result ≡ c.in-Ok.number
@@ -43,7 +43,7 @@ returns-clause-ok c =
     (record { piece = c.in-Ok-place.piece; count = 1 }) c.args.text.now c.in-Ok-place.ensures.updates.others c.in-Ok-place.ensures.was_vacant c.in-Ok.ensures.room.vacant (there c) c.in-Ok-place.ensures.updates.changed
     refl (nowhere_same c.args.self.now c.make_room.new.self c.args.region.now c.args.text.now same c.requires.nowhere))
 
-pub returns-clause-foreign : goal.returns-clause-foreign
-returns-clause-foreign c = λ piece.
-    foreign_added c.make_room.new.self _ c.args.region.now c.place.new.self c.in-Ok.number (record { piece = c.in-Ok-place.piece; count = 1 }) (others c) c.in-Ok.ensures.room.vacant (there c) c.in-Ok-place.ensures.was_vacant c.in-Ok-place.ensures.updates.others piece
-    ∙ foreign_same c.args.self.now c.make_room.new.self c.args.region.now piece (ap (λ s. s.slots) c.make_room.ensures.same.slots)
+pub returns-clause-beside : goal.returns-clause-beside
+returns-clause-beside c = λ piece.
+    beside_added c.make_room.new.self _ c.args.region.now c.place.new.self c.in-Ok.number (record { piece = c.in-Ok-place.piece; count = 1 }) (others c) c.in-Ok.ensures.room.vacant (there c) c.in-Ok-place.ensures.was_vacant c.in-Ok-place.ensures.updates.others piece
+    ∙ beside_same c.args.self.now c.make_room.new.self c.args.region.now piece (ap (λ s. s.slots) c.make_room.ensures.same.slots)

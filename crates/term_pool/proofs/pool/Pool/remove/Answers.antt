@@ -6,8 +6,8 @@ use Rattle.std.specs.HashMap.{get as map_get}
 use Rattle.slab.specs.Slab.{get}
 use Rattle.text_region.specs.Region.{bytes_of}
 use Rattle.term_pool.specs.Index.{Forgets, hash_of}
-use Rattle.term_pool.specs.Pool.{count_of, text_of}
-use Rattle.term_pool.proofs.Foreign.{foreign_removed}
+use Rattle.term_pool.specs.Pool.{count_of, live_text}
+use Rattle.term_pool.proofs.OthersTexts.{beside_removed}
 use Rattle.term_pool.proofs.Indexed.{still_listed, unlisted}
 use Rattle.term_pool.proofs.Lying.{lies_removed, released_removed}
 use Rattle.term_pool.proofs.pool.Pool.remove.Goals as goal
@@ -16,7 +16,7 @@ there : (c : goal.After-free) → get c.args.self.now.slots c.args.slot.number �
 there c = sym c.in-Some.ensures.value
 
 text : (c : goal.After-free) → bytes_of c.args.region.now c.in-Some.entry.piece ≡ Some c.text.result.now
-text c = sym (ap (text_of c.args.region.now) (there c)) ∙ c.text.ensures
+text c = sym (ap (live_text c.args.region.now) (there c)) ∙ c.text.ensures
 
 -- the block of the text is free, and the others are as they were
 elsewhere : (c : goal.After-free) → (y : Piece) → y ≢ c.in-Some.entry.piece → bytes_of c.free.new.self y ≡ bytes_of c.args.region.now y
@@ -40,6 +40,6 @@ returns-clause-released c =
     released_removed c.args.self.now _ c.args.region.now c.free.new.self c.args.slot.number c.try_remove.ensures.updates.others c.requires.lies c.in-Some.entry c.text.result.now (elsewhere c)
     (there c) (sym (ap count_of (there c)) ∙ c.requires.last) c.try_remove.ensures.updates.changed
 
-pub returns-clause-foreign : goal.returns-clause-foreign
-returns-clause-foreign c =
-    foreign_removed c.args.self.now _ c.args.region.now c.free.new.self c.args.slot.number c.in-Some.entry c.try_remove.ensures.updates.others (there c) c.try_remove.ensures.updates.changed (gone c) (elsewhere c)
+pub returns-clause-beside : goal.returns-clause-beside
+returns-clause-beside c =
+    beside_removed c.args.self.now _ c.args.region.now c.free.new.self c.args.slot.number c.in-Some.entry c.try_remove.ensures.updates.others (there c) c.try_remove.ensures.updates.changed (gone c) (elsewhere c)

@@ -3,14 +3,14 @@ use Rattle.std.proofs.Common.{◌≡◌, ◌<◌, ℕ, ap, subst, sym, ◌∙◌
 use Rattle.std.specs.FinMap as map
 use Rattle.std.proofs.lemmas.Bool.{eqb-false, eqb-true}
 use Rattle.term_pool.specs.Pool.{count_at}
-use Rattle.slot_index.specs.Counts.{Counts as KeyCounts, count_of as key_count}
+use Rattle.slot_index.specs.Counts.{KeyCounts, count_of as key_count}
 use Rattle.triple_store.specs.Costs.{Costs}
 use Rattle.triple_store.specs.Counts.{count_of}
-use Rattle.triple_store.specs.Holding.{KeepsTexts}
+use Rattle.triple_store.specs.Interning.{KeepsTexts}
 use Rattle.triple_store.specs.Slots.{HasTriple, triple_of}
 use Rattle.triple_store.proofs.Costs.{none_came, nothing, one_came}
 use Rattle.triple_store.proofs.Live.{count_image}
-use Rattle.triple_store.proofs.Storing.{again, back, counts_after, counts_kept, counts_unmoved, has_triple, keeps_let_go, key_after, keys_after, keys_unmoved, live_kept, live_stored, stored_again, stored_new, terms_stored}
+use Rattle.triple_store.proofs.Storing.{again, back, counts_after, counts_kept, counts_unmoved, has_triple, keeps_released, key_after, keys_after, keys_unmoved, live_kept, live_stored, stored_again, stored_new, terms_stored}
 use Rattle.triple_store.proofs.catalog.Catalog.add.Given.{Over}
 use Rattle.triple_store.proofs.catalog.Catalog.add.Goals as goal
 
@@ -27,15 +27,15 @@ pub raise-requires : goal.raise-requires
 raise-requires g c =
     let held = c.in-Ok.ensures.ok in
     let live = live_stored c.args.self.now c.args.region.now c.requires.stored in
-    let same = counts_kept _ c.hold.new.pool _ c.hold.new.region c.args.self.now.index held.kept live in
-    let one = count_image c.hold.new.pool c.hold.new.region c.args.self.now.index c.in-Ok.key (triple_of c.args.texts.now) c.hold.ensures.lies (live_kept _ _ _ _ _ held.kept live) (has_triple _ _ _ c.args.texts.now c.requires.canonical held.has) in
+    let same = counts_kept _ c.intern_triple.new.pool _ c.intern_triple.new.region c.args.self.now.index held.kept live in
+    let one = count_image c.intern_triple.new.pool c.intern_triple.new.region c.args.self.now.index c.in-Ok.key (triple_of c.args.texts.now) c.intern_triple.ensures.lies (live_kept _ _ _ _ _ held.kept live) (has_triple _ _ _ c.args.texts.now c.requires.canonical held.has) in
     omega (arith, c.requires.countable, one, ap (λ m. count_of m (triple_of c.args.texts.now)) same)
 
 pub returns-in-Ok-true-clause-stored : goal.returns-in-Ok-true-clause-stored
-returns-in-Ok-true-clause-stored g c = stored_new c.args.self.now _ c.args.region.now _ c.requires.stored c.in-Ok.key c.args.texts.now c.in-Ok-true.ensures.ok (eqb-true _ 0 (sym c.in-Ok-true.ensures.answer ∙ c.in-Ok-true.field-0-test)) c.hold.ensures.lies c.in-Ok.ensures.ok
+returns-in-Ok-true-clause-stored g c = stored_new c.args.self.now _ c.args.region.now _ c.requires.stored c.in-Ok.key c.args.texts.now c.in-Ok-true.ensures.ok (eqb-true _ 0 (sym c.in-Ok-true.ensures.answer ∙ c.in-Ok-true.field-0-test)) c.intern_triple.ensures.lies c.in-Ok.ensures.ok
 
 pub returns-in-Ok-true-clause-ok : goal.returns-in-Ok-true-clause-ok
-returns-in-Ok-true-clause-ok g c = counts_after c.args.self.now _ c.args.region.now _ c.requires.stored c.in-Ok.key _ c.in-Ok-true.ensures.ok c.hold.ensures.lies c.in-Ok.ensures.ok.kept (has_triple _ _ _ c.args.texts.now c.requires.canonical c.in-Ok.ensures.ok.has)
+returns-in-Ok-true-clause-ok g c = counts_after c.args.self.now _ c.args.region.now _ c.requires.stored c.in-Ok.key _ c.in-Ok-true.ensures.ok c.intern_triple.ensures.lies c.in-Ok.ensures.ok.kept (has_triple _ _ _ c.args.texts.now c.requires.canonical c.in-Ok.ensures.ok.has)
 
 pub returns-in-Ok-true-clause-key : goal.returns-in-Ok-true-clause-key
 returns-in-Ok-true-clause-key g c = key_after c.args.self.now _ c.args.region.now _ c.requires.stored c.in-Ok.key _ c.in-Ok-true.ensures.ok (has_triple _ _ _ c.args.texts.now c.requires.canonical c.in-Ok.ensures.ok.has)
@@ -43,23 +43,23 @@ returns-in-Ok-true-clause-key g c = key_after c.args.self.now _ c.args.region.no
 pub returns-in-Ok-true-clause-kept : goal.returns-in-Ok-true-clause-kept
 returns-in-Ok-true-clause-kept g c = keys_after c.args.self.now _ c.args.region.now _ c.requires.stored c.in-Ok.key (triple_of c.args.texts.now) c.in-Ok-true.ensures.ok c.in-Ok.ensures.ok.kept
 
-counts_back : (g : Over) (c : goal.After-let_go g) → (x : ℕ) → count_at c.let_go.new.pool x ≡ count_at c.args.self.now.pool x
-counts_back g c = back _ c.hold.new.pool _ _ c.hold.new.region c.let_go.new.region c.in-Ok.key c.args.texts.now c.in-Ok.ensures.ok c.let_go.ensures.gone
+counts_back : (g : Over) (c : goal.After-release_triple g) → (x : ℕ) → count_at c.release_triple.new.pool x ≡ count_at c.args.self.now.pool x
+counts_back g c = back _ c.intern_triple.new.pool _ _ c.intern_triple.new.region c.release_triple.new.region c.in-Ok.key c.args.texts.now c.in-Ok.ensures.ok c.release_triple.ensures.gone
 
-keeps_back : (g : Over) (c : goal.After-let_go g) → KeepsTexts c.args.self.now.pool c.args.region.now c.let_go.new.pool c.let_go.new.region
-keeps_back g c = keeps_let_go _ c.hold.new.pool _ _ c.hold.new.region _ c.in-Ok.key c.requires.stored.lies c.in-Ok.ensures.ok.kept c.let_go.ensures.gone (counts_back g c)
+keeps_back : (g : Over) (c : goal.After-release_triple g) → KeepsTexts c.args.self.now.pool c.args.region.now c.release_triple.new.pool c.release_triple.new.region
+keeps_back g c = keeps_released _ c.intern_triple.new.pool _ _ c.intern_triple.new.region _ c.in-Ok.key c.requires.stored.lies c.in-Ok.ensures.ok.kept c.release_triple.ensures.gone (counts_back g c)
 
-some : (g : Over) (c : goal.After-let_go g) → 0 < key_count c.args.self.now.index c.in-Ok.key
+some : (g : Over) (c : goal.After-release_triple g) → 0 < key_count c.args.self.now.index c.in-Ok.key
 some g c = let other = eqb-false (key_count c.args.self.now.index c.in-Ok.key) 0 (sym c.in-Ok-false.ensures.answer ∙ c.in-Ok-false.field-0-test) in omega arith
 
-has_it : (g : Over) (c : goal.After-let_go g) → HasTriple c.let_go.new.pool c.let_go.new.region c.in-Ok.key (triple_of c.args.texts.now)
-has_it g c = again c.args.self.now c.hold.new.pool _ c.args.region.now c.hold.new.region _ c.in-Ok.key c.args.texts.now c.requires.stored c.requires.canonical (some g c) c.in-Ok.ensures.ok c.let_go.ensures.gone
+has_it : (g : Over) (c : goal.After-release_triple g) → HasTriple c.release_triple.new.pool c.release_triple.new.region c.in-Ok.key (triple_of c.args.texts.now)
+has_it g c = again c.args.self.now c.intern_triple.new.pool _ c.args.region.now c.intern_triple.new.region _ c.in-Ok.key c.args.texts.now c.requires.stored c.requires.canonical (some g c) c.in-Ok.ensures.ok c.release_triple.ensures.gone
 
 pub returns-in-Ok-false-clause-stored : goal.returns-in-Ok-false-clause-stored
-returns-in-Ok-false-clause-stored g c = stored_again c.args.self.now _ c.args.region.now _ c.requires.stored c.in-Ok.key c.in-Ok-false.ensures.ok (some g c) c.let_go.ensures.lies (counts_back g c)
+returns-in-Ok-false-clause-stored g c = stored_again c.args.self.now _ c.args.region.now _ c.requires.stored c.in-Ok.key c.in-Ok-false.ensures.ok (some g c) c.release_triple.ensures.lies (counts_back g c)
 
 pub returns-in-Ok-false-clause-ok : goal.returns-in-Ok-false-clause-ok
-returns-in-Ok-false-clause-ok g c = counts_after c.args.self.now _ c.args.region.now _ c.requires.stored c.in-Ok.key _ c.in-Ok-false.ensures.ok c.let_go.ensures.lies (keeps_back g c) (has_it g c)
+returns-in-Ok-false-clause-ok g c = counts_after c.args.self.now _ c.args.region.now _ c.requires.stored c.in-Ok.key _ c.in-Ok-false.ensures.ok c.release_triple.ensures.lies (keeps_back g c) (has_it g c)
 
 pub returns-in-Ok-false-clause-key : goal.returns-in-Ok-false-clause-key
 returns-in-Ok-false-clause-key g c = key_after c.args.self.now _ c.args.region.now _ c.requires.stored c.in-Ok.key _ c.in-Ok-false.ensures.ok (has_it g c)
@@ -67,9 +67,9 @@ returns-in-Ok-false-clause-key g c = key_after c.args.self.now _ c.args.region.n
 pub returns-in-Ok-false-clause-kept : goal.returns-in-Ok-false-clause-kept
 returns-in-Ok-false-clause-kept g c = keys_after c.args.self.now _ c.args.region.now _ c.requires.stored c.in-Ok.key (triple_of c.args.texts.now) c.in-Ok-false.ensures.ok (keeps_back g c)
 
-keeps_after_fault : (g : Over) (c : goal.After-let_go-in-Err-raise g) → KeepsTexts c.args.self.now.pool c.args.region.now c.let_go-in-Err-raise.new.pool c.let_go-in-Err-raise.new.region
-keeps_after_fault g c = keeps_let_go _ c.hold.new.pool _ _ c.hold.new.region _ c.in-Ok.key c.requires.stored.lies c.in-Ok.ensures.ok.kept c.let_go-in-Err-raise.ensures.gone
-    (back _ c.hold.new.pool _ _ c.hold.new.region _ c.in-Ok.key c.args.texts.now c.in-Ok.ensures.ok c.let_go-in-Err-raise.ensures.gone)
+keeps_after_fault : (g : Over) (c : goal.After-release_triple-in-Err-raise g) → KeepsTexts c.args.self.now.pool c.args.region.now c.release_triple-in-Err-raise.new.pool c.release_triple-in-Err-raise.new.region
+keeps_after_fault g c = keeps_released _ c.intern_triple.new.pool _ _ c.intern_triple.new.region _ c.in-Ok.key c.requires.stored.lies c.in-Ok.ensures.ok.kept c.release_triple-in-Err-raise.ensures.gone
+    (back _ c.intern_triple.new.pool _ _ c.intern_triple.new.region _ c.in-Ok.key c.args.texts.now c.in-Ok.ensures.ok c.release_triple-in-Err-raise.ensures.gone)
 
 pub returns-in-Err-raise-clause-err : goal.returns-in-Err-raise-clause-err
 returns-in-Err-raise-clause-err g c = counts_unmoved c.args.self.now _ c.args.region.now _ c.requires.stored (keeps_after_fault g c) c.in-Err-raise.ensures.err

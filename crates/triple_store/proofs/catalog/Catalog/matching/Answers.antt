@@ -3,7 +3,7 @@ use Rattle.std.proofs.Common.{◌+◌, ◌∙◌, ap, count_by, length, subst, s
 use Rattle.std.specs.Prelude.{map as mapped}
 use Rattle.std.specs.FinMap as map
 use Rattle.std.proofs.lemmas.List.Sorted.{All-permutation}
-use Rattle.block_index.specs.Steps.{Within}
+use Rattle.block_index.specs.Steps.{WithinSteps}
 use Rattle.triple_store.specs.Slots.{HasCanonicalTexts, triple_of}
 use Rattle.triple_store.proofs.Matched.{found_stored, none_matched}
 use Rattle.triple_store.proofs.Ordered.{rows_long, rows_matched, rows_rising}
@@ -41,7 +41,7 @@ returns g c =
       rows = rows_matched st r c.args.pattern.now c.in-Some.wanted found before after
           c.requires c.in-Some.ensures (λ f. ap (λ ks. count_by f ks) c.as_slice.ensures ∙ c.in_ok-keys.ensures.found f)
           c.in_ok-rows.ensures.triples c.in_ok-rows.ensures.canonical c.sort_rows.ensures.same c.sort_rows.ensures.sorted;
-      cost = subst (λ n. Within n (9 + length (mapped triple_of after)) c.args.steps.now c.range.new.steps) (sym (len_image st r c.requires))
-          (subst (λ n. Within (map.len st.index) (9 + n) c.args.steps.now c.range.new.steps) (sym long ∙ as_many) c.in_ok-keys.ensures.cost);
+      cost = subst (λ n. WithinSteps n (9 + length (mapped triple_of after)) c.args.steps.now c.range.new.steps) (sym (len_image st r c.requires))
+          (subst (λ n. WithinSteps (map.len st.index) (9 + n) c.args.steps.now c.range.new.steps) (sym long ∙ as_many) c.in_ok-keys.ensures.cost);
       forward = c.range.ensures.forward;
     }

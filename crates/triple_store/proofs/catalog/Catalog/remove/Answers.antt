@@ -7,20 +7,20 @@ use Rattle.triple_store.proofs.Live.{uses_there}
 use Rattle.triple_store.proofs.Storing.{counts_gone, counts_left, keeps_gone, keeps_left, stored_gone, stored_left}
 use Rattle.triple_store.proofs.catalog.Catalog.remove.Goals as goal
 
-pub let_go-requires-clause-used : goal.let_go-requires-clause-used
-let_go-requires-clause-used g c = λ slot. omega (arith, c.requires.stored.counted slot, uses_there c.args.self.now.index c.args.key slot c.requires.there)
+pub release_triple-requires-clause-used : goal.release_triple-requires-clause-used
+release_triple-requires-clause-used g c = λ slot. omega (arith, c.requires.stored.counted slot, uses_there c.args.self.now.index c.args.key slot c.requires.there)
 
 pub returns-then-lower-clause-stored : goal.returns-then-lower-clause-stored
 returns-then-lower-clause-stored g c =
-    stored_gone c.args.self.now _ c.args.key c.requires.stored c.requires.there _ _ c.lower.ensures.lowered (eqb-true _ 1 (sym c.lower.ensures.answer ∙ c.if-lower.true)) c.let_go.ensures.gone c.let_go.ensures.lies
+    stored_gone c.args.self.now _ c.args.key c.requires.stored c.requires.there _ _ c.lower.ensures.lowered (eqb-true _ 1 (sym c.lower.ensures.answer ∙ c.if-lower.true)) c.release_triple.ensures.gone c.release_triple.ensures.lies
 
 pub returns-then-lower-clause-lowered : goal.returns-then-lower-clause-lowered
 returns-then-lower-clause-lowered g c =
-    counts_gone c.args.self.now _ c.args.key c.requires.stored c.requires.there _ _ c.lower.ensures.lowered (eqb-true _ 1 (sym c.lower.ensures.answer ∙ c.if-lower.true)) c.let_go.ensures.gone
+    counts_gone c.args.self.now _ c.args.key c.requires.stored c.requires.there _ _ c.lower.ensures.lowered (eqb-true _ 1 (sym c.lower.ensures.answer ∙ c.if-lower.true)) c.release_triple.ensures.gone
 
 pub returns-then-lower-clause-keeps : goal.returns-then-lower-clause-keeps
 returns-then-lower-clause-keeps g c =
-    keeps_gone c.args.self.now _ c.args.key c.requires.stored c.requires.there _ _ c.lower.ensures.lowered (eqb-true _ 1 (sym c.lower.ensures.answer ∙ c.if-lower.true)) c.let_go.ensures.gone
+    keeps_gone c.args.self.now _ c.args.key c.requires.stored c.requires.there _ _ c.lower.ensures.lowered (eqb-true _ 1 (sym c.lower.ensures.answer ∙ c.if-lower.true)) c.release_triple.ensures.gone
 
 pub returns-else-lower-clause-stored : goal.returns-else-lower-clause-stored
 returns-else-lower-clause-stored g c =

@@ -14,8 +14,8 @@ loop-index-preserved-in-Some g c =
       cost = at_most _ _ c.loop-index.index (c.loop-index.index + 1) 0 0 _ _ (omega arith) (omega arith) c.loop-index.invariant.cost;
       done = omega (arith, c.push_reserved.ensures.len, c.loop-index.invariant.done);
       room = omega (arith, c.push_reserved.ensures.capacity, c.loop-index.invariant.room);
-      placed = omega (arith, c.push_reserved-in-Some.ensures.len, c.loop-index.invariant.placed);
-      room_placed = omega (arith, c.push_reserved-in-Some.ensures.capacity, c.loop-index.invariant.room_placed);
+      indexed = omega (arith, c.push_reserved-in-Some.ensures.len, c.loop-index.invariant.indexed);
+      room_for_indices = omega (arith, c.push_reserved-in-Some.ensures.capacity, c.loop-index.invariant.room_for_indices);
       held = rw c.push_reserved.ensures.items (held_again c.args.swap.old.rising.now c.loop-index.added.keys c.loop-index.met.keys.items c.loop-index.invariant.held c.in-Some.found.key c.in-Some.ensures.held);
     }
 
@@ -51,8 +51,8 @@ loop-index-preserved g c =
       cost = both _ _ _ c.loop-index.index 1 0 0 _ _ _ c.loop-index.invariant.cost c.in-Ok.ensures.cost;
       done = omega (arith, c.push_reserved-in-loop-index.ensures.len, c.loop-index.invariant.done);
       room = omega (arith, c.push_reserved-in-loop-index.ensures.capacity, c.loop-index.invariant.room);
-      placed = omega (arith, c.push_reserved-in-loop-index-2.ensures.len, c.loop-index.invariant.placed);
-      room_placed = omega (arith, c.push_reserved-in-loop-index-2.ensures.capacity, c.loop-index.invariant.room_placed);
+      indexed = omega (arith, c.push_reserved-in-loop-index-2.ensures.len, c.loop-index.invariant.indexed);
+      room_for_indices = omega (arith, c.push_reserved-in-loop-index-2.ensures.capacity, c.loop-index.invariant.room_for_indices);
       held = rw (c.push_reserved-in-loop-index.ensures.items, on_ok c.insert.result _ (sym c.is_err.ensures.value ∙ c.if-is_err.false) c.insert.ensures.keys) (held_more c.args.swap.old.rising.now c.loop-index.added.keys c.loop-index.met.keys.items c.loop-index.invariant.held c.in-Ok.key);
     }
 

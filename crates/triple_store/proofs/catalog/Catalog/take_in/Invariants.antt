@@ -5,16 +5,16 @@ use Rattle.rising.specs.Rising.{has}
 use Rattle.slot_index.specs.declared.key.Key.{Key}
 use Rattle.slot_index.specs.Keys.{key_cmp}
 use Rattle.triple_store.specs.Costs.{Costs}
-use Rattle.triple_store.specs.Moves.{Takes}
+use Rattle.triple_store.specs.Moves.{TakesIn}
 use Rattle.triple_store.proofs.catalog.Catalog.take_in.Given as goal
 
 abbrev pub invariant-loop-index : goal.invariant-loop-index
 invariant-loop-index g l = record {
-  takes : Takes l.initial.self l.initial.region l.self l.region l.swap.old.rising.now l.met.keys.items (take l.index l.swap.new.now);
+  takes : TakesIn l.initial.self l.initial.region l.self l.region l.swap.old.rising.now l.met.keys.items (take l.index l.swap.new.now);
   cost : Costs (map.len l.initial.self.index) (map.len l.self.index) l.index 0 l.initial.steps l.steps;
   done : vec_len l.met.keys ≡ l.index;
   room : length l.swap.new.now ≤ vec_capacity l.met.keys;
-  placed : vec_len l.met.places ≡ l.index;
-  room_placed : length l.swap.new.now ≤ vec_capacity l.met.places;
+  indexed : vec_len l.met.old_indices ≡ l.index;
+  room_for_indices : length l.swap.new.now ≤ vec_capacity l.met.old_indices;
   held : (key : Key) → has key_cmp key (l.swap.old.rising.now ++ l.added.keys) ≡ has key_cmp key (l.swap.old.rising.now ++ l.met.keys.items);
 }

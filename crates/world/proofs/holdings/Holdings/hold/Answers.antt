@@ -45,7 +45,7 @@ came c = rw c.replace.ensures.records
 refused : (c : After-drop-page-5) → AreInStep c.free.new.self c.take_back-in-Err.new.self c.make_room.new.table.records
 refused c =
     subst (λ (i : ByVersion). AreInStep c.free.new.self i c.make_room.new.table.records) (sym (undone c.self.inside.holders c.add.new.self c.take_back-in-Err.new.self c.self.inside.table.records c.args.id c.args.version c.in-Ok.added c.self.invariant.by c.in-Ok.ensures.ok c.in-Ok.ensures.added c.take_back-in-Err.ensures)) (record {
-      kept = kept_undone (meaning_by meaning c.self.inside.holders.second) c.self.inside.store c.place.new.self c.exchange_with.new.self c.free.new.self c.make_room.new.table.records c.in-Ok-place.piece _
+      kept = kept_undone (meaning_by meaning c.self.inside.holders.by_two) c.self.inside.store c.place.new.self c.exchange_with.new.self c.free.new.self c.make_room.new.table.records c.in-Ok-place.piece _
           (rw c.make_room.ensures.records c.self.invariant.kept) c.in-Ok-place.ensures.ok c.place.ensures.kept c.place.ensures.counts c.exchange_with.ensures.rest.keeps c.exchange_with.ensures.rest.beside c.in-Err.ensures.exchanged.err c.free.ensures.sound c.free.ensures.counts c.free.ensures.kept c.free.ensures.freed;
       by = rw c.make_room.ensures.records c.self.invariant.by;
     })
@@ -55,7 +55,7 @@ exchange_with-requires-clause-may_come c = record {
   fit = c.requires.fit;
   countable =
       let few : map.len c.make_room.new.table.records < 18446744073709551615 = omega arith in
-      λ t _. countable_kept (meaning_by meaning c.self.inside.holders.second) c.self.inside.store c.make_room.new.table.records (rw c.make_room.ensures.records c.self.invariant.kept) _ c.place.ensures.counts _ few t;
+      λ t _. countable_kept (meaning_by meaning c.self.inside.holders.by_two) c.self.inside.store c.make_room.new.table.records (rw c.make_room.ensures.records c.self.invariant.kept) _ c.place.ensures.counts _ few t;
 }
 
 pub invariant_of-self-in_default-place : goal.invariant_of-self-in_default-place
@@ -67,7 +67,7 @@ invariant_of-self-in-Ok-exchange_with c = came c
 pub invariant_of-self-in-Err : goal.invariant_of-self-in-Err
 invariant_of-self-in-Err c =
     subst (λ (i : ByVersion). AreInStep c.free.new.self i c.make_room.new.table.records) (sym (undone c.self.inside.holders c.add.new.self c.take_back-in-Err.new.self c.self.inside.table.records c.args.id c.args.version c.in-Ok.added c.self.invariant.by c.in-Ok.ensures.ok c.in-Ok.ensures.added c.take_back-in-Err.ensures)) (record {
-      kept = kept_undone (meaning_by meaning c.self.inside.holders.second) c.self.inside.store c.place.new.self c.exchange_with.new.self c.free.new.self c.make_room.new.table.records c.in-Ok-place.piece _
+      kept = kept_undone (meaning_by meaning c.self.inside.holders.by_two) c.self.inside.store c.place.new.self c.exchange_with.new.self c.free.new.self c.make_room.new.table.records c.in-Ok-place.piece _
           (rw c.make_room.ensures.records c.self.invariant.kept) c.in-Ok-place.ensures.ok c.place.ensures.kept c.place.ensures.counts c.exchange_with.ensures.rest.keeps c.exchange_with.ensures.rest.beside c.in-Err.ensures.exchanged.err c.free.ensures.sound c.free.ensures.counts c.free.ensures.kept c.free.ensures.freed;
       by = rw c.make_room.ensures.records c.self.invariant.by;
     })
@@ -88,7 +88,7 @@ pub returns-in_default-place-clause-err : goal.returns-in_default-place-clause-e
 returns-in_default-place-clause-err c = rw (← c.self.view_is) (λ i. record {
   records = seen (c.in_default-place.ensures.err i) (c.make_room.ensures.records i);
   limit = limit_of (c.in_default-place.ensures.err i);
-  second = ap (λ (ids : ByVersion). ids.second) (undone c.self.inside.holders c.add.new.self c.take_back.new.self c.self.inside.table.records c.args.id c.args.version c.in-Ok.added c.self.invariant.by c.in-Ok.ensures.ok c.in-Ok.ensures.added c.take_back.ensures) i;
+  by_two = ap (λ (ids : ByVersion). ids.by_two) (undone c.self.inside.holders c.add.new.self c.take_back.new.self c.self.inside.table.records c.args.id c.args.version c.in-Ok.added c.self.invariant.by c.in-Ok.ensures.ok c.in-Ok.ensures.added c.take_back.ensures) i;
 })
 
 pub returns-in_default-place-clause-held : goal.returns-in_default-place-clause-held
@@ -105,7 +105,7 @@ returns-in-Ok-exchange_with-clause-ok c = rw (← c.self.view_is, ← c.make_roo
 
 pub returns-in-Ok-exchange_with-clause-within : goal.returns-in-Ok-exchange_with-clause-within
 returns-in-Ok-exchange_with-clause-within c = rw (← c.self.view_is, ← c.make_room.ensures.records)
-    (subst (λ n. n ≤ limit_of c.self.inside.store) (room_is (meaning_by meaning c.self.inside.holders.second) c.self.inside.store c.make_room.new.table.records (rw c.make_room.ensures.records c.self.invariant.kept) _ c.place.ensures.counts c.args.page.triples _ c.requires.meant) (subst (λ l. room_for (counts_in c.place.new.self) c.args.page.triples ≤ l) c.place.ensures.limit c.in-Ok-exchange_with.ensures.exchanged.within))
+    (subst (λ n. n ≤ limit_of c.self.inside.store) (room_is (meaning_by meaning c.self.inside.holders.by_two) c.self.inside.store c.make_room.new.table.records (rw c.make_room.ensures.records c.self.invariant.kept) _ c.place.ensures.counts c.args.page.triples _ c.requires.meant) (subst (λ l. room_for (counts_in c.place.new.self) c.args.page.triples ≤ l) c.place.ensures.limit c.in-Ok-exchange_with.ensures.exchanged.within))
 
 pub returns-in-Ok-exchange_with-clause-change : goal.returns-in-Ok-exchange_with-clause-change
 returns-in-Ok-exchange_with-clause-change c = rw (← c.self.view_is)
@@ -125,13 +125,13 @@ returns-clause-err c = rw (← c.self.view_is) (λ i. record {
       c.in-Ok-place.ensures.ok c.exchange_with.ensures.rest.beside c.free.ensures.freed)
       ∙ ap (seen c.self.inside.store) c.make_room.ensures.records) i;
   limit = (c.free.ensures.limit ∙ c.exchange_with.ensures.rest.limit ∙ c.place.ensures.limit) i;
-  second = ap (λ (ids : ByVersion). ids.second) (undone c.self.inside.holders c.add.new.self c.take_back-in-Err.new.self c.self.inside.table.records c.args.id c.args.version c.in-Ok.added c.self.invariant.by c.in-Ok.ensures.ok c.in-Ok.ensures.added c.take_back-in-Err.ensures) i;
+  by_two = ap (λ (ids : ByVersion). ids.by_two) (undone c.self.inside.holders c.add.new.self c.take_back-in-Err.new.self c.self.inside.table.records c.args.id c.args.version c.in-Ok.added c.self.invariant.by c.in-Ok.ensures.ok c.in-Ok.ensures.added c.take_back-in-Err.ensures) i;
 })
 
 pub returns-clause-full : goal.returns-clause-full
 returns-clause-full c = rw (← c.self.view_is, ← c.make_room.ensures.records) (λ is.
     let same : c.in-Err.refused ≡ Full = cc in
-    subst (λ n. limit_of c.self.inside.store < n) (room_is (meaning_by meaning c.self.inside.holders.second) c.self.inside.store c.make_room.new.table.records (rw c.make_room.ensures.records c.self.invariant.kept) _ c.place.ensures.counts c.args.page.triples _ c.requires.meant)
+    subst (λ n. limit_of c.self.inside.store < n) (room_is (meaning_by meaning c.self.inside.holders.by_two) c.self.inside.store c.make_room.new.table.records (rw c.make_room.ensures.records c.self.invariant.kept) _ c.place.ensures.counts c.args.page.triples _ c.requires.meant)
     (subst (λ l. l < room_for (counts_in c.place.new.self) c.args.page.triples) c.place.ensures.limit (c.in-Err.ensures.exchanged.full (ap (λ fault. Err fault) same))))
 
 pub returns-clause-held : goal.returns-clause-held

@@ -31,7 +31,7 @@ returns-in_err-make_room-clause-holders c = are_holders _ _ _ (before c)
 
 pub returns-clause-records : goal.returns-clause-records
 returns-clause-records c = rw (← c.self.view_is, ← c.make_room.ensures.records) (ap (seen c.self.inside.store) c.keep_record.ensures
-    ∙ stayed_seen (meaning_by meaning c.self.inside.holders.second) c.self.inside.store c.make_room.new.table.records c.args.id c.args.after.state c.args.after.reconciled (rw c.make_room.ensures.records c.self.invariant.kept))
+    ∙ stayed_seen (meaning_by meaning c.self.inside.holders.by_two) c.self.inside.store c.make_room.new.table.records c.args.id c.args.after.state c.args.after.reconciled (rw c.make_room.ensures.records c.self.invariant.kept))
 
 pub returns-clause-stored : goal.returns-clause-stored
 returns-clause-stored c = rw (← c.self.view_is)

@@ -9,5 +9,5 @@ use Rattle.world.proofs.holdings.Holdings.matches.Goals as goal
 
 pub returns : goal.returns
 returns c =
-    let all = stored_union (meaning_by meaning c.self.inside.holders.second) c.self.inside.store c.self.inside.table.records c.self.invariant.kept in
+    let all = stored_union (meaning_by meaning c.self.inside.holders.by_two) c.self.inside.store c.self.inside.table.records c.self.invariant.kept in
     rw (← c.self.view_is) (subst (λ (ts : List Triple). IfOk c.matches.result (λ set. set ≡ rows ts c.args.pattern.now)) all c.matches.ensures.rows)

@@ -5,4 +5,4 @@ use Rattle.world.specs.Meaning.{meaning}
 use Rattle.world.proofs.holdings.Holdings.region.Goals as goal
 
 pub returns : goal.returns
-returns c = rw (← c.self.view_is, c.region.ensures.region) (laid (meaning_by meaning c.self.inside.holders.second) c.self.inside.store c.self.inside.table.records c.self.invariant.kept c.region.ensures.laid)
+returns c = rw (← c.self.view_is, c.region.ensures.region) (laid (meaning_by meaning c.self.inside.holders.by_two) c.self.inside.store c.self.inside.table.records c.self.invariant.kept c.region.ensures.laid)

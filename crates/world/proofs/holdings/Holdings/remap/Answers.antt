@@ -28,11 +28,11 @@ exchange_with-requires-clause-may_come c = record {
   fit = c.in-Ok.ensures.fit;
   countable =
       let few : map.len c.self.inside.table.records < 18446744073709551615 = omega arith in
-      λ t _. countable_kept (meaning_by meaning c.self.inside.holders.second) c.self.inside.store c.self.inside.table.records c.self.invariant.kept _ refl _ few t;
+      λ t _. countable_kept (meaning_by meaning c.self.inside.holders.by_two) c.self.inside.store c.self.inside.table.records c.self.invariant.kept _ refl _ few t;
 }
 
 pub exchange_with-requires-clause-stored : goal.exchange_with-requires-clause-stored
-exchange_with-requires-clause-stored c = are_stored (meaning_by meaning c.self.inside.holders.second) c.self.inside.store c.self.inside.store c.self.inside.table.records c.args.id _ c.self.invariant.kept (λ _ _ is. is) c.keys_of.ensures
+exchange_with-requires-clause-stored c = are_stored (meaning_by meaning c.self.inside.holders.by_two) c.self.inside.store c.self.inside.store c.self.inside.table.records c.args.id _ c.self.invariant.kept (λ _ _ is. is) c.keys_of.ensures
 
 -- the page is mapped anew
 done : (c : After-drop-triples-inside-in-Ok-exchange_with-3) → AreInStep c.exchange_with.new.self c.remove.new.self c.set_keys.new.table.records
@@ -47,7 +47,7 @@ done c = rw c.set_keys.ensures
 refused : (c : After-drop-triples-inside-4) → AreInStep c.exchange_with.new.self c.take_back.new.self c.self.inside.table.records
 refused c =
     subst (λ (i : ByVersion). AreInStep c.exchange_with.new.self i c.self.inside.table.records) (sym (undone c.self.inside.holders c.add.new.self c.take_back.new.self c.self.inside.table.records c.args.id c.args.version c.in-Ok-add.added c.self.invariant.by c.in-Ok-add.ensures.ok c.in-Ok-add.ensures.added c.take_back.ensures)) (record {
-      kept = kept_refused (meaning_by meaning c.self.inside.holders.second) c.self.inside.store c.exchange_with.new.self c.self.inside.table.records
+      kept = kept_refused (meaning_by meaning c.self.inside.holders.by_two) c.self.inside.store c.exchange_with.new.self c.self.inside.table.records
           c.self.invariant.kept c.exchange_with.ensures.rest.sound c.in-Err.ensures.exchanged.err c.exchange_with.ensures.rest.keeps c.exchange_with.ensures.rest.beside;
       by = c.self.invariant.by;
     })
@@ -61,7 +61,7 @@ invariant_of-self-in-Ok-exchange_with c = done c
 pub invariant_of-self-in-Err : goal.invariant_of-self-in-Err
 invariant_of-self-in-Err c =
     subst (λ (i : ByVersion). AreInStep c.exchange_with.new.self i c.self.inside.table.records) (sym (undone c.self.inside.holders c.add.new.self c.take_back.new.self c.self.inside.table.records c.args.id c.args.version c.in-Ok-add.added c.self.invariant.by c.in-Ok-add.ensures.ok c.in-Ok-add.ensures.added c.take_back.ensures)) (record {
-      kept = kept_refused (meaning_by meaning c.self.inside.holders.second) c.self.inside.store c.exchange_with.new.self c.self.inside.table.records
+      kept = kept_refused (meaning_by meaning c.self.inside.holders.by_two) c.self.inside.store c.exchange_with.new.self c.self.inside.table.records
           c.self.invariant.kept c.exchange_with.ensures.rest.sound c.in-Err.ensures.exchanged.err c.exchange_with.ensures.rest.keeps c.exchange_with.ensures.rest.beside;
       by = c.self.invariant.by;
     })
@@ -85,7 +85,7 @@ returns-in-Ok-exchange_with-clause-records c = rw (← c.self.view_is) (ap (seen
 
 pub returns-in-Ok-exchange_with-clause-within : goal.returns-in-Ok-exchange_with-clause-within
 returns-in-Ok-exchange_with-clause-within c = rw (← c.self.view_is)
-    (subst (λ n. n ≤ limit_of c.self.inside.store) (room_is (meaning_by meaning c.self.inside.holders.second) c.self.inside.store c.self.inside.table.records c.self.invariant.kept _ refl c.in-Ok.triples _
+    (subst (λ n. n ≤ limit_of c.self.inside.store) (room_is (meaning_by meaning c.self.inside.holders.by_two) c.self.inside.store c.self.inside.table.records c.self.invariant.kept _ refl c.in-Ok.triples _
     (λ t. sym (has-sorted triple_cmp-total t c.in-Ok.triples) ∙ ap (has triple_cmp t) c.in-Ok.ensures.value
     ∙ ap (λ (h : Option (Held Bytes)). has triple_cmp t (triples_held (meaning c.args.version) c.args.id h)) (sym (held_is c.self.inside.store c.self.inside.table.records c.args.id)))) c.in-Ok-exchange_with.ensures.exchanged.within)
 
@@ -104,13 +104,13 @@ pub returns-clause-err : goal.returns-clause-err
 returns-clause-err c = rw (← c.self.view_is) (λ i. record {
   records = seen_again (beside c.self.inside.store) (beside c.exchange_with.new.self) c.self.inside.table.records c.exchange_with.ensures.rest.beside i;
   limit = c.exchange_with.ensures.rest.limit i;
-  second = ap (λ (ids : ByVersion). ids.second) (undone c.self.inside.holders c.add.new.self c.take_back.new.self c.self.inside.table.records c.args.id c.args.version c.in-Ok-add.added c.self.invariant.by c.in-Ok-add.ensures.ok c.in-Ok-add.ensures.added c.take_back.ensures) i;
+  by_two = ap (λ (ids : ByVersion). ids.by_two) (undone c.self.inside.holders c.add.new.self c.take_back.new.self c.self.inside.table.records c.args.id c.args.version c.in-Ok-add.added c.self.invariant.by c.in-Ok-add.ensures.ok c.in-Ok-add.ensures.added c.take_back.ensures) i;
 })
 
 pub returns-clause-full : goal.returns-clause-full
 returns-clause-full c = rw (← c.self.view_is) (λ is.
     let same : c.in-Err.refused ≡ Full = cc in
-    subst (λ n. limit_of c.self.inside.store < n) (room_is (meaning_by meaning c.self.inside.holders.second) c.self.inside.store c.self.inside.table.records c.self.invariant.kept _ refl c.in-Ok.triples _
+    subst (λ n. limit_of c.self.inside.store < n) (room_is (meaning_by meaning c.self.inside.holders.by_two) c.self.inside.store c.self.inside.table.records c.self.invariant.kept _ refl c.in-Ok.triples _
     (λ t. sym (has-sorted triple_cmp-total t c.in-Ok.triples) ∙ ap (has triple_cmp t) c.in-Ok.ensures.value
     ∙ ap (λ (h : Option (Held Bytes)). has triple_cmp t (triples_held (meaning c.args.version) c.args.id h)) (sym (held_is c.self.inside.store c.self.inside.table.records c.args.id)))) (c.in-Err.ensures.exchanged.full (ap (λ fault. Err fault) same)))
 

@@ -9,11 +9,11 @@ use Rattle.world.proofs.holdings.Holdings.set_limit.Goals.{After-set_limit}
 use Rattle.world.proofs.holdings.Holdings.set_limit.Goals as goal
 
 pub set_limit-requires : goal.set_limit-requires
-set_limit-requires c = no_triples (meaning_by meaning c.self.inside.holders.second) c.self.inside.store c.self.inside.table.records c.self.invariant.kept (rw (← c.self.view_is) at c.requires)
+set_limit-requires c = no_triples (meaning_by meaning c.self.inside.holders.by_two) c.self.inside.store c.self.inside.table.records c.self.invariant.kept (rw (← c.self.view_is) at c.requires)
 
 step : (c : After-set_limit) → AreInStep c.set_limit.new.self c.self.inside.holders c.self.inside.table.records
 step c = record {
-  kept = kept_refused (meaning_by meaning c.self.inside.holders.second) c.self.inside.store c.set_limit.new.self c.self.inside.table.records c.self.invariant.kept
+  kept = kept_refused (meaning_by meaning c.self.inside.holders.by_two) c.self.inside.store c.set_limit.new.self c.self.inside.table.records c.self.invariant.kept
       c.set_limit.ensures.sound c.set_limit.ensures.counts (record { kept = λ key t is _. c.set_limit.ensures.kept key t is }) c.set_limit.ensures.beside;
   by = c.self.invariant.by;
 }

@@ -7,4 +7,4 @@ use Rattle.world.proofs.holdings.Holdings.terms.Goals as goal
 
 pub returns-clause-count : goal.returns-clause-count
 returns-clause-count c = rw (← c.self.view_is)
-    (c.terms.ensures.count ∙ room_is (meaning_by meaning c.self.inside.holders.second) c.self.inside.store c.self.inside.table.records c.self.invariant.kept _ refl [] [] (λ _. refl))
+    (c.terms.ensures.count ∙ room_is (meaning_by meaning c.self.inside.holders.by_two) c.self.inside.store c.self.inside.table.records c.self.invariant.kept _ refl [] [] (λ _. refl))

@@ -31,7 +31,7 @@ invariant_of-self g c =
 
 pub returns-in-Ok-clause-within : goal.returns-in-Ok-clause-within
 returns-in-Ok-clause-within g c = rw (← c.self.view_is) (λ stored.
-    subst (λ (ts : List Triple). room_with (meaning_by meaning c.self.inside.holdings.second) c.self.inside.holdings.records ts ≤ c.self.inside.holdings.limit)
+    subst (λ (ts : List Triple). room_with (meaning_by meaning c.self.inside.holdings.by_two) c.self.inside.holdings.records ts ≤ c.self.inside.holdings.limit)
     (sym (ap (λ (p : Played). triples_held (meaning c.self.inside.mapping) c.in-Some.event.entity (record_of p.records c.in-Some.event.entity).held) c.in-Ok.ensures.applied
     ∙ stored_page c.self.inside.mapping c.self.inside.holdings.records c.in-Some.event (reply_or_any c.in_ok-reply.reply) c.in-Ok.field-0.outcome c.in-Ok.ensures.outcome stored))
     c.in-Ok.ensures.within)

@@ -21,10 +21,10 @@ invariant_of-self c = (
 pub returns-clause-fewer : goal.returns-clause-fewer
 returns-clause-fewer c = elim c.match-remap.branch [
   | in-Ok w ↦ rw (w.result-is, ← c.self.view_is)
-      (subst (λ (records : Records). length (stale_by c.self.inside.mapping c.remap.new.self.second records) + 1 ≡ length (stale_by c.self.inside.mapping c.self.inside.holdings.second c.self.inside.holdings.records))
+      (subst (λ (records : Records). length (stale_by c.self.inside.mapping c.remap.new.self.by_two records) + 1 ≡ length (stale_by c.self.inside.mapping c.self.inside.holdings.by_two c.self.inside.holdings.records))
       (sym c.remap.ensures.records)
-      (fewer c.self.inside.mapping c.self.inside.holdings.second c.remap.new.self.second c.self.inside.holdings.records (Some c.in-Some.entity) c.self.invariant.2.rising
-      (sym c.in-Some.is ∙ c.next_stale.ensures.entity) w.in-Ok.ensures.second))
+      (fewer c.self.inside.mapping c.self.inside.holdings.by_two c.remap.new.self.by_two c.self.inside.holdings.records (Some c.in-Some.entity) c.self.invariant.2.rising
+      (sym c.in-Some.is ∙ c.next_stale.ensures.entity) w.in-Ok.ensures.by_two))
   | in-Err-Full w ↦ rw w.result-is tt
   | in-Err-OutOfMemory w ↦ rw w.result-is tt
 ]

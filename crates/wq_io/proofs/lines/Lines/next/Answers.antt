@@ -3,7 +3,7 @@ use Rattle.std.proofs.Common.{◌≡◌, ◌∙◌, sym, ap, ℕ, List, [], Opti
 use Rattle.std.proofs.lemmas.Result.{err_from_is_err_and}
 use Rattle.wq_io.specs.Streams.{before_known, IsAtEnd}
 use Rattle.wq_io.specs.Lines.{Reading}
-use Rattle.wq_io.specs.Taking.{HasByte, IsEnded, Takes}
+use Rattle.wq_io.specs.Taking.{HasByte, IsEnded, TakesHeld}
 use Rattle.wq_io.proofs.NextLine.{at_end, cause_of, going_gives, going_on, going_stops, last_counted, line_bytes, line_counted, line_ended}
 use Rattle.std.proofs.Common.{true, false, refl}
 use Rattle.wq_io.proofs.lines.Lines.next.Goals as goal
@@ -40,7 +40,7 @@ returns-then-branch-clause-line g c =
     let going = c.loop-self.invariant in
     let line : List ℕ = c.loop-self.line.items in
     let has : HasByte c.loop-self.self c.has_byte.new.self (g.S.Source.left c.loop-self.source) left = rw c.if-not-branch.false at c.in_ok-has_byte.ensures.reads in
-    let takes : Takes c.has_byte.new.self c.take_held.new.self line c.take_held.new.line.items true = rw c.if-branch.true at c.in_ok-take_held.ensures.takes in
+    let takes : TakesHeld c.has_byte.new.self c.take_held.new.self line c.take_held.new.line.items true = rw c.if-branch.true at c.in_ok-take_held.ensures.takes in
     let front = going.front ∙ ap (λ (u : Option (List ℕ)). before_known line u) (sym has.same) in
     rw (takes.line, c.count_line.ensures.counted, c.set_failed-then-branch.ensures.noted) (line_ended _ left line takes.moved c.has_byte.new.self.held c.take_held.new.self.held front takes.held going.in_line takes.in_line)
 
@@ -50,7 +50,7 @@ returns-then-branch-clause-bytes g c =
     let going = c.loop-self.invariant in
     let line : List ℕ = c.loop-self.line.items in
     let has : HasByte c.loop-self.self c.has_byte.new.self (g.S.Source.left c.loop-self.source) left = rw c.if-not-branch.false at c.in_ok-has_byte.ensures.reads in
-    let takes : Takes c.has_byte.new.self c.take_held.new.self line c.take_held.new.line.items true = rw c.if-branch.true at c.in_ok-take_held.ensures.takes in
+    let takes : TakesHeld c.has_byte.new.self c.take_held.new.self line c.take_held.new.line.items true = rw c.if-branch.true at c.in_ok-take_held.ensures.takes in
     let front = going.front ∙ ap (λ (u : Option (List ℕ)). before_known line u) (sym has.same) in
     rw (takes.line, c.count_line.ensures.counted, c.set_failed-then-branch.ensures.noted) (line_bytes _ _ left line takes.moved c.has_byte.new.self.held c.take_held.new.self.held front takes.held going.in_line takes.in_line)
 
@@ -75,7 +75,7 @@ returns-in_err-take_held-clause-reads g c =
 pub returns-then-branch-clause-reads : goal.returns-then-branch-clause-reads
 returns-then-branch-clause-reads g c =
     let line : List ℕ = c.loop-self.line.items in
-    let takes : Takes c.has_byte.new.self c.take_held.new.self line c.take_held.new.line.items true = rw c.if-branch.true at c.in_ok-take_held.ensures.takes in
+    let takes : TakesHeld c.has_byte.new.self c.take_held.new.self line c.take_held.new.line.items true = rw c.if-branch.true at c.in_ok-take_held.ensures.takes in
     let reads = going_gives _ _ _ _ _ _ _ _ _ _ _ _ _ _ _ _ c.loop-self.invariant c.has_byte.ensures.by_need c.has_byte.ensures.others takes in
     rw (c.count_line.ensures.counted, c.set_failed-then-branch.ensures.noted) (line_counted _ _ _ _ _ _ _ reads (rw (c.count_line.ensures.counted, c.set_failed-then-branch.ensures.noted) at c.count_line.ensures.sound))
 
@@ -84,5 +84,5 @@ loop-self-preserved g c =
     let left : Option (List ℕ) = g.S.Source.left c.has_byte.new.source in
     let line : List ℕ = c.loop-self.line.items in
     let has : HasByte c.loop-self.self c.has_byte.new.self (g.S.Source.left c.loop-self.source) left = rw c.if-not-branch.false at c.in_ok-has_byte.ensures.reads in
-    let takes : Takes c.has_byte.new.self c.take_held.new.self line c.take_held.new.line.items false = rw c.if-branch.false at c.in_ok-take_held.ensures.takes in
+    let takes : TakesHeld c.has_byte.new.self c.take_held.new.self line c.take_held.new.line.items false = rw c.if-branch.false at c.in_ok-take_held.ensures.takes in
     going_on _ _ _ _ _ _ _ _ _ _ _ _ _ _ _ _ _ _ c.loop-self.invariant has c.has_byte.ensures.by_need takes c.has_byte.ensures.later c.has_byte.ensures.most

@@ -13,8 +13,8 @@ returns-in_err-append-in-Some-clause-cause c =
     let given : c.self.inside.given ≡ old.given = ap (λ (r : Reading). r.given) c.self.view_is in
     let longest : c.self.inside.max_line ≡ old.max_line = ap (λ (r : Reading). r.max_line) c.self.view_is in
     let cause = rw (given, longest, c.usable-usable.ensures) at c.in_err-append-in-Some.ensures.cause in
-    let ends : EndsAt c.in-Some.place (take (room old) old.held) = rw c.usable-usable.ensures at c.in-Some.ensures in
-    rw (p.1, p.2) (refused _ old _ _ _ (held_front old.held (room old) c.in-Some.place) ends.in_line (front_within old.held (room old) c.in-Some.place) cause)
+    let ends : EndsAt c.in-Some.index (take (room old) old.held) = rw c.usable-usable.ensures at c.in-Some.ensures in
+    rw (p.1, p.2) (refused _ old _ _ _ (held_front old.held (room old) c.in-Some.index) ends.in_line (front_within old.held (room old) c.in-Some.index) cause)
 
 pub returns-in_err-append-in-None-clause-cause : goal.returns-in_err-append-in-None-clause-cause
 returns-in_err-append-in-None-clause-cause c =
@@ -30,9 +30,9 @@ returns-in_err-append-in-None-clause-cause c =
 pub returns-in_ok-append-in-Some-clause-takes : goal.returns-in_ok-append-in-Some-clause-takes
 returns-in_ok-append-in-Some-clause-takes c =
     let old : Reading = c.args.self.now in
-    let ends : EndsAt c.in-Some.place (take (room old) old.held) = rw c.usable-usable.ensures at c.in-Some.ensures in
-    let moved : List ℕ = take c.in-Some.place (take (room old) old.held) in
-    let long : length moved ≡ c.in-Some.place = length-take-le c.in-Some.place (take (room old) old.held) (omega (arith, ends.within)) in
+    let ends : EndsAt c.in-Some.index (take (room old) old.held) = rw c.usable-usable.ensures at c.in-Some.ensures in
+    let moved : List ℕ = take c.in-Some.index (take (room old) old.held) in
+    let long : length moved ≡ c.in-Some.index = length-take-le c.in-Some.index (take (room old) old.held) (omega (arith, ends.within)) in
     let line = rw c.usable-usable.ensures at c.in_ok-append-in-Some.ensures.ok.0 in
     record {
       moved = moved;
@@ -40,7 +40,7 @@ returns-in_ok-append-in-Some-clause-takes c =
       in_line = ends.in_line;
       line = line;
       short = rw (ap (λ (r : Reading). r.max_line) c.self.view_is) at c.in_ok-append-in-Some.ensures.ok.1;
-      held = rw (c.advance.ensures.moved, add-one) (held_round old.held (room old) c.in-Some.place ends);
+      held = rw (c.advance.ensures.moved, add-one) (held_round old.held (room old) c.in-Some.index ends);
       consumed = rw c.advance.ensures.moved (omega (arith, long));
       others = rw c.advance.ensures.moved refl;
       sound = c.advance.ensures.sound;

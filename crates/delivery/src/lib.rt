@@ -1,7 +1,7 @@
-// What one line of an event file delivers.
+//! What one line of an event file delivers.
+#![tactic(auto)]
 
-use crate::event::Event;
-use crate::mapping::MappingVersion;
+use entity_model::{Event, MappingVersion};
 use rdf_term::Pattern;
 
 /// What one line of an event file delivers.

@@ -16,34 +16,34 @@ pub(crate) enum Part<'a> {
 
 /// A text in UTF-8: a part of a longer text that it borrows, or one of its own. Contracts see the list of its bytes.
 #[derive(Debug, Drop)]
-pub struct Piece<'a> {
+pub struct CowText<'a> {
     part: Part<'a>,
 }
 
-impl<'a> Model for Piece<'a> {
+impl<'a> Model for CowText<'a> {
     ghost use Rattle.std.specs.Prelude.{List, ℕ};
-    ghost use Rattle.base.specs.Piece.{part_bytes};
+    ghost use Rattle.base.specs.CowText.{part_bytes};
 
     ghost Value = { List ℕ };
 
     ghost view = { λ a. part_bytes a.part };
 }
 
-impl<'a> Piece<'a> {
+impl<'a> CowText<'a> {
     /// The borrowed text itself.
-    pub fn borrowed(text: &'a str) -> Piece<'a>
+    pub fn borrowed(text: &'a str) -> CowText<'a>
         ensures { result ≡ text.now }
     {
-        Piece {
+        CowText {
             part: Part::Source(text),
         }
     }
 
     /// Takes the text over without a copy.
-    pub fn owned(text: Text) -> Piece<'a>
+    pub fn owned(text: Text) -> CowText<'a>
         ensures { result ≡ text }
     {
-        Piece {
+        CowText {
             part: Part::Own(text),
         }
     }
@@ -66,12 +66,12 @@ impl<'a> Piece<'a> {
     }
 
     /// An equal text: it borrows where this one does, and wants memory of its own otherwise.
-    pub fn copy(&self, alloc: Global) -> Result<Piece<'a>, OutOfMemory>
+    pub fn copy(&self, alloc: Global) -> Result<CowText<'a>, OutOfMemory>
         ensures { IfOk result (λ text. text ≡ self.now) }
     {
         match &self.part {
-            Part::Source(text) => Ok(Piece::borrowed(text)),
-            Part::Own(text) => Ok(Piece::owned(text.copy(alloc)?)),
+            Part::Source(text) => Ok(CowText::borrowed(text)),
+            Part::Own(text) => Ok(CowText::owned(text.copy(alloc)?)),
         }
     }
 }

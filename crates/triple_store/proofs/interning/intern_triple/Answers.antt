@@ -5,7 +5,7 @@ use Rattle.slot_index.specs.declared.key.Key.{Key}
 use Rattle.triple_store.specs.Room.{distinct}
 use Rattle.triple_store.specs.Slots.{triple_of}
 use Rattle.triple_store.proofs.Held.{held, terms_interned, three, too_many, undone}
-use Rattle.triple_store.proofs.holding.hold.Goals as goal
+use Rattle.triple_store.proofs.interning.intern_triple.Goals as goal
 
 same_fault : (a b : PoolFault) → ◌≡◌ {A = Result Key PoolFault} (Err a) (Err b) → a ≡ b
 same_fault a b e = cc

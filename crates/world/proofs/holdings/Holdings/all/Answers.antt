@@ -4,9 +4,9 @@ use Rattle.rdf_term.specs.declared.triple.Triple.{Triple}
 use Rattle.world.proofs.Rooming.{stored_union}
 use Rattle.replay_model.specs.Versions.{meaning_by}
 use Rattle.world.specs.Meaning.{meaning}
-use Rattle.world.proofs.holdings.Holdings.triples.Goals as goal
+use Rattle.world.proofs.holdings.Holdings.all.Goals as goal
 
 pub returns : goal.returns
 returns c =
-    let all = stored_union (meaning_by meaning c.self.inside.holders.second) c.self.inside.store c.self.inside.table.records c.self.invariant.kept in
+    let all = stored_union (meaning_by meaning c.self.inside.holders.by_two) c.self.inside.store c.self.inside.table.records c.self.invariant.kept in
     rw (← c.self.view_is) (subst (λ (ts : List Triple). IfOk c.all.result (λ set. set ≡ ts)) all c.all.ensures.rows)

@@ -3,8 +3,8 @@
 ghost use Rattle.std.specs.Prelude.{◌≡◌, ℕ, ◌<◌, ◌≤◌, List, Err, IfOk, OnErr};
 ghost use Rattle.rdf_term.specs.declared.term.Term.{Term};
 ghost use Rattle.text_region.specs.Region.{Texts};
-ghost use Rattle.term_pool.specs.Pool.{LiesIn, KeepsForeign, SameSlots, count_at};
-ghost use Rattle.triple_store.specs.Holding.{HasTermsOf, Held, LetGo};
+ghost use Rattle.term_pool.specs.Pool.{LiesIn, KeepsBeside, SameSlots, count_at};
+ghost use Rattle.triple_store.specs.Interning.{HasTermsOf, InternsTriple, ReleasesTriple};
 ghost use Rattle.triple_store.specs.Room.{distinct, terms_of};
 ghost use Rattle.triple_store.specs.Slots.{HasCanonicalTexts, IsAllOf, triple_of, uses};
 
@@ -16,7 +16,7 @@ use triple_texts::TripleText;
 
 // Uses each term of the triple with these texts once more, and takes in those that aren't there. After a fault each slot
 // has what it had.
-pub(crate) fn hold(
+pub(crate) fn intern_triple(
     pool: &mut Pool,
     region: &mut Region,
     texts: &TripleText<'_>,
@@ -24,10 +24,10 @@ pub(crate) fn hold(
     requires lies { LiesIn pool.old region.old }
     requires canonical { HasCanonicalTexts texts.now }
     ensures lies { LiesIn pool.new region.new }
-    ensures ok { IfOk result (λ key. Held pool.old region.old pool.new region.new key texts.now) }
+    ensures ok { IfOk result (λ key. InternsTriple pool.old region.old pool.new region.new key texts.now) }
     ensures err { OnErr result (SameSlots pool.old region.old pool.new region.new) }
     ensures full { result ≡ Err StoreFault.Full → (terms : List Term) → HasTermsOf pool.old region.old terms → IsAllOf (terms_of (triple_of texts.now)) terms → pool.old.limit < distinct terms }
-    ensures foreign { KeepsForeign pool.old region.old pool.new region.new }
+    ensures beside { KeepsBeside pool.old region.old pool.new region.new }
     ensures limit { pool.new.limit ≡ pool.old.limit }
 {
     let subject = match pool.intern_text(region, texts.subject) {
@@ -57,12 +57,12 @@ pub(crate) fn hold(
 }
 
 // Uses each term of a triple of slots once less.
-pub(crate) fn let_go(pool: &mut Pool, region: &mut Region, key: Key)
+pub(crate) fn release_triple(pool: &mut Pool, region: &mut Region, key: Key)
     requires lies { LiesIn pool.old region.old }
     requires used { (slot : ℕ) → uses slot key ≤ count_at pool.old slot }
     ensures lies { LiesIn pool.new region.new }
-    ensures gone { LetGo pool.old region.old pool.new region.new key }
-    ensures foreign { KeepsForeign pool.old region.old pool.new region.new }
+    ensures gone { ReleasesTriple pool.old region.old pool.new region.new key }
+    ensures beside { KeepsBeside pool.old region.old pool.new region.new }
     ensures limit { pool.new.limit ≡ pool.old.limit }
 {
     pool.release(region, Slot { number: key.third });

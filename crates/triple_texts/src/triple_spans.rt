@@ -1,20 +1,20 @@
 // Where the texts of a triple lie in a buffer.
 
 ghost use Rattle.std.specs.Prelude.{◌≡◌, ◌≤◌, length};
-ghost use Rattle.triple_texts.specs.Places.{span_end, text_in};
+ghost use Rattle.triple_texts.specs.Spans.{span_end, text_in};
 
 use crate::span::Span;
 use crate::triple_text::TripleText;
 
 // Where the three texts of a triple lie. That of the subject may be a triple's before it.
 #[derive(Clone, Copy, Debug)]
-pub(crate) struct Place {
+pub(crate) struct TripleSpans {
     pub(crate) subject: Span,
     pub(crate) predicate: Span,
     pub(crate) object: Span,
 }
 
-impl Place {
+impl TripleSpans {
     // The texts that lie there.
     pub(crate) fn texts(self, bytes: &[u8]) -> TripleText<'_>
         requires subject_within { span_end self.subject ≤ length bytes.now }
