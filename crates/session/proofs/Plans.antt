@@ -6,7 +6,7 @@ use Rattle.words.specs.declared.plan.Plan.{Plan}
 use Rattle.words.specs.declared.plan.Plan.TheVariants.{Replay, Drill, Follow}
 use Rattle.session.specs.declared.status.Status.{Status}
 use Rattle.session.specs.declared.stop.Stop.{Stop}
-use Rattle.session.specs.Following.{FollowEnding, FollowStopped}
+use Rattle.session.specs.Records.{FollowEnding, FollowStopped}
 use Rattle.session.specs.Headline.{ReplayEnding, Stopped}
 use Rattle.session.specs.Moment.{Moment, Run}
 use Rattle.session.specs.Reading.{TakesByNeed}

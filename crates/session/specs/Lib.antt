@@ -2,7 +2,7 @@ pub mod Complete
 pub mod Counts
 pub mod DrillPlaying
 pub mod Drilling
-pub mod Following
+pub mod Records
 pub mod Headline
 pub mod Moment
 pub mod Needed

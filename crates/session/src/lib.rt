@@ -1,7 +1,7 @@
 //! The top call: the words are judged, the lines are taken one by one, and what was asked for is printed; or records are followed, or a
 //! drill is run.
 //!
-//! `run` is the whole program but for the process around it; `running` has it. `replaying` is a replay, `following` the following of
+//! `run` is the whole program but for the process around it; `running` has it. `replaying` is a replay, `records` the following of
 //! records, and `drilling` a drill, whose deliveries `drill_playing` takes.
 //! `taking` takes the lines of the input, `delivering` one delivery, and the end, and `remapping` a change of the mapping.
 //! `ports` are what a run reads and writes, `stop` is why it stopped, and `status` how it ended. The words stand in the crate `words`, what is printed in `transcript`, and
@@ -11,9 +11,9 @@
 mod delivering;
 mod drill_playing;
 mod drilling;
-mod following;
 mod laws;
 mod ports;
+mod records;
 mod remapping;
 mod replaying;
 mod running;

@@ -5,7 +5,7 @@ ghost use Rattle.replay_model.specs.ReplayState.{nothing_delivered};
 ghost use Rattle.drill_replay.specs.Playing.{IsByFirst};
 ghost use Rattle.session.specs.Counts.{HaveGoneOn};
 ghost use Rattle.session.specs.Drilling.{DrillEnding};
-ghost use Rattle.session.specs.Following.{FollowEnding};
+ghost use Rattle.session.specs.Records.{FollowEnding};
 ghost use Rattle.session.specs.Headline.{ReplayEnding};
 ghost use Rattle.session.specs.Moment.{moment, run_of, stage, world_at_start};
 ghost use Rattle.session.specs.Remapping.{HoldsWithin};
@@ -17,8 +17,8 @@ ghost use Rattle.words.specs.declared.plan.Plan.{Plan as ThePlan};
 ghost use Rattle.words.specs.declared.plan.Plan.TheVariants.{Replay, Drill, Follow};
 
 use crate::drilling::drill;
-use crate::following::follow_records;
 use crate::ports::Ports;
+use crate::records::follow_records;
 use crate::replaying::replay;
 use crate::status::Status;
 use crate::stop::Stop;

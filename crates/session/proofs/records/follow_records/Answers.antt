@@ -3,7 +3,7 @@ use Rattle.std.specs.FinMap.{len-empty}
 use Rattle.replay_model.specs.Play.{nothing_played}
 use Rattle.world.proofs.Rooming.{nothing_held}
 use Rattle.session.proofs.Ongoing.{followed_on}
-use Rattle.session.proofs.following.follow_records.Goals as goal
+use Rattle.session.proofs.records.follow_records.Goals as goal
 
 pub set_room-requires : goal.set_room-requires
 set_room-requires g c = rw c.requires.world (len-empty _ _)

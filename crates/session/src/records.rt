@@ -4,7 +4,7 @@ ghost use Rattle.std.specs.Prelude.{◌≡◌, IfErr, OnOk};
 ghost use Rattle.replay_model.specs.ReplayState.{nothing_delivered};
 ghost use Rattle.following.specs.Following.{Ending, moment};
 ghost use Rattle.session.specs.Counts.{HaveGoneOn};
-ghost use Rattle.session.specs.Following.{FollowStopped};
+ghost use Rattle.session.specs.Records.{FollowStopped};
 ghost use Rattle.session.specs.Remapping.{HoldsWithin};
 
 use crate::ports::Ports;
