@@ -21,7 +21,7 @@ ghost use Rattle.triple_store.specs.Telling.{TellsIf, if_told};
 use crate::StoreFault;
 use crate::catalog::Catalog;
 use crate::keys::{KeySlices, Keys, NOWHERE, in_order, narrowed};
-use crate::telling::{Exchange, Telling};
+use crate::telling::{Exchange, Sides, Telling};
 use block_index::Steps;
 use rdf_term::OutOfMemory;
 use slot_index::Key;
@@ -55,9 +55,9 @@ struct Found {
 
 // The keys that the owner had, and its triples from now on.
 #[derive(Clone, Copy)]
-struct Swap<'a> {
-    old: KeySlices<'a>,
-    new: &'a TripleTexts,
+pub(crate) struct Swap<'a> {
+    pub(crate) old: KeySlices<'a>,
+    pub(crate) new: &'a TripleTexts,
 }
 
 // The keys of the triples that came, one by one, and the index of each among the keys that the owner had.
@@ -94,7 +94,7 @@ impl Catalog {
         ensures limit { limit_of self.new ≡ limit_of self.old }
         ensures cost { Costs (map.len (counts_in self.old region.old)) (map.len (counts_in self.new region.new)) (length new.now) (length new.now + length old.entry.rising.now) steps.old steps.new }
     {
-        match self.exchange_with(region, old, new, Telling::Nothing, steps) {
+        match self.exchange_with(region, Swap { old, new }, Telling::Nothing, steps) {
             Ok(done) => Ok(done.keys),
             Err(fault) => Err(fault),
         }
@@ -104,46 +104,47 @@ impl Catalog {
     pub(crate) fn exchange_with<L: Ledger>(
         &mut self,
         region: &mut Region,
-        old: KeySlices<'_>,
-        new: &TripleTexts,
+        swap: Swap<'_>,
         telling: Telling,
         steps: &mut Steps<L>,
     ) -> Result<Exchange, StoreFault>
         requires stored { IsStored self.old region.old }
-        requires fit { AllByRecursion HasFitAndShortTerms new.now }
-        requires rising { IsRising key_cmp old.rising.now }
-        requires there { (key : TheKey) → has key_cmp key old.rising.now ≡ true → is_key self.old key ≡ true }
-        requires countable { (triple : Triple) → has triple_cmp triple new.now ≡ true → count_of (counts_in self.old region.old) triple < 18446744073709551615 }
+        requires fit { AllByRecursion HasFitAndShortTerms swap.new.now }
+        requires rising { IsRising key_cmp swap.old.rising.now }
+        requires there { (key : TheKey) → has key_cmp key swap.old.rising.now ≡ true → is_key self.old key ≡ true }
+        requires countable { (triple : Triple) → has triple_cmp triple swap.new.now ≡ true → count_of (counts_in self.old region.old) triple < 18446744073709551615 }
         ensures stored { IsStored self.new region.new }
-        ensures ok { OnOk result ((gone : List Triple) → AreKeysOf self.old region.old old.entry.rising.now gone → Exchanges (counts_in self.old region.old) (counts_in self.new region.new) gone new.now) }
+        ensures ok { OnOk result ((gone : List Triple) → AreKeysOf self.old region.old swap.entry.old.rising.now gone → Exchanges (counts_in self.old region.old) (counts_in self.new region.new) gone swap.entry.new.now) }
         ensures told { IfOk result (λ done. TellsIf telling (counts_in self.old region.old) (counts_in self.new region.new) done.change) }
         ensures err { OnErr result (counts_in self.new region.new ≡ counts_in self.old region.old) }
-        ensures keys { IfOk result (λ done. AreKeysOf self.new region.new done.keys.rising.items new.now) }
-        ensures full { result ≡ Err StoreFault.Full → limit_of self.old < room_for (counts_in self.old region.old) new.now }
-        ensures within { OnOk result (room_for (counts_in self.old region.old) new.now ≤ limit_of self.old) }
-        ensures free { telling ≡ Telling.Nothing → new.now ≡ [] → IsOk result }
+        ensures keys { IfOk result (λ done. AreKeysOf self.new region.new done.keys.rising.items swap.entry.new.now) }
+        ensures full { result ≡ Err StoreFault.Full → limit_of self.old < room_for (counts_in self.old region.old) swap.entry.new.now }
+        ensures within { OnOk result (room_for (counts_in self.old region.old) swap.entry.new.now ≤ limit_of self.old) }
+        ensures free { telling ≡ Telling.Nothing → swap.entry.new.now ≡ [] → IsOk result }
         ensures keeps { KeepsKeys self.old region.old self.new region.new }
         ensures beside { (piece : ThePiece) → beside self.new region.new piece ≡ beside self.old region.old piece }
         ensures limit { limit_of self.new ≡ limit_of self.old }
-        ensures cost { Costs (map.len (counts_in self.old region.old)) (map.len (counts_in self.new region.new)) (length new.now) (if_told telling (length new.now + length old.entry.rising.now) + (length new.now + length old.entry.rising.now)) steps.old steps.new }
+        ensures cost { Costs (map.len (counts_in self.old region.old)) (map.len (counts_in self.new region.new)) (length swap.entry.new.now) (if_told telling (length swap.entry.new.now + length swap.entry.old.rising.now) + (length swap.entry.new.now + length swap.entry.old.rising.now)) steps.old steps.new }
     {
-        let Ok(mut met) = no_keys_met(self.alloc, new.len()) else {
+        let Ok(mut met) = no_keys_met(self.alloc, swap.new.len()) else {
             return Err(StoreFault::OutOfMemory);
         };
-        let taken = self.take_in(region, Swap { old, new }, &mut met, steps);
+        let old = swap.old.rising;
+        let taken = self.take_in(region, swap, &mut met, steps);
         let Met { keys, old_indices } = met;
-        let keys = in_order(self.alloc, old.rising, keys, old_indices.as_slice());
+        let keys = in_order(self.alloc, old, keys, old_indices.as_slice());
         if let Err(fault) = taken {
-            self.remove_beside(region, keys.slices().rising, old.rising, steps);
+            self.remove_beside(region, keys.slices().rising, old, steps);
             return Err(fault);
         }
-        match self.change_if(telling, region, old.rising, keys.slices().rising, steps) {
+        let new = keys.slices().rising;
+        match self.change_if(telling, region, Sides { old, new }, steps) {
             Ok(change) => {
-                self.remove_beside(region, old.rising, keys.slices().rising, steps);
+                self.remove_beside(region, old, keys.slices().rising, steps);
                 Ok(Exchange { keys, change })
             }
             Err(_) => {
-                self.remove_beside(region, keys.slices().rising, old.rising, steps);
+                self.remove_beside(region, keys.slices().rising, old, steps);
                 Err(StoreFault::OutOfMemory)
             }
         }

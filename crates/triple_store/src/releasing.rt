@@ -15,7 +15,7 @@ ghost use Rattle.triple_store.specs.Stored.{AreKeysOf, IsStored, KeepsKeys, besi
 ghost use Rattle.triple_store.specs.Telling.{TellsIf, if_told};
 
 use crate::catalog::Catalog;
-use crate::telling::{Change, Telling};
+use crate::telling::{Change, Sides, Telling};
 use block_index::Steps;
 use rdf_term::OutOfMemory;
 use slot_index::Key;
@@ -67,7 +67,7 @@ impl Catalog {
         ensures limit { limit_of self.new ≡ limit_of self.old }
         ensures cost { Costs (map.len (counts_in self.old region.old)) (map.len (counts_in self.new region.new)) 0 (if_told telling (length old.now) + length old.now) steps.old steps.new }
     {
-        let change = self.change_if(telling, region, old, &[], steps)?;
+        let change = self.change_if(telling, region, Sides { old, new: &[] }, steps)?;
         self.remove_beside(region, old, &[], steps);
         Ok(change)
     }

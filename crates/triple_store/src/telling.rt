@@ -50,29 +50,35 @@ pub struct Exchange {
     pub change: Option<Change>,
 }
 
+// The keys that an owner had, and those that it has from now on.
+#[derive(Clone, Copy)]
+pub(crate) struct Sides<'a> {
+    pub(crate) old: &'a [Key],
+    pub(crate) new: &'a [Key],
+}
+
 impl Catalog {
     // What the new keys made stored and what the loss of the old ones will end, where that is to be told. The triples of both are stored.
     pub(crate) fn change_if<L: Ledger>(
         &self,
         telling: Telling,
         region: &Region,
-        old: &[Key],
-        new: &[Key],
+        sides: Sides<'_>,
         steps: &mut Steps<L>,
     ) -> Result<Option<Change>, OutOfMemory>
         requires stored { IsStored self.now region.now }
-        requires rising { IsRising key_cmp old.now }
-        requires rising_new { IsRising key_cmp new.now }
-        requires there { (key : TheKey) → has key_cmp key old.now ≡ true → is_key self.now key ≡ true }
-        requires there_new { (key : TheKey) → has key_cmp key new.now ≡ true → is_key self.now key ≡ true }
-        ensures lines { IfOk result (λ change. LinesIf telling (sorted triple_cmp (triples_at self.now region.now (sole self.now new.now old.now))) (sorted triple_cmp (triples_at self.now region.now (sole self.now old.now new.now))) change) }
+        requires rising { IsRising key_cmp sides.old.now }
+        requires rising_new { IsRising key_cmp sides.new.now }
+        requires there { (key : TheKey) → has key_cmp key sides.old.now ≡ true → is_key self.now key ≡ true }
+        requires there_new { (key : TheKey) → has key_cmp key sides.new.now ≡ true → is_key self.now key ≡ true }
+        ensures lines { IfOk result (λ change. LinesIf telling (sorted triple_cmp (triples_at self.now region.now (sole self.now sides.entry.new.now sides.entry.old.now))) (sorted triple_cmp (triples_at self.now region.now (sole self.now sides.entry.old.now sides.entry.new.now))) change) }
         ensures free { telling ≡ Telling.Nothing → IsOk result }
-        ensures cost { Costs (map.len self.now.index) (map.len self.now.index) 0 (if_told telling (length new.now + length old.now)) steps.old steps.new }
+        ensures cost { Costs (map.len self.now.index) (map.len self.now.index) 0 (if_told telling (length sides.entry.new.now + length sides.entry.old.now)) steps.old steps.new }
     {
         match telling {
             Telling::Nothing => Ok(None),
             Telling::Change => {
-                let change = self.change_of(region, old, new, steps)?;
+                let change = self.change_of(region, sides, steps)?;
                 Ok(Some(change))
             }
         }
@@ -83,21 +89,20 @@ impl Catalog {
     fn change_of<L: Ledger>(
         &self,
         region: &Region,
-        old: &[Key],
-        new: &[Key],
+        sides: Sides<'_>,
         steps: &mut Steps<L>,
     ) -> Result<Change, OutOfMemory>
         requires stored { IsStored self.now region.now }
-        requires rising { IsRising key_cmp old.now }
-        requires rising_new { IsRising key_cmp new.now }
-        requires there { (key : TheKey) → has key_cmp key old.now ≡ true → is_key self.now key ≡ true }
-        requires there_new { (key : TheKey) → has key_cmp key new.now ≡ true → is_key self.now key ≡ true }
-        ensures came { IfOk result (λ change. AreLinesOf change.came (sorted triple_cmp (triples_at self.now region.now (sole self.now new.now old.now)))) }
-        ensures gone { IfOk result (λ change. AreLinesOf change.gone (sorted triple_cmp (triples_at self.now region.now (sole self.now old.now new.now)))) }
-        ensures cost { Costs (map.len self.now.index) (map.len self.now.index) 0 (length new.now + length old.now) steps.old steps.new }
+        requires rising { IsRising key_cmp sides.old.now }
+        requires rising_new { IsRising key_cmp sides.new.now }
+        requires there { (key : TheKey) → has key_cmp key sides.old.now ≡ true → is_key self.now key ≡ true }
+        requires there_new { (key : TheKey) → has key_cmp key sides.new.now ≡ true → is_key self.now key ≡ true }
+        ensures came { IfOk result (λ change. AreLinesOf change.came (sorted triple_cmp (triples_at self.now region.now (sole self.now sides.entry.new.now sides.entry.old.now)))) }
+        ensures gone { IfOk result (λ change. AreLinesOf change.gone (sorted triple_cmp (triples_at self.now region.now (sole self.now sides.entry.old.now sides.entry.new.now)))) }
+        ensures cost { Costs (map.len self.now.index) (map.len self.now.index) 0 (length sides.entry.new.now + length sides.entry.old.now) steps.old steps.new }
     {
-        let came = self.sole_lines(region, new, old, steps)?;
-        let gone = self.sole_lines(region, old, new, steps)?;
+        let came = self.sole_lines(region, sides.new, sides.old, steps)?;
+        let gone = self.sole_lines(region, sides.old, sides.new, steps)?;
         Ok(Change { came, gone })
     }
 

@@ -8,6 +8,7 @@ ghost use Rattle.triple_store.specs.Telling.{if_told};
 ghost use Rattle.triple_store.specs.Updates.{AreStored, IsExchange, IsPatched, IsRelease, IsToldExchange, IsToldRelease, KeepsRest, MayCome, MayGo};
 
 use crate::StoreFault;
+use crate::exchanging::Swap;
 use crate::keys::{KeySlices, Keys};
 use crate::store::Store;
 use crate::telling::{Change, Exchange, Telling};
@@ -81,7 +82,7 @@ impl Store {
         ensures cost { Costs (map.len (counts_in self.old)) (map.len (counts_in self.new)) (length new.now) (if_told telling (length new.now + length old.entry.rising.now) + (length new.now + length old.entry.rising.now)) steps.old steps.new }
     {
         self.catalog
-            .exchange_with(&mut self.region, old, new, telling, steps)
+            .exchange_with(&mut self.region, Swap { old, new }, telling, steps)
     }
 
     /// Takes one owner away from the triples of these keys. It takes no memory.

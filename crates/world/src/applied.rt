@@ -3,11 +3,11 @@
 ghost use Rattle.std.specs.Prelude.{◌≡◌};
 ghost use Rattle.world.specs.declared.applied.WorldFault.TheVariants.{OutOfMemory as Refused};
 
-use entity_model::{EntityId, Event};
+use entity_model::{EntityId, Event, MappingVersion};
 use rdf_term::OutOfMemory;
 use side_output::Cause;
 use thiserror::Error;
-use triple_store::Change;
+use triple_store::{Change, Telling};
 
 /// What the application of an event did to what its entity holds.
 #[derive(Clone, Copy, Debug, PartialEq, Eq)]
@@ -20,6 +20,13 @@ pub enum Outcome {
     Dropped,
     /// A revision was asked for in vain, and the side output says why.
     Sided(Cause),
+}
+
+/// How what an entity holds is changed: by which version its page is mapped, and whether the change of the stored triples is told.
+#[derive(Clone, Copy, Debug, PartialEq, Eq)]
+pub struct Handling {
+    pub version: MappingVersion,
+    pub telling: Telling,
 }
 
 /// An event that was applied.

@@ -13,12 +13,12 @@ ghost use Rattle.world.specs.Meaning.{meaning};
 ghost use Rattle.world.specs.Roomed.{HasRoom, Overfills, room_with, triples_of_reply};
 ghost use Rattle.world.specs.WorldState.{AreHolders, played_of, by_two_after, stored_in};
 
-use crate::applied::{Effect, Outcome};
+use crate::applied::{Effect, Handling, Outcome};
 use crate::fetching::Reply;
 use crate::holdings::Holdings;
-use entity_model::{Event, MappingVersion};
+use entity_model::Event;
 use side_output::{Entry, Side};
-use triple_store::{StoreFault, Telling};
+use triple_store::StoreFault;
 
 impl Holdings {
     /// Applies an event, with the reply to its fetch where it wants one, whose page is mapped by the version, and tells what that changed
@@ -26,25 +26,24 @@ impl Holdings {
     pub fn apply(
         &mut self,
         side: &mut Side,
-        version: MappingVersion,
         event: Event,
         reply: Option<Reply>,
-        telling: Telling,
+        how: Handling,
     ) -> Result<Effect, StoreFault>
         requires wanted { is_some reply ≡ standing_wants (standing_after (standing_of (record_of self.old.records event.entity)) event) }
-        requires meant { AreMeant version event.entity (standing_after (standing_of (record_of self.old.records event.entity)) event).state.rev reply }
+        requires meant { AreMeant how.version event.entity (standing_after (standing_of (record_of self.old.records event.entity)) event).state.rev reply }
         requires room { HasRoom (meaning_by meaning self.old.by_two) self.old.limit self.old.records }
         requires holding { AreHolders self.old.by_two self.old.records }
         ensures applied { OnOk result (played_of self.new side.new.entries ≡ played (λ _ _. reply_or_any reply) (played_of self.old side.old.entries) event) }
         ensures limit { self.new.limit ≡ self.old.limit }
-        ensures by_two { IfOk result (λ effect. self.new.by_two ≡ by_two_after effect.outcome version event.entity self.old.by_two) }
-        ensures change { IfOk result (λ effect. Tells telling (stored_in self.old) (stored_in self.new) effect.change) }
+        ensures by_two { IfOk result (λ effect. self.new.by_two ≡ by_two_after effect.outcome how.version event.entity self.old.by_two) }
+        ensures change { IfOk result (λ effect. Tells how.telling (stored_in self.old) (stored_in self.new) effect.change) }
         ensures outcome { IfOk result (λ effect.
             effect.outcome ≡ outcome_after (record_of self.old.records event.entity) event (reply_or_any reply)) }
-        ensures full { result ≡ Err Full → Overfills self.old version event.entity
+        ensures full { result ≡ Err Full → Overfills self.old how.version event.entity
             (standing_after (standing_of (record_of self.old.records event.entity)) event).state.rev (reply_or_any reply) }
         ensures within { OnOk result (room_with (meaning_by meaning self.old.by_two) self.old.records
-            (triples_of_reply version event.entity (standing_after (standing_of (record_of self.old.records event.entity)) event).state.rev (reply_or_any reply)) ≤ self.old.limit) }
+            (triples_of_reply how.version event.entity (standing_after (standing_of (record_of self.old.records event.entity)) event).state.rev (reply_or_any reply)) ≤ self.old.limit) }
         ensures held { HasRoom (meaning_by meaning self.new.by_two) self.new.limit self.new.records }
         ensures holders { AreHolders self.new.by_two self.new.records }
         ensures err { OnErr result (self.new ≡ self.old) }
@@ -55,7 +54,7 @@ impl Holdings {
             return Err(StoreFault::OutOfMemory);
         }
         match reply {
-            Some(Ok(page)) => match self.hold(event.entity, after, page, version, telling) {
+            Some(Ok(page)) => match self.hold(event.entity, after, page, how) {
                 Ok(change) => Ok(Effect {
                     outcome: Outcome::Stored,
                     change,
@@ -72,7 +71,7 @@ impl Holdings {
                 }
                 Err(_) => Err(StoreFault::OutOfMemory),
             },
-            None => match self.settle(event.entity, after, telling) {
+            None => match self.settle(event.entity, after, how.telling) {
                 Ok(effect) => Ok(effect),
                 Err(_) => Err(StoreFault::OutOfMemory),
             },

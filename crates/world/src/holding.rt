@@ -18,7 +18,7 @@ ghost use Rattle.world.specs.Roomed.{HasRoom, room_with};
 ghost use Rattle.world.specs.Standing.{unfetched_outcome, unless_deleted};
 ghost use Rattle.world.specs.WorldState.{AreHolders, by_two_after, stored_in};
 
-use crate::applied::{Effect, Outcome};
+use crate::applied::{Effect, Handling, Outcome};
 use crate::fetching::Page;
 use crate::holders::other;
 use crate::holdings::{Holdings, make_room};
@@ -37,21 +37,20 @@ impl Holdings {
         id: EntityId,
         after: Standing,
         page: Page,
-        version: MappingVersion,
-        telling: Telling,
+        how: Handling,
     ) -> Result<Option<Change>, StoreFault>
-        requires { IsPageOf version id after.state.rev page }
+        requires { IsPageOf how.version id after.state.rev page }
         ensures ok { OnOk result (self.new.records ≡ map.insert self.old.records id (record {
           state = after.state;
           held = Some (record { revision = after.state.rev; content = page.bytes });
           reconciled = after.reconciled;
         })) }
-        ensures by_two { OnOk result (self.new.by_two ≡ with_version version id self.old.by_two) }
-        ensures change { IfOk result (Tells telling (stored_in self.old) (stored_in self.new)) }
+        ensures by_two { OnOk result (self.new.by_two ≡ with_version how.version id self.old.by_two) }
+        ensures change { IfOk result (Tells how.telling (stored_in self.old) (stored_in self.new)) }
         ensures limit { self.new.limit ≡ self.old.limit }
         ensures err { OnErr result (self.new ≡ self.old) }
-        ensures full { result ≡ Err Full → self.old.limit < room_with (meaning_by meaning self.old.by_two) self.old.records (meaning version id after.state.rev page.bytes) }
-        ensures within { OnOk result (room_with (meaning_by meaning self.old.by_two) self.old.records (meaning version id after.state.rev page.bytes) ≤ self.old.limit) }
+        ensures full { result ≡ Err Full → self.old.limit < room_with (meaning_by meaning self.old.by_two) self.old.records (meaning how.version id after.state.rev page.bytes) }
+        ensures within { OnOk result (room_with (meaning_by meaning self.old.by_two) self.old.records (meaning how.version id after.state.rev page.bytes) ≤ self.old.limit) }
         ensures held { HasRoom (meaning_by meaning self.new.by_two) self.new.limit self.new.records }
         ensures holders { AreHolders self.new.by_two self.new.records }
     {
@@ -61,16 +60,16 @@ impl Holdings {
         // A triple has at most as many owners as there are records, so no count is at its last value.
         let entities = self.table.len();
         prove!(entities < usize::MAX);
-        let Ok(added) = self.holders.add(id, version) else {
+        let Ok(added) = self.holders.add(id, how.version) else {
             return Err(StoreFault::OutOfMemory);
         };
         let Ok(piece) = self.store.place(page.bytes.as_slice()) else {
-            self.holders.take_back(id, version, added);
+            self.holders.take_back(id, how.version, added);
             return Err(StoreFault::OutOfMemory);
         };
         match self
             .store
-            .exchange_with(keys_of(&self.table, id), &page.triples, telling)
+            .exchange_with(keys_of(&self.table, id), &page.triples, how.telling)
         {
             Ok(Exchange { keys, change }) => {
                 let held = Held {
@@ -78,12 +77,12 @@ impl Holdings {
                     content: Kept { piece, keys },
                 };
                 replace(&mut self.store, &mut self.table, id, after, Some(held));
-                self.holders.remove(id, other(version));
+                self.holders.remove(id, other(how.version));
                 Ok(change)
             }
             Err(refused) => {
                 self.store.free(piece);
-                self.holders.take_back(id, version, added);
+                self.holders.take_back(id, how.version, added);
                 Err(refused)
             }
         }

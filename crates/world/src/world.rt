@@ -20,7 +20,7 @@ ghost use Rattle.entity_model.specs.declared.mapping.MappingVersion.TheVariants.
 ghost use Rattle.world.specs.declared.applied.Outcome.TheVariants.{Stored};
 ghost use Rattle.world.specs.declared.applied.WorldFault.TheVariants.{Full, Nothing as NothingDue};
 
-use crate::applied::{Application, Applied, Effect, WorldFault};
+use crate::applied::{Application, Applied, Effect, Handling, WorldFault};
 use crate::fetching::{Reply, Wanted, fetch};
 use crate::holdings::Holdings;
 use entity_model::{Event, MappingVersion};
@@ -220,10 +220,11 @@ impl World {
             return Err(WorldFault::Nothing);
         };
         let reply = self.reply(revisions, folder, &event)?;
-        match self
-            .holdings
-            .apply(&mut self.side, self.mapping, event, reply, telling)
-        {
+        let how = Handling {
+            version: self.mapping,
+            telling,
+        };
+        match self.holdings.apply(&mut self.side, event, reply, how) {
             Ok(Effect { outcome, change }) => {
                 self.buffer.drop_least();
                 Ok(Application {

@@ -14,71 +14,71 @@ pub remove_beside-requires-clause-rising : goal.remove_beside-requires-clause-ri
 remove_beside-requires-clause-rising g c = rw (c.slices.ensures, c.in_order-keys.ensures) (IsRising-sorted key_cmp-total c.take_in-taken.new.met.keys.items)
 
 pub remove_beside-requires-clause-there : goal.remove_beside-requires-clause-there
-remove_beside-requires-clause-there g c = rw (c.slices.ensures, c.in_order-keys.ensures) (keys_there _ _ _ _ c.args.old.rising.now _ _ c.requires.stored c.requires.there c.take_in-taken.ensures.takes)
+remove_beside-requires-clause-there g c = rw (c.slices.ensures, c.in_order-keys.ensures) (keys_there _ _ _ _ c.args.swap.old.rising.now _ _ c.requires.stored c.requires.there c.take_in-taken.ensures.takes)
 
 pub returns-in-Err-clause-err : goal.returns-in-Err-clause-err
-returns-in-Err-clause-err g c = undone_counts _ _ _ _ c.args.old.rising.now _ _ c.requires.stored c.requires.there c.take_in-taken.ensures.takes _ _ (rw (c.slices.ensures, c.in_order-keys.ensures) at c.remove_beside.ensures.removes)
+returns-in-Err-clause-err g c = undone_counts _ _ _ _ c.args.swap.old.rising.now _ _ c.requires.stored c.requires.there c.take_in-taken.ensures.takes _ _ (rw (c.slices.ensures, c.in_order-keys.ensures) at c.remove_beside.ensures.removes)
 
 pub returns-in-Err-clause-keeps : goal.returns-in-Err-clause-keeps
-returns-in-Err-clause-keeps g c = keeps _ _ _ _ c.args.old.rising.now _ _ c.requires.stored c.requires.there c.take_in-taken.ensures.takes _ _ _ c.remove_beside.ensures.removes
+returns-in-Err-clause-keeps g c = keeps _ _ _ _ c.args.swap.old.rising.now _ _ c.requires.stored c.requires.there c.take_in-taken.ensures.takes _ _ _ c.remove_beside.ensures.removes
 
 -- what is told
 pub change_if-requires-clause-rising_new : goal.change_if-requires-clause-rising_new
 change_if-requires-clause-rising_new g c = rw (c.slices-2.ensures, c.in_order-keys.ensures) (IsRising-sorted key_cmp-total c.take_in-taken.new.met.keys.items)
 
 pub change_if-requires-clause-there : goal.change_if-requires-clause-there
-change_if-requires-clause-there g c = had_there _ _ _ _ c.args.old.rising.now _ _ c.requires.stored c.requires.there c.take_in-taken.ensures.takes
+change_if-requires-clause-there g c = had_there _ _ _ _ c.args.swap.old.rising.now _ _ c.requires.stored c.requires.there c.take_in-taken.ensures.takes
 
 pub change_if-requires-clause-there_new : goal.change_if-requires-clause-there_new
-change_if-requires-clause-there_new g c = rw (c.slices-2.ensures, c.in_order-keys.ensures) (keys_there _ _ _ _ c.args.old.rising.now _ _ c.requires.stored c.requires.there c.take_in-taken.ensures.takes)
+change_if-requires-clause-there_new g c = rw (c.slices-2.ensures, c.in_order-keys.ensures) (keys_there _ _ _ _ c.args.swap.old.rising.now _ _ c.requires.stored c.requires.there c.take_in-taken.ensures.takes)
 
 pub remove_beside-requires-in-Ok-change_if-clause-others : goal.remove_beside-requires-in-Ok-change_if-clause-others
 remove_beside-requires-in-Ok-change_if-clause-others g c = rw (c.slices-in-Ok-change_if.ensures, c.in_order-keys.ensures) (IsRising-sorted key_cmp-total c.take_in-taken.new.met.keys.items)
 
 pub remove_beside-requires-in-Ok-change_if-clause-there : goal.remove_beside-requires-in-Ok-change_if-clause-there
-remove_beside-requires-in-Ok-change_if-clause-there g c = had_there _ _ _ _ c.args.old.rising.now _ _ c.requires.stored c.requires.there c.take_in-taken.ensures.takes
+remove_beside-requires-in-Ok-change_if-clause-there g c = had_there _ _ _ _ c.args.swap.old.rising.now _ _ c.requires.stored c.requires.there c.take_in-taken.ensures.takes
 
 pub returns-in-Ok-change_if-clause-ok : goal.returns-in-Ok-change_if-clause-ok
 returns-in-Ok-change_if-clause-ok g c =
-    let all = whole_taken _ _ _ _ c.args.old.rising.now _ c.args.new.now _ c.in_default-taken.ensures.whole c.take_in-taken.ensures.takes in
-    exchanged _ _ _ _ c.args.old.rising.now _ c.args.new.now c.requires.stored c.requires.there all _ _ (rw (c.slices-in-Ok-change_if.ensures, c.in_order-keys.ensures) at c.remove_beside-in-Ok-change_if.ensures.removes)
+    let all = whole_taken _ _ _ _ c.args.swap.old.rising.now _ c.args.swap.new.now _ c.in_default-taken.ensures.whole c.take_in-taken.ensures.takes in
+    exchanged _ _ _ _ c.args.swap.old.rising.now _ c.args.swap.new.now c.requires.stored c.requires.there all _ _ (rw (c.slices-in-Ok-change_if.ensures, c.in_order-keys.ensures) at c.remove_beside-in-Ok-change_if.ensures.removes)
 
 pub returns-in-Ok-change_if-clause-told : goal.returns-in-Ok-change_if-clause-told
 returns-in-Ok-change_if-clause-told g c =
-    let all = whole_taken _ _ _ _ c.args.old.rising.now _ c.args.new.now _ c.in_default-taken.ensures.whole c.take_in-taken.ensures.takes in
-    tells_if _ _ _ _ c.args.old.rising.now _ c.args.new.now c.requires.stored c.requires.there all _ _ (rw (c.slices-in-Ok-change_if.ensures, c.in_order-keys.ensures) at c.remove_beside-in-Ok-change_if.ensures.removes)
+    let all = whole_taken _ _ _ _ c.args.swap.old.rising.now _ c.args.swap.new.now _ c.in_default-taken.ensures.whole c.take_in-taken.ensures.takes in
+    tells_if _ _ _ _ c.args.swap.old.rising.now _ c.args.swap.new.now c.requires.stored c.requires.there all _ _ (rw (c.slices-in-Ok-change_if.ensures, c.in_order-keys.ensures) at c.remove_beside-in-Ok-change_if.ensures.removes)
     c.args.telling c.in-Ok-change_if.change (rw (c.slices-2.ensures, c.in_order-keys.ensures) at c.in-Ok-change_if.ensures.lines)
 
 pub returns-in-Ok-change_if-clause-keys : goal.returns-in-Ok-change_if-clause-keys
 returns-in-Ok-change_if-clause-keys g c =
-    let all = whole_taken _ _ _ _ c.args.old.rising.now _ c.args.new.now _ c.in_default-taken.ensures.whole c.take_in-taken.ensures.takes in
-    rw c.in_order-keys.ensures (are_keys _ _ _ _ c.args.old.rising.now _ c.args.new.now c.requires.stored c.requires.there all _ _ (rw (c.slices-in-Ok-change_if.ensures, c.in_order-keys.ensures) at c.remove_beside-in-Ok-change_if.ensures.removes))
+    let all = whole_taken _ _ _ _ c.args.swap.old.rising.now _ c.args.swap.new.now _ c.in_default-taken.ensures.whole c.take_in-taken.ensures.takes in
+    rw c.in_order-keys.ensures (are_keys _ _ _ _ c.args.swap.old.rising.now _ c.args.swap.new.now c.requires.stored c.requires.there all _ _ (rw (c.slices-in-Ok-change_if.ensures, c.in_order-keys.ensures) at c.remove_beside-in-Ok-change_if.ensures.removes))
 
 pub returns-in-Ok-change_if-clause-within : goal.returns-in-Ok-change_if-clause-within
-returns-in-Ok-change_if-clause-within g c = room_within _ _ _ _ c.args.old.rising.now _ c.args.new.now c.requires.stored (whole_taken _ _ _ _ c.args.old.rising.now _ c.args.new.now _ c.in_default-taken.ensures.whole c.take_in-taken.ensures.takes)
+returns-in-Ok-change_if-clause-within g c = room_within _ _ _ _ c.args.swap.old.rising.now _ c.args.swap.new.now c.requires.stored (whole_taken _ _ _ _ c.args.swap.old.rising.now _ c.args.swap.new.now _ c.in_default-taken.ensures.whole c.take_in-taken.ensures.takes)
 
 pub returns-in-Ok-change_if-clause-keeps : goal.returns-in-Ok-change_if-clause-keeps
-returns-in-Ok-change_if-clause-keeps g c = keeps _ _ _ _ c.args.old.rising.now _ _ c.requires.stored c.requires.there c.take_in-taken.ensures.takes _ _ _ c.remove_beside-in-Ok-change_if.ensures.removes
+returns-in-Ok-change_if-clause-keeps g c = keeps _ _ _ _ c.args.swap.old.rising.now _ _ c.requires.stored c.requires.there c.take_in-taken.ensures.takes _ _ _ c.remove_beside-in-Ok-change_if.ensures.removes
 
 -- where it can't be told
 pub remove_beside-requires-in-Err-change_if-clause-rising : goal.remove_beside-requires-in-Err-change_if-clause-rising
 remove_beside-requires-in-Err-change_if-clause-rising g c = rw (c.slices-in-Err-change_if.ensures, c.in_order-keys.ensures) (IsRising-sorted key_cmp-total c.take_in-taken.new.met.keys.items)
 
 pub remove_beside-requires-in-Err-change_if-clause-there : goal.remove_beside-requires-in-Err-change_if-clause-there
-remove_beside-requires-in-Err-change_if-clause-there g c = rw (c.slices-in-Err-change_if.ensures, c.in_order-keys.ensures) (keys_there _ _ _ _ c.args.old.rising.now _ _ c.requires.stored c.requires.there c.take_in-taken.ensures.takes)
+remove_beside-requires-in-Err-change_if-clause-there g c = rw (c.slices-in-Err-change_if.ensures, c.in_order-keys.ensures) (keys_there _ _ _ _ c.args.swap.old.rising.now _ _ c.requires.stored c.requires.there c.take_in-taken.ensures.takes)
 
 pub returns-clause-err : goal.returns-clause-err
-returns-clause-err g c = undone_counts _ _ _ _ c.args.old.rising.now _ _ c.requires.stored c.requires.there c.take_in-taken.ensures.takes _ _ (rw (c.slices-in-Err-change_if.ensures, c.in_order-keys.ensures) at c.remove_beside-in-Err-change_if.ensures.removes)
+returns-clause-err g c = undone_counts _ _ _ _ c.args.swap.old.rising.now _ _ c.requires.stored c.requires.there c.take_in-taken.ensures.takes _ _ (rw (c.slices-in-Err-change_if.ensures, c.in_order-keys.ensures) at c.remove_beside-in-Err-change_if.ensures.removes)
 
 pub returns-clause-keeps : goal.returns-clause-keeps
-returns-clause-keeps g c = keeps _ _ _ _ c.args.old.rising.now _ _ c.requires.stored c.requires.there c.take_in-taken.ensures.takes _ _ _ c.remove_beside-in-Err-change_if.ensures.removes
+returns-clause-keeps g c = keeps _ _ _ _ c.args.swap.old.rising.now _ _ c.requires.stored c.requires.there c.take_in-taken.ensures.takes _ _ _ c.remove_beside-in-Err-change_if.ensures.removes
 
 -- the costs
 pub returns-in-Err-clause-cost : goal.returns-in-Err-clause-cost
 returns-in-Err-clause-cost g c =
     let few = length-sorted key_cmp c.take_in-taken.new.met.keys.items in
-    let came = length c.args.new.now in
-    let had = length c.args.old.rising.now in
+    let came = length c.args.swap.new.now in
+    let had = length c.args.swap.old.rising.now in
     counted _ _ _ _ _ _ _ _ c.requires.stored c.remove_beside.ensures.removes.stored
     (at_most _ _ came came (came + had) (if_told c.args.telling (came + had) + (came + had)) _ _ (omega arith) (omega arith)
     (came_and_went _ _ _ came (length c.slices.result.rising.now) had _ _ _ c.take_in-taken.ensures.cost c.remove_beside.ensures.cost
@@ -87,8 +87,8 @@ returns-in-Err-clause-cost g c =
 pub returns-in-Ok-change_if-clause-cost : goal.returns-in-Ok-change_if-clause-cost
 returns-in-Ok-change_if-clause-cost g c =
     let few = length-sorted key_cmp c.take_in-taken.new.met.keys.items in
-    let came = length c.args.new.now in
-    let had = length c.args.old.rising.now in
+    let came = length c.args.swap.new.now in
+    let had = length c.args.swap.old.rising.now in
     let these = length c.slices-2.result.rising.now in
     let fewer : these + had ≤ came + had = omega (arith, few, c.take_in-taken.ensures.few, ap length c.slices-2.ensures, ap length c.in_order-keys.ensures) in
     counted _ _ _ _ _ _ _ _ c.requires.stored c.remove_beside-in-Ok-change_if.ensures.removes.stored
@@ -98,8 +98,8 @@ returns-in-Ok-change_if-clause-cost g c =
 pub returns-clause-cost : goal.returns-clause-cost
 returns-clause-cost g c =
     let few = length-sorted key_cmp c.take_in-taken.new.met.keys.items in
-    let came = length c.args.new.now in
-    let had = length c.args.old.rising.now in
+    let came = length c.args.swap.new.now in
+    let had = length c.args.swap.old.rising.now in
     let these = length c.slices-2.result.rising.now in
     let fewer : these + had ≤ came + had = omega (arith, few, c.take_in-taken.ensures.few, ap length c.slices-2.ensures, ap length c.in_order-keys.ensures) in
     counted _ _ _ _ _ _ _ _ c.requires.stored c.remove_beside-in-Err-change_if.ensures.removes.stored

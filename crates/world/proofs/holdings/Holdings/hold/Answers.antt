@@ -29,22 +29,22 @@ unnamed c = rw c.in_default.ensures.err (rw c.make_room.ensures.records c.self.i
 -- memory is refused for the page
 unplaced : (c : After-drop-page-in_default-place-4) → AreInStep c.place.new.self c.take_back.new.self c.make_room.new.table.records
 unplaced c =
-    subst (λ (i : ByVersion). AreInStep c.place.new.self i c.make_room.new.table.records) (sym (undone c.self.inside.holders c.add.new.self c.take_back.new.self c.self.inside.table.records c.args.id c.args.version c.in-Ok.added c.self.invariant.by c.in-Ok.ensures.ok c.in-Ok.ensures.added c.take_back.ensures))
+    subst (λ (i : ByVersion). AreInStep c.place.new.self i c.make_room.new.table.records) (sym (undone c.self.inside.holders c.add.new.self c.take_back.new.self c.self.inside.table.records c.args.id c.args.how.version c.in-Ok.added c.self.invariant.by c.in-Ok.ensures.ok c.in-Ok.ensures.added c.take_back.ensures))
     (subst (λ (s : StoreState). AreInStep s c.self.inside.holders c.make_room.new.table.records) (sym c.in_default-place.ensures.err) (rw c.make_room.ensures.records c.self.invariant))
 
 -- the page came
 came : (c : After-drop-page-in-Ok-exchange_with-4) → AreInStep c.replace.new.store c.remove.new.self c.replace.new.table.records
 came c = rw c.replace.ensures.records
     (page_step c.self.inside.store c.self.inside.holders c.make_room.new.table.records c.args.id (rw c.make_room.ensures.records c.self.invariant) c.place.new.self c.exchange_with.new.self c.replace.new.store
-    c.args.after.state c.args.after.reconciled c.args.after.state.rev (record { piece = c.in-Ok-place.piece; keys = c.in-Ok-exchange_with.field-0.keys }) c.args.page.bytes c.args.page.triples c.keys_of.result.rising.now c.args.version
+    c.args.after.state c.args.after.reconciled c.args.after.state.rev (record { piece = c.in-Ok-place.piece; keys = c.in-Ok-exchange_with.field-0.keys }) c.args.page.bytes c.args.page.triples c.keys_of.result.rising.now c.args.how.version
     (rw c.as_slice.ensures at c.in-Ok-place.ensures.ok) c.place.ensures.kept c.place.ensures.counts c.exchange_with.ensures.rest.keeps c.exchange_with.ensures.rest.beside c.replace.ensures.counts c.replace.ensures.kept c.replace.ensures.freed
-    c.remove.new.self (moves c.self.inside.holders c.add.new.self c.remove.new.self c.args.id c.args.version c.other.result c.in-Ok.ensures.ok c.other.ensures c.remove.ensures)
+    c.remove.new.self (moves c.self.inside.holders c.add.new.self c.remove.new.self c.args.id c.args.how.version c.other.result c.in-Ok.ensures.ok c.other.ensures c.remove.ensures)
     c.replace.ensures.sound c.keys_of.ensures c.in-Ok-exchange_with.ensures.exchanged.ok c.in-Ok-exchange_with.ensures.exchanged.keys c.requires.meant)
 
 -- the page was refused
 refused : (c : After-drop-page-5) → AreInStep c.free.new.self c.take_back-in-Err.new.self c.make_room.new.table.records
 refused c =
-    subst (λ (i : ByVersion). AreInStep c.free.new.self i c.make_room.new.table.records) (sym (undone c.self.inside.holders c.add.new.self c.take_back-in-Err.new.self c.self.inside.table.records c.args.id c.args.version c.in-Ok.added c.self.invariant.by c.in-Ok.ensures.ok c.in-Ok.ensures.added c.take_back-in-Err.ensures)) (record {
+    subst (λ (i : ByVersion). AreInStep c.free.new.self i c.make_room.new.table.records) (sym (undone c.self.inside.holders c.add.new.self c.take_back-in-Err.new.self c.self.inside.table.records c.args.id c.args.how.version c.in-Ok.added c.self.invariant.by c.in-Ok.ensures.ok c.in-Ok.ensures.added c.take_back-in-Err.ensures)) (record {
       kept = kept_undone (meaning_by meaning c.self.inside.holders.by_two) c.self.inside.store c.place.new.self c.exchange_with.new.self c.free.new.self c.make_room.new.table.records c.in-Ok-place.piece _
           (rw c.make_room.ensures.records c.self.invariant.kept) c.in-Ok-place.ensures.ok c.place.ensures.kept c.place.ensures.counts c.exchange_with.ensures.rest.keeps c.exchange_with.ensures.rest.beside c.in-Err.ensures.exchanged.err c.free.ensures.sound c.free.ensures.counts c.free.ensures.kept c.free.ensures.freed;
       by = rw c.make_room.ensures.records c.self.invariant.by;
@@ -66,7 +66,7 @@ invariant_of-self-in-Ok-exchange_with c = came c
 
 pub invariant_of-self-in-Err : goal.invariant_of-self-in-Err
 invariant_of-self-in-Err c =
-    subst (λ (i : ByVersion). AreInStep c.free.new.self i c.make_room.new.table.records) (sym (undone c.self.inside.holders c.add.new.self c.take_back-in-Err.new.self c.self.inside.table.records c.args.id c.args.version c.in-Ok.added c.self.invariant.by c.in-Ok.ensures.ok c.in-Ok.ensures.added c.take_back-in-Err.ensures)) (record {
+    subst (λ (i : ByVersion). AreInStep c.free.new.self i c.make_room.new.table.records) (sym (undone c.self.inside.holders c.add.new.self c.take_back-in-Err.new.self c.self.inside.table.records c.args.id c.args.how.version c.in-Ok.added c.self.invariant.by c.in-Ok.ensures.ok c.in-Ok.ensures.added c.take_back-in-Err.ensures)) (record {
       kept = kept_undone (meaning_by meaning c.self.inside.holders.by_two) c.self.inside.store c.place.new.self c.exchange_with.new.self c.free.new.self c.make_room.new.table.records c.in-Ok-place.piece _
           (rw c.make_room.ensures.records c.self.invariant.kept) c.in-Ok-place.ensures.ok c.place.ensures.kept c.place.ensures.counts c.exchange_with.ensures.rest.keeps c.exchange_with.ensures.rest.beside c.in-Err.ensures.exchanged.err c.free.ensures.sound c.free.ensures.counts c.free.ensures.kept c.free.ensures.freed;
       by = rw c.make_room.ensures.records c.self.invariant.by;
@@ -88,7 +88,7 @@ pub returns-in_default-place-clause-err : goal.returns-in_default-place-clause-e
 returns-in_default-place-clause-err c = rw (← c.self.view_is) (λ i. record {
   records = seen (c.in_default-place.ensures.err i) (c.make_room.ensures.records i);
   limit = limit_of (c.in_default-place.ensures.err i);
-  by_two = ap (λ (ids : ByVersion). ids.by_two) (undone c.self.inside.holders c.add.new.self c.take_back.new.self c.self.inside.table.records c.args.id c.args.version c.in-Ok.added c.self.invariant.by c.in-Ok.ensures.ok c.in-Ok.ensures.added c.take_back.ensures) i;
+  by_two = ap (λ (ids : ByVersion). ids.by_two) (undone c.self.inside.holders c.add.new.self c.take_back.new.self c.self.inside.table.records c.args.id c.args.how.version c.in-Ok.added c.self.invariant.by c.in-Ok.ensures.ok c.in-Ok.ensures.added c.take_back.ensures) i;
 })
 
 pub returns-in_default-place-clause-held : goal.returns-in_default-place-clause-held
@@ -100,7 +100,7 @@ returns-in_default-place-clause-holders c = are_holders _ _ _ (unplaced c)
 pub returns-in-Ok-exchange_with-clause-ok : goal.returns-in-Ok-exchange_with-clause-ok
 returns-in-Ok-exchange_with-clause-ok c = rw (← c.self.view_is, ← c.make_room.ensures.records) (ap (seen c.replace.new.store) c.replace.ensures.records
     ∙ page_seen c.self.inside.store c.self.inside.holders c.make_room.new.table.records c.args.id (rw c.make_room.ensures.records c.self.invariant) c.place.new.self c.exchange_with.new.self c.replace.new.store
-    c.args.after.state c.args.after.reconciled c.args.after.state.rev (record { piece = c.in-Ok-place.piece; keys = c.in-Ok-exchange_with.field-0.keys }) c.args.page.bytes c.args.page.triples c.keys_of.result.rising.now c.args.version
+    c.args.after.state c.args.after.reconciled c.args.after.state.rev (record { piece = c.in-Ok-place.piece; keys = c.in-Ok-exchange_with.field-0.keys }) c.args.page.bytes c.args.page.triples c.keys_of.result.rising.now c.args.how.version
     (rw c.as_slice.ensures at c.in-Ok-place.ensures.ok) c.place.ensures.kept c.place.ensures.counts c.exchange_with.ensures.rest.keeps c.exchange_with.ensures.rest.beside c.replace.ensures.counts c.replace.ensures.kept c.replace.ensures.freed)
 
 pub returns-in-Ok-exchange_with-clause-within : goal.returns-in-Ok-exchange_with-clause-within
@@ -110,7 +110,7 @@ returns-in-Ok-exchange_with-clause-within c = rw (← c.self.view_is, ← c.make
 pub returns-in-Ok-exchange_with-clause-change : goal.returns-in-Ok-exchange_with-clause-change
 returns-in-Ok-exchange_with-clause-change c = rw (← c.self.view_is)
     (step_tells c.self.inside.store c.replace.new.store c.self.inside.holders c.remove.new.self c.self.inside.table.records c.replace.new.table.records c.self.invariant (came c)
-    (counts_in c.place.new.self) (counts_in c.exchange_with.new.self) c.place.ensures.counts (sym c.replace.ensures.counts) c.args.telling c.in-Ok-exchange_with.field-0.change c.in-Ok-exchange_with.ensures.exchanged.told)
+    (counts_in c.place.new.self) (counts_in c.exchange_with.new.self) c.place.ensures.counts (sym c.replace.ensures.counts) c.args.how.telling c.in-Ok-exchange_with.field-0.change c.in-Ok-exchange_with.ensures.exchanged.told)
 
 pub returns-in-Ok-exchange_with-clause-held : goal.returns-in-Ok-exchange_with-clause-held
 returns-in-Ok-exchange_with-clause-held c = has_room _ _ _ (came c)
@@ -125,7 +125,7 @@ returns-clause-err c = rw (← c.self.view_is) (λ i. record {
       c.in-Ok-place.ensures.ok c.exchange_with.ensures.rest.beside c.free.ensures.freed)
       ∙ ap (seen c.self.inside.store) c.make_room.ensures.records) i;
   limit = (c.free.ensures.limit ∙ c.exchange_with.ensures.rest.limit ∙ c.place.ensures.limit) i;
-  by_two = ap (λ (ids : ByVersion). ids.by_two) (undone c.self.inside.holders c.add.new.self c.take_back-in-Err.new.self c.self.inside.table.records c.args.id c.args.version c.in-Ok.added c.self.invariant.by c.in-Ok.ensures.ok c.in-Ok.ensures.added c.take_back-in-Err.ensures) i;
+  by_two = ap (λ (ids : ByVersion). ids.by_two) (undone c.self.inside.holders c.add.new.self c.take_back-in-Err.new.self c.self.inside.table.records c.args.id c.args.how.version c.in-Ok.added c.self.invariant.by c.in-Ok.ensures.ok c.in-Ok.ensures.added c.take_back-in-Err.ensures) i;
 })
 
 pub returns-clause-full : goal.returns-clause-full
