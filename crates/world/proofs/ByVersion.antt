@@ -75,9 +75,9 @@ module _ (x : EntityId) (xs : List EntityId) where
 pub taken_back : (ids : ByVersion) (kept : KeptRecords) (x : EntityId) (v : MappingVersion) (added : Bool) → AreBy ids kept → added ≡ not (has entity_cmp x (held_by ids v))
     → (if added then without_holder (with_holder ids x v) x v else with_holder ids x v) ≡ ids
 taken_back ids kept x One added h is =
-    by added ∙ ap (λ l. record ids { first = l }) (taken_list x ids.by_one h.by_one_rises (has entity_cmp x ids.by_one) added refl is)
+    by added ∙ ap (λ l. record ids { by_one = l }) (taken_list x ids.by_one h.by_one_rises (has entity_cmp x ids.by_one) added refl is)
   where
-    by : (b : Bool) → ◌≡◌ {A = ByVersion} (if b then record ids { first = remove_key (eq_by_cmp entity_cmp x) (insert_key entity_cmp ids.by_one x) } else record ids { by_one = insert_key entity_cmp ids.by_one x })
+    by : (b : Bool) → ◌≡◌ {A = ByVersion} (if b then record ids { by_one = remove_key (eq_by_cmp entity_cmp x) (insert_key entity_cmp ids.by_one x) } else record ids { by_one = insert_key entity_cmp ids.by_one x })
         (record ids { by_one = if b then remove_key (eq_by_cmp entity_cmp x) (insert_key entity_cmp ids.by_one x) else insert_key entity_cmp ids.by_one x })
     by true = refl
     by false = refl

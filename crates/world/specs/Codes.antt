@@ -55,4 +55,4 @@ world_code =
 abbrev pub holders_code : Coded ByVersion
 holders_code =
     code_by (List EntityId × List EntityId) (coded× (coded_list (entity_id.the_row).coded) (coded_list (entity_id.the_row).coded))
-    (λ h. (h.first, h.by_two)) (λ c. record { first = c.0; by_two = c.1 }) (λ _. refl)
+    (λ h. (h.by_one, h.by_two)) (λ c. record { by_one = c.0; by_two = c.1 }) (λ _. refl)

@@ -32,7 +32,7 @@ with_holder ids x Two = record ids { by_two = insert_key entity_cmp ids.by_two x
 
 -- without x among those that hold by a version
 abbrev pub without_holder : ByVersion → EntityId → MappingVersion → ByVersion
-without_holder ids x One = record ids { first = remove_key (eq_by_cmp entity_cmp x) ids.by_one }
+without_holder ids x One = record ids { by_one = remove_key (eq_by_cmp entity_cmp x) ids.by_one }
 without_holder ids x Two = record ids { by_two = remove_key (eq_by_cmp entity_cmp x) ids.by_two }
 
 -- each entity that holds a document is named once, by one version, and no other is
