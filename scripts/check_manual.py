@@ -3,8 +3,8 @@
 
 usage: scripts/check_manual.py
 
-Compares docs/wdq.1 with docs/USAGE.md and docs/EVENT_LINES.md: the options with their ranges and defaults, the forms and causes of event
-lines, the printed lines, and the statuses with their texts. Prints what one has and the other lacks, and ends with 1 where there is any.
+Compares docs/wdq.1 with docs/USAGE.md and docs/EVENT_LINES.md: the options with their ranges and defaults, the forms of event lines, the
+causes, the printed lines, and the statuses with their texts. Prints what one has and the other lacks, and ends with 1 where there is any.
 """
 import pathlib
 import re
@@ -62,8 +62,9 @@ def facts():
         word = re.match(r"`# (\w+)", cells[0])
         if word:
             yield f"# {word[1]}", "a printed line"
-    for cells in rows_of("EVENT_LINES.md", "Cause"):
-        yield cells[0].strip("`"), "a cause"
+    for page in ("EVENT_LINES.md", "USAGE.md"):
+        for cells in rows_of(page, "Cause"):
+            yield cells[0].strip("`"), "a cause"
     for cells in rows_of("EVENT_LINES.md", "Form"):
         for key in re.findall(r'"(\w+)":', cells[0])[:1]:
             yield f'{{"{key}"', "a form of line"

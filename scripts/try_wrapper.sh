@@ -176,7 +176,8 @@ export|'export' is no command
 ''|'' is no command
 'replay drill'|'replay drill' is no command
 events.jsonl|'events.jsonl' is a file; did you mean replay < events.jsonl?
---export|the command comes first, replay drill
+--export|the command comes first: replay follow drill
+folow --export|'folow' is no command; did you mean follow?
 replay --exprt|'--exprt' is no option of replay; did you mean --export?
 replay --exp|'--exp' is no option of replay; did you mean --export?
 replay -export|'-export' is no option of replay; did you mean --export?
@@ -187,6 +188,20 @@ replay --limit 5|'--limit' is no option of replay
 replay --|'--' is no option of replay
 replay --size 5|--size is an option of drill
 drill --size 5 --state|--state is an option of replay
+drill --export|--export is an option of replay and follow
+drill events.jsonl|'events.jsonl' is no option of drill
+drill pages|'pages' is no option of drill
+follow --from pages|--from is an option of replay
+follow --max-terms=5|--max-terms is an option of replay
+follow --size 5|--size is an option of drill
+follow --exprt|'--exprt' is no option of follow; did you mean --export?
+follow --sid|'--sid' is no option of follow
+follow events.jsonl|'events.jsonl' is a file; did you mean < events.jsonl?
+follow lost.txt|'lost.txt' is no option of follow; did you mean < lost.txt?
+follow pages|'pages' is no option of follow
+follow --export --export|--export is given twice
+follow --export=yes|--export takes no value
+follow --max-bytes 1099511627777|--max-bytes takes a number from 0 to 1099511627776
 replay events.jsonl|'events.jsonl' is a file; did you mean < events.jsonl?
 replay 'two words.jsonl'|'two words.jsonl' is a file; did you mean < two\ words.jsonl?
 replay lost.jsonl|'lost.jsonl' is no option of replay; did you mean < lost.jsonl?
@@ -220,6 +235,8 @@ for words in '' -h --help --version help 'replay --help'; do
 done
 in_terminal "'$checkout/wdq' replay --max-bytes 1099511627776 --max-terms 4294967295 --horizon 0 --from x=y < /dev/null"
 shows 'words without a fault' $'wdq: words not understood\n\nwdq '
+in_terminal "'$checkout/wdq' follow --max-bytes=1099511627776 --export < /dev/null"
+shows 'words of follow without a fault' $'wdq: words not understood\n\nwdq '
 unset STAND_IN_STATUS
 
 # --- At a terminal: warnings, a run that prints nothing, and statuses ---
@@ -231,7 +248,11 @@ shows 'a file as folder' $'wdq: \'events.jsonl\' is no folder, so each revision 
 in_terminal "'$checkout/wdq' replay --export --from=pages < events.jsonl"
 wants 'a folder' '{"kind":"edit"}' "$shown"
 in_terminal "'$checkout/wdq' replay --export"
-shows 'the terminal as input' 'wdq: standard input is the terminal'
+shows 'the terminal as input' 'wdq: standard input is the terminal: type events and then Ctrl-D, or give a file by < EVENTS'
+in_terminal "'$checkout/wdq' follow"
+shows 'the terminal as records' 'wdq: standard input is the terminal: type records and then Ctrl-D, or give a file by < RECORDS'
+in_terminal "'$checkout/wdq' follow < events.jsonl"
+wants 'records in a file' '{"kind":"edit"}' "$shown"
 in_terminal "STAND_IN_STATUS=0 '$checkout/wdq' drill --size 1 < /dev/null"
 wants 'a drill reads no input' '' "$shown"
 in_terminal "'$checkout/wdq' replay < events.jsonl"
@@ -327,9 +348,17 @@ done
 
 # --- What has to agree ---
 
+# The tables of the crate words: the names of the commands, and each option as the script writes it.
+words=$top/crates/words/specs/Table.antt
+table=$(grep -oE '^[a-z]+_table =|entry \(codes "--[a-z-]+"\) (Flag|Text|\(Number [0-9]+ [0-9]+)' "$words" | awk '
+  sub(/_table =$/, "") { command = $0; next }
+  { gsub(/entry \(codes "|"\)|\(Number /, ""); sub(/ /, " " command " "); sub(/Flag$/, "nothing"); sub(/Text$/, "folder"); print }')
 wants 'the options of the script are those of the crate words' \
-  "$(grep -oh 'codes "--[a-z-]*"' "$top"/crates/words/specs/*.antt | grep -o -e '--[a-z-]*' | sort -u)" \
-  "$(sed -n '/^options=(/,/^)/p' "$top/wdq" | grep -o -e '--[a-z-]*' | sort)"
+  "$(sort <<<"$table")" \
+  "$(sed -n '/^options=(/,/^)/p' "$top/wdq" | sed -n "s/^  '\(.*\)'$/\1/p" | sort)"
+wants 'the commands of the script are those of the crate words' \
+  "$(sed -n 's/^name_of [A-Z][a-z]* = codes "\(.*\)"$/\1/p' "$words" | sort)" \
+  "$(sed -n 's/^commands=(\(.*\))$/\1/p' "$top/wdq" | tr ' ' '\n' | sort)"
 version=$(sed -n 's/^version=//p' "$top/wdq")
 wants 'the version of the changes' "$version" "$(sed -n 's/^## \([0-9.]*\).*/\1/p' "$top/CHANGELOG.md" | head -n 1)"
 wants 'the version of the man page' "wdq $version" "$(sed -n '1s/.*"\(wdq [0-9.]*\)".*/\1/p' "$top/docs/wdq.1")"
