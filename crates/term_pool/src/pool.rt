@@ -157,6 +157,33 @@ impl Pool {
         }
     }
 
+    /// Does what `intern_text` does. The slot of this number is tried first, which costs no hash; a wrong one changes nothing.
+    pub fn intern_text_near(
+        &mut self,
+        region: &mut Region,
+        text: &[u8],
+        near: Option<u32>,
+    ) -> Result<Slot, PoolFault>
+        requires lies { LiesIn self.old region.old }
+        requires canonical { IsCanonical text.now }
+        ensures lies { LiesIn self.new region.new }
+        ensures ok { IfOk result (λ slot. Interned self.old region.old self.new region.new slot.number text.now) }
+        ensures first { IfOk result (λ slot. IsNowhere self.old region.old text.now → count_at self.new slot.number ≡ 1) }
+        ensures err { OnErr result (SameSlots self.old region.old self.new region.new) }
+        ensures full { (result ≡ Err PoolFault.Full) ↔ (IsNowhere self.old region.old text.now × (self.old.limit ≤ terms self.old)) }
+        ensures again { (slot : ℕ) → text_in_slot self.old region.old slot ≡ Some text.now → (IsOk result ↔ (count_at self.old slot < most_uses)) }
+        ensures beside { KeepsBeside self.old region.old self.new region.new }
+        ensures limit { self.new.limit ≡ self.old.limit }
+    {
+        match self.find_near(region, text, near) {
+            Some(slot) => match raise(&mut self.slots, slot.number) {
+                Ok(()) => Ok(slot),
+                Err(OutOfMemory) => Err(PoolFault::OutOfMemory),
+            },
+            None => self.intern_text(region, text),
+        }
+    }
+
     /// Counts a use less of a term that is there. Where it was the last, the term is no longer there, and its text and its
     /// slot are free. It takes no memory.
     pub fn release(&mut self, region: &mut Region, slot: Slot)
@@ -185,6 +212,19 @@ impl Pool {
                 region.read(&place) == text
             }
             None => false,
+        }
+    }
+
+    // The slot of this number, where it has this text.
+    fn find_near(&self, region: &Region, text: &[u8], near: Option<u32>) -> Option<Slot>
+        requires { LiesIn self.now region.now }
+        ensures found { IfSome result (λ slot. text_in_slot self.now region.now slot.number ≡ Some text.now) }
+    {
+        let number = near?;
+        if self.has_text(region, number, text) {
+            Some(Slot { number })
+        } else {
+            None
         }
     }
 

@@ -1,6 +1,6 @@
 // One owner of a triple more or less.
 
-ghost use Rattle.std.specs.Prelude.{◌≡◌, ◌<◌, true, Err, IfNone, IfOk, IfSome, IsTrue, List, OnErr, OnOk, Some};
+ghost use Rattle.std.specs.Prelude.{◌≡◌, ◌<◌, true, Err, IfErr, IfNone, IfOk, IfSome, IsTrue, List, OnErr, OnOk, Some};
 ghost use Rattle.std.specs.FinMap as map;
 ghost use Rattle.rdf_term.specs.declared.term.Term.{Term};
 ghost use Rattle.rdf_term.specs.declared.triple.Triple.{Triple};
@@ -15,7 +15,7 @@ ghost use Rattle.triple_store.specs.Stored.{HasKey, IsStored, KeepsKeys, beside,
 
 use crate::StoreFault;
 use crate::catalog::Catalog;
-use crate::interning::{intern_triple, release_triple};
+use crate::interning::{Hints, intern_triple, release_triple};
 use block_index::Steps;
 use slot_index::Key;
 use std::sync::ledger::Ledger;
@@ -26,26 +26,36 @@ use triple_texts::TripleText;
 impl Catalog {
     // The triple of slots with these texts, where each of them is there; the triple need not be stored. Subject and
     // predicate are tried first in the slots that they have in a triple near by, since triples that follow each other mostly
-    // share one of them. Takes no memory.
+    // share one of them. Where one isn't there, the slots of those before it. Takes no memory.
     pub(crate) fn find_key(
         &self,
         region: &Region,
         texts: &TripleText<'_>,
         near: Option<Key>,
-    ) -> Option<Key>
+    ) -> Result<Key, Hints>
         requires { IsStored self.now region.now }
-        ensures found { IfSome result (λ key. HasTexts self.now.pool region.now key texts.now) }
-        ensures nowhere { IfNone result ((key : TheKey) → HasTexts self.now.pool region.now key texts.now → ⊥) }
+        ensures found { IfOk result (λ key. HasTexts self.now.pool region.now key texts.now) }
+        ensures nowhere { IfErr result (λ _. (key : TheKey) → HasTexts self.now.pool region.now key texts.now → ⊥) }
     {
-        let subject = find_near(&self.pool, region, texts.subject, near.map(|key| key.first))?;
-        let predicate = find_near(
-            &self.pool,
-            region,
-            texts.predicate,
-            near.map(|key| key.second),
-        )?;
-        let object = self.pool.find_text(region, texts.object)?;
-        Some(Key {
+        let mut hints = Hints {
+            subject: None,
+            predicate: None,
+            object: None,
+        };
+        let near_subject = near.map(|key| key.first);
+        let Some(subject) = find_near(&self.pool, region, texts.subject, near_subject) else {
+            return Err(hints);
+        };
+        hints.subject = Some(subject);
+        let near_predicate = near.map(|key| key.second);
+        let Some(predicate) = find_near(&self.pool, region, texts.predicate, near_predicate) else {
+            return Err(hints);
+        };
+        hints.predicate = Some(predicate);
+        let Some(object) = self.pool.find_text(region, texts.object) else {
+            return Err(hints);
+        };
+        Ok(Key {
             first: subject,
             second: predicate,
             third: object.number,
@@ -68,6 +78,7 @@ impl Catalog {
         &mut self,
         region: &mut Region,
         texts: &TripleText<'_>,
+        hints: Hints,
         steps: &mut Steps<L>,
     ) -> Result<Key, StoreFault>
         requires stored { IsStored self.old region.old }
@@ -83,7 +94,7 @@ impl Catalog {
         ensures limit { limit_of self.new ≡ limit_of self.old }
         ensures cost { Costs (map.len self.old.index) (map.len self.new.index) 1 0 steps.old steps.new }
     {
-        let key = match intern_triple(&mut self.pool, region, texts) {
+        let key = match intern_triple(&mut self.pool, region, texts, hints) {
             Ok(key) => key,
             Err(fault) => return Err(fault),
         };

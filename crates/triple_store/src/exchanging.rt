@@ -1,6 +1,6 @@
 // Triples of one owner in the place of others.
 
-ghost use Rattle.std.specs.Prelude.{◌≡◌, ◌+◌, ◌<◌, ◌≤◌, ◌++◌, true, false, List, [], length, take, vec_len, vec_capacity, Err, IfSome, IfNone, IfOk, IsOk, OnOk, OnErr};
+ghost use Rattle.std.specs.Prelude.{◌≡◌, ◌+◌, ◌<◌, ◌≤◌, ◌++◌, true, false, List, [], length, take, vec_len, vec_capacity, Err, IfSome, IfErr, IfOk, IsOk, OnOk, OnErr};
 ghost use Rattle.std.specs.FinMap as map;
 ghost use Rattle.std.specs.List.{AllByRecursion};
 ghost use Rattle.rising.specs.Rising.{IsRising, has};
@@ -20,6 +20,7 @@ ghost use Rattle.triple_store.specs.Telling.{TellsIf, if_told};
 
 use crate::StoreFault;
 use crate::catalog::Catalog;
+use crate::interning::Hints;
 use crate::keys::{KeySlices, Keys, NOWHERE, in_order, narrowed};
 use crate::telling::{Exchange, Sides, Telling};
 use block_index::Steps;
@@ -184,13 +185,16 @@ impl Catalog {
                 old: swap.old,
                 next,
             };
-            if let Some(found) = self.find_held(region, &texts, near, &added) {
-                met.keys.push_reserved(found.key);
-                met.old_indices.push_reserved(found.old_index);
-                next = found.next;
-                continue;
-            }
-            let key = match self.add(region, &texts, steps) {
+            let hints = match self.find_held(region, &texts, near, &added) {
+                Ok(found) => {
+                    met.keys.push_reserved(found.key);
+                    met.old_indices.push_reserved(found.old_index);
+                    next = found.next;
+                    continue;
+                }
+                Err(hints) => hints,
+            };
+            let key = match self.add(region, &texts, hints, steps) {
                 Ok(key) => key,
                 Err(fault) => return Err(fault),
             };
@@ -203,29 +207,33 @@ impl Catalog {
         Ok(())
     }
 
-    // The key of the triple with these texts, where it is among the old ones or those that were added.
+    // The key of the triple with these texts, where it is among the old ones or those that were added, and else the
+    // slots of its terms that are there.
     fn find_held(
         &self,
         region: &Region,
         texts: &TripleText<'_>,
         near: Near<'_>,
         added: &BTreeSet<Key>,
-    ) -> Option<Found>
+    ) -> Result<Found, Hints>
         requires stored { IsStored self.now region.now }
         requires rising { IsRising key_cmp near.old.rising.now }
-        ensures texts { IfSome result (λ found. HasTexts self.now.pool region.now found.key texts.now) }
-        ensures held { IfSome result (λ found. has key_cmp found.key (near.entry.old.rising.now ++ added.now.keys) ≡ true) }
-        ensures none { IfNone result ((key : TheKey) → HasTexts self.now.pool region.now key texts.now → has key_cmp key (near.entry.old.rising.now ++ added.now.keys) ≡ false) }
+        ensures texts { IfOk result (λ found. HasTexts self.now.pool region.now found.key texts.now) }
+        ensures held { IfOk result (λ found. has key_cmp found.key (near.entry.old.rising.now ++ added.now.keys) ≡ true) }
+        ensures none { IfErr result (λ _. (key : TheKey) → HasTexts self.now.pool region.now key texts.now → has key_cmp key (near.entry.old.rising.now ++ added.now.keys) ≡ false) }
     {
         if let Some(found) = self.find_again(region, texts, near) {
-            return Some(found);
+            return Ok(found);
         }
-        let key = self.find_key(region, texts, near.last)?;
+        let key = match self.find_key(region, texts, near.last) {
+            Ok(key) => key,
+            Err(hints) => return Err(hints),
+        };
         let next = near.next;
         if let Ok(old_index) = near.old.rising.binary_search(&key) {
             let old_index = narrowed(old_index);
             let next = behind(near.old.walk, next, old_index);
-            return Some(Found {
+            return Ok(Found {
                 key,
                 old_index,
                 next,
@@ -233,13 +241,17 @@ impl Catalog {
         }
         if added.contains(&key) {
             let old_index = NOWHERE;
-            Some(Found {
+            Ok(Found {
                 key,
                 old_index,
                 next,
             })
         } else {
-            None
+            Err(Hints {
+                subject: Some(key.first),
+                predicate: Some(key.second),
+                object: Some(key.third),
+            })
         }
     }
 

@@ -14,12 +14,21 @@ use term_pool::{Pool, Slot};
 use text_region::Region;
 use triple_texts::TripleText;
 
+// The slots in which the terms of a triple are looked for first. A wrong one changes nothing.
+#[derive(Clone, Copy)]
+pub(crate) struct Hints {
+    pub(crate) subject: Option<u32>,
+    pub(crate) predicate: Option<u32>,
+    pub(crate) object: Option<u32>,
+}
+
 // Uses each term of the triple with these texts once more, and takes in those that aren't there. After a fault each slot
 // has what it had.
 pub(crate) fn intern_triple(
     pool: &mut Pool,
     region: &mut Region,
     texts: &TripleText<'_>,
+    hints: Hints,
 ) -> Result<Key, StoreFault>
     requires lies { LiesIn pool.old region.old }
     requires canonical { HasCanonicalTexts texts.now }
@@ -30,18 +39,18 @@ pub(crate) fn intern_triple(
     ensures beside { KeepsBeside pool.old region.old pool.new region.new }
     ensures limit { pool.new.limit ≡ pool.old.limit }
 {
-    let subject = match pool.intern_text(region, texts.subject) {
+    let subject = match pool.intern_text_near(region, texts.subject, hints.subject) {
         Ok(slot) => slot,
         Err(refused) => return Err(refused),
     };
-    let predicate = match pool.intern_text(region, texts.predicate) {
+    let predicate = match pool.intern_text_near(region, texts.predicate, hints.predicate) {
         Ok(slot) => slot,
         Err(refused) => {
             pool.release(region, subject);
             return Err(refused);
         }
     };
-    let object = match pool.intern_text(region, texts.object) {
+    let object = match pool.intern_text_near(region, texts.object, hints.object) {
         Ok(slot) => slot,
         Err(refused) => {
             pool.release(region, predicate);

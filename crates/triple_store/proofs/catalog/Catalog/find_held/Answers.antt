@@ -6,11 +6,11 @@ use Rattle.triple_store.proofs.AtHand.{held_old, not_held}
 use Rattle.triple_store.proofs.Standing.{one_of_texts}
 use Rattle.triple_store.proofs.catalog.Catalog.find_held.Goals as goal
 
-pub returns-in-Ok-clause-held : goal.returns-in-Ok-clause-held
-returns-in-Ok-clause-held c = held_old c.args.near.old.rising.now c.args.added.now.keys c.in_ok-key.key c.binary_search.result c.requires.rising c.binary_search.ensures.bound c.binary_search.ensures.position (ap is_ok c.in-Ok.is)
+pub returns-in-Ok-binary_search-clause-held : goal.returns-in-Ok-binary_search-clause-held
+returns-in-Ok-binary_search-clause-held c = held_old c.args.near.old.rising.now c.args.added.now.keys c.in-Ok.key c.binary_search.result c.requires.rising c.binary_search.ensures.bound c.binary_search.ensures.position (ap is_ok c.in-Ok-binary_search.is)
 
 pub returns-else-contains-clause-none : goal.returns-else-contains-clause-none
 returns-else-contains-clause-none c key texts =
     subst (λ (k : Key). has key_cmp k (c.args.near.old.rising.now ++ c.args.added.now.keys) ≡ false)
-    (one_of_texts _ _ c.requires.stored.lies _ _ _ c.in_ok-key.ensures.found texts)
-    (not_held c.args.near.old.rising.now c.args.added.now.keys c.in_ok-key.key c.binary_search.result c.requires.rising c.binary_search.ensures.bound c.binary_search.ensures.position (ap is_ok c.in_default-binary_search.is) (sym c.contains.ensures ∙ c.if-contains.false))
+    (one_of_texts _ _ c.requires.stored.lies _ _ _ c.in-Ok.ensures.found texts)
+    (not_held c.args.near.old.rising.now c.args.added.now.keys c.in-Ok.key c.binary_search.result c.requires.rising c.binary_search.ensures.bound c.binary_search.ensures.position (ap is_ok c.in_default-binary_search.is) (sym c.contains.ensures ∙ c.if-contains.false))

@@ -6,17 +6,17 @@ use Rattle.triple_store.proofs.Listed.{next_fits, next_full, next_held, next_new
 use Rattle.triple_store.proofs.Taking.{none_more}
 use Rattle.triple_store.proofs.catalog.Catalog.take_in.Goals as goal
 
-pub loop-index-preserved-in-Some : goal.loop-index-preserved-in-Some
-loop-index-preserved-in-Some g c =
+pub loop-index-preserved-in-Ok : goal.loop-index-preserved-in-Ok
+loop-index-preserved-in-Ok g c =
     let low : c.loop-index.index < length c.args.swap.new.now = omega arith in
     record {
-      takes = rw c.push_reserved.ensures.items (next_held _ _ _ _ c.args.swap.old.rising.now c.loop-index.met.keys.items c.loop-index.added.keys c.args.swap.new.now c.loop-index.index c.get-texts.result low c.get-texts.ensures c.requires.stored c.requires.there c.loop-index.invariant.takes c.loop-index.invariant.held c.in-Some.found.key c.in-Some.ensures.texts c.in-Some.ensures.held);
+      takes = rw c.push_reserved.ensures.items (next_held _ _ _ _ c.args.swap.old.rising.now c.loop-index.met.keys.items c.loop-index.added.keys c.args.swap.new.now c.loop-index.index c.get-texts.result low c.get-texts.ensures c.requires.stored c.requires.there c.loop-index.invariant.takes c.loop-index.invariant.held c.in-Ok.found.key c.in-Ok.ensures.texts c.in-Ok.ensures.held);
       cost = at_most _ _ c.loop-index.index (c.loop-index.index + 1) 0 0 _ _ (omega arith) (omega arith) c.loop-index.invariant.cost;
       done = omega (arith, c.push_reserved.ensures.len, c.loop-index.invariant.done);
       room = omega (arith, c.push_reserved.ensures.capacity, c.loop-index.invariant.room);
-      indexed = omega (arith, c.push_reserved-in-Some.ensures.len, c.loop-index.invariant.indexed);
-      room_for_indices = omega (arith, c.push_reserved-in-Some.ensures.capacity, c.loop-index.invariant.room_for_indices);
-      held = rw c.push_reserved.ensures.items (held_again c.args.swap.old.rising.now c.loop-index.added.keys c.loop-index.met.keys.items c.loop-index.invariant.held c.in-Some.found.key c.in-Some.ensures.held);
+      indexed = omega (arith, c.push_reserved-in-Ok.ensures.len, c.loop-index.invariant.indexed);
+      room_for_indices = omega (arith, c.push_reserved-in-Ok.ensures.capacity, c.loop-index.invariant.room_for_indices);
+      held = rw c.push_reserved.ensures.items (held_again c.args.swap.old.rising.now c.loop-index.added.keys c.loop-index.met.keys.items c.loop-index.invariant.held c.in-Ok.found.key c.in-Ok.ensures.held);
     }
 
 pub add-requires-clause-canonical : goal.add-requires-clause-canonical
@@ -27,41 +27,41 @@ add-requires-clause-canonical g c =
 pub add-requires-clause-countable : goal.add-requires-clause-countable
 add-requires-clause-countable g c =
     let low : c.loop-index.index < length c.args.swap.new.now = omega arith in
-    next_fits _ _ _ _ c.args.swap.old.rising.now c.loop-index.met.keys.items c.loop-index.added.keys c.args.swap.new.now c.loop-index.index c.get-texts.result low c.get-texts.ensures c.requires.stored c.requires.there c.loop-index.invariant.takes c.loop-index.invariant.held c.in_default.ensures.none _ c.requires.countable
+    next_fits _ _ _ _ c.args.swap.old.rising.now c.loop-index.met.keys.items c.loop-index.added.keys c.args.swap.new.now c.loop-index.index c.get-texts.result low c.get-texts.ensures c.requires.stored c.requires.there c.loop-index.invariant.takes c.loop-index.invariant.held c.in-Err.ensures.none _ c.requires.countable
 
-pub returns-in-Err-clause-takes : goal.returns-in-Err-clause-takes
-returns-in-Err-clause-takes g c = rw c.loop-index.invariant.done (none_more _ _ _ _ c.args.swap.old.rising.now c.loop-index.met.keys.items (take c.loop-index.index c.args.swap.new.now) c.requires.stored c.requires.there c.loop-index.invariant.takes _ _ c.in-Err.ensures.stored c.in-Err.ensures.err c.in-Err.ensures.kept c.in-Err.ensures.beside c.in-Err.ensures.limit)
+pub returns-in-Err-add-clause-takes : goal.returns-in-Err-add-clause-takes
+returns-in-Err-add-clause-takes g c = rw c.loop-index.invariant.done (none_more _ _ _ _ c.args.swap.old.rising.now c.loop-index.met.keys.items (take c.loop-index.index c.args.swap.new.now) c.requires.stored c.requires.there c.loop-index.invariant.takes _ _ c.in-Err-add.ensures.stored c.in-Err-add.ensures.err c.in-Err-add.ensures.kept c.in-Err-add.ensures.beside c.in-Err-add.ensures.limit)
 
-pub returns-in-Err-clause-full : goal.returns-in-Err-clause-full
-returns-in-Err-clause-full g c full =
+pub returns-in-Err-add-clause-full : goal.returns-in-Err-add-clause-full
+returns-in-Err-add-clause-full g c full =
     let low : c.loop-index.index < length c.args.swap.new.now = omega arith in
-    next_full _ _ _ _ c.args.swap.old.rising.now c.loop-index.met.keys.items c.loop-index.added.keys c.args.swap.new.now c.loop-index.index c.get-texts.result low c.get-texts.ensures c.requires.stored c.requires.there c.loop-index.invariant.takes c.loop-index.invariant.held (c.in-Err.ensures.full (same_fault c.in-Err.fault full))
+    next_full _ _ _ _ c.args.swap.old.rising.now c.loop-index.met.keys.items c.loop-index.added.keys c.args.swap.new.now c.loop-index.index c.get-texts.result low c.get-texts.ensures c.requires.stored c.requires.there c.loop-index.invariant.takes c.loop-index.invariant.held (c.in-Err-add.ensures.full (same_fault c.in-Err-add.fault full))
 
 pub returns-then-is_err-clause-takes : goal.returns-then-is_err-clause-takes
 returns-then-is_err-clause-takes g c =
     let low : c.loop-index.index < length c.args.swap.new.now = omega arith in
     let done : vec_len c.push_reserved-in-loop-index.new.self ≡ c.loop-index.index + 1 = omega (arith, c.push_reserved-in-loop-index.ensures.len, c.loop-index.invariant.done) in
-    rw (c.push_reserved-in-loop-index.ensures.items, done) (next_new _ _ _ _ c.args.swap.old.rising.now c.loop-index.met.keys.items c.loop-index.added.keys c.args.swap.new.now c.loop-index.index c.get-texts.result low c.get-texts.ensures c.requires.stored c.requires.there c.loop-index.invariant.takes c.loop-index.invariant.held c.in_default.ensures.none _ _ c.in-Ok.key c.in-Ok.ensures.stored c.in-Ok.ensures.ok c.in-Ok.ensures.key c.in-Ok.ensures.kept c.in-Ok.ensures.beside c.in-Ok.ensures.limit)
+    rw (c.push_reserved-in-loop-index.ensures.items, done) (next_new _ _ _ _ c.args.swap.old.rising.now c.loop-index.met.keys.items c.loop-index.added.keys c.args.swap.new.now c.loop-index.index c.get-texts.result low c.get-texts.ensures c.requires.stored c.requires.there c.loop-index.invariant.takes c.loop-index.invariant.held c.in-Err.ensures.none _ _ c.in-Ok-add.key c.in-Ok-add.ensures.stored c.in-Ok-add.ensures.ok c.in-Ok-add.ensures.key c.in-Ok-add.ensures.kept c.in-Ok-add.ensures.beside c.in-Ok-add.ensures.limit)
 
 pub loop-index-preserved : goal.loop-index-preserved
 loop-index-preserved g c =
     let low : c.loop-index.index < length c.args.swap.new.now = omega arith in
     record {
-      takes = rw c.push_reserved-in-loop-index.ensures.items (next_new _ _ _ _ c.args.swap.old.rising.now c.loop-index.met.keys.items c.loop-index.added.keys c.args.swap.new.now c.loop-index.index c.get-texts.result low c.get-texts.ensures c.requires.stored c.requires.there c.loop-index.invariant.takes c.loop-index.invariant.held c.in_default.ensures.none _ _ c.in-Ok.key c.in-Ok.ensures.stored c.in-Ok.ensures.ok c.in-Ok.ensures.key c.in-Ok.ensures.kept c.in-Ok.ensures.beside c.in-Ok.ensures.limit);
-      cost = both _ _ _ c.loop-index.index 1 0 0 _ _ _ c.loop-index.invariant.cost c.in-Ok.ensures.cost;
+      takes = rw c.push_reserved-in-loop-index.ensures.items (next_new _ _ _ _ c.args.swap.old.rising.now c.loop-index.met.keys.items c.loop-index.added.keys c.args.swap.new.now c.loop-index.index c.get-texts.result low c.get-texts.ensures c.requires.stored c.requires.there c.loop-index.invariant.takes c.loop-index.invariant.held c.in-Err.ensures.none _ _ c.in-Ok-add.key c.in-Ok-add.ensures.stored c.in-Ok-add.ensures.ok c.in-Ok-add.ensures.key c.in-Ok-add.ensures.kept c.in-Ok-add.ensures.beside c.in-Ok-add.ensures.limit);
+      cost = both _ _ _ c.loop-index.index 1 0 0 _ _ _ c.loop-index.invariant.cost c.in-Ok-add.ensures.cost;
       done = omega (arith, c.push_reserved-in-loop-index.ensures.len, c.loop-index.invariant.done);
       room = omega (arith, c.push_reserved-in-loop-index.ensures.capacity, c.loop-index.invariant.room);
       indexed = omega (arith, c.push_reserved-in-loop-index-2.ensures.len, c.loop-index.invariant.indexed);
       room_for_indices = omega (arith, c.push_reserved-in-loop-index-2.ensures.capacity, c.loop-index.invariant.room_for_indices);
-      held = rw (c.push_reserved-in-loop-index.ensures.items, on_ok c.insert.result _ (sym c.is_err.ensures.value ∙ c.if-is_err.false) c.insert.ensures.keys) (held_more c.args.swap.old.rising.now c.loop-index.added.keys c.loop-index.met.keys.items c.loop-index.invariant.held c.in-Ok.key);
+      held = rw (c.push_reserved-in-loop-index.ensures.items, on_ok c.insert.result _ (sym c.is_err.ensures.value ∙ c.if-is_err.false) c.insert.ensures.keys) (held_more c.args.swap.old.rising.now c.loop-index.added.keys c.loop-index.met.keys.items c.loop-index.invariant.held c.in-Ok-add.key);
     }
 
-pub returns-in-Err-clause-cost : goal.returns-in-Err-clause-cost
-returns-in-Err-clause-cost g c =
+pub returns-in-Err-add-clause-cost : goal.returns-in-Err-add-clause-cost
+returns-in-Err-add-clause-cost g c =
     let low : c.loop-index.index < length c.args.swap.new.now = omega arith in
-    at_most _ _ (c.loop-index.index + 1) (length c.args.swap.new.now) 0 0 _ _ (omega arith) (omega arith) (both _ _ _ c.loop-index.index 1 0 0 _ _ _ c.loop-index.invariant.cost c.in-Err.ensures.cost)
+    at_most _ _ (c.loop-index.index + 1) (length c.args.swap.new.now) 0 0 _ _ (omega arith) (omega arith) (both _ _ _ c.loop-index.index 1 0 0 _ _ _ c.loop-index.invariant.cost c.in-Err-add.ensures.cost)
 
 pub returns-then-is_err-clause-cost : goal.returns-then-is_err-clause-cost
 returns-then-is_err-clause-cost g c =
     let low : c.loop-index.index < length c.args.swap.new.now = omega arith in
-    at_most _ _ (c.loop-index.index + 1) (length c.args.swap.new.now) 0 0 _ _ (omega arith) (omega arith) (both _ _ _ c.loop-index.index 1 0 0 _ _ _ c.loop-index.invariant.cost c.in-Ok.ensures.cost)
+    at_most _ _ (c.loop-index.index + 1) (length c.args.swap.new.now) 0 0 _ _ (omega arith) (omega arith) (both _ _ _ c.loop-index.index 1 0 0 _ _ _ c.loop-index.invariant.cost c.in-Ok-add.ensures.cost)
