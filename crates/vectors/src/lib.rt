@@ -15,6 +15,8 @@ mod horizons;
 #[cfg(test)]
 mod indexes;
 #[cfg(test)]
+mod lexemes;
+#[cfg(test)]
 mod munged;
 #[cfg(test)]
 mod names;

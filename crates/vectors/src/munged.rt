@@ -67,7 +67,7 @@ fn set(alloc: Global, lines: &str) -> Result<TripleSet, Fail> {
 }
 
 // Checks that the set has the lines.
-fn check_lines(
+pub(crate) fn check_lines(
     rt: &(impl Abort + Alloc<A = Global>),
     set: &TripleSet,
     lines: &str,

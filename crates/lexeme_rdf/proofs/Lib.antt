@@ -1,0 +1,4 @@
+pub mod Fit
+pub mod Given
+pub mod Kept
+pub mod Labels

@@ -1,0 +1,19 @@
+-- The texts begin with none, so they are those of what is left of each triple.
+use Rattle.std.proofs.Common.{◌≡◌, [], ◌∷◌, ◌++◌, Result, Ok, Err, ap, ◌∙◌}
+use Rattle.std.specs.Prelude.{IfOk}
+use Rattle.std.specs.List.{flat_map}
+use Rattle.rdf_term.specs.declared.triple.Triple.{Triple}
+use Rattle.munger.specs.Munging.{munged}
+use Rattle.munger.proofs.Kept.{kept_is}
+use Rattle.lexeme_rdf.specs.Dump.{lexdump}
+use Rattle.lexeme_rdf.proofs.dump.munged_texts.Goals as goal
+
+weaker : {A B : Type 0} (r : Result A B) (P Q : A → Type 0) → ((x : A) → P x → Q x) → IfOk r P → IfOk r Q
+weaker (Ok x) P Q f h = f x h
+weaker (Err e) P Q f h = tt
+
+pub returns : goal.returns
+returns c =
+    let all = lexdump c.args.setting.version c.args.id c.args.rev c.args.lexeme.now in
+    let kept = flat_map (λ (t : Triple). flat_map (λ (x : Triple). x ∷ []) (munged c.args.id t)) all in
+    weaker c.munge_into.result (λ texts. texts ≡ c.in_ok-texts.texts ++ kept) (λ texts. texts ≡ flat_map (munged c.args.id) all) (λ texts is. is ∙ ap (λ front. front ++ kept) c.in_ok-texts.ensures ∙ kept_is c.args.id all) c.munge_into.ensures

@@ -1,0 +1,13 @@
+-- The count of a filter.
+use Rattle.std.proofs.Common.{◌∙◌, rules, tests}
+use Rattle.std.proofs.lemmas.Iterator.{YieldsList-from_slice}
+use Rattle.std.proofs.lemmas.Iterator.Consumers.{YieldsList-from_filter, count_from_yields_List}
+use Rattle.std.proofs.lemmas.List.Sums.{length-filter}
+use Rattle.entity_rdf.specs.About.{is_identifier}
+use Rattle.lexeme_rdf.proofs.page.identifiers.Goals as goal
+
+pub returns : goal.returns
+returns c =
+    count_from_yields_List c.filter.result _ c.count.ensures.ran
+    (YieldsList-from_filter _ is_identifier (YieldsList-from_slice c.args.statements.now cc) c.filter.ensures.closure (λ x b q k. search (rules, tests)))
+    ∙ length-filter is_identifier c.args.statements.now

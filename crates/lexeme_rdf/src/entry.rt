@@ -1,0 +1,54 @@
+// What a page says of the lexeme itself.
+
+ghost use Rattle.std.specs.Prelude.{◌≡◌, OnOk};
+ghost use Rattle.triple_sink.specs.Gains.{Gains};
+ghost use Rattle.lexeme_rdf.specs.Entry.{entry_triples, lemma_triples};
+
+use crate::class::{LexicalClass, emit_lexical_class};
+use crate::lexeme::Lexeme;
+use crate::predicate::{LexicalPredicate, emit_lexical};
+use crate::texts::emit_texts;
+use entity_model::EntityId;
+use rdf_term::OutOfMemory;
+use rdf_vocabulary::Prefix;
+use triple_sink::{Setting, TermRef, TripleSink};
+
+/// Emits the classes of the lexeme, its language and its lexical category.
+pub(crate) fn emit_entry<S: TripleSink>(
+    setting: Setting,
+    id: EntityId,
+    lexeme: &Lexeme,
+    out: &mut S,
+) -> Result<(), OutOfMemory>
+    ensures gains { OnOk result (Gains S.items S.keeps out.old out.new (entry_triples id lexeme.now)) }
+    ensures stays { S.rest out.new ≡ S.rest out.old }
+{
+    let entity = TermRef::Id(Prefix::Wd, id);
+    emit_lexical_class(setting, &entity, LexicalClass::LexicalEntry, out)?;
+    emit_lexical_class(setting, &entity, LexicalClass::Lexeme, out)?;
+    let language = TermRef::Id(Prefix::Wd, lexeme.language);
+    emit_lexical(setting, &entity, LexicalPredicate::Language, &language, out)?;
+    let category = TermRef::Id(Prefix::Wd, lexeme.category);
+    emit_lexical(
+        setting,
+        &entity,
+        LexicalPredicate::LexicalCategory,
+        &category,
+        out,
+    )
+}
+
+/// Emits the lemmas.
+pub(crate) fn emit_lemmas<S: TripleSink>(
+    setting: Setting,
+    id: EntityId,
+    lexeme: &Lexeme,
+    out: &mut S,
+) -> Result<(), OutOfMemory>
+    ensures gains { OnOk result (Gains S.items S.keeps out.old out.new (lemma_triples id lexeme.now)) }
+    ensures stays { S.rest out.new ≡ S.rest out.old }
+{
+    let entity = TermRef::Id(Prefix::Wd, id);
+    let lemmas = lexeme.lemmas.as_slice();
+    emit_texts(setting, &entity, LexicalPredicate::Lemma, lemmas, out)
+}

@@ -1,0 +1,62 @@
+// What a page says of a sense.
+
+ghost use Rattle.std.specs.Prelude.{◌≡◌, OnOk};
+ghost use Rattle.std.specs.List.{flat_map};
+ghost use Rattle.triple_sink.specs.Gains.{Gains};
+ghost use Rattle.triple_sink.specs.TermRef.{meant};
+ghost use Rattle.lexeme_rdf.specs.Sense.{sense_head, sense_triples};
+
+use crate::class::{LexicalClass, emit_lexical_class};
+use crate::lexeme::Part;
+use crate::predicate::{LexicalPredicate, emit_lexical};
+use crate::texts::emit_texts;
+use rdf_term::OutOfMemory;
+use rdf_vocabulary::Prefix;
+use triple_sink::{Setting, TermRef, TripleSink};
+
+/// Emits the senses of the lexeme, each without its statements.
+pub(crate) fn emit_senses<S: TripleSink>(
+    setting: Setting,
+    entity: &TermRef<'_>,
+    senses: &[Part],
+    out: &mut S,
+) -> Result<(), OutOfMemory>
+    ensures gains { OnOk result (Gains S.items S.keeps out.old out.new (flat_map (sense_triples (meant entity.now)) senses.now)) }
+    ensures stays { S.rest out.new ≡ S.rest out.old }
+{
+    for sense in senses {
+        emit_sense(setting, entity, sense, out)?;
+    }
+    Ok(())
+}
+
+// Emits a sense.
+fn emit_sense<S: TripleSink>(
+    setting: Setting,
+    entity: &TermRef<'_>,
+    sense: &Part,
+    out: &mut S,
+) -> Result<(), OutOfMemory>
+    ensures gains { OnOk result (Gains S.items S.keeps out.old out.new (sense_triples (meant entity.now) sense.now)) }
+    ensures stays { S.rest out.new ≡ S.rest out.old }
+{
+    let node = TermRef::Named(Prefix::Wd, sense.id.as_str());
+    emit_head(setting, entity, &node, out)?;
+    let texts = sense.texts.as_slice();
+    emit_texts(setting, &node, LexicalPredicate::Definition, texts, out)
+}
+
+// Emits that the lexeme has the sense, and the sense's classes.
+fn emit_head<S: TripleSink>(
+    setting: Setting,
+    entity: &TermRef<'_>,
+    node: &TermRef<'_>,
+    out: &mut S,
+) -> Result<(), OutOfMemory>
+    ensures gains { OnOk result (Gains S.items S.keeps out.old out.new (sense_head (meant entity.now) (meant node.now))) }
+    ensures stays { S.rest out.new ≡ S.rest out.old }
+{
+    emit_lexical(setting, entity, LexicalPredicate::Sense, node, out)?;
+    emit_lexical_class(setting, node, LexicalClass::LexicalSense, out)?;
+    emit_lexical_class(setting, node, LexicalClass::WikibaseSense, out)
+}

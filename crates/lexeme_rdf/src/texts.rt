@@ -1,0 +1,54 @@
+// The texts of a lexeme, a form or a sense.
+
+ghost use Rattle.std.specs.Prelude.{◌≡◌, OnOk};
+ghost use Rattle.std.specs.List.{flat_map};
+ghost use Rattle.entity_rdf.specs.About.{tagged_term};
+ghost use Rattle.triple_sink.specs.Gains.{Gains};
+ghost use Rattle.triple_sink.specs.TermRef.{meant};
+ghost use Rattle.lexeme_rdf.specs.Texts.{text_triples};
+
+use crate::predicate::{LexicalPredicate, emit_lexical};
+use entity_model::Tagged;
+use rdf_term::OutOfMemory;
+use rdf_vocabulary::Predicate;
+use triple_sink::{Setting, TermRef, TripleSink, emit_about};
+
+/// Emits the texts of the node, each by the predicate and as a label.
+pub(crate) fn emit_texts<S: TripleSink>(
+    setting: Setting,
+    node: &TermRef<'_>,
+    predicate: LexicalPredicate,
+    texts: &[Tagged],
+    out: &mut S,
+) -> Result<(), OutOfMemory>
+    ensures gains { OnOk result (Gains S.items S.keeps out.old out.new (flat_map (text_triples predicate (meant node.now)) texts.now)) }
+    ensures stays { S.rest out.new ≡ S.rest out.old }
+{
+    for text in texts {
+        emit_text(setting, node, predicate, text, out)?;
+    }
+    Ok(())
+}
+
+// Emits a text of the node.
+fn emit_text<S: TripleSink>(
+    setting: Setting,
+    node: &TermRef<'_>,
+    predicate: LexicalPredicate,
+    text: &Tagged,
+    out: &mut S,
+) -> Result<(), OutOfMemory>
+    ensures gains { OnOk result (Gains S.items S.keeps out.old out.new (text_triples predicate (meant node.now) text.now)) }
+    ensures stays { S.rest out.new ≡ S.rest out.old }
+{
+    let text = text_ref(text);
+    emit_lexical(setting, node, predicate, &text, out)?;
+    emit_about(setting.alloc, node, Predicate::Label, &text, out)
+}
+
+// The text in its language.
+fn text_ref<'m>(text: &'m Tagged<'_>) -> TermRef<'m>
+    ensures { meant result ≡ tagged_term text.now }
+{
+    TermRef::tagged(text.text.as_str(), text.language.as_str())
+}
