@@ -10,7 +10,7 @@ ghost use Rattle.reorder_buffer.specs.Buffered.{nothing_taken, nothing_taken_wit
 
 use crate::taken::Taken;
 use crate::watermarks;
-use base::OutOfMemory;
+use base::{List, OutOfMemory};
 use entity_model::Event;
 use std::alloc::Global;
 use std::collections::BTreeSet;
@@ -139,6 +139,28 @@ impl Buffer {
         ensures { result ≡ length self.now.kept }
     {
         self.kept.len()
+    }
+
+    /// The events that are remembered, in their order.
+    pub fn events(&self, alloc: Global) -> Result<List<Event>, OutOfMemory>
+        ensures { IfOk result (λ events. events ≡ self.now.kept) }
+    {
+        let events = self.kept.iter().copied().collect(alloc)?;
+        Ok(List::from_vec(events))
+    }
+
+    /// The greatest watermark so far, in microseconds since 1970-01-01T00:00:00Z.
+    pub fn mark(&self) -> Option<i64>
+        ensures { result ≡ self.now.mark }
+    {
+        self.mark
+    }
+
+    /// How many microseconds behind the mark events are forgotten, if they ever are.
+    pub fn horizon(&self) -> Option<u64>
+        ensures { result ≡ self.now.horizon }
+    {
+        self.horizon
     }
 
     /// Whether an event is due.

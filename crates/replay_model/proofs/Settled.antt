@@ -26,21 +26,16 @@ use Rattle.replay_model.specs.Acceptance.{is_late}
 use Rattle.replay_model.specs.Fate.{is_of}
 use Rattle.replay_model.specs.Records.{Bytes, record_of, settles_at, is_settled}
 use Rattle.replay_model.specs.Play.{Replies, Played, nothing_played, held_after_fetch, record_after, entry_of, entries_after, apply, apply_all, newly_due, happens, play, played}
-use Rattle.replay_model.specs.Entries.{HoldsUnlessOpen, is_open_by, is_revision_of, has_open_revision}
+use Rattle.replay_model.specs.Entries.{HoldsUnlessOpen, is_of_revision, is_open_by, is_revision_of, has_open_revision}
 use Rattle.replay_model.proofs.Arrivals.{play-push}
 use Rattle.replay_model.proofs.RecordOf.{entity_of, record-after, record_of-empty}
-
--- whether the entry tells of the revision r of the entity x
-abbrev names : EntityId → ℕ → Entry → Bool
-names x r (Late e) = false
-names x r (Revision e q cause) = is_of x e && q == r
 
 -- what holds of an entity's record and the side output between any two applications
 pub record Tells (side : List Entry) (x : EntityId) (r : Record Bytes) : Type 0 where
   -- a page that isn't kept holds nothing
   pub empty_unless_kept : is_kept r.state.mode ≡ false → r.held ≡ None
   -- a revision that the state wants and that isn't held is named
-  pub named : wants r.state (held_revision r.held) ≡ true → list_any (names x r.state.rev) side ≡ true
+  pub named : wants r.state (held_revision r.held) ≡ true → list_any (is_of_revision x r.state.rev) side ≡ true
 
 same_number : (n : ℕ) → (n == n) ≡ true
 same_number n = eq-eqb n n refl
@@ -63,13 +58,13 @@ none_unless_kept Deleted Unknown rev rest held fetched known before h = before r
 -- after an application, the revision that the new state wants is held or named
 named_after : (side : List Entry) (x : EntityId) (e : Event) (s : State) (held : Option (Held Bytes)) (reply : Result Bytes Cause) (w : Bool) → is_of x e ≡ true → wants s (held_revision held) ≡ w
     → wants s (held_revision (cond w (held_after_fetch s.rev reply held) (cond (is_deleted s.mode) None held))) ≡ true
-    → list_any (names x s.rev) (side ++ cond w (entry_of e s.rev reply) []) ≡ true
+    → list_any (is_of_revision x s.rev) (side ++ cond w (entry_of e s.rev reply) []) ≡ true
 named_after side x e s held (Ok bytes) true of w after = clash after (ap (λ b. is_kept s.mode && not b) (same_number s.rev) ∙ and_none (is_kept s.mode))
 named_after side x e s held (Err cause) true of w after =
-    list_any-append (names x s.rev) side (Revision e s.rev cause ∷ [])
-    ∙ or_true (list_any (names x s.rev) side) _ (ap (λ b. (b && s.rev == s.rev) || false) of ∙ ap (λ b. b || false) (same_number s.rev))
+    list_any-append (is_of_revision x s.rev) side (Revision e s.rev cause ∷ [])
+    ∙ or_true (list_any (is_of_revision x s.rev) side) _ (ap (λ b. (b && s.rev == s.rev) || false) of ∙ ap (λ b. b || false) (same_number s.rev))
 named_after side x e s held reply false of w after =
-    elim s.mode as (λ m. wants (record { mode = m; rev = s.rev }) (held_revision held) ≡ false → wants (record { mode = m; rev = s.rev }) (held_revision (cond (is_deleted m) None held)) ≡ true → list_any (names x s.rev) (side ++ []) ≡ true) [
+    elim s.mode as (λ m. wants (record { mode = m; rev = s.rev }) (held_revision held) ≡ false → wants (record { mode = m; rev = s.rev }) (held_revision (cond (is_deleted m) None held)) ≡ true → list_any (is_of_revision x s.rev) (side ++ []) ≡ true) [
       | Unknown ↦ λ w after. clash after refl
       | Kept ↦ λ w after. clash after w
       | Deleted ↦ λ w after. clash after refl
@@ -86,7 +81,7 @@ Tells-own replies side x e r of t = record {
 Tells-more : (side more : List Entry) (x : EntityId) (r : Record Bytes) → Tells side x r → Tells (side ++ more) x r
 Tells-more side more x r t = record {
   empty_unless_kept = t.empty_unless_kept;
-  named = λ w. list_any-append (names x r.state.rev) side more ∙ ap (λ b. b || list_any (names x r.state.rev) more) (t.named w);
+  named = λ w. list_any-append (is_of_revision x r.state.rev) side more ∙ ap (λ b. b || list_any (is_of_revision x r.state.rev) more) (t.named w);
 }
 
 abbrev TellsAll : Played → Type 0
@@ -122,7 +117,7 @@ Tells-played hz false replies ds = Tells-play hz replies ds
 Tells-played hz true replies ds = Tells-apply_all replies (play hz replies ds) (newly_due hz ds true ds) (Tells-play hz replies ds)
 
 -- whether an entry is an open revision entry of the entity x with the record r
-abbrev is_open_of : EntityId → Record Bytes → Entry → Bool
+abbrev pub is_open_of : EntityId → Record Bytes → Entry → Bool
 is_open_of x r entry = is_revision_of x entry && is_open_by r entry
 
 -- where the state wants no revision, or it is held, none is open
@@ -136,7 +131,7 @@ none_open x r w (Revision e q cause) = ap (λ b. is_of x e && b) (not_lacked (is
     not_lacked true true e w = subst (λ n. not (is_held n (held_revision r.held)) ≡ false) (eqb-true r.state.rev q e) w
 
 -- an entry that names the revision that the state wants and that isn't held is open
-named_open : (x : EntityId) (r : Record Bytes) → wants r.state (held_revision r.held) ≡ true → (entry : Entry) → names x r.state.rev entry ≡ true → is_open_of x r entry ≡ true
+named_open : (x : EntityId) (r : Record Bytes) → wants r.state (held_revision r.held) ≡ true → (entry : Entry) → is_of_revision x r.state.rev entry ≡ true → is_open_of x r entry ≡ true
 named_open x r w (Late e) n = n
 named_open x r w (Revision e q cause) n =
     let revision : q ≡ r.state.rev = eqb-true q r.state.rev (and_right (is_of x e) _ n) in
@@ -146,10 +141,11 @@ named_open x r w (Revision e q cause) n =
     all_of : (a b c d : Bool) → a ≡ true → c ≡ true → (b && d) ≡ true → (a && ((b && c) && d)) ≡ true
     all_of a b c d p q w = ap (λ t. t && ((b && c) && d)) p ∙ ap (λ t. (b && t) && d) q ∙ ap (λ t. t && d) (and_all b) ∙ w
 
-settled_by : (side : List Entry) (x : EntityId) (r : Record Bytes) → Tells side x r → is_settled r ≡ not (list_any (is_open_of x r) side)
+-- an entity of which the side output tells holds what its state wants exactly where no revision entry of it is open
+pub settled_by : (side : List Entry) (x : EntityId) (r : Record Bytes) → Tells side x r → is_settled r ≡ not (list_any (is_open_of x r) side)
 settled_by side x r t =
     elim (wants r.state (held_revision r.held)) as (λ w. wants r.state (held_revision r.held) ≡ w → is_settled r ≡ not (list_any (is_open_of x r) side)) [
-      | true ↦ λ w. unsettled r.state.mode w ∙ ap not (sym (list_any_weaker (names x r.state.rev) (is_open_of x r) (named_open x r w) side (t.named w)))
+      | true ↦ λ w. unsettled r.state.mode w ∙ ap not (sym (list_any_weaker (is_of_revision x r.state.rev) (is_open_of x r) (named_open x r w) side (t.named w)))
       | false ↦ λ w. settled r.state.mode w t.empty_unless_kept ∙ ap not (sym (list_any_never (is_open_of x r) (none_open x r w) side))
     ] refl
   where
@@ -175,29 +171,30 @@ told_holds p all = record {
 }
 
 -- an open revision entry of an entity names the revision that its state wants
-open_named : (x : EntityId) (r : Record Bytes) (entry : Entry) → is_open_of x r entry ≡ true → names x r.state.rev entry ≡ true
+open_named : (x : EntityId) (r : Record Bytes) (entry : Entry) → is_open_of x r entry ≡ true → is_of_revision x r.state.rev entry ≡ true
 open_named x r (Late e) o = o
 open_named x r (Revision e q cause) o =
     let kept_there : (is_kept r.state.mode && r.state.rev == q) ≡ true = and_left (is_kept r.state.mode && r.state.rev == q) _ (and_right (is_of x e) _ o) in
     let same : r.state.rev ≡ q = eqb-true r.state.rev q (and_right (is_kept r.state.mode) _ kept_there) in
     ap (λ b. b && q == r.state.rev) (and_left (is_of x e) _ o) ∙ ap (λ n. q == n) same ∙ same_number q
 
-holds_told : (p : Played) → HoldsUnlessOpen p → TellsAll p
-holds_told p holds x = record {
-  empty_unless_kept = holds.empty x;
-  named = λ w. list_any_weaker (is_open_of x r) (names x r.state.rev) (open_named x r) p.side (not_settled_open w);
+-- and where that holds, the side output tells of the entity
+pub told_by : (side : List Entry) (x : EntityId) (r : Record Bytes) → is_settled r ≡ not (list_any (is_open_of x r) side) → (is_kept r.state.mode ≡ false → r.held ≡ None) → Tells side x r
+told_by side x r holds empty = record {
+  empty_unless_kept = empty;
+  named = λ w. list_any_weaker (is_open_of x r) (is_of_revision x r.state.rev) (open_named x r) side (not_settled_open w);
 }
   where
-    r : Record Bytes
-    r = record_of p.records x
-
     unsettled : (m : Mode) → (is_kept m && not (is_held r.state.rev (held_revision r.held))) ≡ true → settles_at m r.state.rev (held_revision r.held) ≡ false
     unsettled Unknown w = clash w refl
     unsettled Kept w = not-true _ w
     unsettled Deleted w = clash w refl
 
-    not_settled_open : wants r.state (held_revision r.held) ≡ true → list_any (is_open_of x r) p.side ≡ true
-    not_settled_open w = not-false _ (sym (holds.settled x) ∙ unsettled r.state.mode w)
+    not_settled_open : wants r.state (held_revision r.held) ≡ true → list_any (is_open_of x r) side ≡ true
+    not_settled_open w = not-false _ (sym holds ∙ unsettled r.state.mode w)
+
+holds_told : (p : Played) → HoldsUnlessOpen p → TellsAll p
+holds_told p holds x = told_by p.side x (record_of p.records x) (holds.settled x) (holds.empty x)
 
 -- it holds at the start
 pub holds-nothing : HoldsUnlessOpen nothing_played

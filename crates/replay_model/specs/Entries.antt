@@ -1,5 +1,5 @@
 -- Which entries of the side output are open.
-use Rattle.std.specs.Prelude.{◌≡◌, Bool, false, not, ◌&&◌, List, Option, None, Some, filter_map}
+use Rattle.std.specs.Prelude.{◌≡◌, ℕ, Bool, false, not, ◌&&◌, ◌==◌, List, Option, None, Some, filter_map}
 use Rattle.std.specs.List.{list_any}
 use Rattle.std.specs.Ordering.{is_lt}
 use Rattle.entity_model.specs.declared.id.EntityId.{EntityId}
@@ -49,6 +49,11 @@ is_open_in records entry = is_open_by (record_of records (entity_of entry)) entr
 abbrev pub is_revision_of : EntityId → Entry → Bool
 is_revision_of x (Late e) = false
 is_revision_of x (Revision e r cause) = is_of x e
+
+-- whether an entry tells of this revision of the entity x
+abbrev pub is_of_revision : EntityId → ℕ → Entry → Bool
+is_of_revision x rev (Late e) = false
+is_of_revision x rev (Revision e r cause) = is_of x e && r == rev
 
 -- whether the side output has an open revision entry of the entity x
 abbrev pub has_open_revision : Records → List Entry → EntityId → Bool

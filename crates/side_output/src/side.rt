@@ -59,6 +59,13 @@ impl Side {
         self.entries.len()
     }
 
+    /// The entries in their order.
+    pub fn entries(&self) -> &[Entry]
+        ensures { result.now ≡ self.now.entries }
+    {
+        self.entries.as_slice()
+    }
+
     /// The entry at an index from 0.
     pub fn get(&self, index: usize) -> Option<&Entry>
         ensures { option_copied result ≡ slice_get self.now.entries index }

@@ -9,6 +9,7 @@ pub mod Moving
 pub mod OneVersion
 pub mod Owning
 pub mod Pieced
+pub mod PuttingIn
 pub mod Replacing
 pub mod Rooming
 pub mod Starting

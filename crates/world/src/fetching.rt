@@ -64,8 +64,8 @@ pub fn fetch<R: Revisions>(
     }
 }
 
-// Whether the bytes are a document of the entity, and its triples. The document borrows the bytes, so it goes before they are moved.
-fn judge(alloc: Global, wanted: Wanted, bytes: Vec<u8>) -> Result<Reply, OutOfMemory>
+/// Whether the bytes are a document of the entity, and its triples. The document borrows the bytes, so it goes before they are moved.
+pub fn judge(alloc: Global, wanted: Wanted, bytes: Vec<u8>) -> Result<Reply, OutOfMemory>
     ensures judged { IfOk result (λ reply. IsJudged wanted.id bytes.items (reply_of reply)) }
     ensures meant { IfOk result (IsMeant wanted.version wanted.id wanted.rev) }
 {

@@ -1,6 +1,6 @@
 // What an entity holds comes, goes or stays, and the store follows.
 
-ghost use Rattle.std.specs.Prelude.{◌≡◌, ◌<◌, ◌≤◌, None, Some, Ok, Err, IfSome, IfOk, IsSome, IsTrue, OnErr, OnOk};
+ghost use Rattle.std.specs.Prelude.{◌≡◌, ◌<◌, ◌≤◌, true, None, Some, Ok, Err, IfSome, IfOk, IsSome, IsTrue, OnErr, OnOk};
 ghost use Rattle.std.specs.FinMap as map;
 ghost use Rattle.rdf_term.specs.declared.triple.Triple.{Triple};
 ghost use Rattle.term_pool.specs.declared.fault.PoolFault.TheVariants.{Full};
@@ -144,6 +144,22 @@ impl Holdings {
         make_room(&mut self.table, id)?;
         keep_record(&mut self.table, id, after);
         Ok(())
+    }
+
+    /// Sets state and last reconciliation of an entity that has a record. It holds what it held.
+    pub fn set_standing(&mut self, id: EntityId, after: Standing)
+        requires { map.contains_key self.old.records id ≡ true }
+        ensures records { self.new.records ≡ map.insert self.old.records id (record {
+          state = after.state;
+          held = (record_of self.old.records id).held;
+          reconciled = after.reconciled;
+        }) }
+        ensures by_two { self.new.by_two ≡ self.old.by_two }
+        ensures limit { self.new.limit ≡ self.old.limit }
+        ensures held { HasRoom (meaning_by meaning self.new.by_two) self.new.limit self.new.records }
+        ensures holders { AreHolders self.new.by_two self.new.records }
+    {
+        keep_record(&mut self.table, id, after);
     }
 
     /// Sets the record of an entity, which holds nothing from now on, and tells what that changed of the stored triples, where it is to

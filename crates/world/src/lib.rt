@@ -5,7 +5,7 @@
 //! is what the entities hold: their records, and the store of all triples and texts, which `holding` keeps in step, and `remapping`
 //! where a held page is mapped anew. `kept` is what is kept of a page, and `holders` names the entities that hold one, by the version of
 //! the mapping that it is mapped by. `versions` has what they say of each version, and maps the pages of the other one anew. `rows`
-//! gives the triples, with or without a copy of their texts. `applied` says what an application led to, and `laws` what holds of the
+//! gives the triples, with or without a copy of their texts, and `restoring` puts a world back as it was saved. `applied` says what an application led to, and `laws` what holds of the
 //! meaning of pages and of their versions.
 #![tactic(auto)]
 
@@ -19,6 +19,7 @@ mod kept;
 mod laws;
 mod meaning;
 mod remapping;
+mod restoring;
 mod rows;
 mod versions;
 mod views;
@@ -26,4 +27,5 @@ mod world;
 
 pub use applied::{Application, Applied, Outcome, Remapping, WorldFault};
 pub use laws::{meaning_is_by_rules, versions_follow_the_play};
+pub use restoring::RestoreFault;
 pub use world::World;

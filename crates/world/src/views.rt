@@ -44,6 +44,27 @@ impl World {
         self.buffer.least_due()
     }
 
+    /// The events that are remembered, in their order.
+    pub fn remembered(&self) -> Result<List<Event>, OutOfMemory>
+        ensures { IfOk result (λ events. events ≡ self.now.replay.buffer.kept) }
+    {
+        self.buffer.events(self.alloc)
+    }
+
+    /// The greatest watermark so far, in microseconds since 1970-01-01T00:00:00Z.
+    pub fn mark(&self) -> Option<i64>
+        ensures { result ≡ self.now.replay.buffer.mark }
+    {
+        self.buffer.mark()
+    }
+
+    /// How many microseconds behind the mark events are forgotten, if they ever are.
+    pub fn horizon(&self) -> Option<u64>
+        ensures { result ≡ self.now.replay.buffer.horizon }
+    {
+        self.buffer.horizon()
+    }
+
     /// The ids of the entities with a record, in rising order.
     pub fn entities(&self) -> Result<List<EntityId>, OutOfMemory>
         ensures { IfOk result (λ ids. ids ≡ map.keys self.now.replay.played.records) }
@@ -58,6 +79,13 @@ impl World {
         self.holdings.standing(id).state
     }
 
+    /// The last reconciliation of an entity that was applied, in the order of events, if there was one.
+    pub fn reconciled(&self, id: EntityId) -> Option<Event>
+        ensures { result ≡ (record_of self.now.replay.played.records id).reconciled }
+    {
+        self.holdings.standing(id).reconciled
+    }
+
     /// The revision that an entity holds, and its bytes. An entity holds what its state wants exactly where no revision entry
     /// of it is open, and nothing of a page that isn't kept. Its bytes are a document of the entity.
     pub fn held(&self, id: EntityId) -> Option<(u64, &[u8])>
@@ -67,6 +95,13 @@ impl World {
             (λ h. (record_of self.now.replay.played.records id).held ≡ Some (record { revision = h.0; content = h.1.now })) }
     {
         self.holdings.held(id)
+    }
+
+    /// The entries of the side output in their order.
+    pub fn entries(&self) -> &[Entry]
+        ensures { result.now ≡ self.now.replay.played.side }
+    {
+        self.side.entries()
     }
 
     /// The number of entries of the side output.

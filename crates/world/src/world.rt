@@ -41,7 +41,7 @@ const LIMIT: u32 = 20_000_000;
 /// room; and the version of the mapping in force, with the entities whose pages are mapped by version Two.
 #[derive(Drop)]
 pub struct World {
-    alloc: Global,
+    pub(crate) alloc: Global,
     pub(crate) buffer: Buffer,
     pub(crate) side: Side,
     pub(crate) mapping: MappingVersion,

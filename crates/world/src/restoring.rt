@@ -1,0 +1,265 @@
+// A world is put back as it was saved: the events that it remembers, its side output, and the records of its entities.
+
+ghost use Rattle.std.specs.Prelude.{◌≡◌, ◌≢◌, ◌<◌, ◌≤◌, ◌∷◌, ◌++◌, [], false, None, Some, Err, IsErrOf, OnErr, OnOk};
+ghost use Rattle.std.specs.FinMap as map;
+ghost use Rattle.std.specs.List.{list_any};
+ghost use Rattle.entity_json.specs.Document.{unfit_of};
+ghost use Rattle.entity_state.specs.Record.{held_revision, is_held};
+ghost use Rattle.reorder_buffer.specs.Buffered.{after_taking};
+ghost use Rattle.replay_model.specs.Entries.{is_of_revision};
+ghost use Rattle.replay_model.specs.Replies.{HoldsDocument};
+ghost use Rattle.replay_model.specs.Union.{triples_held};
+ghost use Rattle.replay_model.specs.Versions.{all_by, meaning_by, with_version};
+ghost use Rattle.world.specs.Fetched.{IsPageOf};
+ghost use Rattle.world.specs.Meaning.{meaning};
+ghost use Rattle.world.specs.Restoring.{MayStand, by_two_with, is_told, restored};
+ghost use Rattle.world.specs.Roomed.{HasRoom, room_with};
+ghost use Rattle.world.specs.WorldState.{AreHolders};
+ghost use Rattle.world.specs.declared.restoring.RestoreFault.TheVariants.{Full, Unsound, OutOfMemory as Refused};
+
+use crate::applied::Handling;
+use crate::fetching::{Page, Wanted, judge};
+use crate::holdings::Holdings;
+use crate::world::World;
+use entity_model::{EntityId, Event, MappingVersion};
+use entity_state::{Held, Mode, Record, Standing, State};
+use rdf_term::{OutOfMemory, Text};
+use side_output::{Entry, Side};
+use thiserror::Error;
+use triple_store::{StoreFault, Telling};
+
+/// Why a record isn't put back.
+#[derive(Clone, Copy, Debug, PartialEq, Eq, Error)]
+pub enum RestoreFault {
+    /// No replay leaves such a record: its page is no document of its entity, a page is held although the state isn't that of a page
+    /// that is there, or the revision that the state wants isn't held and no entry of the side output tells of it.
+    #[error("no replay leaves such a record")]
+    Unsound,
+    /// The triples of all that is held and of the page of the record have more terms than there is room for.
+    #[error("the store is full")]
+    Full,
+    /// A request for memory was refused.
+    #[error("out of memory")]
+    OutOfMemory,
+}
+
+impl World {
+    /// Remembers an event as `take` does, and names it nowhere. After `OutOfMemory` nothing has changed.
+    pub fn remember(&mut self, event: Event) -> Result<(), OutOfMemory>
+        requires { self.old.replay.buffer.closed ≡ false }
+        ensures ok { OnOk result (self.new ≡ record self.old { replay = record self.old.replay { buffer = after_taking self.old.replay.buffer event } }) }
+        ensures err { OnErr result (self.new ≡ self.old) }
+    {
+        self.buffer.take(event)?;
+        Ok(())
+    }
+
+    /// Puts an entry at the end of the side output. After `OutOfMemory` nothing has changed.
+    pub fn note(&mut self, entry: Entry) -> Result<(), OutOfMemory>
+        ensures ok { OnOk result (self.new ≡ record self.old {
+          replay = record self.old.replay {
+            played = record self.old.replay.played { side = self.old.replay.played.side ++ entry ∷ [] };
+          };
+        }) }
+        ensures err { OnErr result (self.new ≡ self.old) }
+    {
+        self.side.push(entry)
+    }
+
+    /// Puts back the record of an entity; the page that it holds is mapped by the version in force, and nothing is fetched. Where every
+    /// page was mapped by this version, every page is. After a fault nothing has changed. `Unsound` is said of a record that can't stand
+    /// beside the side output, and `Full` exactly where the triples of the page, with those of all that is held, have more terms than
+    /// there is room for.
+    pub fn restore(&mut self, id: EntityId, entity: Record<Text>) -> Result<(), RestoreFault>
+        ensures ok { OnOk result (self.new ≡ restored self.old id entity) }
+        ensures sound { OnOk result (MayStand self.old.replay.played.side id entity) }
+        ensures unsound { IsErrOf result Unsound → ¬ (MayStand self.old.replay.played.side id entity) }
+        ensures full { IsErrOf result Full → self.old.limit
+            < room_with (meaning_by meaning self.old.by_two) self.old.replay.played.records (triples_held (meaning self.old.mapping) id entity.held) }
+        ensures within { OnOk result (room_with (meaning_by meaning self.old.by_two) self.old.replay.played.records
+            (triples_held (meaning self.old.mapping) id entity.held) ≤ self.old.limit) }
+        ensures by_one { self.old.by_two ≡ all_by self.old.mapping self.old.replay.played.records →
+            self.new.by_two ≡ all_by self.new.mapping self.new.replay.played.records }
+        ensures held { HasRoom (meaning_by meaning self.new.by_two) self.new.limit self.new.replay.played.records }
+        ensures holders { AreHolders self.new.by_two self.new.replay.played.records }
+        ensures err { OnErr result (self.new ≡ self.old) }
+    {
+        if !is_told(&self.side, id, &entity) {
+            return Err(RestoreFault::Unsound);
+        }
+        match self.holdings.restore(id, entity, self.mapping) {
+            Ok(()) => Ok(()),
+            Err(fault) => Err(fault),
+        }
+    }
+}
+
+impl Holdings {
+    /// Puts back the record of an entity; the page that it holds is mapped by the version. After a fault nothing has changed. `Unsound` is
+    /// said of a page that is no document of the entity.
+    pub fn restore(
+        &mut self,
+        id: EntityId,
+        entity: Record<Text>,
+        version: MappingVersion,
+    ) -> Result<(), RestoreFault>
+        ensures ok { OnOk result (self.new.records ≡ map.insert self.old.records id entity) }
+        ensures by_two { OnOk result (self.new.by_two ≡ by_two_with version id entity.held self.old.by_two) }
+        ensures document { OnOk result (HoldsDocument unfit_of id entity.held) }
+        ensures unsound { IsErrOf result Unsound → ¬ (HoldsDocument unfit_of id entity.held) }
+        ensures limit { self.new.limit ≡ self.old.limit }
+        ensures full { IsErrOf result Full → self.old.limit < room_with (meaning_by meaning self.old.by_two) self.old.records (triples_held (meaning version) id entity.held) }
+        ensures within { OnOk result (room_with (meaning_by meaning self.old.by_two) self.old.records (triples_held (meaning version) id entity.held) ≤ self.old.limit) }
+        ensures held { HasRoom (meaning_by meaning self.new.by_two) self.new.limit self.new.records }
+        ensures holders { AreHolders self.new.by_two self.new.records }
+        ensures err { OnErr result (self.new ≡ self.old) }
+    {
+        let Record {
+            state,
+            held,
+            reconciled,
+        } = entity;
+        let after = Standing {
+            state,
+            held: None,
+            reconciled,
+        };
+        match held {
+            Some(held) => self.restore_page(id, after, held, version),
+            None => self.restore_bare(id, after),
+        }
+    }
+
+    // Puts back the record of an entity that holds nothing.
+    fn restore_bare(&mut self, id: EntityId, after: Standing) -> Result<(), RestoreFault>
+        ensures ok { OnOk result (self.new.records ≡ map.insert self.old.records id (record { state = after.state; held = None; reconciled = after.reconciled })) }
+        ensures by_two { OnOk result (self.new.by_two ≡ with_version MappingVersion.One id self.old.by_two) }
+        ensures refused { OnErr result (result ≡ Err Refused) }
+        ensures limit { self.new.limit ≡ self.old.limit }
+        ensures within { room_with (meaning_by meaning self.old.by_two) self.old.records [] ≤ self.old.limit }
+        ensures held { HasRoom (meaning_by meaning self.new.by_two) self.new.limit self.new.records }
+        ensures holders { AreHolders self.new.by_two self.new.records }
+        ensures err { OnErr result (self.new ≡ self.old) }
+    {
+        let _ = &self.alloc;
+        match self.release(id, after, Telling::Nothing) {
+            Ok(_) => Ok(()),
+            Err(OutOfMemory) => Err(RestoreFault::OutOfMemory),
+        }
+    }
+
+    // Puts back the record of an entity that holds a page.
+    fn restore_page(
+        &mut self,
+        id: EntityId,
+        after: Standing,
+        held: Held<Text>,
+        version: MappingVersion,
+    ) -> Result<(), RestoreFault>
+        ensures ok { OnOk result (self.new.records ≡ map.insert self.old.records id (record { state = after.state; held = Some held; reconciled = after.reconciled })) }
+        ensures by_two { OnOk result (self.new.by_two ≡ with_version version id self.old.by_two) }
+        ensures document { OnOk result (unfit_of id held.content ≡ None) }
+        ensures unsound { IsErrOf result Unsound → unfit_of id held.content ≢ None }
+        ensures limit { self.new.limit ≡ self.old.limit }
+        ensures full { IsErrOf result Full → self.old.limit < room_with (meaning_by meaning self.old.by_two) self.old.records (meaning version id held.revision held.content) }
+        ensures within { OnOk result (room_with (meaning_by meaning self.old.by_two) self.old.records (meaning version id held.revision held.content) ≤ self.old.limit) }
+        ensures held { HasRoom (meaning_by meaning self.new.by_two) self.new.limit self.new.records }
+        ensures holders { AreHolders self.new.by_two self.new.records }
+        ensures err { OnErr result (self.new ≡ self.old) }
+    {
+        let wanted = Wanted {
+            id,
+            rev: held.revision,
+            version,
+        };
+        match judge(self.alloc, wanted, bytes_of(held.content)) {
+            Ok(Ok(page)) => self.put_back(wanted, after, page),
+            Ok(Err(_)) => Err(RestoreFault::Unsound),
+            Err(OutOfMemory) => Err(RestoreFault::OutOfMemory),
+        }
+    }
+
+    // Puts back the record of an entity that holds this page; its state may be of another revision, which was fetched in vain.
+    fn put_back(&mut self, wanted: Wanted, after: Standing, page: Page) -> Result<(), RestoreFault>
+        requires { IsPageOf wanted.version wanted.id wanted.rev page }
+        ensures ok { OnOk result (self.new.records ≡ map.insert self.old.records wanted.id (record {
+          state = after.state;
+          held = Some (record { revision = wanted.rev; content = page.bytes });
+          reconciled = after.reconciled;
+        })) }
+        ensures by_two { OnOk result (self.new.by_two ≡ with_version wanted.version wanted.id self.old.by_two) }
+        ensures sound { ¬ (IsErrOf result Unsound) }
+        ensures limit { self.new.limit ≡ self.old.limit }
+        ensures full { IsErrOf result Full → self.old.limit < room_with (meaning_by meaning self.old.by_two) self.old.records (meaning wanted.version wanted.id wanted.rev page.bytes) }
+        ensures within { OnOk result (room_with (meaning_by meaning self.old.by_two) self.old.records (meaning wanted.version wanted.id wanted.rev page.bytes) ≤ self.old.limit) }
+        ensures held { HasRoom (meaning_by meaning self.new.by_two) self.new.limit self.new.records }
+        ensures holders { AreHolders self.new.by_two self.new.records }
+        ensures err { OnErr result (self.new ≡ self.old) }
+    {
+        let there = Standing {
+            state: State {
+                mode: after.state.mode,
+                rev: wanted.rev,
+            },
+            held: None,
+            reconciled: after.reconciled,
+        };
+        let how = Handling {
+            version: wanted.version,
+            telling: Telling::Nothing,
+        };
+        match self.hold(wanted.id, there, page, how) {
+            Ok(_) => {
+                self.set_standing(wanted.id, after);
+                Ok(())
+            }
+            Err(StoreFault::Full) => Err(RestoreFault::Full),
+            Err(StoreFault::OutOfMemory) => Err(RestoreFault::OutOfMemory),
+        }
+    }
+}
+
+// The bytes of a text, without a copy.
+fn bytes_of(text: Text) -> Vec<u8>
+    ensures { result.items ≡ text }
+{
+    text.into_string().into_bytes()
+}
+
+// Whether nothing is held of a page that isn't kept, and the side output tells of the revision that is wanted, unless it is held.
+fn is_told(side: &Side, id: EntityId, entity: &Record<Text>) -> bool
+    ensures { result ≡ is_told side.now.entries id entity.now }
+{
+    match entity.state.mode {
+        Mode::Kept => holds(entity, entity.state.rev)
+            || tells(side.entries(), id, entity.state.rev),
+        Mode::Unknown | Mode::Deleted => entity.held.is_none(),
+    }
+}
+
+// Whether the record holds this revision.
+fn holds(entity: &Record<Text>, rev: u64) -> bool
+    ensures { result ≡ is_held rev (held_revision entity.now.held) }
+{
+    match &entity.held {
+        Some(held) => held.revision == rev,
+        None => false,
+    }
+}
+
+// Whether one of the entries tells of this revision of an entity.
+fn tells(entries: &[Entry], id: EntityId, rev: u64) -> bool
+    ensures { result ≡ list_any (is_of_revision id rev) entries.now }
+{
+    entries.iter().any(|entry| is_of_revision(entry, id, rev))
+}
+
+// Whether an entry tells of this revision of an entity.
+fn is_of_revision(entry: &Entry, id: EntityId, rev: u64) -> bool
+    ensures { result ≡ is_of_revision id rev entry.now }
+{
+    match entry {
+        Entry::Late(_) => false,
+        Entry::Revision(event, revision, _) => id == event.entity && *revision == rev,
+    }
+}
