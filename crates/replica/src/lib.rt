@@ -15,6 +15,7 @@ mod replica;
 mod term_end;
 mod triple_line;
 
+pub use head::Head;
 pub use laws::{
     a_replica_follows_its_producer, lines_are_read_as_their_records,
     records_are_read_from_their_lines,

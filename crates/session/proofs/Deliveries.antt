@@ -1,8 +1,9 @@
 -- What a delivery, and the end of the input, make of a world at rest.
-use Rattle.std.proofs.Common.{refl, inl, inr, sym, subst, ap, ◌∙◌, ◌≡◌, ℕ, ◌+◌, ◌≤◌, ℤ, false, List, [], ◌∷◌, ◌++◌, length, length-append, append-nil, Option, None, Some, Ok, Err, arith}
+use Rattle.std.proofs.Common.{refl, inl, inr, sym, subst, ap, ◌∙◌, ◌≡◌, ℕ, ◌+◌, ◌≤◌, ℤ, false, List, [], ◌∷◌, ◌++◌, length, length-append, append-nil, None, Some, Ok, Err, arith}
 use Rattle.std.specs.List.{filter_map}
 use Rattle.std.proofs.lemmas.List.Elements.{filter_map-append}
 use Rattle.rdf_term.specs.declared.pattern.Pattern.{Pattern}
+use Rattle.rdf_term.specs.declared.triple.Triple.{Triple}
 use Rattle.rdf_term.specs.Order.{triple_cmp}
 use Rattle.wq_io.specs.Streams.{after_known}
 use Rattle.entity_model.specs.declared.event.Event.{Event}
@@ -31,29 +32,65 @@ use Rattle.replay_model.proofs.Printing.{said-push}
 use Rattle.world.specs.Meaning.{meaning}
 use Rattle.session.specs.Counts.{SourceCounts, HasCounted, RoseBy}
 use Rattle.transcript.specs.declared.write.Unwritten.{Unwritten}
-use Rattle.transcript.specs.Printing.{Output, Prints}
+use Rattle.transcript.specs.Printing.{Output}
 use Rattle.transcript.proofs.Parts.{after_twice}
+use Rattle.patch_stream.specs.Stream.{Step, changes, steps_anew, steps_at, steps_due, steps_of_play}
+use Rattle.session.specs.declared.report.Report.{Report}
+use Rattle.session.specs.declared.report.Report.TheVariants.{Answers, Changes}
+use Rattle.session.specs.declared.stop.Halt.{Halt}
+use Rattle.session.specs.declared.stop.Halt.TheVariants.{Unapplied as NotApplied}
 use Rattle.session.specs.declared.stop.Stop.TheVariants.{OutOfMemory}
-use Rattle.session.specs.declared.stop.Unapplied.{Unapplied}
 use Rattle.session.specs.declared.stop.Unapplied.TheVariants.{OutOfMemory as Starved}
-use Rattle.session.specs.Moment.{Environment, Stage, onward, with_mapped, with_output, horizon_at}
+use Rattle.session.specs.Course.{Course, course_after, course_begun, course_remapping, course_to_end, said_behind}
+use Rattle.session.specs.Moment.{Environment, Stage, with_mapped, with_output, with_world, horizon_at}
 use Rattle.session.specs.Needed.{HaveRoom, HaveRoomBefore, needed_anew, needed_at, needed_by_due, needed_in, needed_to_end}
-use Rattle.session.specs.Remapping.{IsLeftStale, KeepsVersion, Mapped, held_triples, mapped_by, remapped_some}
-use Rattle.session.specs.Stop.{stop_of_unapplied, stop_of_unwritten}
-use Rattle.session.specs.Taking.{AppliesDue, AtEnd, AtRest, Course, CutsOff, IsHeldUp, IsWithin, Leads, StaysWithin, course_after, course_begun, course_to_end, judgement, said_behind, turn}
+use Rattle.session.specs.Remapping.{KeepsVersion, Mapped, held_triples, mapped_by}
+use Rattle.session.specs.Report.{AnswersAsk, HasAnswered, HasReported, TellsBy}
+use Rattle.session.specs.Stop.{stop_of_halt, stop_of_unwritten}
+use Rattle.session.specs.Taking.{AppliesDue, AtEnd, AtRest, CutsOff, IsHeldUp, IsWithin, Leads, RemapsPages, StaysWithin, judgement, turn}
 use Rattle.session.proofs.Due.{no_call, within}
 use Rattle.session.proofs.Needed.{all_met, due-none, first_met, needed-end, needed-push, needed-still, needed-watermark, none_left}
+use Rattle.session.proofs.Reports.{reported_still, steps-end, steps-none, steps-push, steps-still, steps-watermark}
 use Rattle.session.proofs.Versions.{all_held_by}
 
 -- one delivery more: how many questions were asked
 pub asks-push : (ds : List Delivery) (d : Delivery) → asks (ds ++ d ∷ []) ≡ asks ds + asks (d ∷ [])
 asks-push ds d = ap length (filter_map-append pattern_of ds (d ∷ [])) ∙ length-append (filter_map pattern_of ds) (filter_map pattern_of (d ∷ []))
 
+-- a delivery that doesn't ask is no answer
+answered_still : (report : Report) (reported : ℕ) (ds : List Delivery) (d : Delivery) → asks (d ∷ []) ≡ 0 → HasAnswered report reported ds → HasAnswered report reported (ds ++ d ∷ [])
+answered_still Answers reported ds d none is = omega (arith, is, asks-push ds d, none)
+answered_still Changes reported ds d none is = tt
+
+-- and neither is one that tells nothing where questions are answered
+answered_then : (report : Report) (reported reported_now : ℕ) (ds : List Delivery) (d : Delivery) → asks (d ∷ []) ≡ 0 → (report ≡ Answers → reported_now ≡ reported) → HasAnswered report reported ds → HasAnswered report reported_now (ds ++ d ∷ [])
+answered_then Answers reported reported_now ds d none same is = omega (arith, is, asks-push ds d, none, same refl)
+answered_then Changes reported reported_now ds d none same is = tt
+
+-- where questions are answered, so many were
+pub is_answer : (ds : List Delivery) (report : Report) (reported : ℕ) → HasAnswered report reported ds → report ≡ Answers → reported ≡ asks ds
+is_answer ds Answers reported is answers = is
+is_answer ds Changes reported is answers = cc
+
 module _ (environment : Environment) (ds : List Delivery) (start : Stage) where
   -- where a delivery doesn't ask, what was said before it is said with it
-  silent : (bytes : Option (List ℕ)) (d : Delivery) (replies : Replies) → said_at meaning (horizon_at start) replies (record { before = ds; delivery = d }) ≡ [] → bytes ≡ said_behind ds start replies → bytes ≡ said_behind (ds ++ d ∷ []) start replies
-  silent bytes d replies none is =
-      is ∙ ap (after_known start.output.bytes) (sym (said-push (horizon_at start) meaning replies ds d ∙ ap (λ l. said meaning (horizon_at start) replies ds ++ l) none ∙ append-nil (said meaning (horizon_at start) replies ds)))
+  silent : (d : Delivery) (replies : Replies) → said_at meaning (horizon_at start) replies (record { before = ds; delivery = d }) ≡ [] → said_behind (ds ++ d ∷ []) start replies ≡ said_behind ds start replies
+  silent d replies none =
+      ap (after_known start.output.bytes) (said-push (horizon_at start) meaning replies ds d ∙ ap (λ l. said meaning (horizon_at start) replies ds ++ l) none ∙ append-nil (said meaning (horizon_at start) replies ds))
+
+  -- where no event is due, the steps so far are all of the play
+  all_steps : (now : Stage) (others : Replies) (first : List Step) → first_due now.world.buffer ≡ None → first ++ steps_due (version_in_force ds) others now.world ≡ steps_of_play (horizon_at start) others ds → first ≡ steps_of_play (horizon_at start) others ds
+  all_steps now others first none are = sym (append-nil first) ∙ ap (λ l. first ++ l) (sym (steps-none (version_in_force ds) others now.world none)) ∙ are
+
+  -- where a delivery makes no step and says nothing, what was reported before it is reported with it
+  still_reported : (now then : Stage) (reported : ℕ) (d : Delivery) (others : Replies) → then.output ≡ now.output → first_due now.world.buffer ≡ None → first_due then.world.buffer ≡ None →
+      (environment.report ≡ Answers → said_at meaning (horizon_at start) others (record { before = ds; delivery = d }) ≡ []) → steps_at (horizon_at start) others (record { before = ds; delivery = d }) ≡ [] →
+      HasReported environment.report (course_after ds start) reported start now others → HasReported environment.report (course_after (ds ++ d ∷ []) start) reported start then others
+  still_reported now then reported d others same rests rests_then says none =
+      reported_still environment.report (course_after ds start) (course_after (ds ++ d ∷ []) start) reported start now then others same
+      (λ answers. silent d others (says answers))
+      (λ changes first are. ap (λ l. first ++ l) (steps-none (version_in_force (ds ++ d ∷ [])) others then.world rests_then) ∙ append-nil first
+      ∙ all_steps now others first rests are ∙ sym (steps-still (horizon_at start) others ds d none))
 
   -- an event that is taken is no fetch
   counted_taking : (now : SourceCounts) (made : ℕ) (side : List Entry) (answer : Taken) (e : Event) → HasCounted start.counts now made side → HasCounted start.counts now made (side ++ taken_entries answer e)
@@ -67,13 +104,13 @@ module _ (environment : Environment) (ds : List Delivery) (start : Stage) where
       }
 
   -- a world at rest is where the play is, with all replies that agree on what was applied
-  rest_is : (now : Stage) (at_rest : AtRest environment ds start now) (others : Replies) → AgreeOnApplied now.world at_rest.leads.explained.replies others → now.world ≡ following (horizon_at start) others ds
-  rest_is now at_rest =
+  rest_is : (now : Stage) (reported : ℕ) (at_rest : AtRest environment ds reported start now) (others : Replies) → AgreeOnApplied now.world at_rest.leads.explained.replies others → now.world ≡ following (horizon_at start) others ds
+  rest_is now reported at_rest =
       Explained-rests judgement environment.known (course_after ds start).state (course_after ds start).fetched at_rest.leads.made now.world at_rest.leads.explained at_rest.rests
 
   -- there was room for all that the play needs
-  rest_room : (now : Stage) (at_rest : AtRest environment ds start now) (others : Replies) → AgreeOnApplied now.world at_rest.leads.explained.replies others → HaveRoom environment.limit (needed_in (horizon_at start) others ds)
-  rest_room now at_rest others agree =
+  rest_room : (now : Stage) (reported : ℕ) (at_rest : AtRest environment ds reported start now) (others : Replies) → AgreeOnApplied now.world at_rest.leads.explained.replies others → HaveRoom environment.limit (needed_in (horizon_at start) others ds)
+  rest_room now reported at_rest others agree =
       all_met environment.limit (needed_by_due (version_in_force ds) others now.world) (needed_in (horizon_at start) others ds) (due-none (version_in_force ds) others now.world at_rest.rests) (at_rest.leads.roomed others agree)
 
   -- and so it is behind a delivery that needs none, where no event is due
@@ -89,251 +126,352 @@ module _ (environment : Environment) (ds : List Delivery) (start : Stage) where
   still_mapped before now d none old new keeps is = keeps (version_in_force ds) is ∙ ap (λ v. mapped_by v now) (sym (version-kept ds d none))
 
   -- a world at rest isn't closed
-  pub rest_open : (now : Stage) → AtRest environment ds start now → now.world.buffer.closed ≡ false
-  rest_open now at_rest =
+  pub rest_open : (now : Stage) (reported : ℕ) → AtRest environment ds reported start now → now.world.buffer.closed ≡ false
+  rest_open now reported at_rest =
       ap (λ (w : ReplayState). w.buffer.closed)
       (Explained-is judgement environment.known (course_after ds start).state (course_after ds start).fetched at_rest.leads.made now.world at_rest.leads.explained at_rest.rests)
 
   -- an event is taken
-  pub event_taken : (now : Stage) (e : Event) → AtRest environment ds start now → AtRest environment (ds ++ Told e ∷ []) start (onward now now.counts (after_event now.world e))
-  event_taken now e at_rest = record {
-    leads = record {
-      made = at_rest.leads.made;
-      explained = Explained-event judgement environment.known (horizon_at start) ds at_rest.leads.made now.world at_rest.leads.explained at_rest.rests e;
-      roomed = λ others agree. still_room (Told e) others (after_event now.world e)
-          (Explained-event_rests judgement environment.known (horizon_at start) ds at_rest.leads.made now.world at_rest.leads.explained at_rest.rests e) refl
-          (rest_room now at_rest others
-          (λ q r h. agree q r (applied-event now.world e q (rest_open now at_rest) ∙ h) ∙ ap (λ (replies : Replies). replies q r) (event_replies judgement environment.known (horizon_at start) ds at_rest.leads.made now.world at_rest.leads.explained at_rest.rests e)));
-      counted = counted_taking now.counts at_rest.leads.made now.world.played.side (answer_to now.world.buffer e) e at_rest.leads.counted;
-      documents = at_rest.leads.documents;
-      says = λ others agree. silent now.output.bytes (Told e) others refl (at_rest.leads.says others
-          (λ q r h. agree q r (applied-event now.world e q (rest_open now at_rest) ∙ h) ∙ ap (λ (replies : Replies). replies q r) (event_replies judgement environment.known (horizon_at start) ds at_rest.leads.made now.world at_rest.leads.explained at_rest.rests e)));
-    };
-    mapped = still_mapped now.world.played.records now.world.played.records (Told e) refl now.mapped now.mapped (λ version is. is) at_rest.mapped;
-    rests = Explained-event_rests judgement environment.known (horizon_at start) ds at_rest.leads.made now.world at_rest.leads.explained at_rest.rests e;
-    later = at_rest.later;
-  }
+  pub event_taken : (now : Stage) (reported : ℕ) (e : Event) → AtRest environment ds reported start now → AtRest environment (ds ++ Told e ∷ []) reported start (with_world now (after_event now.world e))
+  event_taken now reported e at_rest =
+      let rests : first_due (after_event now.world e).buffer ≡ None = Explained-event_rests judgement environment.known (horizon_at start) ds at_rest.leads.made now.world at_rest.leads.explained at_rest.rests e in
+      record {
+        leads = record {
+          made = at_rest.leads.made;
+          explained = Explained-event judgement environment.known (horizon_at start) ds at_rest.leads.made now.world at_rest.leads.explained at_rest.rests e;
+          roomed = λ others agree. still_room (Told e) others (after_event now.world e) rests refl
+              (rest_room now reported at_rest others
+              (λ q r h. agree q r (applied-event now.world e q (rest_open now reported at_rest) ∙ h) ∙ ap (λ (replies : Replies). replies q r) (event_replies judgement environment.known (horizon_at start) ds at_rest.leads.made now.world at_rest.leads.explained at_rest.rests e)));
+          counted = counted_taking now.counts at_rest.leads.made now.world.played.side (answer_to now.world.buffer e) e at_rest.leads.counted;
+          documents = at_rest.leads.documents;
+          says = λ others agree. still_reported now (with_world now (after_event now.world e)) reported (Told e) others refl at_rest.rests rests (λ answers. refl) refl (at_rest.leads.says others
+              (λ q r h. agree q r (applied-event now.world e q (rest_open now reported at_rest) ∙ h) ∙ ap (λ (replies : Replies). replies q r) (event_replies judgement environment.known (horizon_at start) ds at_rest.leads.made now.world at_rest.leads.explained at_rest.rests e)));
+        };
+        answered = answered_still environment.report reported ds (Told e) refl at_rest.answered;
+        mapped = still_mapped now.world.played.records now.world.played.records (Told e) refl now.mapped now.mapped (λ version is. is) at_rest.mapped;
+        rests = rests;
+        later = at_rest.later;
+      }
 
   -- the play with a watermark, which says what was said before
   abbrev course_of_mark : ℤ → Course
   course_of_mark m = course_begun ds (Some (Watermark m)) start
 
   -- a watermark is taken: there was room for all but what it makes due
-  mark_room : (now : Stage) (m : ℤ) (at_rest : AtRest environment ds start now) (others : Replies) → AgreeOnApplied now.world at_rest.leads.explained.replies others →
+  mark_room : (now : Stage) (reported : ℕ) (m : ℤ) (at_rest : AtRest environment ds reported start now) (others : Replies) → AgreeOnApplied now.world at_rest.leads.explained.replies others →
       HaveRoomBefore environment.limit (needed_by_due (version_in_force (ds ++ Watermark m ∷ [])) others (after_mark now.world m)) (needed_in (horizon_at start) others (ds ++ Watermark m ∷ []))
-  mark_room now m at_rest others agree =
+  mark_room now reported m at_rest others agree =
       let first : List ℕ = needed_in (horizon_at start) others ds in
       first_met environment.limit (needed_by_due (version_in_force (ds ++ Watermark m ∷ [])) others (after_mark now.world m)) (needed_in (horizon_at start) others (ds ++ Watermark m ∷ [])) first
       (needed-watermark (horizon_at start) others ds m
-      ∙ ap (λ w. first ++ needed_by_due (version_in_force ds) others (after_mark w m)) (sym (rest_is now at_rest others agree))
+      ∙ ap (λ w. first ++ needed_by_due (version_in_force ds) others (after_mark w m)) (sym (rest_is now reported at_rest others agree))
       ∙ ap (λ v. first ++ needed_by_due v others (after_mark now.world m)) (sym (version-kept ds (Watermark m) refl)))
-      (rest_room now at_rest others agree)
+      (rest_room now reported at_rest others agree)
+
+  -- what was reported is reported of the play with it, whose further steps are those that it makes due
+  mark_reported : (now : Stage) (reported : ℕ) (m : ℤ) (at_rest : AtRest environment ds reported start now) (others : Replies) → AgreeOnApplied now.world at_rest.leads.explained.replies others →
+      HasReported environment.report (course_of_mark m) reported start (with_world now (after_mark now.world m)) others
+  mark_reported now reported m at_rest others agree =
+      let all : List Step = steps_of_play (horizon_at start) others ds in
+      let v : MappingVersion = version_in_force (ds ++ Watermark m ∷ []) in
+      reported_still environment.report (course_after ds start) (course_of_mark m) reported start now (with_world now (after_mark now.world m)) others refl (λ answers. refl)
+      (λ changes first are. ap (λ l. l ++ steps_due v others (after_mark now.world m)) (all_steps now others first at_rest.rests are)
+      ∙ ap (λ u. all ++ steps_due u others (after_mark now.world m)) (version-kept ds (Watermark m) refl)
+      ∙ ap (λ w. all ++ steps_due (version_in_force ds) others (after_mark w m)) (rest_is now reported at_rest others agree)
+      ∙ sym (steps-watermark (horizon_at start) others ds m))
+      (at_rest.leads.says others agree)
 
   -- the end is taken: there was room for all but what waits
-  end_room : (now : Stage) (at_rest : AtRest environment ds start now) (others : Replies) → AgreeOnApplied now.world at_rest.leads.explained.replies others →
+  end_room : (now : Stage) (reported : ℕ) (at_rest : AtRest environment ds reported start now) (others : Replies) → AgreeOnApplied now.world at_rest.leads.explained.replies others →
       HaveRoomBefore environment.limit (needed_by_due (version_in_force ds) others (after_end now.world)) (needed_to_end (horizon_at start) others ds)
-  end_room now at_rest others agree =
+  end_room now reported at_rest others agree =
       let first : List ℕ = needed_in (horizon_at start) others ds in
       first_met environment.limit (needed_by_due (version_in_force ds) others (after_end now.world)) (needed_to_end (horizon_at start) others ds) first
-      (needed-end (horizon_at start) others ds ∙ ap (λ w. first ++ needed_by_due (version_in_force ds) others (after_end w)) (sym (rest_is now at_rest others agree)))
-      (rest_room now at_rest others agree)
+      (needed-end (horizon_at start) others ds ∙ ap (λ w. first ++ needed_by_due (version_in_force ds) others (after_end w)) (sym (rest_is now reported at_rest others agree)))
+      (rest_room now reported at_rest others agree)
+
+  -- what was reported is reported of the play to the end, whose further steps are those of what waits
+  end_reported : (now : Stage) (reported : ℕ) (at_rest : AtRest environment ds reported start now) (others : Replies) → AgreeOnApplied now.world at_rest.leads.explained.replies others →
+      HasReported environment.report (course_to_end ds start) reported start (with_world now (after_end now.world)) others
+  end_reported now reported at_rest others agree =
+      let all : List Step = steps_of_play (horizon_at start) others ds in
+      reported_still environment.report (course_after ds start) (course_to_end ds start) reported start now (with_world now (after_end now.world)) others refl (λ answers. refl)
+      (λ changes first are. ap (λ l. l ++ steps_due (version_in_force ds) others (after_end now.world)) (all_steps now others first at_rest.rests are)
+      ∙ ap (λ w. all ++ steps_due (version_in_force ds) others (after_end w)) (rest_is now reported at_rest others agree)
+      ∙ sym (steps-end (horizon_at start) others ds))
+      (at_rest.leads.says others agree)
 
   -- a watermark is taken: the world leads to the play with it
-  abbrev mark_leads : (now : Stage) (mapped : Mapped) (m : ℤ) → AtRest environment ds start now → Leads environment (course_of_mark m) start (onward (with_mapped now mapped) now.counts (after_mark now.world m))
-  mark_leads now mapped m at_rest = record {
+  abbrev mark_leads : (now : Stage) (reported : ℕ) (m : ℤ) → AtRest environment ds reported start now → Leads environment (course_of_mark m) reported start (with_world now (after_mark now.world m))
+  mark_leads now reported m at_rest = record {
     made = at_rest.leads.made;
     explained = Explained-mark judgement environment.known (horizon_at start) ds at_rest.leads.made now.world at_rest.leads.explained at_rest.rests m;
-    roomed = λ others agree. mark_room now m at_rest others
+    roomed = λ others agree. mark_room now reported m at_rest others
         (λ q r h. agree q r (applied-mark now.world m q h) ∙ ap (λ (replies : Replies). replies q r) (mark_replies judgement environment.known (horizon_at start) ds at_rest.leads.made now.world at_rest.leads.explained at_rest.rests m));
     counted = at_rest.leads.counted;
     documents = at_rest.leads.documents;
-    says = λ others agree. at_rest.leads.says others
+    says = λ others agree. mark_reported now reported m at_rest others
         (λ q r h. agree q r (applied-mark now.world m q h) ∙ ap (λ (replies : Replies). replies q r) (mark_replies judgement environment.known (horizon_at start) ds at_rest.leads.made now.world at_rest.leads.explained at_rest.rests m));
   }
 
   -- the end is taken: the world leads to the play to the end
-  abbrev end_leads : (now : Stage) (mapped : Mapped) → AtRest environment ds start now → Leads environment (course_to_end ds start) start (onward (with_mapped now mapped) now.counts (after_end now.world))
-  end_leads now mapped at_rest = record {
+  abbrev end_leads : (now : Stage) (reported : ℕ) → AtRest environment ds reported start now → Leads environment (course_to_end ds start) reported start (with_world now (after_end now.world))
+  end_leads now reported at_rest = record {
     made = at_rest.leads.made;
     explained = Explained-end judgement environment.known (horizon_at start) ds at_rest.leads.made now.world at_rest.leads.explained at_rest.rests;
-    roomed = λ others agree. end_room now at_rest others
+    roomed = λ others agree. end_room now reported at_rest others
         (λ q r h. agree q r (applied-end now.world q h) ∙ ap (λ (replies : Replies). replies q r) (end_replies judgement environment.known (horizon_at start) ds at_rest.leads.made now.world at_rest.leads.explained at_rest.rests));
     counted = at_rest.leads.counted;
     documents = at_rest.leads.documents;
-    says = λ others agree. at_rest.leads.says others
+    says = λ others agree. end_reported now reported at_rest others
         (λ q r h. agree q r (applied-end now.world q h) ∙ ap (λ (replies : Replies). replies q r) (end_replies judgement environment.known (horizon_at start) ds at_rest.leads.made now.world at_rest.leads.explained at_rest.rests));
   }
 
   -- every page is mapped by the version in force with the watermark
-  mark_mapped : (now : Stage) (m : ℤ) → AtRest environment ds start now → now.mapped ≡ mapped_by (version_in_force (ds ++ Watermark m ∷ [])) now.world.played.records
-  mark_mapped now m at_rest = still_mapped now.world.played.records now.world.played.records (Watermark m) refl now.mapped now.mapped (λ version is. is) at_rest.mapped
+  mark_mapped : (now : Stage) (reported : ℕ) (m : ℤ) → AtRest environment ds reported start now → now.mapped ≡ mapped_by (version_in_force (ds ++ Watermark m ∷ [])) now.world.played.records
+  mark_mapped now reported m at_rest = still_mapped now.world.played.records now.world.played.records (Watermark m) refl now.mapped now.mapped (λ version is. is) at_rest.mapped
 
   -- a watermark is taken, and what is due is applied
-  pub mark_taken : (now : Stage) (counts : SourceCounts) (new : ReplayState) (mapped : Mapped) (m : ℤ) → AppliesDue environment now.mapped now.counts counts (after_mark now.world m) new →
-      KeepsVersion now.mapped mapped now.world.played.records new.played.records → AtRest environment ds start now → AtRest environment (ds ++ Watermark m ∷ []) start (onward (with_mapped now mapped) counts new)
-  mark_taken now counts new mapped m applies keeps at_rest =
-      let there = applies.leads (course_of_mark m) start (with_mapped now mapped) (mark_mapped now m at_rest) (mark_leads now mapped m at_rest) in
+  pub mark_taken : (now then : Stage) (reported reported_now : ℕ) (m : ℤ) → AppliesDue environment reported reported_now (with_world now (after_mark now.world m)) then →
+      KeepsVersion now.mapped then.mapped now.world.played.records then.world.played.records → now.output.faults ≤ then.output.faults → AtRest environment ds reported start now → AtRest environment (ds ++ Watermark m ∷ []) reported_now start then
+  mark_taken now then reported reported_now m applies keeps more at_rest =
+      let there = applies.leads (course_of_mark m) start (mark_mapped now reported m at_rest) (mark_leads now reported m at_rest) in
       record {
         leads = record {
           made = there.made;
           explained = there.explained;
           counted = there.counted;
           documents = there.documents;
-          says = λ others agree. silent now.output.bytes (Watermark m) others refl (there.says others agree);
+          says = λ others agree. reported_still environment.report (course_of_mark m) (course_after (ds ++ Watermark m ∷ []) start) reported_now start then then others refl
+              (λ answers. silent (Watermark m) others refl) (λ changes first are. are) (there.says others agree);
           roomed = there.roomed;
         };
+        answered = answered_then environment.report reported reported_now ds (Watermark m) refl applies.answered at_rest.answered;
         rests = applies.rests;
-        mapped = still_mapped now.world.played.records new.played.records (Watermark m) refl now.mapped mapped keeps at_rest.mapped;
-        later = at_rest.later;
+        mapped = still_mapped now.world.played.records then.world.played.records (Watermark m) refl now.mapped then.mapped keeps at_rest.mapped;
+        later = omega (arith, at_rest.later, more);
       }
 
   -- the end is taken, and what waits is applied
-  pub end_taken : (now : Stage) (counts : SourceCounts) (new : ReplayState) (mapped : Mapped) → AppliesDue environment now.mapped now.counts counts (after_end now.world) new →
-      KeepsVersion now.mapped mapped now.world.played.records new.played.records → AtRest environment ds start now → AtEnd environment ds start (onward (with_mapped now mapped) counts new)
-  end_taken now counts new mapped applies keeps at_rest = record {
-    leads = applies.leads (course_to_end ds start) start (with_mapped now mapped) at_rest.mapped (end_leads now mapped at_rest);
+  pub end_taken : (now then : Stage) (reported reported_now : ℕ) → AppliesDue environment reported reported_now (with_world now (after_end now.world)) then →
+      KeepsVersion now.mapped then.mapped now.world.played.records then.world.played.records → now.output.faults ≤ then.output.faults → AtRest environment ds reported start now → AtEnd environment ds reported_now start then
+  end_taken now then reported reported_now applies keeps more at_rest = record {
+    leads = applies.leads (course_to_end ds start) start at_rest.mapped (end_leads now reported at_rest);
     rests = applies.rests;
     mapped = keeps (version_in_force ds) at_rest.mapped;
-    later = at_rest.later;
+    later = omega (arith, at_rest.later, more);
   }
 
   -- a world at rest is where its play is
-  pub rest_within : (now : Stage) → AtRest environment ds start now → IsWithin Starved environment (course_begun ds None start) (λ replies. following (horizon_at start) replies ds) start now
-  rest_within now at_rest =
-      let There : List Delivery → Type 0 = λ l. IsWithin Starved environment (record (course_after l start) { bytes = said_behind ds start }) (λ replies. following (horizon_at start) replies ds) start now in
-      subst There (sym (append-nil ds)) (within Starved environment (course_after ds start) (λ replies. following (horizon_at start) replies ds) start now now.counts (no_call now.counts) (record { leads = at_rest.leads; steps = 0; is = rest_is now at_rest }))
+  pub rest_within : (now : Stage) (reported : ℕ) → AtRest environment ds reported start now → IsWithin (NotApplied Starved) environment (course_begun ds None start) (λ replies. following (horizon_at start) replies ds) start now
+  rest_within now reported at_rest =
+      let There : List Delivery → Type 0 = λ l. IsWithin (NotApplied Starved) environment (record (course_after l start) { bytes = said_behind ds start }) (λ replies. following (horizon_at start) replies ds) start now in
+      subst There (sym (append-nil ds)) (within Starved environment (course_after ds start) (λ replies. following (horizon_at start) replies ds) reported start now now.counts (no_call now.counts) (record { leads = at_rest.leads; steps = 0; is = rest_is now reported at_rest }))
 
   -- a watermark is taken, and some of what is due is applied
-  pub mark_begun : (why : Unapplied) (now : Stage) (counts : SourceCounts) (new : ReplayState) (mapped : Mapped) (m : ℤ) → StaysWithin why environment now.mapped now.counts counts (after_mark now.world m) new → AtRest environment ds start now →
-      IsWithin why environment (course_of_mark m) (λ replies. entered (following (horizon_at start) replies ds) (Watermark m)) start (onward (with_mapped now mapped) counts new)
-  mark_begun why now counts new mapped m stays at_rest =
-      stays (course_of_mark m) (λ replies. entered (following (horizon_at start) replies ds) (Watermark m)) start (with_mapped now mapped) (mark_mapped now m at_rest) (record {
-        leads = mark_leads now mapped m at_rest;
+  pub mark_begun : (halt : Halt) (now then : Stage) (reported : ℕ) (m : ℤ) → StaysWithin halt environment reported (with_world now (after_mark now.world m)) then → AtRest environment ds reported start now →
+      IsWithin halt environment (course_of_mark m) (λ replies. entered (following (horizon_at start) replies ds) (Watermark m)) start then
+  mark_begun halt now then reported m stays at_rest =
+      stays (course_of_mark m) (λ replies. entered (following (horizon_at start) replies ds) (Watermark m)) start (mark_mapped now reported m at_rest) (record {
+        leads = mark_leads now reported m at_rest;
         steps = 0;
-        is = λ others agree. ap (λ w. after_mark w m) (rest_is now at_rest others
+        is = λ others agree. ap (λ w. after_mark w m) (rest_is now reported at_rest others
             (λ q r h. agree q r (applied-mark now.world m q h) ∙ ap (λ (replies : Replies). replies q r) (mark_replies judgement environment.known (horizon_at start) ds at_rest.leads.made now.world at_rest.leads.explained at_rest.rests m)));
       })
 
   -- the end is taken, and some of what waits is applied
-  pub end_begun : (why : Unapplied) (now : Stage) (counts : SourceCounts) (new : ReplayState) (mapped : Mapped) → StaysWithin why environment now.mapped now.counts counts (after_end now.world) new → AtRest environment ds start now →
-      IsWithin why environment (course_to_end ds start) (λ replies. after_end (following (horizon_at start) replies ds)) start (onward (with_mapped now mapped) counts new)
-  end_begun why now counts new mapped stays at_rest =
-      stays (course_to_end ds start) (λ replies. after_end (following (horizon_at start) replies ds)) start (with_mapped now mapped) at_rest.mapped (record {
-        leads = end_leads now mapped at_rest;
+  pub end_begun : (halt : Halt) (now then : Stage) (reported : ℕ) → StaysWithin halt environment reported (with_world now (after_end now.world)) then → AtRest environment ds reported start now →
+      IsWithin halt environment (course_to_end ds start) (λ replies. after_end (following (horizon_at start) replies ds)) start then
+  end_begun halt now then reported stays at_rest =
+      stays (course_to_end ds start) (λ replies. after_end (following (horizon_at start) replies ds)) start at_rest.mapped (record {
+        leads = end_leads now reported at_rest;
         steps = 0;
-        is = λ others agree. ap after_end (rest_is now at_rest others
+        is = λ others agree. ap after_end (rest_is now reported at_rest others
             (λ q r h. agree q r (applied-end now.world q h) ∙ ap (λ (replies : Replies). replies q r) (end_replies judgement environment.known (horizon_at start) ds at_rest.leads.made now.world at_rest.leads.explained at_rest.rests)));
       })
 
   -- the answer of a world at rest is that of its play
-  answer_is : (now : Stage) (q : Pattern) (asked : ℕ) (at_rest : AtRest environment ds start now) (others : Replies) → AgreeOnApplied now.world at_rest.leads.explained.replies others → asked ≡ asks (ds ++ Ask q ∷ []) →
-      ask_section asked (rows (held_triples now.mapped now.world.played.records) q) ≡ said_at meaning (horizon_at start) others (record { before = ds; delivery = Ask q })
-  answer_is now q asked at_rest others agree counts_it =
-      ap (λ n. ask_section n (rows (held_triples now.mapped now.world.played.records) q)) (counts_it ∙ asks-push ds (Ask q))
+  answer_is : (now : Stage) (q : Pattern) (reported : ℕ) (at_rest : AtRest environment ds reported start now) (others : Replies) → AgreeOnApplied now.world at_rest.leads.explained.replies others → reported ≡ asks ds →
+      ask_section (reported + 1) (rows (held_triples now.mapped now.world.played.records) q) ≡ said_at meaning (horizon_at start) others (record { before = ds; delivery = Ask q })
+  answer_is now q reported at_rest others agree counts_it =
+      ap (λ n. ask_section (n + 1) (rows (held_triples now.mapped now.world.played.records) q)) counts_it
       ∙ ap (λ triples. ask_section (asks ds + 1) (rows triples q)) (all_held_by (version_in_force ds) now.mapped now.world.played.records at_rest.mapped)
-      ∙ ap (λ (w : ReplayState). ask_section (asks ds + 1) (rows (union triple_cmp (meaning (version_in_force ds)) w.played.records) q)) (rest_is now at_rest others agree)
+      ∙ ap (λ (w : ReplayState). ask_section (asks ds + 1) (rows (union triple_cmp (meaning (version_in_force ds)) w.played.records) q)) (rest_is now reported at_rest others agree)
 
-  -- a question is answered
-  pub ask_taken : (now : Stage) (q : Pattern) (asked : ℕ) (out : Output) → asked ≡ asks (ds ++ Ask q ∷ []) → Prints (ask_section asked (rows (held_triples now.mapped now.world.played.records) q)) now.output out (Ok tt) →
-      AtRest environment ds start now → AtRest environment (ds ++ Ask q ∷ []) start (with_output now out)
-  ask_taken now q asked out counts_it prints at_rest = record {
+  -- a question is answered where questions are, and passed over where changes are reported
+  ask_reported : (report : Report) (now : Stage) (q : Pattern) (reported reported_now : ℕ) (out : Output) (others : Replies) → report ≡ environment.report → first_due now.world.buffer ≡ None →
+      AnswersAsk report reported (rows (held_triples now.mapped now.world.played.records) q) now.output out (Ok reported_now) →
+      (report ≡ Answers → ask_section (reported + 1) (rows (held_triples now.mapped now.world.played.records) q) ≡ said_at meaning (horizon_at start) others (record { before = ds; delivery = Ask q })) →
+      HasReported report (course_after ds start) reported start now others → HasReported report (course_after (ds ++ Ask q ∷ []) start) reported_now start (with_output now out) others
+  ask_reported Answers now q reported reported_now out others is rests answers said_there x =
+      let answer : List ℕ = ask_section (reported + 1) (rows (held_triples now.mapped now.world.played.records) q) in
+      answers.1.outcome
+      ∙ ap (λ b. after_known b answer) x
+      ∙ after_twice start.output.bytes (said meaning (horizon_at start) others ds) answer
+      ∙ ap (λ l. after_known start.output.bytes (said meaning (horizon_at start) others ds ++ l)) (said_there refl)
+      ∙ ap (after_known start.output.bytes) (sym (said-push (horizon_at start) meaning others ds (Ask q)))
+  ask_reported Changes now q reported reported_now out others is rests answers said_there x =
+      let passed : HasReported Changes (course_after (ds ++ Ask q ∷ []) start) reported start (with_output now out) others = record {
+        steps = x.steps;
+        are = ap (λ l. x.steps ++ l) (steps-none (version_in_force (ds ++ Ask q ∷ [])) others now.world rests) ∙ append-nil x.steps
+            ∙ all_steps now others x.steps rests x.are ∙ sym (steps-still (horizon_at start) others ds (Ask q) refl);
+        counted = x.counted;
+        bytes = ap (λ (o : Output). o.bytes) answers.1 ∙ x.bytes;
+      } in
+      subst (λ n. HasReported Changes (course_after (ds ++ Ask q ∷ []) start) n start (with_output now out) others) (sym answers.0) passed
+
+  ask_answered : (report : Report) (q : Pattern) (reported reported_now : ℕ) (triples : List Triple) (old out : Output) → AnswersAsk report reported triples old out (Ok reported_now) → HasAnswered report reported ds → HasAnswered report reported_now (ds ++ Ask q ∷ [])
+  ask_answered Answers q reported reported_now triples old out answers is = omega (arith, answers.0, is, asks-push ds (Ask q))
+  ask_answered Changes q reported reported_now triples old out answers is = tt
+
+  ask_later : (report : Report) (reported reported_now : ℕ) (triples : List Triple) (old out : Output) → AnswersAsk report reported triples old out (Ok reported_now) → old.faults ≤ out.faults
+  ask_later Answers reported reported_now triples old out answers = answers.1.later
+  ask_later Changes reported reported_now triples old out answers = rw answers.1 (omega arith)
+
+  pub ask_taken : (now : Stage) (q : Pattern) (reported reported_now : ℕ) (out : Output) → AnswersAsk environment.report reported (rows (held_triples now.mapped now.world.played.records) q) now.output out (Ok reported_now) →
+      AtRest environment ds reported start now → AtRest environment (ds ++ Ask q ∷ []) reported_now start (with_output now out)
+  ask_taken now q reported reported_now out answers at_rest = record {
     leads = record {
       made = at_rest.leads.made;
       explained = Explained-ask judgement environment.known (horizon_at start) ds at_rest.leads.made now.world at_rest.leads.explained at_rest.rests q;
-      roomed = λ others agree. still_room (Ask q) others now.world at_rest.rests refl (rest_room now at_rest others
+      roomed = λ others agree. still_room (Ask q) others now.world at_rest.rests refl (rest_room now reported at_rest others
           (λ e r h. agree e r h ∙ ap (λ (replies : Replies). replies e r) (ask_replies judgement environment.known (horizon_at start) ds at_rest.leads.made now.world at_rest.leads.explained at_rest.rests q)));
       counted = at_rest.leads.counted;
       documents = at_rest.leads.documents;
       says = λ others agree.
           let before : AgreeOnApplied now.world at_rest.leads.explained.replies others =
           λ e r h. agree e r h ∙ ap (λ (replies : Replies). replies e r) (ask_replies judgement environment.known (horizon_at start) ds at_rest.leads.made now.world at_rest.leads.explained at_rest.rests q) in
-          let answer : List ℕ = ask_section asked (rows (held_triples now.mapped now.world.played.records) q) in
-          prints.outcome
-          ∙ ap (λ b. after_known b answer) (at_rest.leads.says others before)
-          ∙ after_twice start.output.bytes (said meaning (horizon_at start) others ds) answer
-          ∙ ap (λ l. after_known start.output.bytes (said meaning (horizon_at start) others ds ++ l)) (answer_is now q asked at_rest others before counts_it)
-          ∙ ap (after_known start.output.bytes) (sym (said-push (horizon_at start) meaning others ds (Ask q)));
+          ask_reported environment.report now q reported reported_now out others refl at_rest.rests answers
+          (λ asked. answer_is now q reported at_rest others before (is_answer ds environment.report reported at_rest.answered asked))
+          (at_rest.leads.says others before);
     };
+    answered = ask_answered environment.report q reported reported_now _ now.output out answers at_rest.answered;
     rests = at_rest.rests;
     mapped = still_mapped now.world.played.records now.world.played.records (Ask q) refl now.mapped now.mapped (λ version is. is) at_rest.mapped;
-    later = omega (arith, at_rest.later, prints.later);
+    later = omega (arith, at_rest.later, ask_later environment.report reported reported_now _ now.output out answers);
   }
 
   -- another version of the mapping comes into force, by which every page is mapped: there was room for this too
-  mapping_room : (now : Stage) (v : MappingVersion) (at_rest : AtRest environment ds start now) → HaveRoom environment.limit (needed_anew now.world.played.records (record { version = v; by_two = now.mapped.by_two })) →
+  mapping_room : (now : Stage) (reported : ℕ) (v : MappingVersion) (at_rest : AtRest environment ds reported start now) → HaveRoom environment.limit (needed_anew now.world.played.records (record { version = v; by_two = now.mapped.by_two })) →
       (others : Replies) → AgreeOnApplied now.world at_rest.leads.explained.replies others →
       HaveRoomBefore environment.limit (needed_by_due (version_in_force (ds ++ Mapping v ∷ [])) others now.world) (needed_in (horizon_at start) others (ds ++ Mapping v ∷ []))
-  mapping_room now v at_rest have others agree =
+  mapping_room now reported v at_rest have others agree =
       let Roomed : List EntityId → Type 0 = λ by_two. HaveRoom environment.limit (needed_anew now.world.played.records (record { version = v; by_two = by_two })) in
       let by_version : Roomed (all_by (version_in_force ds) now.world.played.records) = subst Roomed (ap (λ (m : Mapped). m.by_two) at_rest.mapped) have in
       let anew : HaveRoom environment.limit (needed_at (horizon_at start) others (record { before = ds; delivery = Mapping v })) =
-      subst (λ (w : ReplayState). HaveRoom environment.limit (needed_anew w.played.records (record { version = v; by_two = all_by (version_in_force ds) w.played.records }))) (rest_is now at_rest others agree) by_version in
+      subst (λ (w : ReplayState). HaveRoom environment.limit (needed_anew w.played.records (record { version = v; by_two = all_by (version_in_force ds) w.played.records }))) (rest_is now reported at_rest others agree) by_version in
       none_left environment.limit (needed_by_due (version_in_force (ds ++ Mapping v ∷ [])) others now.world) (needed_in (horizon_at start) others (ds ++ Mapping v ∷ []))
       (due-none (version_in_force (ds ++ Mapping v ∷ [])) others now.world at_rest.rests)
-      (subst (HaveRoom environment.limit) (sym (needed-push (horizon_at start) others ds (Mapping v))) (Each-append (λ n. n ≤ environment.limit) _ _ (rest_room now at_rest others agree) anew))
+      (subst (HaveRoom environment.limit) (sym (needed-push (horizon_at start) others ds (Mapping v))) (Each-append (λ n. n ≤ environment.limit) _ _ (rest_room now reported at_rest others agree) anew))
+
+  -- its pages are told where changes are reported
+  mapping_reported : (report : Report) (now : Stage) (v : MappingVersion) (reported reported_now : ℕ) (mapped : Mapped) (out : Output) (others : Replies) → first_due now.world.buffer ≡ None →
+      now.mapped ≡ mapped_by (version_in_force ds) now.world.played.records → now.world ≡ following (horizon_at start) others ds →
+      TellsBy report reported (steps_anew v now.world.played.records now.mapped.by_two) reported_now now.output out →
+      HasReported report (course_after ds start) reported start now others → HasReported report (course_after (ds ++ Mapping v ∷ []) start) reported_now start (with_mapped (with_output now out) mapped) others
+  mapping_reported Answers now v reported reported_now mapped out others rests is_mapped is tells x = ap (λ (o : Output). o.bytes) tells.1 ∙ x ∙ sym (silent (Mapping v) others refl)
+  mapping_reported Changes now v reported reported_now mapped out others rests is_mapped is tells x =
+      let anew : List Step = steps_anew v now.world.played.records now.mapped.by_two in
+      record {
+        steps = x.steps ++ anew;
+        are = ap (λ l. (x.steps ++ anew) ++ l) (steps-none (version_in_force (ds ++ Mapping v ∷ [])) others now.world rests) ∙ append-nil (x.steps ++ anew)
+            ∙ ap (λ l. l ++ anew) (all_steps now others x.steps rests x.are)
+            ∙ ap (λ (m : Mapped). steps_of_play (horizon_at start) others ds ++ steps_anew v now.world.played.records m.by_two) is_mapped
+            ∙ ap (λ (w : ReplayState). steps_of_play (horizon_at start) others ds ++ steps_anew v w.played.records (all_by (version_in_force ds) w.played.records)) is
+            ∙ sym (steps-push (horizon_at start) others ds (Mapping v));
+        counted = tells.counted x.steps x.counted;
+        bytes = tells.bytes x.steps start.output.bytes x.counted x.bytes;
+      }
+
+  mapping_answered : (report : Report) (reported reported_now : ℕ) (steps : List Step) (old out : Output) → TellsBy report reported steps reported_now old out → report ≡ Answers → reported_now ≡ reported
+  mapping_answered Answers reported reported_now steps old out tells answers = tells.0
+  mapping_answered Changes reported reported_now steps old out tells answers = cc
 
   -- another version of the mapping comes into force, and every page is mapped by it
-  pub mapping_taken : (now : Stage) (mapped : Mapped) (v : MappingVersion) → mapped ≡ mapped_by v now.world.played.records →
-      HaveRoom environment.limit (needed_anew now.world.played.records (record { version = v; by_two = now.mapped.by_two })) → AtRest environment ds start now → AtRest environment (ds ++ Mapping v ∷ []) start (with_mapped now mapped)
-  mapping_taken now mapped v is have at_rest = record {
+  pub mapping_taken : (now : Stage) (mapped : Mapped) (v : MappingVersion) (reported reported_now : ℕ) (out : Output) → mapped ≡ mapped_by v now.world.played.records →
+      HaveRoom environment.limit (needed_anew now.world.played.records (record { version = v; by_two = now.mapped.by_two })) →
+      TellsBy environment.report reported (steps_anew v now.world.played.records now.mapped.by_two) reported_now now.output out → now.output.faults ≤ out.faults →
+      AtRest environment ds reported start now → AtRest environment (ds ++ Mapping v ∷ []) reported_now start (with_mapped (with_output now out) mapped)
+  mapping_taken now mapped v reported reported_now out is have tells more at_rest = record {
     leads = record {
       made = at_rest.leads.made;
       explained = Explained-mapping judgement environment.known (horizon_at start) ds at_rest.leads.made now.world at_rest.leads.explained at_rest.rests v;
-      roomed = λ others agree. mapping_room now v at_rest have others
+      roomed = λ others agree. mapping_room now reported v at_rest have others
           (λ q r h. agree q r h ∙ ap (λ (replies : Replies). replies q r) (mapping_replies judgement environment.known (horizon_at start) ds at_rest.leads.made now.world at_rest.leads.explained at_rest.rests v));
       counted = at_rest.leads.counted;
       documents = at_rest.leads.documents;
-      says = λ others agree. silent now.output.bytes (Mapping v) others refl (at_rest.leads.says others
-          (λ q r h. agree q r h ∙ ap (λ (replies : Replies). replies q r) (mapping_replies judgement environment.known (horizon_at start) ds at_rest.leads.made now.world at_rest.leads.explained at_rest.rests v)));
+      says = λ others agree.
+          let before : AgreeOnApplied now.world at_rest.leads.explained.replies others =
+          λ q r h. agree q r h ∙ ap (λ (replies : Replies). replies q r) (mapping_replies judgement environment.known (horizon_at start) ds at_rest.leads.made now.world at_rest.leads.explained at_rest.rests v) in
+          mapping_reported environment.report now v reported reported_now mapped out others at_rest.rests at_rest.mapped (rest_is now reported at_rest others before) tells (at_rest.leads.says others before);
     };
+    answered = answered_then environment.report reported reported_now ds (Mapping v) refl (mapping_answered environment.report reported reported_now _ now.output out tells) at_rest.answered;
     rests = at_rest.rests;
     mapped = is ∙ ap (λ version. mapped_by version now.world.played.records) (sym (version-mapping ds v));
-    later = at_rest.later;
+    later = omega (arith, at_rest.later, more);
   }
 
+  -- pages were mapped anew and told behind the play of these deliveries
+  pub remapping_reported : (report : Report) (now : Stage) (reported reported_now : ℕ) (pages : List Step) (mapped : Mapped) (out : Output) (others : Replies) → first_due now.world.buffer ≡ None →
+      TellsBy report reported pages reported_now now.output out → HasReported report (course_after ds start) reported start now others →
+      HasReported report (course_remapping pages ds start) reported_now start (with_mapped (with_output now out) mapped) others
+  remapping_reported Answers now reported reported_now pages mapped out others rests tells x = ap (λ (o : Output). o.bytes) tells.1 ∙ x
+  remapping_reported Changes now reported reported_now pages mapped out others rests tells x = record {
+    steps = x.steps ++ pages;
+    are = ap (λ l. (x.steps ++ pages) ++ l) (steps-none (version_in_force ds) others now.world rests) ∙ append-nil (x.steps ++ pages) ∙ ap (λ l. l ++ pages) (all_steps now others x.steps rests x.are);
+    counted = tells.counted x.steps x.counted;
+    bytes = tells.bytes x.steps start.output.bytes x.counted x.bytes;
+  }
+
+  abbrev pub remapping_leads : (now : Stage) (reported reported_now : ℕ) (pages : List Step) (mapped : Mapped) (out : Output) → TellsBy environment.report reported pages reported_now now.output out → AtRest environment ds reported start now →
+      Leads environment (course_remapping pages ds start) reported_now start (with_mapped (with_output now out) mapped)
+  remapping_leads now reported reported_now pages mapped out tells at_rest = record {
+    made = at_rest.leads.made;
+    explained = at_rest.leads.explained;
+    counted = at_rest.leads.counted;
+    documents = at_rest.leads.documents;
+    says = λ others agree. remapping_reported environment.report now reported reported_now pages mapped out others at_rest.rests tells (at_rest.leads.says others agree);
+    roomed = at_rest.leads.roomed;
+  }
+
+  -- how many records there are then
+  remapping_many : (report : Report) (now : Stage) (reported reported_now : ℕ) (pages : List Step) (out : Output) (others : Replies) → first_due now.world.buffer ≡ None →
+      TellsBy report reported pages reported_now now.output out → HasReported report (course_after ds start) reported start now others → report ≡ Changes → reported_now ≡ changes (steps_of_play (horizon_at start) others ds ++ pages)
+  remapping_many Answers now reported reported_now pages out others rests tells x told = cc
+  remapping_many Changes now reported reported_now pages out others rests tells x told = tells.counted x.steps x.counted ∙ ap (λ l. changes (l ++ pages)) (all_steps now others x.steps rests x.are)
+
+  pub remapping_counted : (now : Stage) (reported reported_now : ℕ) (pages : List Step) (out : Output) → TellsBy environment.report reported pages reported_now now.output out → (at_rest : AtRest environment ds reported start now) →
+      environment.report ≡ Changes → reported_now ≡ changes (steps_of_play (horizon_at start) at_rest.leads.explained.replies ds ++ pages)
+  remapping_counted now reported reported_now pages out tells at_rest told =
+      remapping_many environment.report now reported reported_now pages out at_rest.leads.explained.replies at_rest.rests tells (at_rest.leads.says at_rest.leads.explained.replies (λ q r h. refl)) told
+
 -- an event wasn't taken
-pub event_cut_off : (environment : Environment) (e : Event) (asked : ℕ) (now : Stage) (new : ReplayState) (mapped : Mapped) → new ≡ now.world → mapped ≡ now.mapped →
-    CutsOff OutOfMemory environment (turn asked (Told e)) now (onward (with_mapped now mapped) now.counts new)
-event_cut_off environment e asked now new mapped same same_mapped = inr (inl (
-  Starved,
+pub event_cut_off : (environment : Environment) (e : Event) (reported : ℕ) (now : Stage) → CutsOff OutOfMemory environment (turn reported (Told e)) now now
+event_cut_off environment e reported now = inr (inl (
+  NotApplied Starved,
   refl,
   record {
     held_up = tt;
-    output = refl;
-    mapped = λ version is. same_mapped ∙ is ∙ ap (λ (w : ReplayState). mapped_by version w.played.records) (sym same);
-    world = λ ds start at_rest. inl (same, refl);
+    mapped = λ version is. is;
+    world = λ ds start at_rest. inl (refl, refl, refl);
   },
 ))
 
--- a watermark was taken, and some of what is due was applied
-pub mark_cut_off : (why : Unapplied) (environment : Environment) (m : ℤ) (asked : ℕ) (now : Stage) (counts : SourceCounts) (new : ReplayState) (mapped : Mapped) → IsHeldUp why environment new mapped →
-    KeepsVersion now.mapped mapped now.world.played.records new.played.records → StaysWithin why environment now.mapped now.counts counts (after_mark now.world m) new →
-    CutsOff (stop_of_unapplied why) environment (turn asked (Watermark m)) now (onward (with_mapped now mapped) counts new)
-mark_cut_off why environment m asked now counts new mapped held_up keeps stays =
-    inr (inl (why, refl, record { held_up = held_up; output = refl; mapped = keeps; world = λ ds start at_rest. inr (mark_begun environment ds start why now counts new mapped m stays at_rest) }))
+-- a watermark was taken, and some of what was due was applied
+pub mark_cut_off : (halt : Halt) (environment : Environment) (m : ℤ) (reported : ℕ) (now then : Stage) → IsHeldUp halt environment now.output then →
+    KeepsVersion now.mapped then.mapped now.world.played.records then.world.played.records → StaysWithin halt environment reported (with_world now (after_mark now.world m)) then →
+    CutsOff (stop_of_halt halt) environment (turn reported (Watermark m)) now then
+mark_cut_off halt environment m reported now then held_up keeps stays =
+    inr (inl (halt, refl, record { held_up = held_up; mapped = keeps; world = λ ds start at_rest. inr (mark_begun environment ds start halt now then reported m stays at_rest) }))
 
 -- a question was answered in part
-pub ask_cut_off : (why : Unwritten) (environment : Environment) (q : Pattern) (asked : ℕ) (now : Stage) (out : Output) → Prints (ask_section asked (rows (held_triples now.mapped now.world.played.records) q)) now.output out (Err why) →
-    CutsOff (stop_of_unwritten why) environment (turn asked (Ask q)) now (with_output now out)
-ask_cut_off why environment q asked now out prints = inl (why, refl, record { pattern = q; is = refl; world = refl; mapped = refl; counts = refl; cut_short = prints.outcome })
+pub ask_cut_off : (report : Report) (why : Unwritten) (environment : Environment) (q : Pattern) (reported : ℕ) (now : Stage) (out : Output) → environment.report ≡ report →
+    AnswersAsk report reported (rows (held_triples now.mapped now.world.played.records) q) now.output out (Err why) → CutsOff (stop_of_unwritten why) environment (turn reported (Ask q)) now (with_output now out)
+ask_cut_off Answers why environment q reported now out is prints = inl (why, refl, record { answers = is; pattern = q; is = refl; world = refl; mapped = refl; counts = refl; cut_short = prints.outcome })
+ask_cut_off Changes why environment q reported now out is never = absurd never
 
 -- another version of the mapping came into force, and some of what is held was mapped anew
-pub mapping_cut_off : (why : Unapplied) (environment : Environment) (v : MappingVersion) (asked : ℕ) (now : Stage) (new : ReplayState) (mapped : Mapped) → new ≡ now.world → IsLeftStale why environment.limit now.world.played.records mapped →
-    (steps : ℕ) × (mapped ≡ remapped_some steps now.world.played.records (record { version = v; by_two = now.mapped.by_two })) →
-    HaveRoomBefore environment.limit (needed_anew now.world.played.records mapped) (needed_anew now.world.played.records (record { version = v; by_two = now.mapped.by_two })) →
-    CutsOff (stop_of_unapplied why) environment (turn asked (Mapping v)) now (onward (with_mapped now mapped) now.counts new)
-mapping_cut_off why environment v asked now new mapped same stale some have = inr (inr (
-  why,
-  refl,
-  record {
-    version = v;
-    is = refl;
-    left_stale = subst (λ (w : ReplayState). IsLeftStale why environment.limit w.played.records mapped) (sym same) stale;
-    output = refl;
-    counts = refl;
-    world = same;
-    steps = some.0;
-    mapped = some.1;
-    roomed = have;
-  },
-))
+pub mapping_cut_off : (halt : Halt) (environment : Environment) (v : MappingVersion) (reported : ℕ) (now : Stage) (mapped : Mapped) (out : Output) →
+    RemapsPages halt environment.report environment.limit reported v now.world.played.records now.mapped mapped now.output out →
+    CutsOff (stop_of_halt halt) environment (turn reported (Mapping v)) now (with_mapped (with_output now out) mapped)
+mapping_cut_off halt environment v reported now mapped out remaps = inr (inr (halt, refl, record { version = v; is = refl; counts = refl; world = refl; remaps = remaps }))

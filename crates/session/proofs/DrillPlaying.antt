@@ -28,14 +28,17 @@ use Rattle.drill_replay.proofs.Versions.{drill_by_first, part_asks_none, part_br
 use Rattle.session.specs.declared.drill_playing.DrillRun.{DrillRun}
 use Rattle.session.specs.declared.stop.Stop.{Stop}
 use Rattle.session.specs.declared.stop.Stop.TheVariants.{OutOfMemory as Refused}
-use Rattle.session.specs.declared.stop.Unapplied.{Unapplied}
+use Rattle.session.specs.declared.report.Report.TheVariants.{Answers}
+use Rattle.session.specs.declared.stop.Halt.{Halt}
+use Rattle.session.specs.declared.stop.Halt.TheVariants.{Unapplied as NotApplied, Untold}
 use Rattle.session.specs.declared.stop.Unapplied.TheVariants.{StoreFull, OutOfMemory}
-use Rattle.session.specs.Counts.{HasCountedUnapplied, RoseBy}
+use Rattle.session.specs.Counts.{HasCountedAt, RoseBy}
+use Rattle.session.specs.Course.{Course, course_after, course_begun, course_to_end}
 use Rattle.session.specs.DrillPlaying.{HasTakenFirst, LeavesDrill, drill_environment, drill_stage, told_of}
-use Rattle.session.specs.Moment.{Stage, environment}
+use Rattle.session.specs.Moment.{Stage, environment, with_world}
 use Rattle.session.specs.Remapping.{HasNoRoom, HoldsWithin, KeepsVersion, Mapped, mapped_by, mapped_in}
-use Rattle.session.specs.Stop.{stop_of_unapplied}
-use Rattle.session.specs.Taking.{AppliesDue, AtEnd, AtRest, Course, CutsOff, IsFull, IsHeldUp, IsUntaken, IsWithin, Leads, StaysWithin, TakesDelivery, TakesInPart, course_after, course_begun, course_to_end, judgement, replies_there, turn}
+use Rattle.session.specs.Stop.{stop_of_halt}
+use Rattle.session.specs.Taking.{AppliesDue, AtEnd, AtRest, CutsOff, IsFull, IsHeldUp, IsUntaken, IsWithin, Leads, StaysWithin, TakesDelivery, TakesInPart, judgement, replies_there, turn}
 use Rattle.session.proofs.Deliveries.{asks-push, end_begun, end_taken}
 use Rattle.session.proofs.Ends.{is_played}
 use Rattle.session.proofs.Progress.{nothing_taken}
@@ -58,27 +61,28 @@ module _ (size : ℕ) (start now : Stage) (nothing : start.world ≡ nothing_del
   replies_are none = ap (source_replies judgement (contents_of size)) none
 
   -- where no event is due, it is where its play is
-  course_is : (course : Course) → Leads (drill_environment size) course start now → first_due now.world.buffer ≡ None → now.mapped ≡ mapped_by course.version now.world.played.records → now.world ≡ course.state (replies_of size)
-  course_is course leads rests mapped =
-      let play = is_played (drill_environment size) course start now leads rests mapped in
+  course_is : (course : Course) (reported : ℕ) → Leads (drill_environment size) course reported start now → first_due now.world.buffer ≡ None → now.mapped ≡ mapped_by course.version now.world.played.records → now.world ≡ course.state (replies_of size)
+  course_is course reported leads rests mapped =
+      let play = is_played (drill_environment size) course reported start now leads rests mapped in
       play.source (contents_of size) refl ∙ ap course.state (replies_are (none_failed _ _ _ play.counted.failed still))
 
-  pub after_is : (ds : List Delivery) → AtRest (drill_environment size) ds start now → now.world ≡ following None (replies_of size) ds
+  pub after_is : (ds : List Delivery) → AtRest (drill_environment size) ds 0 start now → now.world ≡ following None (replies_of size) ds
   after_is ds at_rest =
-      course_is (course_after ds start) at_rest.leads at_rest.rests at_rest.mapped ∙ ap (λ (w : ReplayState). following w.buffer.horizon (replies_of size) ds) nothing
+      course_is (course_after ds start) 0 at_rest.leads at_rest.rests at_rest.mapped ∙ ap (λ (w : ReplayState). following w.buffer.horizon (replies_of size) ds) nothing
 
-  pub end_is : (ds : List Delivery) → AtEnd (drill_environment size) ds start now → now.world ≡ following_to_end None (replies_of size) ds
-  end_is ds at_end =
-      course_is (course_to_end ds start) at_end.leads at_end.rests at_end.mapped ∙ ap (λ (w : ReplayState). following_to_end w.buffer.horizon (replies_of size) ds) nothing
+  pub end_is : (ds : List Delivery) (reported : ℕ) → AtEnd (drill_environment size) ds reported start now → now.world ≡ following_to_end None (replies_of size) ds
+  end_is ds reported at_end =
+      course_is (course_to_end ds start) reported at_end.leads at_end.rests at_end.mapped ∙ ap (λ (w : ReplayState). following_to_end w.buffer.horizon (replies_of size) ds) nothing
 
-  unapplied_none : (why : Unapplied) (made : ℕ) → HasCountedUnapplied why start.counts now.counts made now.world.played.side → failed_events now.world.played.side ≡ []
-  unapplied_none StoreFull made counted = none_failed _ _ _ counted.failed still
-  unapplied_none OutOfMemory made counted = ⊎_elim (λ same. none_failed _ _ _ same.failed still) (λ more. none_failed _ _ _ more.failed still) counted
+  unapplied_none : (halt : Halt) (made : ℕ) → HasCountedAt halt start.counts now.counts made now.world.played.side → failed_events now.world.played.side ≡ []
+  unapplied_none (NotApplied StoreFull) made counted = none_failed _ _ _ counted.failed still
+  unapplied_none (Untold why) made counted = none_failed _ _ _ counted.failed still
+  unapplied_none (NotApplied OutOfMemory) made counted = ⊎_elim (λ same. none_failed _ _ _ same.failed still) (λ more. none_failed _ _ _ more.failed still) counted
 
   -- and where some due events were applied, it is within its play
-  pub within_is : (why : Unapplied) (course : Course) (begun : Replies → ReplayState) (x : IsWithin why (drill_environment size) course begun start now) → now.world ≡ after_some (replies_of size) x.steps (begun (replies_of size))
-  within_is why course begun x =
-      x.source (contents_of size) refl ∙ ap (λ (replies : Replies). after_some replies x.steps (begun replies)) (replies_are (unapplied_none why x.made x.counted))
+  pub within_is : (halt : Halt) (course : Course) (begun : Replies → ReplayState) (x : IsWithin halt (drill_environment size) course begun start now) → now.world ≡ after_some (replies_of size) x.steps (begun (replies_of size))
+  within_is halt course begun x =
+      x.source (contents_of size) refl ∙ ap (λ (replies : Replies). after_some replies x.steps (begun replies)) (replies_are (unapplied_none halt x.made x.counted))
 
 -- there is room for each page that is due
 full_never : (size : ℕ) (world : ReplayState) (mapped : Mapped) → IsSize size → HasBegun size world → mapped ≡ mapped_by One world.played.records → IsFull (drill_environment size) world mapped → ⊥
@@ -123,8 +127,8 @@ module _ (run : DrillRun) (ds after : List Delivery) (d : Delivery) (all : drill
       cc
 
   module _ (folder : List ℕ) (out : Output) (world : WorldState) (taken : HasTakenFirst run ds out world) where
-    environment_is : environment (told_of run.pages.size) folder world.limit ≡ drill_environment run.size
-    environment_is = ap (λ c. environment c folder world.limit) taken.told ∙ ap (λ n. environment (told_of run.size) folder n) taken.limit
+    environment_is : environment Answers (told_of run.pages.size) folder world.limit ≡ drill_environment run.size
+    environment_is = ap (λ c. environment Answers c folder world.limit) taken.told ∙ ap (λ n. environment Answers (told_of run.size) folder n) taken.limit
 
     abbrev pub before : Stage
     before = drill_stage run.pages out world
@@ -133,32 +137,39 @@ module _ (run : DrillRun) (ds after : List Delivery) (d : Delivery) (all : drill
     stands = after_is run.size taken.start before taken.nothing refl ds taken.at_rest
 
     -- it is taken and counted
-    pub next_taken : (pages_now : Source) (counts_now : DrillCounts) (answer : Option Taken) (out_now : Output) (world_now : WorldState) → told_of pages_now.size ≡ told_of run.pages.size →
-        TakesDelivery (environment (told_of run.pages.size) folder world.limit) (turn 0 d) before (drill_stage pages_now out_now world_now) → answer ≡ answer_of world.replay.buffer d → counts_now ≡ with_answer answer run.counts →
+    pub next_taken : (pages_now : Source) (counts_now : DrillCounts) (answer : Option Taken) (reported_now : ℕ) (out_now : Output) (world_now : WorldState) → told_of pages_now.size ≡ told_of run.pages.size →
+        TakesDelivery (environment Answers (told_of run.pages.size) folder world.limit) (turn 0 d) reported_now before (drill_stage pages_now out_now world_now) → answer ≡ answer_of world.replay.buffer d → counts_now ≡ with_answer answer run.counts →
         world_now.limit ≡ world.limit → (HoldsWithin world.limit world → HoldsWithin world.limit world_now) → HasTakenFirst (record run { pages = pages_now; counts = counts_now }) (ds ++ d ∷ []) out_now world_now
-    next_taken pages_now counts_now answer out_now world_now told takes answered counted limit held = record {
+    next_taken pages_now counts_now answer reported_now out_now world_now told takes answered counted limit held = record {
       start = taken.start;
       nothing = taken.nothing;
       told = told ∙ taken.told;
-      at_rest = (subst (λ s. TakesDelivery s (turn 0 d) before (drill_stage pages_now out_now world_now)) environment_is takes) ds taken.start asks_none taken.at_rest;
+      at_rest = still_none (subst (λ s. TakesDelivery s (turn 0 d) reported_now before (drill_stage pages_now out_now world_now)) environment_is takes ds taken.start taken.at_rest);
       counted = subst (λ c. Counted (ds ++ d ∷ []) c)
           (sym (counted ∙ ap (λ (a : Option Taken). with_answer a run.counts) (answered ∙ ap (λ (w : ReplayState). answer_of w.buffer d) stands)))
           (counted-next (replies_of run.size) ds d run.counts taken.counted);
       limit = limit ∙ taken.limit;
       held = subst (λ n. HoldsWithin n world_now) taken.limit (held (subst (λ n. HoldsWithin n world) (sym taken.limit) taken.held));
     }
+      where
+        -- nothing is answered
+        still_none : AtRest (drill_environment run.size) (ds ++ d ∷ []) reported_now taken.start (drill_stage pages_now out_now world_now) → AtRest (drill_environment run.size) (ds ++ d ∷ []) 0 taken.start (drill_stage pages_now out_now world_now)
+        still_none at_rest =
+            let none : reported_now ≡ 0 = at_rest.answered ∙ sym asks_none in
+            subst (λ n. AtRest (drill_environment run.size) (ds ++ d ∷ []) n taken.start (drill_stage pages_now out_now world_now)) none at_rest
 
     module _ (pages_now : Source) (out_now : Output) (world_now : WorldState) where
       abbrev pub now : Stage
       now = drill_stage pages_now out_now world_now
 
-      in_part : (why : Unapplied) → IsUntaken why before now ⊎ IsWithin why (drill_environment run.size) (course_begun ds (Some d) taken.start) (λ replies. entered (following taken.start.world.buffer.horizon replies ds) d) taken.start now →
+      in_part : (halt : Halt) → IsUntaken halt before now ⊎ IsWithin halt (drill_environment run.size) (course_begun ds (Some d) taken.start) (λ replies. entered (following taken.start.world.buffer.horizon replies ds) d) taken.start now →
           (world_now.replay ≡ following None (replies_of run.size) ds) ⊎ ((steps : ℕ) × (world_now.replay ≡ after_some (replies_of run.size) steps (entered (following None (replies_of run.size) ds) d)))
-      in_part why part = ⊎_elim (λ none. inl (untaken why none)) (λ some. inr (some.steps, within_is run.size taken.start now taken.nothing refl why _ _ some ∙ ap (λ (w : ReplayState). after_some (replies_of run.size) some.steps (entered (following w.buffer.horizon (replies_of run.size) ds) d)) taken.nothing)) part
+      in_part halt part = ⊎_elim (λ none. inl (untaken halt none)) (λ some. inr (some.steps, within_is run.size taken.start now taken.nothing refl halt _ _ some ∙ ap (λ (w : ReplayState). after_some (replies_of run.size) some.steps (entered (following w.buffer.horizon (replies_of run.size) ds) d)) taken.nothing)) part
         where
-          untaken : (why : Unapplied) → IsUntaken why before now → world_now.replay ≡ following None (replies_of run.size) ds
-          untaken StoreFull never = absurd never
-          untaken OutOfMemory same = same.0 ∙ stands
+          untaken : (halt : Halt) → IsUntaken halt before now → world_now.replay ≡ following None (replies_of run.size) ds
+          untaken (NotApplied StoreFull) never = absurd never
+          untaken (NotApplied OutOfMemory) same = same.0 ∙ stands
+          untaken (Untold why) never = absurd never
 
       begun : (world_now.replay ≡ following None (replies_of run.size) ds) ⊎ ((steps : ℕ) × (world_now.replay ≡ after_some (replies_of run.size) steps (entered (following None (replies_of run.size) ds) d))) → HasBegun run.size world_now.replay
       begun at = inl (⊎_elim
@@ -166,25 +177,27 @@ module _ (run : DrillRun) (ds after : List Delivery) (d : Delivery) (all : drill
           (λ some. inr (record { before = ds; last = d; after = after; all = all; steps = some.0; is = some.1 }))
           at)
 
-      starves : IsSize run.size → (stop : Stop) (why : Unapplied) → stop ≡ stop_of_unapplied why → TakesInPart why (drill_environment run.size) d before now → IsHalted run.size ds d stop world_now
-      starves is_size stop why is x = record {
-        refused = is ∙ by why x.held_up;
+      starves : IsSize run.size → (stop : Stop) (halt : Halt) → stop ≡ stop_of_halt halt → TakesInPart halt (drill_environment run.size) (turn 0 d) before now → IsHalted run.size ds d stop world_now
+      starves is_size stop halt is x = record {
+        refused = is ∙ by halt x.held_up (x.world ds taken.start taken.at_rest);
         at = at;
         first = by_first world_now mapped;
       }
         where
           at : (world_now.replay ≡ following None (replies_of run.size) ds) ⊎ ((steps : ℕ) × (world_now.replay ≡ after_some (replies_of run.size) steps (entered (following None (replies_of run.size) ds) d)))
-          at = in_part why (x.world ds taken.start taken.at_rest)
+          at = in_part halt (x.world ds taken.start taken.at_rest)
 
           mapped : mapped_in world_now ≡ mapped_by One world_now.replay.played.records
           mapped = x.mapped (version_in_force ds) taken.at_rest.mapped ∙ ap (λ v. mapped_by v world_now.replay.played.records) (part_by_first run.size ds (d ∷ after) all)
 
-          by : (why : Unapplied) → IsHeldUp why (drill_environment run.size) world_now.replay (mapped_in world_now) → stop_of_unapplied why ≡ Refused
-          by StoreFull full = absurd (full_never run.size world_now.replay (mapped_in world_now) is_size (begun at) mapped full)
-          by OutOfMemory held_up = refl
+          by : (halt : Halt) → IsHeldUp halt (drill_environment run.size) out now →
+              IsUntaken halt before now ⊎ IsWithin halt (drill_environment run.size) (course_begun ds (Some d) taken.start) (λ replies. entered (following taken.start.world.buffer.horizon replies ds) d) taken.start now → stop_of_halt halt ≡ Refused
+          by (NotApplied StoreFull) full part = absurd (full_never run.size world_now.replay (mapped_in world_now) is_size (begun at) mapped full)
+          by (NotApplied OutOfMemory) held_up part = refl
+          by (Untold why) held_up part = absurd (⊎_elim (λ never. never) (λ within. within.says) part)
 
       -- it isn't taken wholly
-      pub cut_off : IsSize run.size → (stop : Stop) → CutsOff stop (environment (told_of run.pages.size) folder world.limit) (turn 0 d) before now → IsHalted run.size ds d stop world_now
+      pub cut_off : IsSize run.size → (stop : Stop) → CutsOff stop (environment Answers (told_of run.pages.size) folder world.limit) (turn 0 d) before now → IsHalted run.size ds d stop world_now
       cut_off is_size stop cuts = ⊎_elim
           (λ printing. absurd (no_question printing.2.pattern printing.2.is))
           (⊎_elim
@@ -264,15 +277,15 @@ all_taken run size done out world same low high taken =
 
 -- ---- the end of a drill
 
-module _ (run : DrillRun) (folder : List ℕ) (out : Output) (world : WorldState) (taken : HasTakenFirst run (drill run.size) out world) (pages_now : Source) (world_now : WorldState) where
-  environment_at_end : environment (told_of run.pages.size) folder world.limit ≡ drill_environment run.size
-  environment_at_end = ap (λ c. environment c folder world.limit) taken.told ∙ ap (λ n. environment (told_of run.size) folder n) taken.limit
+module _ (run : DrillRun) (folder : List ℕ) (out : Output) (world : WorldState) (taken : HasTakenFirst run (drill run.size) out world) (pages_now : Source) (out_now : Output) (world_now : WorldState) where
+  environment_at_end : environment Answers (told_of run.pages.size) folder world.limit ≡ drill_environment run.size
+  environment_at_end = ap (λ c. environment Answers c folder world.limit) taken.told ∙ ap (λ n. environment Answers (told_of run.size) folder n) taken.limit
 
   abbrev pub stage_before : Stage
   stage_before = drill_stage run.pages out world
 
   abbrev pub stage_now : Stage
-  stage_now = drill_stage pages_now out world_now
+  stage_now = drill_stage pages_now out_now world_now
 
   pub end_first : KeepsVersion (mapped_in world) (mapped_in world_now) world.replay.played.records world_now.replay.played.records → mapped_in world_now ≡ mapped_by One world_now.replay.played.records
   end_first keeps = keeps (version_in_force (drill run.size)) taken.at_rest.mapped ∙ ap (λ v. mapped_by v world_now.replay.played.records) (drill_by_first run.size)
@@ -286,27 +299,34 @@ module _ (run : DrillRun) (folder : List ℕ) (out : Output) (world : WorldState
   }
 
   -- all was applied
-  pub end_reached : AppliesDue (environment (told_of run.pages.size) folder world.limit) (mapped_in world) stage_before.counts stage_now.counts (after_end world.replay) world_now.replay →
-      KeepsVersion (mapped_in world) (mapped_in world_now) world.replay.played.records world_now.replay.played.records → world_now.replay ≡ drilled run.size
-  end_reached applies keeps =
-      end_is run.size taken.start stage_now taken.nothing refl (drill run.size)
-      (end_taken (drill_environment run.size) (drill run.size) taken.start stage_before stage_now.counts world_now.replay (mapped_in world_now)
-      (subst (λ s. AppliesDue s (mapped_in world) stage_before.counts stage_now.counts (after_end world.replay) world_now.replay) environment_at_end applies) keeps taken.at_rest)
+  pub end_reached : (reported_now : ℕ) → AppliesDue (environment Answers (told_of run.pages.size) folder world.limit) 0 reported_now (with_world stage_before (after_end world.replay)) stage_now →
+      KeepsVersion (mapped_in world) (mapped_in world_now) world.replay.played.records world_now.replay.played.records → out.faults ≤ out_now.faults → world_now.replay ≡ drilled run.size
+  end_reached reported_now applies keeps more =
+      end_is run.size taken.start stage_now taken.nothing refl (drill run.size) reported_now
+      (end_taken (drill_environment run.size) (drill run.size) taken.start stage_before stage_now 0 reported_now
+      (subst (λ s. AppliesDue s 0 reported_now (with_world stage_before (after_end world.replay)) stage_now) environment_at_end applies) keeps more taken.at_rest)
+
+  end_within : (halt : Halt) → StaysWithin halt (environment Answers (told_of run.pages.size) folder world.limit) 0 (with_world stage_before (after_end world.replay)) stage_now →
+      IsWithin halt (drill_environment run.size) (course_to_end (drill run.size) taken.start) (λ replies. after_end (following taken.start.world.buffer.horizon replies (drill run.size))) taken.start stage_now
+  end_within halt stays =
+      end_begun (drill_environment run.size) (drill run.size) taken.start halt stage_before stage_now 0
+      (subst (λ s. StaysWithin halt s 0 (with_world stage_before (after_end world.replay)) stage_now) environment_at_end stays) taken.at_rest
 
   -- not all was applied
-  pub end_halted : (why : Unapplied) → StaysWithin why (environment (told_of run.pages.size) folder world.limit) (mapped_in world) stage_before.counts stage_now.counts (after_end world.replay) world_now.replay → StandsAtEnd run.size world_now.replay
-  end_halted why stays =
-      let within = end_begun (drill_environment run.size) (drill run.size) taken.start why stage_before stage_now.counts world_now.replay (mapped_in world_now)
-      (subst (λ s. StaysWithin why s (mapped_in world) stage_before.counts stage_now.counts (after_end world.replay) world_now.replay) environment_at_end stays) taken.at_rest in
+  pub end_halted : (halt : Halt) → StaysWithin halt (environment Answers (told_of run.pages.size) folder world.limit) 0 (with_world stage_before (after_end world.replay)) stage_now → StandsAtEnd run.size world_now.replay
+  end_halted halt stays =
+      let within = end_within halt stays in
       record {
         steps = within.steps;
-        is = within_is run.size taken.start stage_now taken.nothing refl why _ _ within
+        is = within_is run.size taken.start stage_now taken.nothing refl halt _ _ within
             ∙ ap (λ (w : ReplayState). after_some (replies_of run.size) within.steps (after_end (following w.buffer.horizon (replies_of run.size) (drill run.size)))) taken.nothing;
       }
 
-  -- and never for want of room
-  pub end_never_full : IsSize run.size → StaysWithin StoreFull (environment (told_of run.pages.size) folder world.limit) (mapped_in world) stage_before.counts stage_now.counts (after_end world.replay) world_now.replay →
-      KeepsVersion (mapped_in world) (mapped_in world_now) world.replay.played.records world_now.replay.played.records → IsFull (environment (told_of run.pages.size) folder world.limit) world_now.replay (mapped_in world_now) → ⊥
-  end_never_full is_size stays keeps full =
-      full_never run.size world_now.replay (mapped_in world_now) is_size (inr (end_halted StoreFull stays)) (end_first keeps)
-      (subst (λ s. IsFull s world_now.replay (mapped_in world_now)) environment_at_end full)
+  -- for want of memory alone
+  pub end_starved : IsSize run.size → (halt : Halt) → StaysWithin halt (environment Answers (told_of run.pages.size) folder world.limit) 0 (with_world stage_before (after_end world.replay)) stage_now →
+      KeepsVersion (mapped_in world) (mapped_in world_now) world.replay.played.records world_now.replay.played.records → IsHeldUp halt (environment Answers (told_of run.pages.size) folder world.limit) out stage_now → halt ≡ NotApplied OutOfMemory
+  end_starved is_size (NotApplied OutOfMemory) stays keeps held_up = refl
+  end_starved is_size (NotApplied StoreFull) stays keeps full =
+      absurd (full_never run.size world_now.replay (mapped_in world_now) is_size (inr (end_halted (NotApplied StoreFull) stays)) (end_first keeps)
+      (subst (λ s. IsFull s world_now.replay (mapped_in world_now)) environment_at_end full))
+  end_starved is_size (Untold why) stays keeps held_up = absurd (end_within (Untold why) stays).says

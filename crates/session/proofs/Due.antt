@@ -1,5 +1,5 @@
--- One due event is applied: the world still leads to its play, the counts rise with its fetch, and fewer events wait.
-use Rattle.std.proofs.Common.{refl, sym, subst, ◌∙◌, ap, inl, inr, ⊎_elim, ◌≡◌, ◌⊎◌, ℕ, suc, ◌+◌, ◌-◌, ◌^◌, ◌<◌, ◌≤◌, Bool, true, false, cond, max, min, List, [], ◌++◌, length, length-append, Option, None, Some, Result, Ok, Err, arith}
+-- One due event is applied and told: the world still leads to its play, the counts rise with its fetch, and fewer events wait.
+use Rattle.std.proofs.Common.{refl, sym, subst, ◌∙◌, ap, inl, inr, ⊎_elim, ◌≡◌, ◌⊎◌, ℕ, suc, ◌+◌, ◌-◌, ◌^◌, ◌<◌, ◌≤◌, Bool, true, false, cond, max, min, List, [], ◌∷◌, ◌++◌, length, length-append, Option, None, Some, Result, Ok, Err, arith}
 use Rattle.entity_model.specs.declared.id.EntityId.{EntityId}
 use Rattle.entity_model.specs.declared.event.Event.{Event}
 use Rattle.entity_model.specs.declared.mapping.MappingVersion.{MappingVersion}
@@ -12,8 +12,11 @@ use Rattle.reorder_buffer.specs.Buffered.{first_due}
 use Rattle.replay_model.specs.Records.{Bytes, record_of}
 use Rattle.replay_model.specs.Play.{Replies, risen_by}
 use Rattle.replay_model.specs.Replies.{GivesDocument, failed_events, missing_events, reply_there}
-use Rattle.replay_model.specs.ReplayState.{ReplayState, after_applying, after_next}
-use Rattle.replay_model.specs.Explained.{AgreeOnApplied, is_fetching, revision_wanted}
+use Rattle.rdf_term.specs.declared.triple.Triple.{Triple}
+use Rattle.rdf_term.specs.Order.{triple_cmp}
+use Rattle.replay_model.specs.ReplayState.{ReplayState, after_applying, after_next, after_some}
+use Rattle.replay_model.specs.Explained.{AgreeOnApplied, Explained, is_fetching, revision_wanted}
+use Rattle.replay_model.specs.Union.{union}
 use Rattle.replay_model.proofs.Documents.{documents-apply}
 use Rattle.replay_model.proofs.Explaining.{Explained-next, Next, next_by}
 use Rattle.replay_model.proofs.Fetching.{failed-applying, failed_by, missing-applying, missing_of}
@@ -24,19 +27,31 @@ use Rattle.world.specs.WorldState.{WorldState}
 use Rattle.world.specs.declared.applied.Applied.{Applied}
 use Rattle.world.specs.declared.applied.Outcome.{Outcome}
 use Rattle.world.specs.declared.applied.Outcome.TheVariants.{Same, Dropped}
+use Rattle.world.specs.Meaning.{meaning}
+use Rattle.transcript.specs.declared.write.Unwritten.{Unwritten}
+use Rattle.transcript.specs.Printing.{Output}
+use Rattle.patch_stream.specs.Stream.{Step, step, steps_due}
 use Rattle.session.specs.Counts.{SourceCounts, HasCounted, HasCountedUnapplied, HasGoneOn, RoseBy}
+use Rattle.session.specs.Course.{Course}
+use Rattle.session.specs.declared.report.Report.{Report}
+use Rattle.session.specs.declared.report.Report.TheVariants.{Answers}
+use Rattle.session.specs.declared.stop.Halt.TheVariants.{Unapplied as NotApplied, Untold}
 use Rattle.session.specs.declared.stop.Unapplied.{Unapplied}
 use Rattle.session.specs.declared.stop.Unapplied.TheVariants.{StoreFull, OutOfMemory}
 use Rattle.revisions.specs.declared.revisions.Revisions.{Ghosts as RevisionsOf}
-use Rattle.session.specs.Moment.{Environment, Stage, onward, environment, with_mapped}
-use Rattle.session.specs.Needed.{HaveRoom, needed_by, needed_by_due, needed_for}
-use Rattle.session.specs.Remapping.{HasNoRoom, KeepsVersion, Mapped, mapped_by, mapped_in}
-use Rattle.session.specs.Taking.{AppliesDue, Course, IsFull, IsUnderWay, IsWithin, Leads, StaysWithin, judgement, replies_there}
+use Rattle.session.specs.Moment.{Environment, Stage, onward, environment, stage_in, with_mapped, with_world}
+use Rattle.session.specs.Needed.{HaveRoom, HaveRoomBefore, needed_by, needed_by_due, needed_for}
+use Rattle.session.specs.Remapping.{HasNoRoom, KeepsVersion, Mapped, held_triples, mapped_by, mapped_in}
+use Rattle.session.specs.Report.{HasReported, HasReportedAt, TellsStepBy}
+use Rattle.session.specs.Taking.{AppliesDue, HoldsDocuments, IsFull, IsUnderWay, IsWithin, Leads, StaysWithin, judgement, replies_there}
 use Rattle.session.proofs.Needed.{due-some, next_met, room_replied}
+use Rattle.session.proofs.Reports.{reported_but_last, reported_next, reported_still, steps-some, still_answered}
+use Rattle.session.proofs.Versions.{all_held_by}
 
--- events are applied: the world leads where it led, where every page was mapped by the version of the play
-pub record Goes (environment : Environment) (mapped : Mapped) (before now : SourceCounts) (old new : ReplayState) : Type 0 where
-  pub leads : (course : Course) (begun : Replies → ReplayState) (start s : Stage) → mapped ≡ mapped_by course.version old.played.records → IsUnderWay environment course begun start (onward s before old) → IsUnderWay environment course begun start (onward s now new)
+-- events are applied and told: the world leads where it led, where every page was mapped by the version of the play
+pub record Goes (environment : Environment) (reported reported_now : ℕ) (before now : Stage) : Type 0 where
+  pub leads : (course : Course) (begun : Replies → ReplayState) (start : Stage) → before.mapped ≡ mapped_by course.version before.world.played.records → IsUnderWay environment course begun reported start before → IsUnderWay environment course begun reported_now start now
+  pub answered : environment.report ≡ Answers → reported_now ≡ reported
 
 -- the counts after an application, as its outcome shows
 pub record Rises (outcome : Outcome) (before now : SourceCounts) : Type 0 where
@@ -46,20 +61,20 @@ pub record Rises (outcome : Outcome) (before now : SourceCounts) : Type 0 where
   pub more_misses : before.misses ≤ now.misses
 
 -- a reply that agrees with what the source has is honest
-pub reply_is_honest : (contents : Option Contents) (folder : List ℕ) (limit : ℕ) (x : EntityId) (r : ℕ) (reply : Result Bytes Cause) →
-    IsReply contents folder x r reply → (there : ℕ → Option Bytes) → (environment contents folder limit).known ≡ Some there →
+pub reply_is_honest : (report : Report) (contents : Option Contents) (folder : List ℕ) (limit : ℕ) (x : EntityId) (r : ℕ) (reply : Result Bytes Cause) →
+    IsReply contents folder x r reply → (there : ℕ → Option Bytes) → (environment report contents folder limit).known ≡ Some there →
     (reply ≡ Err Failed) ⊎ (reply ≡ reply_there judgement x (there r))
-reply_is_honest None folder limit x r reply is there known = cc
-reply_is_honest (Some c) folder limit x r (Ok bytes) is there known =
+reply_is_honest report None folder limit x r reply is there known = cc
+reply_is_honest report (Some c) folder limit x r (Ok bytes) is there known =
     let same : c folder ≡ there = cc in
     let found : there r ≡ Some bytes = ap (λ (f : ℕ → Option Bytes). f r) (sym same) ∙ is.1 in
     inr (rw (found, is.0) refl)
-reply_is_honest (Some c) folder limit x r (Err Missing) is there known =
+reply_is_honest report (Some c) folder limit x r (Err Missing) is there known =
     let same : c folder ≡ there = cc in
     let found : there r ≡ None = ap (λ (f : ℕ → Option Bytes). f r) (sym same) ∙ is in
     inr (rw found refl)
-reply_is_honest (Some c) folder limit x r (Err Failed) is there known = inl refl
-reply_is_honest (Some c) folder limit x r (Err (NoDocument unfit)) is there known =
+reply_is_honest report (Some c) folder limit x r (Err Failed) is there known = inl refl
+reply_is_honest report (Some c) folder limit x r (Err (NoDocument unfit)) is there known =
     let same : c folder ≡ there = cc in
     inr (unfit_there judgement x unfit (c folder r) is ∙ ap (λ (f : ℕ → Option Bytes). reply_there judgement x (f r)) same)
 
@@ -129,53 +144,103 @@ reply_gives : (contents : Option Contents) (folder : List ℕ) (x : EntityId) (r
 reply_gives contents folder x r (Ok bytes) is = is.0
 reply_gives contents folder x r (Err cause) is = tt
 
+-- the step from one stage to another
+abbrev pub step_between : Stage → Stage → Step
+step_between before now = step (held_triples before.mapped before.world.played.records) (held_triples now.mapped now.world.played.records)
+
+-- what a play has right after the least due event was applied, but for what is reported of it
+pub record LeadsOn (environment : Environment) (course : Course) (reported : ℕ) (start before now : Stage) (x : Leads environment course reported start before) : Type 0 where
+  pub made : ℕ
+  pub explained : Explained judgement environment.known course.state course.fetched made now.world
+  pub counted : HasCounted start.counts now.counts made now.world.played.side
+  pub documents : HoldsDocuments now.world
+  pub agree_before : (others : Replies) → AgreeOnApplied now.world explained.replies others → AgreeOnApplied before.world x.explained.replies others
+  pub is_next : (others : Replies) → AgreeOnApplied now.world explained.replies others → now.world ≡ after_next others before.world
+  pub roomed : (others : Replies) → AgreeOnApplied now.world explained.replies others → HaveRoomBefore environment.limit (needed_by_due course.version others now.world) (course.needed others)
+  pub first : (others : Replies) → AgreeOnApplied now.world explained.replies others → steps_due course.version others before.world ≡ step_between before now ∷ steps_due course.version others now.world
+
+-- an application
+pub record IsApplied (contents : Option Contents) (folder : List ℕ) (limit : ℕ) (before now : Stage) : Type 0 where
+  pub applied : Applied
+  pub applies : Applies contents folder before.world now.world applied
+  pub rises : Rises applied.outcome before.counts now.counts
+  pub keeps : KeepsVersion before.mapped now.mapped before.world.played.records now.world.played.records
+  pub has_room : (version : MappingVersion) → before.mapped ≡ mapped_by version before.world.played.records →
+      HaveRoom limit (cond (is_fetching before.world applied.event) (needed_for version before.world.played.records applied.event.entity (revision_wanted before.world applied.event) applies.reply) [])
+
 -- the world still leads to its play, one application further
-pub applies-leads : (contents : Option Contents) (folder : List ℕ) (limit : ℕ) (mapped : Mapped) (before now : SourceCounts) (old new : ReplayState) (applied : Applied) (a : Applies contents folder old new applied) → Rises applied.outcome before now →
-    ((version : MappingVersion) → mapped ≡ mapped_by version old.played.records →
-    HaveRoom limit (cond (is_fetching old applied.event) (needed_for version old.played.records applied.event.entity (revision_wanted old applied.event) a.reply) [])) →
-    Goes (environment contents folder limit) mapped before now old new
-applies-leads contents folder limit mapped before now old new applied a rises has_room = record {
-  leads = λ course begun start s is_mapped under_way.
-      let known : Option (ℕ → Option Bytes) = (environment contents folder limit).known in
-      let e : Event = applied.event in
-      let leads : Leads (environment contents folder limit) course start (onward s before old) = under_way.leads in
-      let made : ℕ = leads.made + cond (is_fetching old e) 1 0 in
-      let next : Next judgement known course.state course.fetched leads.made old e a.reply leads.explained =
-      Explained-next judgement known course.state course.fetched leads.made old e a.reply leads.explained a.due
-      (λ there is _. reply_is_honest contents folder limit e.entity _ a.reply a.is_reply there is)
-      (reply_gives contents folder e.entity _ a.reply a.is_reply) in
-      let Counted : ReplayState → Type 0 = λ w. HasCounted start.counts now made w.played.side in
-      let There : ReplayState → Type 0 = λ w. IsUnderWay (environment contents folder limit) course begun start (onward s now w) in
-      let there : There (next_by old e a.reply) = record {
+applies-on : (report : Report) (contents : Option Contents) (folder : List ℕ) (limit : ℕ) (before now : Stage) → IsApplied contents folder limit before now →
+    (course : Course) (reported : ℕ) (start : Stage) → before.mapped ≡ mapped_by course.version before.world.played.records →
+    (x : Leads (environment report contents folder limit) course reported start before) → LeadsOn (environment report contents folder limit) course reported start before now x
+applies-on report contents folder limit before now is course reported start is_mapped x =
+    let known : Option (ℕ → Option Bytes) = (environment report contents folder limit).known in
+    let a = is.applies in
+    let e : Event = is.applied.event in
+    let old : ReplayState = before.world in
+    let made : ℕ = x.made + cond (is_fetching old e) 1 0 in
+    let next : Next judgement known course.state course.fetched x.made old e a.reply x.explained =
+    Explained-next judgement known course.state course.fetched x.made old e a.reply x.explained a.due
+    (λ there told _. reply_is_honest report contents folder limit e.entity _ a.reply a.is_reply there told)
+    (reply_gives contents folder e.entity _ a.reply a.is_reply) in
+    let same : (others : Replies) → AgreeOnApplied (next_by old e a.reply) next.explained.replies others → next_by old e a.reply ≡ after_applying others old (Some e) =
+    λ others agree. next.is_next others agree ∙ ap (after_applying others old) a.due in
+    let Counted : ReplayState → Type 0 = λ w. HasCounted start.counts now.counts made w.played.side in
+    let There : ReplayState → Type 0 = λ w. LeadsOn (environment report contents folder limit) course reported start before (with_world now w) x in
+    let there : There (next_by old e a.reply) = record {
+      made = made;
+      explained = next.explained;
+      counted = subst Counted a.new_is (counted_applying contents folder start.counts before.counts now.counts x.made old now.world is.applied a is.rises x.counted);
+      documents = documents-apply judgement e a.reply (reply_gives contents folder e.entity _ a.reply a.is_reply) old.played x.documents;
+      agree_before = next.agree_before;
+      is_next = next.is_next;
+      roomed = λ others agree.
+          let needed_now : List ℕ = needed_by course.version others old.played.records e (record_of old.played.records e.entity) in
+          next_met limit (needed_by_due course.version others (next_by old e a.reply)) (course.needed others) needed_now (needed_by_due course.version others old)
+          (due-some course.version others old e a.due ∙ ap (λ w. needed_now ++ needed_by_due course.version others w) (sym (same others agree)))
+          (room_replied old e limit course.version a.reply others (same others agree) (is.has_room course.version is_mapped))
+          (x.roomed others (next.agree_before others agree));
+      first = λ others agree.
+          let stored : ReplayState → List Triple = λ w. union triple_cmp (meaning course.version) w.played.records in
+          let mapped_now : now.mapped ≡ mapped_by course.version (next_by old e a.reply).played.records = is.keeps course.version is_mapped ∙ ap (λ (w : ReplayState). mapped_by course.version w.played.records) a.new_is in
+          steps-some course.version others old e a.due
+          ∙ ap (λ w. step (stored old) (stored w) ∷ steps_due course.version others w) (sym (same others agree))
+          ∙ (λ i. step (sym (all_held_by course.version before.mapped old.played.records is_mapped) i) (sym (all_held_by course.version now.mapped (next_by old e a.reply).played.records mapped_now) i)
+          ∷ steps_due course.version others (next_by old e a.reply));
+    } in
+    subst There (sym a.new_is) there
+
+-- and it is told
+pub applies-leads : (report : Report) (contents : Option Contents) (folder : List ℕ) (limit : ℕ) (reported reported_now : ℕ) (before now : Stage) → IsApplied contents folder limit before now →
+    TellsStepBy report reported (step_between before now) before.output now.output (Ok reported_now) → Goes (environment report contents folder limit) reported reported_now before now
+applies-leads report contents folder limit reported reported_now before now is tells = record {
+  leads = λ course begun start is_mapped under_way.
+      let x = under_way.leads in
+      let on = applies-on report contents folder limit before now is course reported start is_mapped x in
+      record {
         leads = record {
-          made = made;
-          explained = next.explained;
-          counted = subst Counted a.new_is (counted_applying contents folder start.counts before now leads.made old new applied a rises leads.counted);
-          documents = documents-apply judgement e a.reply (reply_gives contents folder e.entity _ a.reply a.is_reply) old.played leads.documents;
-          says = λ others agree. leads.says others (next.agree_before others agree);
-          roomed = λ others agree.
-              let same : next_by old e a.reply ≡ after_applying others old (Some e) = next.is_next others agree ∙ ap (after_applying others old) a.due in
-              let needed_now : List ℕ = needed_by course.version others old.played.records e (record_of old.played.records e.entity) in
-              next_met limit (needed_by_due course.version others (next_by old e a.reply)) (course.needed others) needed_now (needed_by_due course.version others old)
-              (due-some course.version others old e a.due ∙ ap (λ w. needed_now ++ needed_by_due course.version others w) (sym same))
-              (room_replied old e limit course.version a.reply others same (has_room course.version is_mapped))
-              (leads.roomed others (next.agree_before others agree));
+          made = on.made;
+          explained = on.explained;
+          counted = on.counted;
+          documents = on.documents;
+          says = λ others agree. reported_next report course reported reported_now start before now (step_between before now) others (on.first others agree) tells (x.says others (on.agree_before others agree));
+          roomed = on.roomed;
         };
         steps = suc under_way.steps;
-        is = λ others agree. next.is_next others agree ∙ ap (after_next others) (under_way.is others (next.agree_before others agree));
-      } in
-      subst There (sym a.new_is) there;
+        is = λ others agree. on.is_next others agree ∙ ap (after_next others) (under_way.is others (on.agree_before others agree));
+      };
+  answered = λ answers. still_answered report reported reported_now _ before.output now.output answers tells;
 }
 
 -- before the first event
-pub goes-nowhere : (environment : Environment) (mapped : Mapped) (now : SourceCounts) (world : ReplayState) → Goes environment mapped now now world world
-goes-nowhere environment mapped now world = record { leads = λ course begun start s is_mapped under_way. under_way }
+pub goes-nowhere : (environment : Environment) (reported : ℕ) (now : Stage) → Goes environment reported reported now now
+goes-nowhere environment reported now = record { leads = λ course begun start is_mapped under_way. under_way; answered = λ answers. refl }
 
 -- some events, and then more
-pub goes-further : (environment : Environment) (mapped mapped_then : Mapped) (before between now : SourceCounts) (old middle new : ReplayState) → KeepsVersion mapped mapped_then old.played.records middle.played.records →
-    Goes environment mapped before between old middle → Goes environment mapped_then between now middle new → Goes environment mapped before now old new
-goes-further environment mapped mapped_then before between now old middle new keeps first by_two = record {
-  leads = λ course begun start s is_mapped under_way. by_two.leads course begun start s (keeps course.version is_mapped) (first.leads course begun start s is_mapped under_way);
+pub goes-further : (environment : Environment) (reported between reported_now : ℕ) (before middle now : Stage) → KeepsVersion before.mapped middle.mapped before.world.played.records middle.world.played.records →
+    Goes environment reported between before middle → Goes environment between reported_now middle now → Goes environment reported reported_now before now
+goes-further environment reported between reported_now before middle now keeps first then = record {
+  leads = λ course begun start is_mapped under_way. then.leads course begun start (keeps course.version is_mapped) (first.leads course begun start is_mapped under_way);
+  answered = λ answers. then.answered answers ∙ first.answered answers;
 }
 
 -- a source was asked further, twice
@@ -217,36 +282,39 @@ pub no_call : (counts : SourceCounts) → Lasts OutOfMemory counts counts
 no_call counts = record { calls = inl refl; faults = omega arith; misses = omega arith }
 
 -- no event is left: the last call has made no fetch
-pub none_due : (environment : Environment) (mapped : Mapped) (before now last : SourceCounts) (old world new : ReplayState) → Goes environment mapped before now old world → last.calls ≡ now.calls → now.faults ≤ last.faults → now.misses ≤ last.misses →
-    new ≡ world → first_due world.buffer ≡ None → AppliesDue environment mapped before last old new
-none_due environment mapped before now last old world new goes calls faults misses same none = rw same (record {
-  leads = λ course start s is_mapped leads.
-      let there = (goes.leads course (λ replies. old) start s is_mapped (record { leads = leads; steps = 0; is = λ others agree. refl })).leads in
+pub none_due : (environment : Environment) (reported reported_now : ℕ) (before : Stage) (out : Output) (now last : SourceCounts) (world new : WorldState) → Goes environment reported reported_now before (stage_in out now world) →
+    last.calls ≡ now.calls → now.faults ≤ last.faults → now.misses ≤ last.misses → new ≡ world → first_due world.replay.buffer ≡ None → AppliesDue environment reported reported_now before (stage_in out last new)
+none_due environment reported reported_now before out now last world new goes calls faults misses same none = rw same (record {
+  leads = λ course start is_mapped leads.
+      let there = (goes.leads course (λ replies. before.world) start is_mapped (record { leads = leads; steps = 0; is = λ others agree. refl })).leads in
       record {
         made = there.made;
         explained = there.explained;
         counted = counted_on start.counts now last _ _ _ (calls ∙ there.counted.calls) faults misses there.counted;
         documents = there.documents;
-        says = there.says;
+        says = λ others agree. reported_still environment.report course course reported_now start (stage_in out now world) (stage_in out last world) others refl (λ answers. refl) (λ changes first is. is) (there.says others agree);
         roomed = there.roomed;
       };
   rests = none;
+  answered = goes.answered;
 })
 
 -- a world that is under way in a play is where some of its due events were applied, after a call that applied nothing too
-pub within : (why : Unapplied) (environment : Environment) (course : Course) (begun : Replies → ReplayState) (start now : Stage) (counts : SourceCounts) → Lasts why now.counts counts → IsUnderWay environment course begun start now →
-    IsWithin why environment course begun start (onward now counts now.world)
-within why environment course begun start now counts last under_way =
+pub within : (why : Unapplied) (environment : Environment) (course : Course) (begun : Replies → ReplayState) (reported : ℕ) (start now : Stage) (counts : SourceCounts) → Lasts why now.counts counts → IsUnderWay environment course begun reported start now →
+    IsWithin (NotApplied why) environment course begun start (onward now counts now.world)
+within why environment course begun reported start now counts last under_way =
     let honest : (contents : ℕ → Option Bytes) → environment.known ≡ Some contents → AgreeOnApplied now.world under_way.leads.explained.replies (replies_there contents now.world) =
     λ contents is q r h. sym (under_way.leads.explained.honest contents is q r) in
+    let says : (others : Replies) → AgreeOnApplied now.world under_way.leads.explained.replies others → HasReported environment.report course reported start (onward now counts now.world) others =
+    λ others agree. reported_still environment.report course course reported start now (onward now counts now.world) others refl (λ answers. refl) (λ changes first is. is) (under_way.leads.says others agree) in
     record {
       steps = under_way.steps;
       replies = under_way.leads.explained.replies;
       fit = under_way.leads.explained.fit;
       is = under_way.is under_way.leads.explained.replies (λ q r h. refl);
-      says = under_way.leads.says under_way.leads.explained.replies (λ q r h. refl);
+      says = (reported, says under_way.leads.explained.replies (λ q r h. refl));
       source = λ contents is. under_way.is (replies_there contents now.world) (honest contents is);
-      source_says = λ contents is. under_way.leads.says (replies_there contents now.world) (honest contents is);
+      source_says = λ contents is. (reported, says (replies_there contents now.world) (honest contents is));
       roomed = under_way.leads.roomed under_way.leads.explained.replies (λ q r h. refl);
       source_roomed = λ contents is. under_way.leads.roomed (replies_there contents now.world) (honest contents is);
       documents = under_way.leads.documents;
@@ -256,42 +324,81 @@ within why environment course begun start now counts last under_way =
       counted = counted_last why start.counts now.counts counts under_way.leads.made now.world.played.side last under_way.leads.counted;
     }
 
+-- an event was applied, and isn't told wholly
+within_untold : (report : Report) (why : Unwritten) (contents : Option Contents) (folder : List ℕ) (limit : ℕ) (course : Course) (begun : Replies → ReplayState) (reported : ℕ) (start before now : Stage) →
+    (u : IsUnderWay (environment report contents folder limit) course begun reported start before) → LeadsOn (environment report contents folder limit) course reported start before now u.leads →
+    TellsStepBy report reported (step_between before now) before.output now.output (Err why) → IsWithin (Untold why) (environment report contents folder limit) course begun start now
+within_untold report why contents folder limit course begun reported start before now u on tells =
+    let honest : (there : ℕ → Option Bytes) → (environment report contents folder limit).known ≡ Some there → AgreeOnApplied now.world on.explained.replies (replies_there there now.world) =
+    λ there is q r h. sym (on.explained.honest there is q r) in
+    let is : (others : Replies) → AgreeOnApplied now.world on.explained.replies others → now.world ≡ after_some others (suc u.steps) (begun others) =
+    λ others agree. on.is_next others agree ∙ ap (after_next others) (u.is others (on.agree_before others agree)) in
+    let says : (others : Replies) → AgreeOnApplied now.world on.explained.replies others → HasReportedAt (Untold why) report course start now others =
+    λ others agree. reported_but_last report why course reported start before now (step_between before now) others (on.first others agree) tells (u.leads.says others (on.agree_before others agree)) in
+    record {
+      steps = suc u.steps;
+      replies = on.explained.replies;
+      fit = on.explained.fit;
+      is = is on.explained.replies (λ q r h. refl);
+      says = says on.explained.replies (λ q r h. refl);
+      source = λ there given. is (replies_there there now.world) (honest there given);
+      source_says = λ there given. says (replies_there there now.world) (honest there given);
+      roomed = on.roomed on.explained.replies (λ q r h. refl);
+      source_roomed = λ there given. on.roomed (replies_there there now.world) (honest there given);
+      documents = on.documents;
+      made = on.made;
+      fetched = on.explained.counts on.explained.replies (λ q r h. refl);
+      source_fetched = λ there given. on.explained.counts (replies_there there now.world) (honest there given);
+      counted = on.counted;
+    }
+
 -- it is so whatever the versions are by which the pages are mapped
-pub within_mapped : (why : Unapplied) (environment : Environment) (course : Course) (begun : Replies → ReplayState) (start now : Stage) (mapped : Mapped) → IsWithin why environment course begun start now →
-    IsWithin why environment course begun start (with_mapped now mapped)
-within_mapped why environment course begun start now mapped x = record {
-  steps = x.steps;
-  replies = x.replies;
-  fit = x.fit;
-  is = x.is;
-  says = x.says;
-  source = x.source;
-  source_says = x.source_says;
-  roomed = x.roomed;
-  source_roomed = x.source_roomed;
-  documents = x.documents;
-  made = x.made;
-  fetched = x.fetched;
-  source_fetched = x.source_fetched;
-  counted = x.counted;
-}
+pub within_mapped : (why : Unapplied) (environment : Environment) (course : Course) (begun : Replies → ReplayState) (start now : Stage) (mapped : Mapped) → IsWithin (NotApplied why) environment course begun start now →
+    IsWithin (NotApplied why) environment course begun start (with_mapped now mapped)
+within_mapped why environment course begun start now mapped x =
+    let says : (reported : ℕ) (others : Replies) → HasReported environment.report course reported start now others → HasReported environment.report course reported start (with_mapped now mapped) others =
+    λ reported others. reported_still environment.report course course reported start now (with_mapped now mapped) others refl (λ answers. refl) (λ changes first is. is) in
+    record {
+      steps = x.steps;
+      replies = x.replies;
+      fit = x.fit;
+      is = x.is;
+      says = (x.says.0, says x.says.0 x.replies x.says.1);
+      source = x.source;
+      source_says = λ contents is. ((x.source_says contents is).0, says (x.source_says contents is).0 (replies_there contents now.world) (x.source_says contents is).1);
+      roomed = x.roomed;
+      source_roomed = x.source_roomed;
+      documents = x.documents;
+      made = x.made;
+      fetched = x.fetched;
+      source_fetched = x.source_fetched;
+      counted = x.counted;
+    }
 
 -- an event isn't applied: the world is that before
-pub starved : (why : Unapplied) (environment : Environment) (mapped : Mapped) (before now last : SourceCounts) (old world new : ReplayState) → Goes environment mapped before now old world → Lasts why now last → new ≡ world →
-    StaysWithin why environment mapped before last old new
-starved why environment mapped before now last old world new goes lasts same =
-    rw same (λ course begun start s is_mapped under_way. within why environment course begun start (onward s now world) last lasts (goes.leads course begun start s is_mapped under_way))
+pub starved : (why : Unapplied) (environment : Environment) (reported reported_now : ℕ) (before : Stage) (out : Output) (now last : SourceCounts) (world new : WorldState) → Goes environment reported reported_now before (stage_in out now world) →
+    Lasts why now last → new ≡ world → StaysWithin (NotApplied why) environment reported before (stage_in out last new)
+starved why environment reported reported_now before out now last world new goes lasts same =
+    rw same (λ course begun start is_mapped under_way. within why environment course begun reported_now start (stage_in out now world) last lasts (goes.leads course begun start is_mapped under_way))
+
+-- an event is applied, and isn't told wholly
+pub untold : (report : Report) (why : Unwritten) (contents : Option Contents) (folder : List ℕ) (limit : ℕ) (reported between : ℕ) (before middle now : Stage) → KeepsVersion before.mapped middle.mapped before.world.played.records middle.world.played.records →
+    Goes (environment report contents folder limit) reported between before middle → IsApplied contents folder limit middle now → TellsStepBy report between (step_between middle now) middle.output now.output (Err why) →
+    StaysWithin (Untold why) (environment report contents folder limit) reported before now
+untold report why contents folder limit reported between before middle now keeps goes is tells = λ course begun start is_mapped under_way.
+    let u = goes.leads course begun start is_mapped under_way in
+    within_untold report why contents folder limit course begun between start middle now u (applies-on report contents folder limit middle now is course between start (keeps course.version is_mapped) u.leads) tells
 
 -- where the world says that there is no room, the store is full
-full_there : (contents : Option Contents) (folder : List ℕ) (limit : ℕ) (x : EntityId) (r : ℕ) (bytes : Bytes) → IsReply contents folder x r (Ok bytes) → (there : ℕ → Option Bytes) →
-    (environment contents folder limit).known ≡ Some there → there r ≡ Some bytes
-full_there None folder limit x r bytes is there known = cc
-full_there (Some c) folder limit x r bytes is there known =
+full_there : (report : Report) (contents : Option Contents) (folder : List ℕ) (limit : ℕ) (x : EntityId) (r : ℕ) (bytes : Bytes) → IsReply contents folder x r (Ok bytes) → (there : ℕ → Option Bytes) →
+    (environment report contents folder limit).known ≡ Some there → there r ≡ Some bytes
+full_there report None folder limit x r bytes is there known = cc
+full_there report (Some c) folder limit x r bytes is there known =
     let same : c folder ≡ there = cc in
     ap (λ (f : ℕ → Option Bytes). f r) (sym same) ∙ is.1
 
-pub is_full : (contents : Option Contents) (folder : List ℕ) (limit : ℕ) (old new : WorldState) → old.limit ≡ limit → new ≡ old → IsOverfull contents folder old → IsFull (environment contents folder limit) new.replay (mapped_in new)
-is_full contents folder limit old new same stays over =
+pub is_full : (report : Report) (contents : Option Contents) (folder : List ℕ) (limit : ℕ) (old new : WorldState) → old.limit ≡ limit → new ≡ old → IsOverfull contents folder old → IsFull (environment report contents folder limit) new.replay (mapped_in new)
+is_full report contents folder limit old new same stays over =
     let Over : ℕ → Type 0 = λ n. HasNoRoom n old.replay.played.records (mapped_in old) over.event.entity (revision_wanted old.replay over.event) over.bytes in
     rw stays (record {
       event = over.event;
@@ -299,6 +406,6 @@ is_full contents folder limit old new same stays over =
       fetches = over.wanted;
       bytes = over.bytes;
       document = over.is_reply.0;
-      there = full_there contents folder limit over.event.entity _ over.bytes over.is_reply;
+      there = full_there report contents folder limit over.event.entity _ over.bytes over.is_reply;
       over = subst Over same over.over;
     })

@@ -9,11 +9,11 @@ use Rattle.reorder_buffer.specs.Buffered.{first_due}
 use Rattle.replay_model.specs.Acceptance.{due, known, late, version_in_force}
 use Rattle.replay_model.specs.Entries.{has_open_revision, late_events}
 use Rattle.replay_model.specs.Fate.{events_of, fate, in_order}
-use Rattle.replay_model.specs.Records.{Bytes, is_settled, record_of}
+use Rattle.replay_model.specs.Records.{Bytes, Records, is_settled, record_of}
 use Rattle.replay_model.specs.Play.{Played, Replies, played}
 use Rattle.replay_model.specs.Replies.{HoldsWhatIsThere, TellsWhatIsThere, failed_events, source_replies}
 use Rattle.replay_model.specs.ReplayState.{ReplayState, following_to_end}
-use Rattle.replay_model.specs.Transcript.{Sections, closing_text, said, transcript}
+use Rattle.replay_model.specs.Transcript.{Sections, closing_text, said}
 use Rattle.replay_model.proofs.Explaining.{Explained-fetches, Explained-is, Explained-source, Explained-source_fetches}
 use Rattle.replay_model.proofs.RecordOf.{state-played}
 use Rattle.replay_model.proofs.Known.{fate-known}
@@ -31,34 +31,42 @@ use Rattle.transcript.specs.Printing.{Output, Prints}
 use Rattle.transcript.specs.Sections.{closing_of}
 use Rattle.transcript.proofs.Parts.{after_twice}
 use Rattle.session.specs.Counts.{RoseBy, HasCounted}
-use Rattle.session.specs.Headline.{BrokenOff, Ending, HasFates, HasReplayed, HoldsRightly, IsFunction, IsInterrupted, IsPlayed, IsReplayed, NamesRightly, StandsAtMapping, Stopped}
+use Rattle.session.specs.Course.{Course, course_printed, course_to_end}
+use Rattle.session.specs.Headline.{BrokenOff, Ending, HasFates, HasReplayed, HoldsRightly, IsFunction, IsInterrupted, IsPlayed, IsReplayed, NamesRightly, StandsAtMapping, StandsAtPage, Stopped}
 use Rattle.session.specs.Moment.{Moment, Run, Environment, Stage, with_output, horizon_at}
 use Rattle.session.specs.Reading.{AreDeliveries}
 use Rattle.session.specs.Remapping.{IsLeftStale, Mapped, held_triples, mapped_by}
 use Rattle.session.specs.Sections.{sections_of}
-use Rattle.session.specs.Stop.{stop_of_unapplied, stop_of_unwritten}
+use Rattle.session.specs.Report.{bytes_of}
+use Rattle.session.specs.Stop.{stop_of_halt, stop_of_unapplied, stop_of_unwritten}
 use Rattle.session.specs.Stops.{IsHalted}
+use Rattle.session.specs.declared.report.Report.{Report}
+use Rattle.session.specs.declared.report.Report.TheVariants.{Answers, Changes}
+use Rattle.session.specs.declared.stop.Halt.{Halt}
+use Rattle.session.specs.declared.stop.Halt.TheVariants.{Unapplied as NotApplied, Untold}
 use Rattle.session.specs.declared.stop.Unapplied.{Unapplied}
 use Rattle.session.specs.declared.stop.Unapplied.TheVariants.{StoreFull as NoRoom, OutOfMemory as Starved}
-use Rattle.session.specs.Taking.{AtEnd, Course, HoldsDocuments, IsHeldUp, Leads, course_printed, course_to_end, judgement, replies_there, said_behind}
+use Rattle.session.specs.Taking.{AtEnd, HoldsDocuments, IsHeldUp, IsLeft, Leads, judgement, replies_there}
 use Rattle.words.specs.Options.{max_bytes_of}
 use Rattle.session.proofs.Needed.{all_met, due-none}
+use Rattle.session.proofs.Reports.{all_reported}
 use Rattle.session.proofs.Versions.{all_held_by}
 
 -- where no event is due, a world that leads to a play is played
-abbrev pub is_played : (environment : Environment) (course : Course) (start now : Stage) → Leads environment course start now → first_due now.world.buffer ≡ None → now.mapped ≡ mapped_by course.version now.world.played.records →
+abbrev pub is_played : (environment : Environment) (course : Course) (reported : ℕ) (start now : Stage) → Leads environment course reported start now → first_due now.world.buffer ≡ None → now.mapped ≡ mapped_by course.version now.world.played.records →
     IsPlayed environment course start now
-is_played environment course start now x rests mapped = record {
+is_played environment course reported start now x rests mapped = record {
   replies = x.explained.replies;
   fit = x.explained.fit;
   is = Explained-is judgement environment.known course.state course.fetched x.made now.world x.explained rests;
-  says = x.says x.explained.replies (λ q r h. refl);
+  says = all_reported environment.report course reported start now x.explained.replies rests (x.says x.explained.replies (λ q r h. refl));
   roomed = all_met environment.limit _ _ (due-none course.version x.explained.replies now.world rests) (x.roomed x.explained.replies (λ q r h. refl));
   documents = x.documents;
   mapped = mapped;
   counted = subst (λ (n : ℕ). HasCounted start.counts now.counts n now.world.played.side) (Explained-fetches judgement environment.known course.state course.fetched x.made now.world x.explained rests) x.counted;
   source = Explained-source judgement environment.known course.state course.fetched x.made now.world x.explained rests;
-  source_says = λ contents is. x.says (replies_there contents now.world) (λ q r h. sym (x.explained.honest contents is q r));
+  source_says = λ contents is.
+      all_reported environment.report course reported start now (replies_there contents now.world) rests (x.says (replies_there contents now.world) (λ q r h. sym (x.explained.honest contents is q r)));
   source_roomed = λ contents is.
       all_met environment.limit _ _ (due-none course.version (replies_there contents now.world) now.world rests) (x.roomed (replies_there contents now.world) (λ q r h. sym (x.explained.honest contents is q r)));
   source_counted = λ contents is.
@@ -96,9 +104,9 @@ module _ (environment : Environment) (hz : Option ℕ) (ds : List Delivery) (wor
   }
 
 -- at the end the world has the states, holds and names what it should
-is_replayed : (environment : Environment) (ds : List Delivery) (start now : Stage) → AtEnd environment ds start now → IsReplayed environment (course_to_end ds start) ds start now
-is_replayed environment ds start now at_end =
-    let play : IsPlayed environment (course_to_end ds start) start now = is_played environment (course_to_end ds start) start now at_end.leads at_end.rests at_end.mapped in
+is_replayed : (environment : Environment) (ds : List Delivery) (reported : ℕ) (start now : Stage) → AtEnd environment ds reported start now → IsReplayed environment (course_to_end ds start) ds start now
+is_replayed environment ds reported start now at_end =
+    let play : IsPlayed environment (course_to_end ds start) start now = is_played environment (course_to_end ds start) reported start now at_end.leads at_end.rests at_end.mapped in
     let whole : played (horizon_at start) true play.replies ds ≡ now.world.played = ap (λ (w : ReplayState). w.played) (sym play.is) in
     let source : (contents : ℕ → Option Bytes) → environment.known ≡ Some contents → played (horizon_at start) true (replies_there contents now.world) ds ≡ now.world.played =
     λ contents is. ap (λ (w : ReplayState). w.played) (sym (play.source contents is)) in
@@ -110,8 +118,8 @@ is_replayed environment ds start now at_end =
     }
 
 -- the same, of an input that was read
-pub replayed : (run : Run) (before now : Moment) (ds : List Delivery) → IsAtEnd now.input.left → IfSome before.input.left (λ bytes. AreDeliveries (max_bytes_of run.choices) bytes ds) → AtEnd run.environment ds before.stage now.stage → HasReplayed run before now
-replayed run before now ds read are at_end = record { deliveries = ds; read = read; are = are; replay = is_replayed run.environment ds before.stage now.stage at_end }
+pub replayed : (run : Run) (before now : Moment) (ds : List Delivery) (reported : ℕ) → IsAtEnd now.input.left → IfSome before.input.left (λ bytes. AreDeliveries (max_bytes_of run.choices) bytes ds) → AtEnd run.environment ds reported before.stage now.stage → HasReplayed run before now
+replayed run before now ds reported read are at_end = record { deliveries = ds; read = read; are = are; replay = is_replayed run.environment ds reported before.stage now.stage at_end }
 
 -- no fetch failed where the count of faults stands still below its last value
 pub none_failed : (failed : List Event) (before now : ℕ) → RoseBy (length failed) before now → now ≡ before → now < 2 ^ 64 - 1 → failed ≡ []
@@ -125,43 +133,46 @@ prints_asked version sections wanted mapped p old new result same by prints =
     let Printed : Sections → List Triple → Type 0 = λ s triples. Prints (closing_of triples s p) old new result in
     subst (λ s. Printed s (union triple_cmp (meaning version) p.records)) same (subst (Printed sections) (all_held_by version mapped p.records by) prints)
 
--- the sections were printed behind the answers
-module _ (environment : Environment) (sections : Sections) (ds : List Delivery) (start now : Stage) (out : Output) (replay : IsReplayed environment (course_to_end ds start) ds start now)
-    (prints : Prints (closing_text meaning (version_in_force ds) sections now.world.played) now.output out (Ok tt)) where
-  -- the answers and the sections are the transcript
-  transcribed : (replies : Replies) → now.world ≡ following_to_end (horizon_at start) replies ds → now.output.bytes ≡ said_behind ds start replies → out.bytes ≡ after_known start.output.bytes (transcript meaning (horizon_at start) sections replies ds)
-  transcribed replies is says =
-      prints.outcome ∙ ap (λ b. after_known b (closing_text meaning (version_in_force ds) sections now.world.played)) says
-      ∙ after_twice start.output.bytes (said meaning (horizon_at start) replies ds) (closing_text meaning (version_in_force ds) sections now.world.played)
-      ∙ ap (λ (w : ReplayState). after_known start.output.bytes (said meaning (horizon_at start) replies ds ++ closing_text meaning (version_in_force ds) sections w.played)) is
+-- what the output has where questions are answered
+bytes_answered : (report : Report) (course : Course) (start : Stage) (replies : Replies) → report ≡ Answers → bytes_of report course start replies ≡ course.bytes replies
+bytes_answered report course start replies answers = ap (λ r. bytes_of r course start replies) answers
 
+-- and where changes are reported: the sections are none of it
+bytes_told : (report : Report) (sections : Sections) (ds : List Delivery) (start : Stage) (replies : Replies) → report ≡ Changes → bytes_of report (course_to_end ds start) start replies ≡ bytes_of report (course_printed sections ds start) start replies
+bytes_told report sections ds start replies changes =
+    ap (λ r. bytes_of r (course_to_end ds start) start replies) changes ∙ ap (λ r. bytes_of r (course_printed sections ds start) start replies) (sym changes)
+
+-- where the output has what is reported of the play and its sections, all that a run leaves is there
+module _ (environment : Environment) (sections : Sections) (ds : List Delivery) (start now : Stage) (out : Output) (replay : IsReplayed environment (course_to_end ds start) ds start now)
+    (says : (replies : Replies) → now.world ≡ following_to_end (horizon_at start) replies ds → now.output.bytes ≡ bytes_of environment.report (course_to_end ds start) start replies →
+    out.bytes ≡ bytes_of environment.report (course_printed sections ds start) start replies) where
   -- the same, with the replies of what is there
-  transcribed_there : (contents : ℕ → Option Bytes) → environment.known ≡ Some contents → out.bytes ≡ after_known start.output.bytes (transcript meaning (horizon_at start) sections (replies_there contents now.world) ds)
-  transcribed_there contents is = transcribed (replies_there contents now.world) (replay.played.source contents is) (replay.played.source_says contents is)
+  says_there : (contents : ℕ → Option Bytes) → environment.known ≡ Some contents → out.bytes ≡ bytes_of environment.report (course_printed sections ds start) start (replies_there contents now.world)
+  says_there contents is = says (replies_there contents now.world) (replay.played.source contents is) (replay.played.source_says contents is)
 
   -- where no fetch failed, world and output are functions of the sections, the deliveries and the contents
-  pub is_function : IsFunction environment sections ds start (with_output now out)
+  is_function : IsFunction environment sections ds start (with_output now out)
   is_function =
       let none = none_failed (failed_events now.world.played.side) start.counts.faults now.counts.faults replay.played.counted.failed in
       record {
         world_is = λ contents is same below. replay.played.source contents is ∙ ap (λ failed. following_to_end (horizon_at start) (source_replies judgement contents failed) ds) (none same below);
-        output_is = λ contents is same below. transcribed_there contents is ∙ ap (λ failed. after_known start.output.bytes (transcript meaning (horizon_at start) sections (source_replies judgement contents failed) ds)) (none same below);
+        output_is = λ contents is same below. says_there contents is ∙ ap (λ failed. bytes_of environment.report (course_printed sections ds start) start (source_replies judgement contents failed)) (none same below);
       }
 
-  -- the play says the transcript
-  pub all_printed : IsReplayed environment (course_printed sections ds start) ds start (with_output now out)
+  -- the play says all of it
+  all_printed : IsReplayed environment (course_printed sections ds start) ds start (with_output now out)
   all_printed = record {
     played = record {
       replies = replay.played.replies;
       fit = replay.played.fit;
       is = replay.played.is;
-      says = transcribed replay.played.replies replay.played.is replay.played.says;
+      says = says replay.played.replies replay.played.is replay.played.says;
       roomed = replay.played.roomed;
       documents = replay.played.documents;
       mapped = replay.played.mapped;
       counted = replay.played.counted;
       source = replay.played.source;
-      source_says = transcribed_there;
+      source_says = says_there;
       source_roomed = replay.played.source_roomed;
       source_counted = replay.played.source_counted;
     };
@@ -170,39 +181,65 @@ module _ (environment : Environment) (sections : Sections) (ds : List Delivery) 
     names = replay.names;
   }
 
--- a run ended well
-pub ending : (run : Run) (before now : Moment) (out : Output) (replayed : HasReplayed run before now) → Prints (closing_text meaning (version_in_force replayed.deliveries) (sections_of run.choices) now.stage.world.played) now.stage.output out (Ok tt) →
-    Ending run before (record now { stage = with_output now.stage out })
-ending run before now out replayed prints =
+ended : (run : Run) (before now : Moment) (out : Output) (replayed : HasReplayed run before now) →
+    ((replies : Replies) → now.stage.world ≡ following_to_end (horizon_at before.stage) replies replayed.deliveries → now.stage.output.bytes ≡ bytes_of run.environment.report (course_to_end replayed.deliveries before.stage) before.stage replies →
+    out.bytes ≡ bytes_of run.environment.report (course_printed (sections_of run.choices) replayed.deliveries before.stage) before.stage replies) → Ending run before (record now { stage = with_output now.stage out })
+ended run before now out replayed says =
     let sections : Sections = sections_of run.choices in
     record {
-      replayed = record { deliveries = replayed.deliveries; read = replayed.read; are = replayed.are; replay = all_printed run.environment sections replayed.deliveries before.stage now.stage out replayed.replay prints };
-      function = is_function run.environment sections replayed.deliveries before.stage now.stage out replayed.replay prints;
+      replayed = record { deliveries = replayed.deliveries; read = replayed.read; are = replayed.are; replay = all_printed run.environment sections replayed.deliveries before.stage now.stage out replayed.replay says };
+      function = is_function run.environment sections replayed.deliveries before.stage now.stage out replayed.replay says;
     }
+
+-- a run ended well that answered questions: the answers and the sections are the transcript
+pub ending : (run : Run) (before now : Moment) (out : Output) → run.environment.report ≡ Answers → (replayed : HasReplayed run before now) →
+    Prints (closing_text meaning (version_in_force replayed.deliveries) (sections_of run.choices) now.stage.world.played) now.stage.output out (Ok tt) → Ending run before (record now { stage = with_output now.stage out })
+ending run before now out answers replayed prints =
+    let ds : List Delivery = replayed.deliveries in
+    let start : Stage = before.stage in
+    let sections : Sections = sections_of run.choices in
+    ended run before now out replayed (λ replies is says.
+    prints.outcome ∙ ap (λ b. after_known b (closing_text meaning (version_in_force ds) sections now.stage.world.played)) (says ∙ bytes_answered run.environment.report (course_to_end ds start) start replies answers)
+    ∙ after_twice start.output.bytes (said meaning (horizon_at start) replies ds) (closing_text meaning (version_in_force ds) sections now.stage.world.played)
+    ∙ ap (λ (w : ReplayState). after_known start.output.bytes (said meaning (horizon_at start) replies ds ++ closing_text meaning (version_in_force ds) sections w.played)) is
+    ∙ sym (bytes_answered run.environment.report (course_printed sections ds start) start replies answers))
+
+-- a run ended well that reported changes
+pub ending_told : (run : Run) (before now : Moment) → run.environment.report ≡ Changes → HasReplayed run before now → Ending run before now
+ending_told run before now changes replayed =
+    ended run before now now.stage.output replayed (λ replies is says. says ∙ bytes_told run.environment.report (sections_of run.choices) replayed.deliveries before.stage replies changes)
 
 -- a count that rose since a later time rose since an earlier one
 pub rose_since : (before between after : ℕ) → before ≤ between → Rose between after → Rose before after
 rose_since before between after earlier rose = omega arith
 
--- not all of the answers or the sections was written
+-- not all of the answers, the sections or the records was written
 pub interrupted : (why : Unwritten) (run : Run) (before now : Moment) (between : Output) → before.stage.output.faults ≤ between.faults → (why ≡ NotWritten → Rose between.faults now.stage.output.faults) → IsInterrupted why run before now →
     Stopped (stop_of_unwritten why) run before now
 interrupted NotWritten run before now between earlier rose stands = (rose_since before.stage.output.faults between.faults now.stage.output.faults earlier (rose refl), stands)
 interrupted Refused run before now between earlier rose stands = inr stands
 
--- not all that was due was applied
-pub halted : (why : Unapplied) (run : Run) (before now : Moment) → IsHeldUp why run.environment now.stage.world now.stage.mapped → IsHalted why run before now → Stopped (stop_of_unapplied why) run before now
-halted NoRoom run before now full stands = inl (full, stands)
-halted Starved run before now held_up stands = inl (inl stands)
+-- not all that was due was applied, or told
+pub halted : (halt : Halt) (run : Run) (before now : Moment) (between : Output) → before.stage.output.faults ≤ between.faults → IsHeldUp halt run.environment between now.stage → IsHalted halt run before now → Stopped (stop_of_halt halt) run before now
+halted (NotApplied NoRoom) run before now between earlier full stands = inl (full, stands)
+halted (NotApplied Starved) run before now between earlier held_up stands = inl (inl stands)
+halted (Untold NotWritten) run before now between earlier rose stands = (rose_since before.stage.output.faults between.faults now.stage.output.faults earlier rose, inr (inl stands))
+halted (Untold Refused) run before now between earlier rose stands = inr (inr (inl stands))
 
 -- not all that is held was mapped anew
 pub left_stale : (why : Unapplied) (run : Run) (before now : Moment) → IsLeftStale why run.environment.limit now.stage.world.played.records now.stage.mapped → StandsAtMapping run before now → Stopped (stop_of_unapplied why) run before now
 left_stale NoRoom run before now full stands = inr (full, stands)
 left_stale Starved run before now stale stands = inl (inr stands)
 
+-- a page was mapped anew, and not told wholly
+pub page_untold : (why : Unwritten) (run : Run) (before now : Moment) (limit : ℕ) (records : Records) (between : Output) → before.stage.output.faults ≤ between.faults →
+    IsLeft (Untold why) limit records now.stage.mapped between now.stage.output → StandsAtPage why run before now → Stopped (stop_of_unwritten why) run before now
+page_untold NotWritten run before now limit records between earlier rose stands = (rose_since before.stage.output.faults between.faults now.stage.output.faults earlier rose, inr (inr stands))
+page_untold Refused run before now limit records between earlier rose stands = inr (inr (inr stands))
+
 -- the sections weren't all written
-pub broken_off : (why : Unwritten) (run : Run) (before now : Moment) (out : Output) (replayed : HasReplayed run before now) → before.stage.output.faults ≤ now.stage.output.faults →
+pub broken_off : (why : Unwritten) (run : Run) (before now : Moment) (out : Output) → run.environment.report ≡ Answers → (replayed : HasReplayed run before now) → before.stage.output.faults ≤ now.stage.output.faults →
     Prints (closing_text meaning (version_in_force replayed.deliveries) (sections_of run.choices) now.stage.world.played) now.stage.output out (Err why) → Stopped (stop_of_unwritten why) run before (record now { stage = with_output now.stage out })
-broken_off why run before now out replayed earlier prints =
-    let broken : BrokenOff why run before (record now { stage = with_output now.stage out }) = record { between = now.stage.output; replayed = replayed; cut_short = prints.outcome } in
-    interrupted why run before (record now { stage = with_output now.stage out }) now.stage.output earlier (λ fault. (prints.outcome.failed fault).1) (inr broken)
+broken_off why run before now out answers replayed earlier prints =
+    let broken : BrokenOff why run before (record now { stage = with_output now.stage out }) = record { answers = answers; between = now.stage.output; replayed = replayed; cut_short = prints.outcome } in
+    interrupted why run before (record now { stage = with_output now.stage out }) now.stage.output earlier (λ fault. (prints.outcome.failed fault).1) (inl (inr broken))

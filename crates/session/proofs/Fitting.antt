@@ -24,6 +24,7 @@ use Rattle.triple_store.specs.Room.{distinct}
 use Rattle.world.specs.WorldState.{with_version_of}
 use Rattle.words.specs.Options.{max_bytes_of}
 use Rattle.session.specs.declared.stop.Stop.TheVariants.{StoreFull}
+use Rattle.session.specs.declared.stop.Halt.TheVariants.{Unapplied as NotApplied}
 use Rattle.session.specs.declared.stop.Unapplied.TheVariants.{StoreFull as NoRoom}
 use Rattle.told_pages.specs.Told.{terms_there, versions_told}
 use Rattle.told_pages.proofs.Fits.{ByTwoTold, fits}
@@ -93,7 +94,7 @@ module _ (run : Run) (before now : Moment) (bytes : List ℕ) (ds : List Deliver
   one_version first b is =
       subst (MappedTold ds) (sym is) (record { version = begins-in_force ds first b; by_two = all_told ds (version_in_force first) records (begins-in_force ds first b) })
 
-  brought_within : StopsWithin NoRoom run before now → Brought
+  brought_within : StopsWithin (NotApplied NoRoom) run before now → Brought
   brought_within s =
       let b = first_begins (max_bytes_of run.choices) before.input.left now.input.left bytes (s.deliveries ++ option_to_list s.last) ds left are s.first in
       record {
@@ -103,7 +104,7 @@ module _ (run : Run) (before now : Moment) (bytes : List ℕ) (ds : List Deliver
         mapped = one_version s.deliveries (begins-fewer ds s.deliveries (option_to_list s.last) b) s.mapped;
       }
 
-  brought_at_end : StopsAtEnd NoRoom run before now → Brought
+  brought_at_end : StopsAtEnd (NotApplied NoRoom) run before now → Brought
   brought_at_end s =
       let all = at_known before.input.left bytes (λ u. AreDeliveries (max_bytes_of run.choices) u s.deliveries) left s.are in
       let same : Some ds ≡ Some s.deliveries = sym are.delivered ∙ all.delivered in

@@ -10,7 +10,9 @@ mod Fitting
 mod Needed
 mod Ongoing
 mod Opening
+mod Pages
 mod Plans
 mod Progress
 mod Reading
+mod Reports
 mod Versions

@@ -195,6 +195,12 @@ applied_has_room contents folder limit old new applied a within version is =
 
 -- ---- one page is mapped anew
 
+-- where the least stale entity's page was mapped anew, the others are left
+pub stale_after : (w : WorldState) → IsRising entity_cmp w.by_two → (x : EntityId) (rest : List EntityId) → stale w ≡ x ∷ rest → stale_by w.mapping (with_version w.mapping x w.by_two) w.replay.played.records ≡ rest
+stale_after w rising x rest is =
+    stale_remapped w.by_two rising x w.mapping w.replay.played.records ∙ ap (remove_key (eq_by_cmp entity_cmp x)) is
+    ∙ ap (λ b. cond b rest (x ∷ remove_key (eq_by_cmp entity_cmp x) rest)) (ap is_eq (tied_itself entity_cmp_total x))
+
 module _ (limit : ℕ) (needs : List ℕ) (w : WorldState) (rising : IsRising entity_cmp w.by_two) where
   abbrev records : Records
   records = w.replay.played.records
@@ -210,11 +216,8 @@ module _ (limit : ℕ) (needs : List ℕ) (w : WorldState) (rising : IsRising en
   first_anew : (x : EntityId) (rest : List EntityId) → stale w ≡ x ∷ rest →
       left_by w.by_two ≡ need x ∷ left_by (with_version w.mapping x w.by_two)
   first_anew x rest is =
-      let others : stale_by w.mapping (with_version w.mapping x w.by_two) records ≡ rest =
-      stale_remapped w.by_two rising x w.mapping records ∙ ap (remove_key (eq_by_cmp entity_cmp x)) is
-      ∙ ap (λ b. cond b rest (x ∷ remove_key (eq_by_cmp entity_cmp x) rest)) (ap is_eq (tied_itself entity_cmp_total x)) in
       ap (needed_by_pages w.mapping records w.by_two) is
-      ∙ ap (λ l. need x ∷ needed_by_pages w.mapping records (with_version w.mapping x w.by_two) l) (sym others)
+      ∙ ap (λ l. need x ∷ needed_by_pages w.mapping records (with_version w.mapping x w.by_two) l) (sym (stale_after w rising x rest is))
 
   -- the page of the least stale entity is mapped anew, and had room
   pub remapped_has_room : room_with (meaning_by meaning w.by_two) records (triples_anew w) ≤ limit → HaveRoomBefore limit (left_by w.by_two) needs → HaveRoomBefore limit (left_by (remapped w).by_two) needs

@@ -38,6 +38,11 @@ module _ {S R K : Type 0} (input : SourceOf S) (source : RevisionsOf R) (sink : 
     out = record { faults = omega (arith, so_far.out.faults, more.faults); most = more.most ∙ so_far.out.most };
   }
 
+  -- what waits at the end is applied and told
+  pub ended_on : (old now : Ports S R K) (revisions : R) (out : K) → HaveGoneOn input source sink old now → HasGoneOn source now.revisions revisions → HasWrittenOn sink now.out out →
+      HaveGoneOn input source sink old (record now { revisions = revisions; out = out })
+  ended_on old now revisions out so_far fetched written = written_on old (record now { revisions = revisions }) out (fetched_on old now revisions so_far fetched) written
+
   -- records are followed
   pub followed_on : (ports : Ports S R K) (events : S) (out : K) → input.faults ports.events ≤ input.faults events → input.most_faults events ≡ input.most_faults ports.events → HasWrittenOn sink ports.out out →
       HaveGoneOn input source sink ports (record ports { events = events; out = out })

@@ -1,5 +1,5 @@
 -- How far the taking of lines has come, and what follows where it goes on, stops or ends.
-use Rattle.std.proofs.Common.{refl, sym, subst, ◌∙◌, ap, inl, ⊎_elim, ◌≡◌, ◌⊎◌, ℕ, ◌+◌, ◌≤◌, true, false, List, [], ◌∷◌, ◌++◌, length, Option, None, Some, IfSome, Ok, Err, arith, append-nil}
+use Rattle.std.proofs.Common.{refl, sym, subst, ◌∙◌, ap, inl, ⊎_elim, ◌≡◌, ◌⊎◌, ℕ, ◌+◌, ◌^◌, ◌≤◌, true, false, List, [], ◌∷◌, ◌++◌, length, filter, Option, None, Some, IfSome, Ok, Err, arith, append-nil}
 use Rattle.wq_io.specs.Streams.{IsAtEnd, LastRead}
 use Rattle.wq_io.specs.Lines.{HasCause, IsSound, Leaves, ReadsAsNeeded, Reading, fresh, longest_line, unread}
 use Rattle.wq_io.specs.declared.lines.LineFault.{LineFault}
@@ -12,11 +12,12 @@ use Rattle.entity_model.specs.declared.mapping.MappingVersion.TheVariants.{One}
 use Rattle.replay_model.specs.Acceptance.{version_in_force}
 use Rattle.replay_model.specs.Versions.{all_by}
 use Rattle.delivery.specs.declared.Delivery.{Delivery}
-use Rattle.delivery.specs.declared.Delivery.TheVariants.{Ask}
+use Rattle.delivery.specs.declared.Delivery.TheVariants.{Event as Told, Watermark, Ask, Mapping}
 use Rattle.event_line.specs.declared.faults.LineCause.{LineCause}
 use Rattle.event_line.specs.Line.{delivery_of}
 use Rattle.entity_state.specs.declared.record.Record.{Record}
-use Rattle.replay_model.specs.Records.{Bytes}
+use Rattle.replay_model.specs.Play.{Replies}
+use Rattle.replay_model.specs.Records.{Bytes, Records}
 use Rattle.replay_model.specs.Replies.{HoldsDocument}
 use Rattle.replay_model.specs.ReplayState.{ReplayState, following, nothing_delivered_within}
 use Rattle.replay_model.specs.Transcript.{ask_section, asks}
@@ -29,51 +30,87 @@ use Rattle.replay_model.proofs.RecordOf.{record_of-empty}
 use Rattle.transcript.specs.declared.write.Unwritten.{Unwritten}
 use Rattle.transcript.specs.Printing.{IsCutShort, Output}
 use Rattle.transcript.proofs.Parts.{after_nothing}
+use Rattle.replica.specs.Record.{record_text}
+use Rattle.reorder_buffer.specs.Watermarks.{is_due}
+use Rattle.patch_stream.specs.Stream.{Step, changes, record_of_step, steps_anew, steps_applied, steps_of_play}
+use Rattle.session.specs.declared.report.Report.{Report}
+use Rattle.session.specs.declared.report.Report.TheVariants.{Answers, Changes}
+use Rattle.session.specs.declared.stop.Halt.{Halt}
+use Rattle.session.specs.declared.stop.Halt.TheVariants.{Unapplied as NotApplied, Untold}
 use Rattle.session.specs.declared.stop.Stop.{Stop}
 use Rattle.session.specs.declared.stop.Stop.TheVariants.{BadLine, OutOfMemory}
-use Rattle.session.specs.declared.stop.Unapplied.{Unapplied}
 use Rattle.session.specs.declared.stop.Unapplied.TheVariants.{StoreFull as NoRoom, OutOfMemory as Starved}
 use Rattle.session.specs.Counts.{SourceCounts}
-use Rattle.session.specs.Headline.{IsPlayedAfter, StandsAtMapping, StandsAtQuestion, Stopped}
+use Rattle.session.specs.Course.{course_after, course_begun, course_remapping}
+use Rattle.session.specs.Headline.{IsPlayed, IsPlayedAfter, StandsAtPage, StandsAtQuestion, Stopped}
 use Rattle.session.specs.Moment.{Input, Moment, Run, Environment, Stage, horizon_at, onward, with_mapped, with_output}
 use Rattle.session.specs.Needed.{HaveRoomBefore, needed_anew}
 use Rattle.session.specs.Reading.{AreFirst, HasRead, TakesByNeed}
-use Rattle.session.specs.Remapping.{Mapped, held_triples, mapped_by, remapped_some}
-use Rattle.session.specs.Stop.{stop_of_fault}
+use Rattle.session.specs.Remapping.{IsLeftStale, Mapped, held_triples, mapped_by, remapped_some}
+use Rattle.session.specs.Report.{BreaksOffBy, HasAnswered, HasNumberLeft, HasReported, TellsBy}
+use Rattle.session.specs.Stop.{stop_of_fault, stop_of_halt}
 use Rattle.session.specs.Stops.{HasTaken, StopsWithin}
-use Rattle.session.specs.Taking.{AnswersInPart, AtRest, CutsOff, IsUntaken, IsWithin, RemapsInPart, TakesDelivery, TakesInPart, course_after, course_begun, judgement, turn}
+use Rattle.session.specs.Taking.{AnswersInPart, AtRest, CutsOff, IsUntaken, IsWithin, RemapsInPart, RemapsPages, TakesDelivery, TakesInPart, judgement, turn}
 use Rattle.words.specs.Options.{max_bytes_of}
-use Rattle.session.proofs.Deliveries.{asks-push, rest_within}
+use Rattle.session.proofs.Deliveries.{asks-push, is_answer, remapping_counted, remapping_leads, rest_within}
 use Rattle.session.proofs.Due.{within_mapped}
-use Rattle.session.proofs.Ends.{halted, interrupted, is_played, left_stale, rose_since}
+use Rattle.session.proofs.Ends.{halted, interrupted, is_played, left_stale, page_untold, rose_since}
 use Rattle.session.proofs.Versions.{all_held_by}
 use Rattle.session.proofs.Reading.{HasLimits, IsNextLine, all_read, as_many, bad_line, first_lines, first_with, nothing_read, nothing_taken_of, over_long, past_limit, read_more, takes_on, whole_read}
 
--- the lines so far were read, the world has taken them, and so many of them asked
-pub record Progress (run : Run) (before now : Moment) (reader : Reading) (asked : ℕ) : Type 0 where
+-- where questions are answered, no more were than lines were read
+abbrev pub FewAnswers : Report → ℕ → ℕ → Type 0
+FewAnswers Answers reported given = reported ≤ given
+FewAnswers Changes reported given = Unit {0}
+
+-- the lines so far were read, the world has taken them, and so many answers or records are written
+pub record Progress (run : Run) (before now : Moment) (reader : Reading) (reported : ℕ) : Type 0 where
   pub deliveries : List Delivery
   pub read : HasRead before.input.left reader now.input.left deliveries
   pub taken : IfSome before.input.left (λ bytes. TakesByNeed (max_bytes_of run.choices) bytes now.input.left)
-  pub at_rest : AtRest run.environment deliveries before.stage now.stage
+  pub at_rest : AtRest run.environment deliveries reported before.stage now.stage
   pub earlier : before.input.faults ≤ now.input.faults
-  pub asked_is : asked ≡ asks deliveries
-  pub few_asked : asked ≤ reader.given
+  pub few : FewAnswers run.environment.report reported reader.given
   pub max : HasLimits (max_bytes_of run.choices) reader
   pub sound : IsSound reader
   pub going : reader.failed ≡ false
   pub ended : reader.ended ≡ true → IsAtEnd now.input.left
 
+-- nothing is reported before the first delivery
+nothing_reported : (report : Report) (s : Stage) (others : Replies) → s.world.buffer.waiting ≡ [] → HasReported report (course_after [] s) 0 s s others
+nothing_reported Answers s others none = sym (after_nothing s.output.bytes)
+nothing_reported Changes s others none = record {
+  steps = [];
+  are = ap (λ es. steps_applied One others s.world.played (filter (is_due s.world.buffer.closed s.world.buffer.mark) es)) none;
+  counted = refl;
+  bytes = sym (after_nothing s.output.bytes);
+}
+
+none_answered : (report : Report) → HasAnswered report 0 []
+none_answered Answers = refl
+none_answered Changes = tt
+
+no_answers : (report : Report) (given : ℕ) → FewAnswers report 0 given
+no_answers Answers given = omega arith
+no_answers Changes given = tt
+
+-- and there is a number for one more
+pub numbers_left : (report : Report) (reported : ℕ) (reader : Reading) {limit : ℕ} → FewAnswers report reported reader.given → IsSound reader → HasLimits limit reader → limit ≤ 2 ^ 40 → HasNumberLeft report reported
+numbers_left Answers reported reader few sound limits bounded = omega (arith, few, sound.counted, sound.bounded, sound.within, limits.bytes, bounded)
+numbers_left Changes reported reader few sound limits bounded = tt
+
 -- before the first delivery a world is at rest
-pub nothing_taken : (environment : Environment) (h : Option ℕ) (output : Output) (counts : SourceCounts) → let s : Stage = record { output = output; counts = counts; world = nothing_delivered_within h; mapped = record { version = One; by_two = [] } } in AtRest environment [] s s
+pub nothing_taken : (environment : Environment) (h : Option ℕ) (output : Output) (counts : SourceCounts) → let s : Stage = record { output = output; counts = counts; world = nothing_delivered_within h; mapped = record { version = One; by_two = [] } } in AtRest environment [] 0 s s
 nothing_taken environment h output counts = record {
   leads = record {
     made = 0;
     explained = Explained-start judgement environment.known h;
     counted = record { calls = sym (risen_by-none counts.calls); failed = λ below. omega arith; missing = λ below. omega arith };
     documents = λ x. subst (λ (r : Record Bytes). HoldsDocument judgement x r.held) (sym (record_of-empty x)) tt;
-    says = λ others agree. sym (after_nothing output.bytes);
+    says = λ others agree. nothing_reported environment.report _ others refl;
     roomed = λ others agree. record { met = []; are = refl; have_room = tt };
   };
+  answered = none_answered environment.report;
   rests = refl;
   mapped = refl;
   later = omega arith;
@@ -91,17 +128,16 @@ nothing_begun run h input output counts = record {
   taken = nothing_taken_of (max_bytes_of run.choices) input.left;
   at_rest = nothing_taken run.environment h output counts;
   earlier = omega arith;
-  asked_is = refl;
-  few_asked = omega arith;
+  few = no_answers run.environment.report 0;
   max = record { bytes = refl; line = refl };
   sound = record { within = omega arith; counted = omega arith; bounded = omega arith; buffered = omega arith };
   going = refl;
   ended = λ never. cc;
 }
 
-module _ (run : Run) (before now : Moment) (reader : Reading) (asked : ℕ) (so_far : Progress run before now reader asked) where
+module _ (run : Run) (before now : Moment) (reader : Reading) (reported : ℕ) (so_far : Progress run before now reader reported) where
   played : IsPlayedAfter run.environment so_far.deliveries before.stage now.stage
-  played = is_played run.environment (course_after so_far.deliveries before.stage) before.stage now.stage so_far.at_rest.leads so_far.at_rest.rests so_far.at_rest.mapped
+  played = is_played run.environment (course_after so_far.deliveries before.stage) reported before.stage now.stage so_far.at_rest.leads so_far.at_rest.rests so_far.at_rest.mapped
 
   -- what was taken, after a call of the reader, whatever it answered
   pub taken_on : (next : Reading) (left_next : Option (List ℕ)) (last last_next : Option LastRead) → ReadsAsNeeded reader next now.input.left left_next last last_next →
@@ -118,11 +154,11 @@ module _ (run : Run) (before now : Moment) (reader : Reading) (asked : ℕ) (so_
 
   -- memory was refused: the world is as it was after the lines so far
   pub stands : (next : Reading) (input : Input) (last last_next : Option LastRead) → ReadsAsNeeded reader next now.input.left input.left last last_next →
-      StopsWithin Starved run before (record now { input = input })
+      StopsWithin (NotApplied Starved) run before (record now { input = input })
   stands next input last last_next reads = record {
     deliveries = so_far.deliveries;
     last = None;
-    within = rest_within run.environment so_far.deliveries before.stage now.stage so_far.at_rest;
+    within = rest_within run.environment so_far.deliveries before.stage now.stage reported so_far.at_rest;
     mapped = so_far.at_rest.mapped;
     first = first_still next input.left last last_next reads;
   }
@@ -145,7 +181,7 @@ module _ (run : Run) (before now : Moment) (reader : Reading) (asked : ℕ) (so_
   fault_stops NoMemory next input last last_next cause leaves reads = inl (inl (inl (stands next input last last_next reads)))
 
   -- at the end of the input all lines were taken
-  pub end_reached : (input : Input) → IsAtEnd input.left → IsAtEnd (unread reader now.input.left) → HasTaken run before (record now { input = input })
+  pub end_reached : (input : Input) → IsAtEnd input.left → IsAtEnd (unread reader now.input.left) → HasTaken run reported before (record now { input = input })
   end_reached input read at_end = record {
     deliveries = so_far.deliveries;
     read = read;
@@ -167,10 +203,7 @@ module _ (run : Run) (before now : Moment) (reader : Reading) (asked : ℕ) (so_
         (λ refused. subst (λ s. Stopped s run before (record now { input = input })) (sym refused) (inl (inl (inl (stands next input last last_next is.reads)))))
         why
 
-    module _ (after : Moment) (d : Delivery) (asked_now : ℕ) (is : IsNextLine line reader next now.input.left after.input.left last last_next) (delivers : delivery_of line ≡ Ok d) (more : asked_now ≡ asked + asks (d ∷ [])) where
-      asked_is : asked_now ≡ asks (so_far.deliveries ++ d ∷ [])
-      asked_is = more ∙ ap (λ n. n + asks (d ∷ [])) so_far.asked_is ∙ sym (asks-push so_far.deliveries d)
-
+    module _ (after : Moment) (d : Delivery) (is : IsNextLine line reader next now.input.left after.input.left last last_next) (delivers : delivery_of line ≡ Ok d) where
       first : AreFirst (max_bytes_of run.choices) before.input.left after.input.left (so_far.deliveries ++ d ∷ [])
       first = first_with (max_bytes_of run.choices) reader now.input.left so_far.deliveries so_far.max so_far.sound line next after.input.left last last_next is before.input.left d so_far.read delivers
 
@@ -183,10 +216,11 @@ module _ (run : Run) (before now : Moment) (reader : Reading) (asked : ℕ) (so_
           (subst (λ c. IsPlayedAfter run.environment so_far.deliveries before.stage (onward now.stage c now.stage.world)) (sym counts) played))
 
       -- a question that isn't answered wholly stops the taking
-      at_question : (why : Unwritten) → AnswersInPart why (turn asked_now d) now.stage after.stage → StandsAtQuestion why run before after
+      at_question : (why : Unwritten) → AnswersInPart why run.environment (turn reported d) now.stage after.stage → StandsAtQuestion why run before after
       at_question why in_part =
           let CutShort : ℕ → List Triple → Type 0 = λ n triples. IsCutShort why (ask_section n (rows triples in_part.pattern)) now.stage.output after.stage.output in
           record {
+            answers = in_part.answers;
             deliveries = so_far.deliveries;
             pattern = in_part.pattern;
             between = now.stage.output;
@@ -194,83 +228,168 @@ module _ (run : Run) (before now : Moment) (reader : Reading) (asked : ℕ) (so_
             cut_short = subst (CutShort (asks so_far.deliveries + 1))
                 (all_held_by (version_in_force so_far.deliveries) now.stage.mapped now.stage.world.played.records so_far.at_rest.mapped
                 ∙ ap (λ (w : ReplayState). union triple_cmp (meaning (version_in_force so_far.deliveries)) w.played.records) (sym in_part.world))
-                (subst (λ n. CutShort n (held_triples now.stage.mapped now.stage.world.played.records))
-                (asked_is ∙ ap (λ q. asks (so_far.deliveries ++ q ∷ [])) in_part.is ∙ asks-push so_far.deliveries (Ask in_part.pattern)) in_part.cut_short);
+                (subst (λ n. CutShort (n + 1) (held_triples now.stage.mapped now.stage.world.played.records))
+                (is_answer so_far.deliveries run.environment.report reported so_far.at_rest.answered in_part.answers) in_part.cut_short);
             first = subst (λ q. AreFirst (max_bytes_of run.choices) before.input.left after.input.left (so_far.deliveries ++ q ∷ [])) in_part.is first;
           }
 
-      -- a delivery wasn't taken wholly, and nothing was printed
-      starves : (why : Unapplied) → TakesInPart why run.environment d now.stage after.stage → StopsWithin why run before after
-      starves why in_part =
+      -- a delivery wasn't taken wholly
+      starves : (halt : Halt) → TakesInPart halt run.environment (turn reported d) now.stage after.stage → StopsWithin halt run before after
+      starves halt in_part =
           let mapped = in_part.mapped (version_in_force so_far.deliveries) so_far.at_rest.mapped in
           ⊎_elim
-          (untaken why mapped)
+          (untaken halt mapped)
           (λ begun. record { deliveries = so_far.deliveries; last = Some d; within = begun; mapped = mapped; first = first })
           (in_part.world so_far.deliveries before.stage so_far.at_rest)
         where
           Within : Stage → Type 0
-          Within s = IsWithin Starved run.environment (course_begun so_far.deliveries None before.stage) (λ replies. following (horizon_at before.stage) replies so_far.deliveries) before.stage s
+          Within s = IsWithin (NotApplied Starved) run.environment (course_begun so_far.deliveries None before.stage) (λ replies. following (horizon_at before.stage) replies so_far.deliveries) before.stage s
 
-          still : after.stage.world ≡ now.stage.world → after.stage.counts ≡ now.stage.counts → Within after.stage
-          still world counts =
-              subst (λ o. Within (with_output after.stage o)) (sym in_part.output)
+          still : after.stage.world ≡ now.stage.world → after.stage.counts ≡ now.stage.counts → after.stage.output ≡ now.stage.output → Within after.stage
+          still world counts output =
+              subst (λ o. Within (with_output after.stage o)) (sym output)
               (subst (λ w. Within (with_mapped (onward now.stage after.stage.counts w) after.stage.mapped)) (sym world)
               (subst (λ c. Within (with_mapped (onward now.stage c now.stage.world) after.stage.mapped)) (sym counts)
-              (within_mapped Starved _ _ _ _ now.stage after.stage.mapped (rest_within run.environment so_far.deliveries before.stage now.stage so_far.at_rest))))
+              (within_mapped Starved _ _ _ _ now.stage after.stage.mapped (rest_within run.environment so_far.deliveries before.stage now.stage reported so_far.at_rest))))
 
-          untaken : (why : Unapplied) → after.stage.mapped ≡ mapped_by (version_in_force so_far.deliveries) after.stage.world.played.records → IsUntaken why now.stage after.stage → StopsWithin why run before after
-          untaken NoRoom mapped never = absurd never
-          untaken Starved mapped same = record {
+          untaken : (halt : Halt) → after.stage.mapped ≡ mapped_by (version_in_force so_far.deliveries) after.stage.world.played.records → IsUntaken halt now.stage after.stage → StopsWithin halt run before after
+          untaken (NotApplied NoRoom) mapped never = absurd never
+          untaken (NotApplied Starved) mapped same = record {
             deliveries = so_far.deliveries;
             last = None;
-            within = still same.0 same.1;
+            within = still same.0 same.1 same.2;
             mapped = mapped;
             first = first_still next after.input.left last last_next is.reads;
           }
+          untaken (Untold why) mapped never = absurd never
 
-      -- not all that is held was mapped anew, and nothing was printed
-      remaps : (why : Unapplied) → RemapsInPart why run.environment d now.stage after.stage → StandsAtMapping run before after
-      remaps why in_part =
-          let v : MappingVersion = version_in_force so_far.deliveries in
-          let start : ReplayState → List EntityId → Mapped = λ w by_two. remapped_some in_part.steps w.played.records (record { version = in_part.version; by_two = by_two }) in
-          record {
-            deliveries = so_far.deliveries;
-            version = in_part.version;
-            steps = in_part.steps;
-            played = subst (λ o. IsPlayedAfter run.environment so_far.deliveries before.stage (with_mapped (with_output after.stage o) (mapped_by v after.stage.world.played.records))) (sym in_part.output)
-                (played_still in_part.world in_part.counts (mapped_by v after.stage.world.played.records) (ap (λ (w : ReplayState). mapped_by v w.played.records) in_part.world ∙ sym so_far.at_rest.mapped));
-            mapped = in_part.mapped
-                ∙ ap (start now.stage.world) (ap (λ (m : Mapped). m.by_two) so_far.at_rest.mapped)
-                ∙ ap (λ (w : ReplayState). start w (all_by v w.played.records)) (sym in_part.world);
-            roomed = subst (λ (w : ReplayState). HaveRoomBefore run.environment.limit (needed_anew w.played.records after.stage.mapped) (needed_anew w.played.records (record { version = in_part.version; by_two = all_by v w.played.records }))) (sym in_part.world)
-                (subst (λ by_two. HaveRoomBefore run.environment.limit (needed_anew now.stage.world.played.records after.stage.mapped) (needed_anew now.stage.world.played.records (record { version = in_part.version; by_two = by_two })))
-                (ap (λ (m : Mapped). m.by_two) so_far.at_rest.mapped) in_part.roomed);
-            first = subst (λ q. AreFirst (max_bytes_of run.choices) before.input.left after.input.left (so_far.deliveries ++ q ∷ [])) in_part.is first;
-          }
+      -- not all that is held was mapped anew, or told
+      remaps : (halt : Halt) → RemapsInPart halt run.environment (turn reported d) now.stage after.stage → Stopped (stop_of_halt halt) run before after
+      remaps halt in_part = by halt in_part.remaps
+        where
+          v : MappingVersion
+          v = version_in_force so_far.deliveries
+
+          records : Records
+          records = after.stage.world.played.records
+
+          -- the play of the deliveries, and of pages behind them that are told, of which these are all records
+          Played : List Step → ℕ → Output → SourceCounts → ReplayState → Type 0
+          Played pages n out c w =
+              (p : IsPlayed run.environment (course_remapping pages so_far.deliveries before.stage) before.stage (record { output = out; counts = c; world = w; mapped = mapped_by v w.played.records }))
+              × (run.environment.report ≡ Changes → n ≡ changes (steps_of_play (horizon_at before.stage) p.replies so_far.deliveries ++ pages))
+
+          played_with : (pages : List Step) (n : ℕ) (out : Output) → TellsBy run.environment.report reported pages n now.stage.output out → Played pages n out after.stage.counts after.stage.world
+          played_with pages n out tells =
+              subst (λ c. Played pages n out c after.stage.world) (sym in_part.counts)
+              (subst (λ w. Played pages n out now.stage.counts w) (sym in_part.world) (
+                is_played run.environment (course_remapping pages so_far.deliveries before.stage) n before.stage (with_mapped (with_output now.stage out) (mapped_by v now.stage.world.played.records))
+                    (remapping_leads run.environment so_far.deliveries before.stage now.stage reported n pages (mapped_by v now.stage.world.played.records) out tells so_far.at_rest) so_far.at_rest.rests refl,
+                remapping_counted run.environment so_far.deliveries before.stage now.stage reported n pages out tells so_far.at_rest,
+              ))
+
+          start : ReplayState → List EntityId → Mapped
+          start w by_two = record { version = in_part.version; by_two = by_two }
+
+          by_two_is : now.stage.mapped.by_two ≡ all_by v now.stage.world.played.records
+          by_two_is = ap (λ (m : Mapped). m.by_two) so_far.at_rest.mapped
+
+          is_mapped : (steps : ℕ) → after.stage.mapped ≡ remapped_some steps now.stage.world.played.records (start now.stage.world now.stage.mapped.by_two) → after.stage.mapped ≡ remapped_some steps records (start after.stage.world (all_by v records))
+          is_mapped steps mapped =
+              mapped ∙ ap (λ by_two. remapped_some steps now.stage.world.played.records (start now.stage.world by_two)) by_two_is
+              ∙ ap (λ (w : ReplayState). remapped_some steps w.played.records (start w (all_by v w.played.records))) (sym in_part.world)
+
+          roomed : HaveRoomBefore run.environment.limit (needed_anew now.stage.world.played.records after.stage.mapped) (needed_anew now.stage.world.played.records (start now.stage.world now.stage.mapped.by_two)) →
+              HaveRoomBefore run.environment.limit (needed_anew records after.stage.mapped) (needed_anew records (start after.stage.world (all_by v records)))
+          roomed have =
+              subst (λ (w : ReplayState). HaveRoomBefore run.environment.limit (needed_anew w.played.records after.stage.mapped) (needed_anew w.played.records (start w (all_by v w.played.records)))) (sym in_part.world)
+              (subst (λ by_two. HaveRoomBefore run.environment.limit (needed_anew now.stage.world.played.records after.stage.mapped) (needed_anew now.stage.world.played.records (start now.stage.world by_two))) by_two_is have)
+
+          left_over : (pages : List Step) → pages ++ steps_anew in_part.version now.stage.world.played.records after.stage.mapped.by_two ≡ steps_anew in_part.version now.stage.world.played.records now.stage.mapped.by_two →
+              pages ++ steps_anew in_part.version records after.stage.mapped.by_two ≡ steps_anew in_part.version records (all_by v records)
+          left_over pages are =
+              ap (λ (w : ReplayState). pages ++ steps_anew in_part.version w.played.records after.stage.mapped.by_two) in_part.world
+              ∙ are
+              ∙ ap (steps_anew in_part.version now.stage.world.played.records) by_two_is
+              ∙ ap (λ (w : ReplayState). steps_anew in_part.version w.played.records (all_by v w.played.records)) (sym in_part.world)
+
+          first_lines_with : AreFirst (max_bytes_of run.choices) before.input.left after.input.left (so_far.deliveries ++ Mapping in_part.version ∷ [])
+          first_lines_with = subst (λ q. AreFirst (max_bytes_of run.choices) before.input.left after.input.left (so_far.deliveries ++ q ∷ [])) in_part.is first
+
+          untold : (report : Report) → report ≡ run.environment.report → (why : Unwritten) (pages others : List Step) (last : Step) → pages ≡ others ++ last ∷ [] → BreaksOffBy report why reported others last now.stage.output after.stage.output →
+              (x : RemapsPages (Untold why) run.environment.report run.environment.limit reported in_part.version now.stage.world.played.records now.stage.mapped after.stage.mapped now.stage.output after.stage.output) →
+              pages ++ steps_anew in_part.version now.stage.world.played.records after.stage.mapped.by_two ≡ steps_anew in_part.version now.stage.world.played.records now.stage.mapped.by_two → StandsAtPage why run before after
+          untold Answers same why pages others last split never x are = absurd never
+          untold Changes same why pages others last split broken x are =
+              let tells = subst (λ report. TellsBy report reported others broken.told_then now.stage.output broken.between) same broken.tells in
+              let p = played_with others broken.told_then broken.between tells in
+              record {
+                changes_reported = sym same;
+                deliveries = so_far.deliveries;
+                version = in_part.version;
+                steps = x.steps;
+                pages = others;
+                last = last;
+                are = left_over (others ++ last ∷ []) (ap (λ l. l ++ steps_anew in_part.version now.stage.world.played.records after.stage.mapped.by_two) (sym split) ∙ are);
+                differs = broken.differs;
+                between = broken.between;
+                played = p.0;
+                mapped = is_mapped x.steps x.mapped;
+                roomed = roomed x.roomed;
+                cut_short = subst (λ n. IsCutShort why (record_text (record_of_step (n + 1) last)) broken.between after.stage.output) (p.1 (sym same)) broken.cut_short;
+                first = first_lines_with;
+              }
+
+          by : (halt : Halt) → RemapsPages halt run.environment.report run.environment.limit reported in_part.version now.stage.world.played.records now.stage.mapped after.stage.mapped now.stage.output after.stage.output → Stopped (stop_of_halt halt) run before after
+          by (NotApplied why) x = left_stale why run before after
+              (subst (λ (w : ReplayState). IsLeftStale why run.environment.limit w.played.records after.stage.mapped) (sym in_part.world) x.left)
+              (record {
+                deliveries = so_far.deliveries;
+                version = in_part.version;
+                steps = x.steps;
+                pages = x.pages;
+                are = left_over x.pages x.are;
+                played = (played_with x.pages x.told.0 after.stage.output x.told.1).0;
+                mapped = is_mapped x.steps x.mapped;
+                roomed = roomed x.roomed;
+                first = first_lines_with;
+              })
+          by (Untold why) x = page_untold why run before after run.environment.limit now.stage.world.played.records now.stage.output so_far.at_rest.later x.left (untold run.environment.report refl why x.pages x.told.0 x.told.1 x.told.2 x.told.3 x x.are)
 
       -- a delivery that isn't taken wholly stops the taking
-      pub delivery_stops : (stop : Stop) → CutsOff stop run.environment (turn asked_now d) now.stage after.stage → Stopped stop run before after
+      pub delivery_stops : (stop : Stop) → CutsOff stop run.environment (turn reported d) now.stage after.stage → Stopped stop run before after
       delivery_stops stop cut = ⊎_elim
           (λ printing. subst (λ s. Stopped s run before after) (sym printing.1)
-          (interrupted printing.0 run before after now.stage.output so_far.at_rest.later (λ fault. (printing.2.cut_short.failed fault).1) (inl (at_question printing.0 printing.2))))
+          (interrupted printing.0 run before after now.stage.output so_far.at_rest.later (λ fault. (printing.2.cut_short.failed fault).1) (inl (inl (at_question printing.0 printing.2)))))
           (⊎_elim
-          (λ starving. subst (λ s. Stopped s run before after) (sym starving.1) (halted starving.0 run before after starving.2.held_up (inl (starves starving.0 starving.2))))
-          (λ remapping. subst (λ s. Stopped s run before after) (sym remapping.1) (left_stale remapping.0 run before after remapping.2.left_stale (remaps remapping.0 remapping.2))))
+          (λ starving. subst (λ s. Stopped s run before after) (sym starving.1) (halted starving.0 run before after now.stage.output so_far.at_rest.later starving.2.held_up (inl (starves starving.0 starving.2))))
+          (λ remapping. subst (λ s. Stopped s run before after) (sym remapping.1) (remaps remapping.0 remapping.2)))
           cut
 
       -- a line that is taken
-      pub line_taken : now.input.faults ≤ after.input.faults → next.given ≡ reader.given + 1 → (next.ended ≡ true → IsAtEnd after.input.left) → asks (d ∷ []) ≤ 1 →
-          TakesDelivery run.environment (turn asked_now d) now.stage after.stage → Progress run before after next asked_now
-      line_taken later given ended one takes = record {
-        deliveries = so_far.deliveries ++ d ∷ [];
-        taken = taken_on next after.input.left last last_next is.reads;
-        read = read_more (max_bytes_of run.choices) reader now.input.left so_far.deliveries so_far.max so_far.sound line next after.input.left last last_next is before.input.left d so_far.read given delivers;
-        at_rest = takes so_far.deliveries before.stage asked_is so_far.at_rest;
-        earlier = omega (arith, so_far.earlier, later);
-        asked_is = asked_is;
-        few_asked = omega (arith, so_far.few_asked, more, one, given);
-        max = record { bytes = is.goes.limit ∙ so_far.max.bytes; line = is.goes.longest ∙ so_far.max.line };
-        sound = is.goes.sound;
-        going = is.goes.going;
-        ended = ended;
-      }
+      pub line_taken : (reported_now : ℕ) → now.input.faults ≤ after.input.faults → next.given ≡ reader.given + 1 → (next.ended ≡ true → IsAtEnd after.input.left) →
+          TakesDelivery run.environment (turn reported d) reported_now now.stage after.stage → Progress run before after next reported_now
+      line_taken reported_now later given ended takes =
+          let at_rest = takes so_far.deliveries before.stage so_far.at_rest in
+          record {
+            deliveries = so_far.deliveries ++ d ∷ [];
+            taken = taken_on next after.input.left last last_next is.reads;
+            read = read_more (max_bytes_of run.choices) reader now.input.left so_far.deliveries so_far.max so_far.sound line next after.input.left last last_next is before.input.left d so_far.read given delivers;
+            at_rest = at_rest;
+            earlier = omega (arith, so_far.earlier, later);
+            few = few_more run.environment.report so_far.at_rest.answered at_rest.answered so_far.few;
+            max = record { bytes = is.goes.limit ∙ so_far.max.bytes; line = is.goes.longest ∙ so_far.max.line };
+            sound = is.goes.sound;
+            going = is.goes.going;
+            ended = ended;
+          }
+        where
+          one : (d : Delivery) → asks (d ∷ []) ≤ 1
+          one (Told e) = omega arith
+          one (Watermark w) = omega arith
+          one (Ask q) = omega arith
+          one (Mapping v) = omega arith
+
+          few_more : (report : Report) → HasAnswered report reported so_far.deliveries → HasAnswered report reported_now (so_far.deliveries ++ d ∷ []) → FewAnswers report reported reader.given → FewAnswers report reported_now next.given
+          few_more Answers was is few = omega (arith, was, is, few, given, asks-push so_far.deliveries d, one d)
+          few_more Changes was is few = tt

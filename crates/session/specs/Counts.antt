@@ -7,6 +7,8 @@ use Rattle.replay_model.specs.Replies.{failed_events, missing_events}
 use Rattle.wq_io.specs.declared.source.Source.{Ghosts as SourceOf}
 use Rattle.wq_io.specs.declared.sink.Sink.{Ghosts as SinkOf}
 use Rattle.session.specs.declared.ports.Ports.{Ports}
+use Rattle.session.specs.declared.stop.Halt.{Halt}
+use Rattle.session.specs.declared.stop.Halt.TheVariants.{Unapplied as NotApplied, Untold}
 use Rattle.session.specs.declared.stop.Unapplied.{Unapplied}
 use Rattle.session.specs.declared.stop.Unapplied.TheVariants.{StoreFull, OutOfMemory}
 
@@ -36,6 +38,11 @@ pub record HasCounted (start now : SourceCounts) (made : ℕ) (side : List Entry
 abbrev pub HasCountedUnapplied : Unapplied → SourceCounts → SourceCounts → ℕ → List Entry → Type 0
 HasCountedUnapplied StoreFull start now made side = HasCounted start now (made + 1) side
 HasCountedUnapplied OutOfMemory start now made side = HasCounted start now made side ⊎ HasCounted start now (made + 1) side
+
+-- the same where a delivery wasn't taken wholly; an event that was applied and wasn't told is counted like any other
+abbrev pub HasCountedAt : Halt → SourceCounts → SourceCounts → ℕ → List Entry → Type 0
+HasCountedAt (NotApplied why) start now made side = HasCountedUnapplied why start now made side
+HasCountedAt (Untold why) start now made side = HasCounted start now made side
 
 -- a source was asked further: its contents and the most calls that ever fail are the same, and no count of what went wrong fell
 pub record HasGoneOn {R : Type 0} (members : RevisionsOf R) (old new : R) : Type 0 where

@@ -9,6 +9,7 @@ use Rattle.drill.specs.Drill.{contents_of}
 use Rattle.drill.specs.Source.{Source}
 use Rattle.drill_replay.specs.Playing.{Counted, IsByFirst}
 use Rattle.session.specs.declared.drill_playing.DrillRun.{DrillRun}
+use Rattle.session.specs.declared.report.Report.TheVariants.{Answers}
 use Rattle.session.specs.Moment.{Environment, Stage}
 use Rattle.session.specs.Remapping.{HoldsWithin, mapped_in}
 use Rattle.session.specs.Taking.{AtRest}
@@ -19,7 +20,7 @@ told_of size = Some (λ folder. contents_of size)
 
 -- what the deliveries of a drill are taken under: its pages, and the limit of every drill
 abbrev pub drill_environment : ℕ → Environment
-drill_environment size = record { known = Some (contents_of size); limit = 20000000 }
+drill_environment size = record { known = Some (contents_of size); limit = 20000000; report = Answers }
 
 -- the stage of a drill over its pages, whose fetches never fail
 abbrev pub drill_stage : Source → Output → WorldState → Stage
@@ -30,7 +31,7 @@ pub record HasTakenFirst (run : DrillRun) (ds : List Delivery) (out : Output) (w
   pub start : Stage
   pub nothing : start.world ≡ nothing_delivered
   pub told : told_of run.pages.size ≡ told_of run.size
-  pub at_rest : AtRest (drill_environment run.size) ds start (drill_stage run.pages out world)
+  pub at_rest : AtRest (drill_environment run.size) ds 0 start (drill_stage run.pages out world)
   pub counted : Counted ds run.counts
   pub limit : world.limit ≡ 20000000
   pub held : HoldsWithin 20000000 world

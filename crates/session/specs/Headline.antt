@@ -2,7 +2,7 @@
 use Rattle.std.specs.Prelude.{◌≡◌, ◌⊎◌, ℕ, ◌-◌, ◌^◌, ◌+◌, ◌<◌, true, false, not, List, [], ◌∷◌, ◌++◌, Option, None, Some, IfSome, MatchOption, length}
 use Rattle.std.specs.List.{list_any}
 use Rattle.rising.specs.Rising.{Each}
-use Rattle.wq_io.specs.Streams.{IsAtEnd, Rose, after_known}
+use Rattle.wq_io.specs.Streams.{IsAtEnd, Rose}
 use Rattle.rdf_term.specs.declared.pattern.Pattern.{Pattern}
 use Rattle.rdf_term.specs.Order.{triple_cmp}
 use Rattle.entity_model.specs.declared.id.EntityId.{EntityId}
@@ -19,7 +19,7 @@ use Rattle.replay_model.specs.Records.{Bytes, is_settled, record_of}
 use Rattle.replay_model.specs.Play.{Replies}
 use Rattle.replay_model.specs.Replies.{GivesDocument, HoldsWhatIsThere, TellsWhatIsThere, failed_events, source_replies}
 use Rattle.replay_model.specs.ReplayState.{ReplayState, following_to_end}
-use Rattle.replay_model.specs.Transcript.{Sections, ask_section, asks, closing_text, transcript}
+use Rattle.replay_model.specs.Transcript.{Sections, ask_section, asks, closing_text}
 use Rattle.replay_model.specs.Union.{union}
 use Rattle.replay_model.specs.Versions.{all_by}
 use Rattle.rdf_term.specs.Pattern.{rows}
@@ -27,41 +27,47 @@ use Rattle.world.specs.Meaning.{meaning}
 use Rattle.transcript.specs.declared.write.Unwritten.{Unwritten}
 use Rattle.transcript.specs.declared.write.Unwritten.TheVariants.{WriteFault as NotWritten, OutOfMemory as Refused}
 use Rattle.transcript.specs.Printing.{IsCutShort, Output}
+use Rattle.replica.specs.Record.{record_text}
+use Rattle.patch_stream.specs.Stream.{Step, changes, is_change, record_of_step, steps_anew, steps_of_play}
 use Rattle.words.specs.Options.{max_bytes_of}
+use Rattle.session.specs.declared.report.Report.TheVariants.{Answers, Changes}
+use Rattle.session.specs.declared.stop.Halt.TheVariants.{Unapplied, Untold}
 use Rattle.session.specs.declared.status.Status.{Status}
 use Rattle.session.specs.declared.stop.Stop.{Stop}
 use Rattle.session.specs.declared.stop.Stop.TheVariants.{BadLine, ReadFault, WriteFault, TooLong, StoreFull, OutOfMemory}
 use Rattle.session.specs.declared.stop.Unapplied.TheVariants.{StoreFull as NoRoom, OutOfMemory as Starved}
 use Rattle.session.specs.Counts.{HasCounted}
+use Rattle.session.specs.Course.{Course, course_after, course_printed, course_remapping, course_to_end}
 use Rattle.session.specs.Moment.{Moment, Run, Environment, Stage, with_mapped, with_output, horizon_at}
 use Rattle.session.specs.Needed.{HaveRoom, HaveRoomBefore, needed_anew}
 use Rattle.session.specs.Reading.{AreDeliveries, AreFirst, AreWhole, IsPastLimit, IsRefusedLine, TakesByNeed}
 use Rattle.session.specs.Remapping.{IsFullOfStale, mapped_by, remapped_some}
+use Rattle.session.specs.Report.{bytes_of}
 use Rattle.session.specs.Sections.{sections_of}
 use Rattle.session.specs.Stop.{stop_of}
 use Rattle.session.specs.Stops.{IsHalted}
-use Rattle.session.specs.Taking.{Course, HoldsDocuments, IsFull, course_after, course_printed, course_to_end, judgement, replies_there}
+use Rattle.session.specs.Taking.{HoldsDocuments, IsFull, judgement, replies_there}
 
--- the world is where a play leads, with some replies to its fetches, each a document of its entity or a reason, the output has what the
--- play says, there was room for each page that a fetch gave or that was mapped anew, with all that was held then, and the counts of the
+-- the world is where a play leads, with some replies to its fetches, each a document of its entity or a reason, the output has what is
+-- reported of the play, there was room for each page that a fetch gave or that was mapped anew, with all that was held then, and the counts of the
 -- source rose by these fetches; what is held are documents of their entities, each mapped by the version in force; where it is known
 -- what the source has, the replies are those of what is there, but for the events whose fetches failed, which the side output names
 pub record IsPlayed (environment : Environment) (course : Course) (start now : Stage) : Type 0 where
   pub replies : Replies
   pub fit : (e : Event) (r : ℕ) → GivesDocument judgement e.entity (replies e r)
   pub is : now.world ≡ course.state replies
-  pub says : now.output.bytes ≡ course.bytes replies
+  pub says : now.output.bytes ≡ bytes_of environment.report course start replies
   pub roomed : HaveRoom environment.limit (course.needed replies)
   pub documents : HoldsDocuments now.world
   pub mapped : now.mapped ≡ mapped_by course.version now.world.played.records
   pub counted : HasCounted start.counts now.counts (length (course.fetched replies)) now.world.played.side
   pub source : (contents : ℕ → Option Bytes) → environment.known ≡ Some contents → now.world ≡ course.state (replies_there contents now.world)
-  pub source_says : (contents : ℕ → Option Bytes) → environment.known ≡ Some contents → now.output.bytes ≡ course.bytes (replies_there contents now.world)
+  pub source_says : (contents : ℕ → Option Bytes) → environment.known ≡ Some contents → now.output.bytes ≡ bytes_of environment.report course start (replies_there contents now.world)
   pub source_roomed : (contents : ℕ → Option Bytes) → environment.known ≡ Some contents → HaveRoom environment.limit (course.needed (replies_there contents now.world))
   pub source_counted : (contents : ℕ → Option Bytes) → environment.known ≡ Some contents →
       HasCounted start.counts now.counts (length (course.fetched (replies_there contents now.world))) now.world.played.side
 
--- the world has taken these deliveries, and the answers to their questions were printed, and nothing else
+-- the world has taken these deliveries, and the answers to their questions were printed, or the records of their changes, and nothing else
 abbrev pub IsPlayedAfter : Environment → List Delivery → Stage → Stage → Type 0
 IsPlayedAfter environment ds start now = IsPlayed environment (course_after ds start) start now
 
@@ -97,7 +103,7 @@ pub record IsFunction (environment : Environment) (sections : Sections) (ds : Li
   pub world_is : (contents : ℕ → Option Bytes) → environment.known ≡ Some contents → now.counts.faults ≡ start.counts.faults → now.counts.faults < 2 ^ 64 - 1 →
       now.world ≡ following_to_end (horizon_at start) (source_replies judgement contents []) ds
   pub output_is : (contents : ℕ → Option Bytes) → environment.known ≡ Some contents → now.counts.faults ≡ start.counts.faults → now.counts.faults < 2 ^ 64 - 1 →
-      now.output.bytes ≡ after_known start.output.bytes (transcript meaning (horizon_at start) sections (source_replies judgement contents []) ds)
+      now.output.bytes ≡ bytes_of environment.report (course_printed sections ds start) start (source_replies judgement contents [])
 
 -- the whole input was read, its lines are deliveries, and they were replayed; the output has what this play of them says
 pub record Replayed (run : Run) (course : List Delivery → Stage → Course) (before now : Moment) : Type 0 where
@@ -106,11 +112,12 @@ pub record Replayed (run : Run) (course : List Delivery → Stage → Course) (b
   pub are : IfSome before.input.left (λ bytes. AreDeliveries (max_bytes_of run.choices) bytes deliveries)
   pub replay : IsReplayed run.environment (course deliveries before.stage) deliveries before.stage now.stage
 
--- the whole input was replayed, and the answers were printed, and nothing else
+-- the whole input was replayed, and the answers were printed, or the records of its changes, and nothing else
 abbrev pub HasReplayed : Run → Moment → Moment → Type 0
 HasReplayed run before now = Replayed run course_to_end before now
 
--- all that a run leaves that ended well: the input was replayed, and the output has the transcript of the play
+-- all that a run leaves that ended well: the input was replayed, and the output has the transcript of the play, or the records of its
+-- changes
 pub record Ending (run : Run) (before now : Moment) : Type 0 where
   pub replayed : Replayed run (course_printed (sections_of run.choices)) before now
   pub function : IsFunction run.environment (sections_of run.choices) replayed.deliveries before.stage now.stage
@@ -118,6 +125,7 @@ pub record Ending (run : Run) (before now : Moment) : Type 0 where
 -- what a run leaves that stopped while it printed the sections: the answers were printed and then a prefix of the sections of
 -- the world, and nothing else; where a write failed, not all of them
 pub record BrokenOff (why : Unwritten) (run : Run) (before now : Moment) : Type 0 where
+  pub answers : run.environment.report ≡ Answers
   pub between : Output
   pub replayed : HasReplayed run before (record now { stage = with_output now.stage between })
   pub cut_short : IsCutShort why (closing_text meaning (version_in_force replayed.deliveries) (sections_of run.choices) now.stage.world.played) between now.stage.output
@@ -144,6 +152,7 @@ pub record StandsBeforeLine (number : ℕ) (cause : LineCause) (run : Run) (befo
 -- the world has taken the deliveries before a question; the answers before it were printed and then a prefix of its own, and
 -- nothing else; where a write failed, not all of it
 pub record StandsAtQuestion (why : Unwritten) (run : Run) (before now : Moment) : Type 0 where
+  pub answers : run.environment.report ≡ Answers
   pub deliveries : List Delivery
   pub pattern : Pattern
   pub between : Output
@@ -152,20 +161,46 @@ pub record StandsAtQuestion (why : Unwritten) (run : Run) (before now : Moment) 
   pub first : AreFirst (max_bytes_of run.choices) before.input.left now.input.left (deliveries ++ Ask pattern ∷ [])
 
 -- the world has taken the deliveries before a line that changes the mapping, every page being mapped by the version that was in force
--- there; this line's version is in force, and the pages of some entities, the least first, are mapped by it, and had room
+-- there; this line's version is in force, and the pages of some entities, the least first, are mapped by it, and had room; what is reported
+-- of these deliveries and of these pages was written, and nothing else
 pub record StandsAtMapping (run : Run) (before now : Moment) : Type 0 where
   pub deliveries : List Delivery
   pub version : MappingVersion
   pub steps : ℕ
-  pub played : IsPlayedAfter run.environment deliveries before.stage (with_mapped now.stage (mapped_by (version_in_force deliveries) now.stage.world.played.records))
+  pub pages : List Step
+  pub are : pages ++ steps_anew version now.stage.world.played.records now.stage.mapped.by_two
+      ≡ steps_anew version now.stage.world.played.records (all_by (version_in_force deliveries) now.stage.world.played.records)
+  pub played : IsPlayed run.environment (course_remapping pages deliveries before.stage) before.stage (with_mapped now.stage (mapped_by (version_in_force deliveries) now.stage.world.played.records))
   pub mapped : now.stage.mapped ≡ remapped_some steps now.stage.world.played.records (record { version = version; by_two = all_by (version_in_force deliveries) now.stage.world.played.records })
   pub roomed : HaveRoomBefore run.environment.limit (needed_anew now.stage.world.played.records now.stage.mapped)
       (needed_anew now.stage.world.played.records (record { version = version; by_two = all_by (version_in_force deliveries) now.stage.world.played.records }))
   pub first : AreFirst (max_bytes_of run.choices) before.input.left now.input.left (deliveries ++ Mapping version ∷ [])
 
--- what a run leaves that stopped while it printed: in the answer to a question, or in the sections
+-- the same right after the last of these pages, whose record wasn't written wholly behind what is reported of the deliveries and of the
+-- pages before it: a prefix of it was, and nothing else; where a write failed, not all of it
+pub record StandsAtPage (why : Unwritten) (run : Run) (before now : Moment) : Type 0 where
+  pub changes_reported : run.environment.report ≡ Changes
+  pub deliveries : List Delivery
+  pub version : MappingVersion
+  pub steps : ℕ
+  pub pages : List Step
+  pub last : Step
+  pub are : (pages ++ last ∷ []) ++ steps_anew version now.stage.world.played.records now.stage.mapped.by_two
+      ≡ steps_anew version now.stage.world.played.records (all_by (version_in_force deliveries) now.stage.world.played.records)
+  pub differs : is_change last ≡ true
+  pub between : Output
+  pub played : IsPlayed run.environment (course_remapping pages deliveries before.stage) before.stage
+      (with_output (with_mapped now.stage (mapped_by (version_in_force deliveries) now.stage.world.played.records)) between)
+  pub mapped : now.stage.mapped ≡ remapped_some steps now.stage.world.played.records (record { version = version; by_two = all_by (version_in_force deliveries) now.stage.world.played.records })
+  pub roomed : HaveRoomBefore run.environment.limit (needed_anew now.stage.world.played.records now.stage.mapped)
+      (needed_anew now.stage.world.played.records (record { version = version; by_two = all_by (version_in_force deliveries) now.stage.world.played.records }))
+  pub cut_short : IsCutShort why (record_text (record_of_step (changes (steps_of_play (horizon_at before.stage) played.replies deliveries ++ pages) + 1) last)) between now.stage.output
+  pub first : AreFirst (max_bytes_of run.choices) before.input.left now.input.left (deliveries ++ Mapping version ∷ [])
+
+-- what a run leaves that stopped while it printed: in the answer to a question, or in the sections; or in the record of an application,
+-- or of a page that was mapped anew
 abbrev pub IsInterrupted : Unwritten → Run → Moment → Moment → Type 0
-IsInterrupted why run before now = StandsAtQuestion why run before now ⊎ BrokenOff why run before now
+IsInterrupted why run before now = (StandsAtQuestion why run before now ⊎ BrokenOff why run before now) ⊎ (IsHalted (Untold why) run before now ⊎ StandsAtPage why run before now)
 
 -- why a run stopped, and what stands then
 abbrev pub Stopped : Stop → Run → Moment → Moment → Type 0
@@ -174,9 +209,9 @@ Stopped ReadFault run before now = Rose before.input.faults now.input.faults × 
 Stopped WriteFault run before now = Rose before.stage.output.faults now.stage.output.faults × IsInterrupted NotWritten run before now
 Stopped TooLong run before now = StandsAtLimit run before now
 Stopped StoreFull run before now =
-    (IsFull run.environment now.stage.world now.stage.mapped × IsHalted NoRoom run before now)
+    (IsFull run.environment now.stage.world now.stage.mapped × IsHalted (Unapplied NoRoom) run before now)
     ⊎ (IsFullOfStale run.environment.limit now.stage.world.played.records now.stage.mapped × StandsAtMapping run before now)
-Stopped OutOfMemory run before now = (IsHalted Starved run before now ⊎ StandsAtMapping run before now) ⊎ IsInterrupted Refused run before now
+Stopped OutOfMemory run before now = (IsHalted (Unapplied Starved) run before now ⊎ StandsAtMapping run before now) ⊎ IsInterrupted Refused run before now
 
 -- what a replay leaves that was begun: it ended well, or it stopped for a cause; and what it took of its input is bounded
 pub record ReplayEnding (status : Status) (run : Run) (before now : Moment) : Type 0 where

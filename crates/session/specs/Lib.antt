@@ -1,5 +1,6 @@
 pub mod Complete
 pub mod Counts
+pub mod Course
 pub mod DrillPlaying
 pub mod Drilling
 pub mod Records
@@ -8,6 +9,7 @@ pub mod Moment
 pub mod Needed
 pub mod Reading
 pub mod Remapping
+pub mod Report
 pub mod Room
 pub mod Sections
 pub mod Status

@@ -11,19 +11,21 @@ use Rattle.replay_model.specs.ReplayState.{ReplayState, nothing_delivered_within
 use Rattle.world.specs.WorldState.{WorldState}
 use Rattle.transcript.specs.Printing.{Output, output}
 use Rattle.session.specs.declared.ports.Ports.{Ports}
+use Rattle.session.specs.declared.report.Report.{Report}
 use Rattle.session.specs.Counts.{SourceCounts, counts}
 use Rattle.session.specs.Remapping.{Mapped, mapped_in}
 use Rattle.words.specs.Options.{Choices, folder_of, max_terms_of}
 
--- what deliveries are taken under: what the source of revisions has in its folder, where it is known, and for how many terms
--- there is room
+-- what deliveries are taken under: what the source of revisions has in its folder, where it is known, for how many terms there is room,
+-- and what is reported
 pub record Environment : Type 0 where
   pub known : Option (ℕ → Option Bytes)
   pub limit : ℕ
+  pub report : Report
 
--- the environment of a source with these contents, of a folder, and of a store with this limit
-abbrev pub environment : Option Contents → List ℕ → ℕ → Environment
-environment contents folder limit = record { known = option_map (λ (c : Contents). c folder) contents; limit = limit }
+-- the environment of a report, of a source with these contents, of a folder, and of a store with this limit
+abbrev pub environment : Report → Option Contents → List ℕ → ℕ → Environment
+environment report contents folder limit = record { known = option_map (λ (c : Contents). c folder) contents; limit = limit; report = report }
 
 -- what the taking of deliveries changes: the output, the counts of the source of revisions, the world, and the versions by which
 -- it maps
@@ -33,9 +35,13 @@ pub record Stage : Type 0 where
   pub world : ReplayState
   pub mapped : Mapped
 
+-- the stage of this output, these counts and this world
+abbrev pub stage_in : Output → SourceCounts → WorldState → Stage
+stage_in out counts world = record { output = out; counts = counts; world = world.replay; mapped = mapped_in world }
+
 -- the stage that these are
 abbrev pub stage : {R K : Type 0} → RevisionsOf R → SinkOf K → R → K → WorldState → Stage
-stage source sink revisions out world = record { output = output sink out; counts = counts source revisions; world = world.replay; mapped = mapped_in world }
+stage source sink revisions out world = stage_in (output sink out) (counts source revisions) world
 
 -- the horizon of the world, if it has one
 abbrev pub horizon_at : Stage → Option ℕ
@@ -44,6 +50,10 @@ horizon_at s = s.world.buffer.horizon
 -- the stage with these counts and this world
 abbrev pub onward : Stage → SourceCounts → ReplayState → Stage
 onward s counts world = record { output = s.output; counts = counts; world = world; mapped = s.mapped }
+
+-- the stage with this world
+abbrev pub with_world : Stage → ReplayState → Stage
+with_world s world = record { output = s.output; counts = s.counts; world = world; mapped = s.mapped }
 
 -- the stage with this output
 abbrev pub with_output : Stage → Output → Stage
@@ -81,6 +91,6 @@ pub record Run : Type 0 where
 abbrev pub world_at_start : Choices → WorldState
 world_at_start choices = record { replay = nothing_delivered_within choices.horizon; limit = max_terms_of choices; mapping = One; by_two = [] }
 
--- the run of these choices over a source with these contents
-abbrev pub run_of : Option Contents → Choices → Run
-run_of contents choices = record { choices = choices; environment = environment contents (folder_of choices) (max_terms_of choices) }
+-- the run of these choices over a source with these contents, of which this is reported
+abbrev pub run_of : Report → Option Contents → Choices → Run
+run_of report contents choices = record { choices = choices; environment = environment report contents (folder_of choices) (max_terms_of choices) }

@@ -11,6 +11,8 @@ use Rattle.following.specs.declared.stop.RecordCause.TheVariants.{LineLong as Re
 use Rattle.following.specs.declared.stop.FollowStop.{FollowStop}
 use Rattle.following.specs.declared.stop.FollowStop.TheVariants.{BadLine as BadRecord, ReadFault as NotFollowed, WriteFault as NotPrinted, TooLong as OverLimit, StoreFull as NoPlace, OutOfMemory as Unfed}
 use Rattle.session.specs.declared.stop.Stop.{Stop}
+use Rattle.session.specs.declared.stop.Halt.{Halt}
+use Rattle.session.specs.declared.stop.Halt.TheVariants.{Unapplied as NotApplied, Untold}
 use Rattle.session.specs.declared.stop.Unapplied.{Unapplied}
 use Rattle.session.specs.declared.stop.Unapplied.TheVariants.{StoreFull as NoRoom, OutOfMemory as Starved}
 use Rattle.session.specs.declared.stop.Stop.TheVariants.{BadLine, ReadFault, WriteFault, TooLong, StoreFull, OutOfMemory}
@@ -34,6 +36,11 @@ stop_of_unwritten Refused = OutOfMemory
 abbrev pub stop_of_unapplied : Unapplied → Stop
 stop_of_unapplied NoRoom = StoreFull
 stop_of_unapplied Starved = OutOfMemory
+
+-- why a run stopped where a delivery wasn't taken wholly
+abbrev pub stop_of_halt : Halt → Stop
+stop_of_halt (NotApplied why) = stop_of_unapplied why
+stop_of_halt (Untold why) = stop_of_unwritten why
 
 -- why a line of records is refused, as a cause of a line
 abbrev pub cause_of_record : RecordCause → LineCause

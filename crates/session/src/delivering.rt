@@ -6,119 +6,132 @@ ghost use Rattle.reorder_buffer.specs.Buffered.{answer_to};
 ghost use Rattle.replay_model.specs.ReplayState.{after_end, after_event, after_mark};
 ghost use Rattle.replay_model.specs.Transcript.{asks};
 ghost use Rattle.transcript.specs.Printing.{output};
-ghost use Rattle.session.specs.Counts.{HasGoneOn, HasWrittenOn, counts};
-ghost use Rattle.session.specs.Moment.{environment, stage};
+ghost use Rattle.session.specs.declared.report.Report.TheVariants.{Answers};
+ghost use Rattle.session.specs.Counts.{HasGoneOn, HasWrittenOn};
+ghost use Rattle.session.specs.Moment.{environment, stage, with_world};
 ghost use Rattle.session.specs.Remapping.{HoldsWithin, KeepsVersion, mapped_in};
+ghost use Rattle.session.specs.Report.{HasNumberLeft};
 ghost use Rattle.session.specs.Taking.{AppliesDue, CutsOff, IsHeldUp, StaysWithin, TakesDelivery, turn};
 
+use crate::context::Context;
 use crate::remapping::take_mapping;
-use crate::stop::{Stop, Unapplied};
+use crate::stop::{Halt, Stop, Unapplied};
 use delivery::Delivery;
 use entity_model::Event;
 use rdf_term::OutOfMemory;
 use reorder_buffer::Taken;
 use revisions::Revisions;
-use std::alloc::Global;
-use transcript::print_answer;
-use world::{World, WorldFault};
+use world::{Application, World, WorldFault};
 use wq_io::Sink;
 
-// How many questions the delivery asks.
-pub fn asks(delivery: &Delivery) -> u64
-    ensures number { result ≡ asks (delivery.now ∷ []) }
-    ensures at_most_one { result ≤ 1 }
-{
-    match delivery {
-        Delivery::Ask(_) => 1,
-        Delivery::Event(_) | Delivery::Watermark(_) | Delivery::Mapping(_) => 0,
-    }
-}
-
-// Under what a delivery is taken: memory, the folder of the revisions, and the number of the question, if it is one.
-#[derive(Clone, Copy)]
-pub struct Context<'a> {
-    pub alloc: Global,
-    pub folder: &'a str,
-    pub asked: u64,
+// What taking a delivery gave: what its event was, if it is one, and how many answers or records are written then.
+#[derive(Clone, Copy, Debug, PartialEq, Eq)]
+pub struct Delivered {
+    pub answer: Option<Taken>,
+    pub reported: u64,
 }
 
 // Takes one delivery: all that it makes due is applied, it is answered if it asks, and what is held is mapped anew if it changes the
-// mapping. Says what its event was, if it is one.
+// mapping; what is to be reported of that is written. Says what its event was, if it is one.
 pub fn deliver<R: Revisions, K: Sink>(
     context: &Context<'_>,
     delivery: &Delivery,
     revisions: &mut R,
     out: &mut K,
     world: &mut World,
-) -> Result<Option<Taken>, Stop>
-    requires { world.old.replay.buffer.closed ≡ false }
-    ensures ok { OnOk result (TakesDelivery (environment (R.contents revisions.old) context.now.folder.now world.old.limit) (turn context.now.asked delivery.now)
+) -> Result<Delivered, Stop>
+    requires open { world.old.replay.buffer.closed ≡ false }
+    requires number { HasNumberLeft context.now.report context.now.reported }
+    ensures ok { IfOk result (λ done. TakesDelivery (environment context.now.report (R.contents revisions.old) context.now.folder.now world.old.limit) (turn context.now.reported delivery.now) done.reported
         (stage R.Revisions K.Sink revisions.old out.old world.old) (stage R.Revisions K.Sink revisions.new out.new world.new)) }
-    ensures answer { IfOk result (λ answer. answer ≡ answer_of world.old.replay.buffer delivery.now) }
-    ensures err { IfErr result (λ stop. CutsOff stop (environment (R.contents revisions.old) context.now.folder.now world.old.limit) (turn context.now.asked delivery.now)
+    ensures answer { IfOk result (λ done. done.answer ≡ answer_of world.old.replay.buffer delivery.now) }
+    ensures err { IfErr result (λ stop. CutsOff stop (environment context.now.report (R.contents revisions.old) context.now.folder.now world.old.limit) (turn context.now.reported delivery.now)
         (stage R.Revisions K.Sink revisions.old out.old world.old) (stage R.Revisions K.Sink revisions.new out.new world.new)) }
-    ensures silent { asks (delivery.now ∷ []) ≡ 0 → output K.Sink out.new ≡ output K.Sink out.old }
+    ensures silent { context.now.report ≡ Answers → asks (delivery.now ∷ []) ≡ 0 → output K.Sink out.new ≡ output K.Sink out.old }
     ensures limit { world.new.limit ≡ world.old.limit }
     ensures held { HoldsWithin world.old.limit world.old → HoldsWithin world.old.limit world.new }
     ensures source { HasGoneOn R.Revisions revisions.old revisions.new }
     ensures written { HasWrittenOn K.Sink out.old out.new }
 {
     match delivery {
-        Delivery::Event(event) => Ok(Some(take_event(*event, world)?)),
+        Delivery::Event(event) => {
+            let answer = take_event(*event, world)?;
+            Ok(Delivered {
+                answer: Some(answer),
+                reported: context.reported,
+            })
+        }
         Delivery::Watermark(mark) => {
-            take_mark(context.folder, mark, revisions, world)?;
-            Ok(None)
+            let reported = take_mark(context, mark, revisions, out, world)?;
+            Ok(Delivered {
+                answer: None,
+                reported,
+            })
         }
         Delivery::Ask(pattern) => {
-            print_answer(context.alloc, context.asked, pattern, world, out)?;
-            Ok(None)
+            let reported = context.answer(pattern, world, out)?;
+            Ok(Delivered {
+                answer: None,
+                reported,
+            })
         }
         Delivery::Mapping(version) => {
-            take_mapping(*version, world)?;
-            Ok(None)
+            let reported = take_mapping(context, *version, out, world)?;
+            Ok(Delivered {
+                answer: None,
+                reported,
+            })
         }
     }
 }
 
 // Takes the end of the deliveries, and applies all that waits.
-pub fn take_end<R: Revisions>(
-    folder: &str,
+pub fn take_end<R: Revisions, K: Sink>(
+    context: &Context<'_>,
     revisions: &mut R,
+    out: &mut K,
     world: &mut World,
-) -> Result<(), Unapplied>
-    ensures ok { OnOk result (AppliesDue (environment (R.contents revisions.old) folder.now world.old.limit) (mapped_in world.old)
-        (counts R.Revisions revisions.old) (counts R.Revisions revisions.new) (after_end world.old.replay) world.new.replay) }
-    ensures err { IfErr result (λ why. StaysWithin why (environment (R.contents revisions.old) folder.now world.old.limit) (mapped_in world.old)
-        (counts R.Revisions revisions.old) (counts R.Revisions revisions.new) (after_end world.old.replay) world.new.replay) }
-    ensures held_up { IfErr result (λ why. IsHeldUp why (environment (R.contents revisions.old) folder.now world.old.limit) world.new.replay (mapped_in world.new)) }
+) -> Result<u64, Halt>
+    ensures ok { IfOk result (λ reported. AppliesDue (environment context.now.report (R.contents revisions.old) context.now.folder.now world.old.limit) context.now.reported reported
+        (with_world (stage R.Revisions K.Sink revisions.old out.old world.old) (after_end world.old.replay)) (stage R.Revisions K.Sink revisions.new out.new world.new)) }
+    ensures err { IfErr result (λ halt. StaysWithin halt (environment context.now.report (R.contents revisions.old) context.now.folder.now world.old.limit) context.now.reported
+        (with_world (stage R.Revisions K.Sink revisions.old out.old world.old) (after_end world.old.replay)) (stage R.Revisions K.Sink revisions.new out.new world.new)) }
+    ensures held_up { IfErr result (λ halt. IsHeldUp halt (environment context.now.report (R.contents revisions.old) context.now.folder.now world.old.limit)
+        (output K.Sink out.old) (stage R.Revisions K.Sink revisions.new out.new world.new)) }
     ensures limit { world.new.limit ≡ world.old.limit }
     ensures held { HoldsWithin world.old.limit world.new }
     ensures versions { KeepsVersion (mapped_in world.old) (mapped_in world.new) world.old.replay.played.records world.new.replay.played.records }
     ensures source { HasGoneOn R.Revisions revisions.old revisions.new }
+    ensures written { HasWrittenOn K.Sink out.old out.new }
+    ensures silent { context.now.report ≡ Answers → output K.Sink out.new ≡ output K.Sink out.old }
 {
     world.close();
-    apply_due(folder, revisions, world)
+    apply_due(context, revisions, out, world)
 }
 
 // Takes a watermark, and applies all that it makes due.
-fn take_mark<R: Revisions>(
-    folder: &str,
+fn take_mark<R: Revisions, K: Sink>(
+    context: &Context<'_>,
     mark: &i64,
     revisions: &mut R,
+    out: &mut K,
     world: &mut World,
-) -> Result<(), Unapplied>
-    ensures ok { OnOk result (AppliesDue (environment (R.contents revisions.old) folder.now world.old.limit) (mapped_in world.old)
-        (counts R.Revisions revisions.old) (counts R.Revisions revisions.new) (after_mark world.old.replay mark.now) world.new.replay) }
-    ensures err { IfErr result (λ why. StaysWithin why (environment (R.contents revisions.old) folder.now world.old.limit) (mapped_in world.old)
-        (counts R.Revisions revisions.old) (counts R.Revisions revisions.new) (after_mark world.old.replay mark.now) world.new.replay) }
-    ensures held_up { IfErr result (λ why. IsHeldUp why (environment (R.contents revisions.old) folder.now world.old.limit) world.new.replay (mapped_in world.new)) }
+) -> Result<u64, Halt>
+    ensures ok { IfOk result (λ reported. AppliesDue (environment context.now.report (R.contents revisions.old) context.now.folder.now world.old.limit) context.now.reported reported
+        (with_world (stage R.Revisions K.Sink revisions.old out.old world.old) (after_mark world.old.replay mark.now)) (stage R.Revisions K.Sink revisions.new out.new world.new)) }
+    ensures err { IfErr result (λ halt. StaysWithin halt (environment context.now.report (R.contents revisions.old) context.now.folder.now world.old.limit) context.now.reported
+        (with_world (stage R.Revisions K.Sink revisions.old out.old world.old) (after_mark world.old.replay mark.now)) (stage R.Revisions K.Sink revisions.new out.new world.new)) }
+    ensures held_up { IfErr result (λ halt. IsHeldUp halt (environment context.now.report (R.contents revisions.old) context.now.folder.now world.old.limit)
+        (output K.Sink out.old) (stage R.Revisions K.Sink revisions.new out.new world.new)) }
     ensures limit { world.new.limit ≡ world.old.limit }
     ensures held { HoldsWithin world.old.limit world.new }
     ensures versions { KeepsVersion (mapped_in world.old) (mapped_in world.new) world.old.replay.played.records world.new.replay.played.records }
     ensures source { HasGoneOn R.Revisions revisions.old revisions.new }
+    ensures written { HasWrittenOn K.Sink out.old out.new }
+    ensures silent { context.now.report ≡ Answers → output K.Sink out.new ≡ output K.Sink out.old }
 {
     raise(mark, world);
-    apply_due(folder, revisions, world)
+    apply_due(context, revisions, out, world)
 }
 
 // Takes a watermark.
@@ -142,28 +155,37 @@ fn take_event(event: Event, world: &mut World) -> Result<Taken, OutOfMemory>
     world.take(event)
 }
 
-// Applies all due events, the least first.
-fn apply_due<R: Revisions>(
-    folder: &str,
+// Applies all due events, the least first, and tells each, where changes are reported, before the next is applied. Says how many answers or
+// records are written then.
+fn apply_due<R: Revisions, K: Sink>(
+    context: &Context<'_>,
     revisions: &mut R,
+    out: &mut K,
     world: &mut World,
-) -> Result<(), Unapplied>
-    ensures ok { OnOk result (AppliesDue (environment (R.contents revisions.old) folder.now world.old.limit) (mapped_in world.old)
-        (counts R.Revisions revisions.old) (counts R.Revisions revisions.new) world.old.replay world.new.replay) }
-    ensures err { IfErr result (λ why. StaysWithin why (environment (R.contents revisions.old) folder.now world.old.limit) (mapped_in world.old)
-        (counts R.Revisions revisions.old) (counts R.Revisions revisions.new) world.old.replay world.new.replay) }
-    ensures held_up { IfErr result (λ why. IsHeldUp why (environment (R.contents revisions.old) folder.now world.old.limit) world.new.replay (mapped_in world.new)) }
+) -> Result<u64, Halt>
+    ensures ok { IfOk result (λ reported. AppliesDue (environment context.now.report (R.contents revisions.old) context.now.folder.now world.old.limit) context.now.reported reported
+        (stage R.Revisions K.Sink revisions.old out.old world.old) (stage R.Revisions K.Sink revisions.new out.new world.new)) }
+    ensures err { IfErr result (λ halt. StaysWithin halt (environment context.now.report (R.contents revisions.old) context.now.folder.now world.old.limit) context.now.reported
+        (stage R.Revisions K.Sink revisions.old out.old world.old) (stage R.Revisions K.Sink revisions.new out.new world.new)) }
+    ensures held_up { IfErr result (λ halt. IsHeldUp halt (environment context.now.report (R.contents revisions.old) context.now.folder.now world.old.limit)
+        (output K.Sink out.old) (stage R.Revisions K.Sink revisions.new out.new world.new)) }
     ensures limit { world.new.limit ≡ world.old.limit }
     ensures held { HoldsWithin world.old.limit world.new }
     ensures versions { KeepsVersion (mapped_in world.old) (mapped_in world.new) world.old.replay.played.records world.new.replay.played.records }
     ensures source { HasGoneOn R.Revisions revisions.old revisions.new }
+    ensures written { HasWrittenOn K.Sink out.old out.new }
+    ensures silent { context.now.report ≡ Answers → output K.Sink out.new ≡ output K.Sink out.old }
 {
+    let mut reported = context.reported;
     loop {
-        match world.apply_next(revisions, folder) {
-            Ok(_) => {}
-            Err(WorldFault::Nothing) => return Ok(()),
-            Err(WorldFault::Full) => return Err(Unapplied::StoreFull),
-            Err(WorldFault::OutOfMemory) => return Err(Unapplied::OutOfMemory),
+        match world.apply_next_with(revisions, context.folder, context.report.telling()) {
+            Ok(Application { applied: _, change }) => match context.tell(reported, change, out) {
+                Ok(now) => reported = now,
+                Err(why) => return Err(Halt::Untold(why)),
+            },
+            Err(WorldFault::Nothing) => return Ok(reported),
+            Err(WorldFault::Full) => return Err(Halt::Unapplied(Unapplied::StoreFull)),
+            Err(WorldFault::OutOfMemory) => return Err(Halt::Unapplied(Unapplied::OutOfMemory)),
         }
     }
 }

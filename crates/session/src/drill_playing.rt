@@ -6,11 +6,15 @@ ghost use Rattle.transcript.specs.Printing.{Output, output};
 ghost use Rattle.drill.specs.Drill.{IsSize, drill};
 ghost use Rattle.drill_replay.specs.Playing.{Counted, HasBegun, HasFew, IsByFirst, IsPartOf, StandsAtEnd};
 ghost use Rattle.drill_replay.specs.Summary.{drilled};
+ghost use Rattle.session.specs.declared.stop.Halt.TheVariants.{Unapplied};
 ghost use Rattle.session.specs.declared.stop.Stop.TheVariants.{OutOfMemory as Refused};
+ghost use Rattle.session.specs.declared.stop.Unapplied.TheVariants.{OutOfMemory as Starved};
 ghost use Rattle.session.specs.DrillPlaying.{HasTakenFirst, LeavesDrill};
 
-use crate::delivering::{Context, deliver, take_end};
-use crate::stop::{Stop, Unapplied};
+use crate::context::Context;
+use crate::delivering::{deliver, take_end};
+use crate::report::Report;
+use crate::stop::{Halt, Stop};
 use drill::{DrillRevisions, deliveries};
 use drill_replay::DrillCounts;
 use rdf_term::OutOfMemory;
@@ -58,7 +62,7 @@ pub fn play<K: Sink>(
     for done in 0..size {
         run.take_item(done, out, world)?;
     }
-    run.take_end(world)?;
+    run.take_end(out, world)?;
     Ok(run.counts)
 }
 
@@ -84,12 +88,13 @@ impl DrillRun {
         let context = Context {
             alloc: self.alloc,
             folder: FOLDER,
-            asked: 0,
+            report: Report::Answers,
+            reported: 0,
         };
         let list = deliveries(self.alloc, done + 1)?;
         for delivery in list.as_slice() {
             match deliver(&context, delivery, &mut self.pages, out, world) {
-                Ok(answer) => self.counts.add(answer),
+                Ok(done) => self.counts.add(done.answer),
                 Err(stop) => return Err(refused(stop)),
             }
         }
@@ -97,20 +102,34 @@ impl DrillRun {
     }
 
     // Takes the end of the deliveries.
-    fn take_end(&mut self, world: &mut World) -> Result<(), OutOfMemory>
+    fn take_end<K: Sink>(&mut self, out: &mut K, world: &mut World) -> Result<(), OutOfMemory>
         requires size { IsSize self.old.size }
-        requires taken { (out : Output) × HasTakenFirst self.old (drill self.old.size) out world.old }
+        requires taken { HasTakenFirst self.old (drill self.old.size) (output K.Sink out.old) world.old }
         ensures ok { OnOk result (world.new.replay ≡ drilled self.old.size) }
         ensures err { OnErr result (StandsAtEnd self.old.size world.new.replay) }
         ensures left { LeavesDrill world.new }
         ensures counts { self.new.counts ≡ self.old.counts }
+        ensures silent { output K.Sink out.new ≡ output K.Sink out.old }
     {
-        match take_end(FOLDER, &mut self.pages, world) {
-            Ok(()) => Ok(()),
-            Err(Unapplied::OutOfMemory) => Err(OutOfMemory),
-            Err(Unapplied::StoreFull) => unreachable!(),
+        let context = Context {
+            alloc: self.alloc,
+            folder: FOLDER,
+            report: Report::Answers,
+            reported: 0,
+        };
+        match take_end(&context, &mut self.pages, out, world) {
+            Ok(_) => Ok(()),
+            Err(halt) => Err(starved(halt)),
         }
     }
+}
+
+// The end of a drill stops for want of memory alone.
+fn starved(halt: Halt) -> OutOfMemory
+    requires { halt ≡ Unapplied Starved }
+{
+    let _ = halt;
+    OutOfMemory
 }
 
 // A delivery of a drill stops for want of memory alone.

@@ -3,11 +3,13 @@
 //!
 //! `run` is the whole program but for the process around it; `running` has it. `replaying` is a replay, `records` the following of
 //! records, and `drilling` a drill, whose deliveries `drill_playing` takes.
-//! `taking` takes the lines of the input, `delivering` one delivery, and the end, and `remapping` a change of the mapping.
+//! `taking` takes the lines of the input, `delivering` one delivery, and the end, and `remapping` a change of the mapping; `report` is what is
+//! reported of them, answers or changes, and `context` writes it.
 //! `ports` are what a run reads and writes, `stop` is why it stopped, and `status` how it ended. The words stand in the crate `words`, what is printed in `transcript`, and
 //! the summary of a drill in `drill_replay`. `laws` says what follows from the contract of `run` where nothing goes wrong.
 #![tactic(auto)]
 
+mod context;
 mod delivering;
 mod drill_playing;
 mod drilling;
@@ -16,6 +18,7 @@ mod ports;
 mod records;
 mod remapping;
 mod replaying;
+mod report;
 mod running;
 mod status;
 mod stop;

@@ -1,14 +1,22 @@
 // The first version of the mapping is in force at the beginning; where another comes into force, what is held is mapped anew.
 
-ghost use Rattle.std.specs.Prelude.{◌≡◌, ℕ, IfErr, OnErr, OnOk};
+ghost use Rattle.std.specs.Prelude.{◌≡◌, IfErr, IfOk, OnOk};
 ghost use Rattle.replay_model.specs.ReplayState.{nothing_delivered};
 ghost use Rattle.drill_replay.specs.Playing.{IsByFirst};
-ghost use Rattle.session.specs.Needed.{HaveRoom, HaveRoomBefore, needed_anew};
-ghost use Rattle.session.specs.Remapping.{HoldsWithin, IsLeftStale, mapped_by, mapped_in, remapped_some};
+ghost use Rattle.transcript.specs.Printing.{output};
+ghost use Rattle.patch_stream.specs.Stream.{steps_anew};
+ghost use Rattle.session.specs.declared.report.Report.TheVariants.{Answers};
+ghost use Rattle.session.specs.Counts.{HasWrittenOn};
+ghost use Rattle.session.specs.Needed.{HaveRoom, needed_anew};
+ghost use Rattle.session.specs.Remapping.{HoldsWithin, mapped_by, mapped_in};
+ghost use Rattle.session.specs.Report.{TellsBy};
+ghost use Rattle.session.specs.Taking.{RemapsPages};
 
-use crate::stop::Unapplied;
+use crate::context::Context;
+use crate::stop::{Halt, Unapplied};
 use entity_model::MappingVersion;
-use world::{World, WorldFault};
+use world::{Remapping, World, WorldFault};
+use wq_io::Sink;
 
 // Puts the first version of the mapping in force in a world to which nothing was delivered, so that it holds no page that is mapped by
 // another.
@@ -21,28 +29,41 @@ pub fn begin_by_first(world: &mut World)
     world.set_mapping(MappingVersion::One);
 }
 
-// Puts a version of the mapping in force, and maps all that is held by it, the page of the least entity first.
-pub fn take_mapping(version: MappingVersion, world: &mut World) -> Result<(), Unapplied>
+// Puts a version of the mapping in force, and maps all that is held by it, the page of the least entity first; tells each, where changes are
+// reported, before the next is mapped. Says how many answers or records are written then.
+pub fn take_mapping<K: Sink>(
+    context: &Context<'_>,
+    version: MappingVersion,
+    out: &mut K,
+    world: &mut World,
+) -> Result<u64, Halt>
     ensures replay { world.new.replay ≡ world.old.replay }
     ensures limit { world.new.limit ≡ world.old.limit }
     ensures held { HoldsWithin world.old.limit world.old → HoldsWithin world.old.limit world.new }
     ensures ok { OnOk result (mapped_in world.new ≡ mapped_by version world.old.replay.played.records) }
-    ensures err { OnErr result ((steps : ℕ) × (mapped_in world.new
-        ≡ remapped_some steps world.old.replay.played.records (record { version = version; by_two = world.old.by_two }))) }
     ensures roomed { OnOk result (HaveRoom world.old.limit (needed_anew world.old.replay.played.records (record { version = version; by_two = world.old.by_two }))) }
-    ensures roomed_before { OnErr result (HaveRoomBefore world.old.limit (needed_anew world.old.replay.played.records (mapped_in world.new))
-        (needed_anew world.old.replay.played.records (record { version = version; by_two = world.old.by_two }))) }
-    ensures left_stale { IfErr result (λ why. IsLeftStale why world.old.limit world.old.replay.played.records (mapped_in world.new)) }
+    ensures tells { IfOk result (λ reported. TellsBy context.now.report context.now.reported (steps_anew version world.old.replay.played.records world.old.by_two) reported
+        (output K.Sink out.old) (output K.Sink out.new)) }
+    ensures err { IfErr result (λ halt. RemapsPages halt context.now.report world.old.limit context.now.reported version world.old.replay.played.records
+        (mapped_in world.old) (mapped_in world.new) (output K.Sink out.old) (output K.Sink out.new)) }
+    ensures written { HasWrittenOn K.Sink out.old out.new }
+    ensures silent { context.now.report ≡ Answers → output K.Sink out.new ≡ output K.Sink out.old }
 {
     world.set_mapping(version);
+    let mut reported = context.reported;
     while world.stale() > 0 {
-        match world.remap_next() {
-            Ok(_) => {}
-            Err(WorldFault::Full) => return Err(Unapplied::StoreFull),
-            Err(WorldFault::Nothing | WorldFault::OutOfMemory) => {
-                return Err(Unapplied::OutOfMemory);
+        match world.remap_next_with(context.report.telling()) {
+            Ok(Some(Remapping { entity: _, change })) => {
+                match context.tell(reported, change, out) {
+                    Ok(now) => reported = now,
+                    Err(why) => return Err(Halt::Untold(why)),
+                }
             }
+            Ok(None) => unreachable!(),
+            Err(WorldFault::Full) => return Err(Halt::Unapplied(Unapplied::StoreFull)),
+            Err(WorldFault::Nothing) => unreachable!(),
+            Err(WorldFault::OutOfMemory) => return Err(Halt::Unapplied(Unapplied::OutOfMemory)),
         }
     }
-    Ok(())
+    Ok(reported)
 }

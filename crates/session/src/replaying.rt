@@ -1,4 +1,4 @@
-// A replay: the lines of the input, the end, and the sections that are asked for.
+// A replay: the lines of the input, the end, and the sections that are asked for, where it answers questions.
 
 ghost use Rattle.std.specs.Prelude.{◌≡◌, IfErr, IfSome, OnOk};
 ghost use Rattle.drill_replay.specs.Playing.{IsByFirst};
@@ -12,9 +12,11 @@ ghost use Rattle.session.specs.Remapping.{HoldsWithin};
 ghost use Rattle.session.specs.Sections.{sections_of};
 ghost use Rattle.words.specs.Options.{max_bytes_of, max_terms_of};
 
+use crate::context::Context;
 use crate::delivering::take_end;
 use crate::ports::Ports;
 use crate::remapping::begin_by_first;
+use crate::report::Report;
 use crate::stop::Stop;
 use crate::taking::take_lines;
 use revisions::Revisions;
@@ -24,18 +26,20 @@ use words::ReplayOptions;
 use world::World;
 use wq_io::{Sink, Source};
 
-// Begins by the first version of the mapping, sets the horizon and the limit, takes the lines and the end, and prints.
+// Begins by the first version of the mapping, sets the horizon and the limit, takes the lines and the end, and prints. What is reported are
+// the answers to questions, with the sections that are asked for, or the changes of the stored triples.
 pub fn replay<S: Source, R: Revisions, K: Sink>(
     alloc: Global,
     options: &ReplayOptions<'_>,
+    report: Report,
     ports: &mut Ports<S, R, K>,
     world: &mut World,
 ) -> Result<(), Stop>
     requires world { world.old.replay ≡ nothing_delivered }
-    ensures ok { OnOk result (Ending (run_of (R.contents ports.old.revisions) options.now)
+    ensures ok { OnOk result (Ending (run_of report (R.contents ports.old.revisions) options.now)
         (moment S.Source R.Revisions K.Sink ports.old (world_at_start options.now))
         (moment S.Source R.Revisions K.Sink ports.new world.new)) }
-    ensures err { IfErr result (λ stop. Stopped stop (run_of (R.contents ports.old.revisions) options.now)
+    ensures err { IfErr result (λ stop. Stopped stop (run_of report (R.contents ports.old.revisions) options.now)
         (moment S.Source R.Revisions K.Sink ports.old (world_at_start options.now))
         (moment S.Source R.Revisions K.Sink ports.new world.new)) }
     ensures taken { IfSome (S.left ports.old.events) (λ bytes. TakesByNeed (max_bytes_of options.now) bytes (S.left ports.new.events)) }
@@ -45,7 +49,7 @@ pub fn replay<S: Source, R: Revisions, K: Sink>(
 {
     begin_by_first(world);
     set_horizon(options, world);
-    replay_within(alloc, options, ports, world)
+    replay_within(alloc, options, report, ports, world)
 }
 
 // Sets the horizon that is asked for, if one is.
@@ -65,15 +69,16 @@ fn set_horizon(options: &ReplayOptions<'_>, world: &mut World)
 fn replay_within<S: Source, R: Revisions, K: Sink>(
     alloc: Global,
     options: &ReplayOptions<'_>,
+    report: Report,
     ports: &mut Ports<S, R, K>,
     world: &mut World,
 ) -> Result<(), Stop>
     requires world { world.old.replay ≡ nothing_delivered_within world.old.replay.buffer.horizon }
     requires first { IsByFirst world.old }
-    ensures ok { OnOk result (Ending (run_of (R.contents ports.old.revisions) options.now)
+    ensures ok { OnOk result (Ending (run_of report (R.contents ports.old.revisions) options.now)
         (moment S.Source R.Revisions K.Sink ports.old world.old)
         (moment S.Source R.Revisions K.Sink ports.new world.new)) }
-    ensures err { IfErr result (λ stop. Stopped stop (run_of (R.contents ports.old.revisions) options.now)
+    ensures err { IfErr result (λ stop. Stopped stop (run_of report (R.contents ports.old.revisions) options.now)
         (moment S.Source R.Revisions K.Sink ports.old world.old)
         (moment S.Source R.Revisions K.Sink ports.new world.new)) }
     ensures taken { IfSome (S.left ports.old.events) (λ bytes. TakesByNeed (max_bytes_of options.now) bytes (S.left ports.new.events)) }
@@ -82,8 +87,11 @@ fn replay_within<S: Source, R: Revisions, K: Sink>(
     ensures further { HaveGoneOn S.Source R.Revisions K.Sink ports.old ports.new }
 {
     world.set_room(options.max_terms());
-    take_all(alloc, options, ports, world)?;
-    Ok(print_closing(alloc, sections(options), world, &mut ports.out)?)
+    take_all(alloc, options, report, ports, world)?;
+    match report {
+        Report::Answers => Ok(print_closing(alloc, sections(options), world, &mut ports.out)?),
+        Report::Changes => Ok(()),
+    }
 }
 
 // Which sections are asked for.
@@ -97,10 +105,11 @@ fn sections(options: &ReplayOptions<'_>) -> Sections
     }
 }
 
-// Takes the lines, with the answers to their questions, and the end.
+// Takes the lines and the end, with what is reported of them.
 fn take_all<S: Source, R: Revisions, K: Sink>(
     alloc: Global,
     plan: &ReplayOptions<'_>,
+    report: Report,
     ports: &mut Ports<S, R, K>,
     world: &mut World,
 ) -> Result<(), Stop>
@@ -108,10 +117,10 @@ fn take_all<S: Source, R: Revisions, K: Sink>(
     requires first { IsByFirst world.old }
     requires limit { world.old.limit ≡ max_terms_of plan.now }
     requires held { HoldsWithin world.old.limit world.old }
-    ensures ok { OnOk result (HasReplayed (run_of (R.contents ports.old.revisions) plan.now)
+    ensures ok { OnOk result (HasReplayed (run_of report (R.contents ports.old.revisions) plan.now)
         (moment S.Source R.Revisions K.Sink ports.old world.old)
         (moment S.Source R.Revisions K.Sink ports.new world.new)) }
-    ensures err { IfErr result (λ stop. Stopped stop (run_of (R.contents ports.old.revisions) plan.now)
+    ensures err { IfErr result (λ stop. Stopped stop (run_of report (R.contents ports.old.revisions) plan.now)
         (moment S.Source R.Revisions K.Sink ports.old world.old)
         (moment S.Source R.Revisions K.Sink ports.new world.new)) }
     ensures taken { IfSome (S.left ports.old.events) (λ bytes. TakesByNeed (max_bytes_of plan.now) bytes (S.left ports.new.events)) }
@@ -119,7 +128,13 @@ fn take_all<S: Source, R: Revisions, K: Sink>(
     ensures held { HoldsWithin world.old.limit world.new }
     ensures further { HaveGoneOn S.Source R.Revisions K.Sink ports.old ports.new }
 {
-    take_lines(alloc, plan, ports, world)?;
-    take_end(plan.folder(), &mut ports.revisions, world)?;
+    let reported = take_lines(alloc, plan, report, ports, world)?;
+    let context = Context {
+        alloc,
+        folder: plan.folder(),
+        report,
+        reported,
+    };
+    take_end(&context, &mut ports.revisions, &mut ports.out, world)?;
     Ok(())
 }

@@ -3,6 +3,7 @@
 ghost use Rattle.std.specs.Prelude.{◌≡◌, ◌↔◌, ℕ, None, Some, map, string_bytes};
 ghost use Rattle.replay_model.specs.ReplayState.{nothing_delivered};
 ghost use Rattle.drill_replay.specs.Playing.{IsByFirst};
+ghost use Rattle.session.specs.declared.report.Report.TheVariants.{Answers, Changes};
 ghost use Rattle.session.specs.Counts.{HaveGoneOn};
 ghost use Rattle.session.specs.Drilling.{DrillEnding};
 ghost use Rattle.session.specs.Records.{FollowEnding};
@@ -14,12 +15,13 @@ ghost use Rattle.following.specs.Following.{moment as follow_moment};
 ghost use Rattle.words.specs.Options.{Choices, FollowChoices};
 ghost use Rattle.words.specs.Plan.{plan_of};
 ghost use Rattle.words.specs.declared.plan.Plan.{Plan as ThePlan};
-ghost use Rattle.words.specs.declared.plan.Plan.TheVariants.{Replay, Drill, Follow};
+ghost use Rattle.words.specs.declared.plan.Plan.TheVariants.{Replay, Drill, Patches, Follow};
 
 use crate::drilling::drill;
 use crate::ports::Ports;
 use crate::records::follow_records;
 use crate::replaying::replay;
+use crate::report::Report;
 use crate::status::Status;
 use crate::stop::Stop;
 use revisions::Revisions;
@@ -32,6 +34,9 @@ use wq_io::{Sink, Source};
 /// Does what the words ask for. A replay reads the event lines, applies what is due, answers each question at once, maps what is
 /// held anew where a line changes the mapping, and prints at the end what the words ask for; a drill replays
 /// deliveries and pages that are made from its size, and prints its summary.
+///
+/// A patch stream replays the same lines, and writes in place of answers and sections how the stored triples change: a record for each
+/// application, and for each page that is mapped anew, that changes them. It passes over questions.
 ///
 /// A follower reads records of changes, and prints how many of them were applied and, where the words ask for it, the triples then.
 ///
@@ -52,7 +57,13 @@ pub fn run<S: Source, R: Revisions, K: Sink>(
 
     // A replay ends well, or stops for a cause; it begins with the horizon and the limit of the words, and by the first version.
     ensures replay { (choices : Choices) → plan_of (map (λ w. string_bytes w) words.now) ≡ Some (Replay choices) →
-        ReplayEnding result (run_of (R.contents ports.old.revisions) choices)
+        ReplayEnding result (run_of Answers (R.contents ports.old.revisions) choices)
+        (moment S.Source R.Revisions K.Sink ports.old (world_at_start choices))
+        (moment S.Source R.Revisions K.Sink ports.new world.new) }
+
+    // So does a patch stream, which is a replay whose output has the records of its changes, and nothing else.
+    ensures patches { (choices : Choices) → plan_of (map (λ w. string_bytes w) words.now) ≡ Some (Patches choices) →
+        ReplayEnding result (run_of Changes (R.contents ports.old.revisions) choices)
         (moment S.Source R.Revisions K.Sink ports.old (world_at_start choices))
         (moment S.Source R.Revisions K.Sink ports.new world.new) }
 
@@ -81,7 +92,13 @@ pub fn run<S: Source, R: Revisions, K: Sink>(
     match read_plan(words) {
         None => Status::BadWords,
         Some(Plan::Replay(options)) => {
-            match replay(alloc, &options, ports, world) {
+            match replay(alloc, &options, Report::Answers, ports, world) {
+                Ok(()) => Status::Ok,
+                Err(stop) => stop.status(),
+            }
+        }
+        Some(Plan::Patches(options)) => {
+            match replay(alloc, &options, Report::Changes, ports, world) {
                 Ok(()) => Status::Ok,
                 Err(stop) => stop.status(),
             }

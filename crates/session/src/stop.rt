@@ -20,6 +20,15 @@ pub enum Unapplied {
     OutOfMemory,
 }
 
+// Why a delivery wasn't taken wholly: at which step it stopped.
+#[derive(Clone, Copy, Debug, PartialEq, Eq)]
+pub enum Halt {
+    // A due event wasn't applied, or a page not mapped anew.
+    Unapplied(Unapplied),
+    // The last event that was applied, or the last page that was mapped anew, wasn't told wholly.
+    Untold(Unwritten),
+}
+
 // Why a run that was begun stopped.
 #[derive(Clone, Copy, Debug, PartialEq, Eq)]
 pub enum Stop {
@@ -69,6 +78,20 @@ impl From<Unapplied> for Stop {
         match why {
             Unapplied::StoreFull => Stop::StoreFull,
             Unapplied::OutOfMemory => Stop::OutOfMemory,
+        }
+    }
+}
+
+impl From<Halt> for Stop {
+    ghost use Rattle.std.specs.Prelude.{◌≡◌};
+    ghost use Rattle.session.specs.Stop.{stop_of_halt};
+
+    ghost from_gives = { λ halt stop. stop ≡ stop_of_halt halt };
+
+    fn from(halt: Halt) -> Stop {
+        match halt {
+            Halt::Unapplied(why) => Stop::from(why),
+            Halt::Untold(why) => Stop::from(why),
         }
     }
 }

@@ -1,6 +1,6 @@
 // The lines of the input are taken one by one.
 
-ghost use Rattle.std.specs.Prelude.{◌≡◌, ◌⊎◌, Ok, Err, IfErr, IfOk, IfSome, OnOk};
+ghost use Rattle.std.specs.Prelude.{◌≡◌, ◌⊎◌, Ok, Err, IfErr, IfOk, IfSome};
 ghost use Rattle.drill_replay.specs.Playing.{IsByFirst};
 ghost use Rattle.replay_model.specs.ReplayState.{nothing_delivered_within};
 ghost use Rattle.event_line.specs.declared.faults.LineCause.{LineCause};
@@ -14,8 +14,10 @@ ghost use Rattle.session.specs.Remapping.{HoldsWithin};
 ghost use Rattle.session.specs.Stops.{HasTaken};
 ghost use Rattle.words.specs.Options.{max_bytes_of, max_terms_of};
 
-use crate::delivering::{Context, asks, deliver};
+use crate::context::Context;
+use crate::delivering::deliver;
 use crate::ports::Ports;
+use crate::report::Report;
 use crate::stop::Stop;
 use delivery::Delivery;
 use event_line::{DeliveryFault, delivery};
@@ -26,21 +28,23 @@ use world::World;
 use wq_io::{Lines, Sink, Source};
 
 // Takes all lines of the input; after each watermark all due events are applied before the next line is taken, and each
-// question is answered at once; at a change of the mapping all that is held is mapped anew before the next line is taken.
+// question is answered at once; at a change of the mapping all that is held is mapped anew before the next line is taken. Says how many
+// answers or records are written then.
 pub fn take_lines<S: Source, R: Revisions, K: Sink>(
     alloc: Global,
     plan: &ReplayOptions<'_>,
+    report: Report,
     ports: &mut Ports<S, R, K>,
     world: &mut World,
-) -> Result<(), Stop>
+) -> Result<u64, Stop>
     requires world { world.old.replay ≡ nothing_delivered_within world.old.replay.buffer.horizon }
     requires first { IsByFirst world.old }
     requires limit { world.old.limit ≡ max_terms_of plan.now }
     requires held { HoldsWithin world.old.limit world.old }
-    ensures ok { OnOk result (HasTaken (run_of (R.contents ports.old.revisions) plan.now)
+    ensures ok { IfOk result (λ reported. HasTaken (run_of report (R.contents ports.old.revisions) plan.now) reported
         (moment S.Source R.Revisions K.Sink ports.old world.old)
         (moment S.Source R.Revisions K.Sink ports.new world.new)) }
-    ensures err { IfErr result (λ stop. Stopped stop (run_of (R.contents ports.old.revisions) plan.now)
+    ensures err { IfErr result (λ stop. Stopped stop (run_of report (R.contents ports.old.revisions) plan.now)
         (moment S.Source R.Revisions K.Sink ports.old world.old)
         (moment S.Source R.Revisions K.Sink ports.new world.new)) }
     ensures taken { IfSome (S.left ports.old.events) (λ bytes. TakesByNeed (max_bytes_of plan.now) bytes (S.left ports.new.events)) }
@@ -51,25 +55,26 @@ pub fn take_lines<S: Source, R: Revisions, K: Sink>(
     let folder = plan.folder();
     let mut lines = Lines::new(plan.max_bytes());
     let mut line = Vec::new(alloc);
-    let mut asked = 0;
+    let mut reported = 0;
     while let Some(number) = lines.next(&mut ports.events, &mut line)? {
         let delivery = read_delivery(alloc, line.as_slice(), number)?;
-        asked += asks(&delivery);
         let context = Context {
             alloc,
             folder,
-            asked,
+            report,
+            reported,
         };
-        deliver(
+        let done = deliver(
             &context,
             &delivery,
             &mut ports.revisions,
             &mut ports.out,
             world,
         )?;
+        reported = done.reported;
         drop(delivery); // its memory is free before the next line is read
     }
-    Ok(())
+    Ok(reported)
 }
 
 // Reads one line.

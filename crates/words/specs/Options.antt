@@ -1,7 +1,7 @@
--- What a replay and a follower are asked for.
-use Rattle.std.specs.Prelude.{ℕ, Bool, List, Option, IfSome, unwrap_or, codes}
+-- What a replay, a patch stream and a follower are asked for.
+use Rattle.std.specs.Prelude.{ℕ, ◌≤◌, Bool, List, Option, IfSome, unwrap_or, codes}
 use Rattle.words.specs.Items.{Item, is_there, number_in, value_in}
-use Rattle.words.specs.Table.{IsInRange, follow_table, kind_in, replay_table}
+use Rattle.words.specs.Table.{Entry, IsInRange, follow_table, kind_in, replay_table}
 
 -- what is asked for: the folder of the revisions, the most bytes of the input, the most terms and the horizon in microseconds, where
 -- the words say them, and which sections are printed
@@ -14,13 +14,13 @@ pub record Choices : Type 0 where
   pub state : Bool
   pub side : Bool
 
--- what the items ask for
-abbrev pub choices_of : List Item → Choices
-choices_of items = record {
+-- what items of this table ask for; a patch stream has no sections
+abbrev pub choices_of : List Entry → List Item → Choices
+choices_of table items = record {
   folder = value_in (codes "--from") items;
-  max_bytes = number_in replay_table (codes "--max-bytes") items;
-  max_terms = number_in replay_table (codes "--max-terms") items;
-  horizon = number_in replay_table (codes "--horizon") items;
+  max_bytes = number_in table (codes "--max-bytes") items;
+  max_terms = number_in table (codes "--max-terms") items;
+  horizon = number_in table (codes "--horizon") items;
   export = is_there (codes "--export") items;
   state = is_there (codes "--state") items;
   side = is_there (codes "--side") items;
@@ -45,6 +45,10 @@ IsItemInRange name value = IfSome value (IsInRange (kind_in replay_table name))
 -- the most bytes, the most terms and the horizon are in their ranges
 abbrev pub IsAllowed : Choices → Type 0
 IsAllowed c = IsItemInRange (codes "--max-bytes") c.max_bytes × IsItemInRange (codes "--max-terms") c.max_terms × IsItemInRange (codes "--horizon") c.horizon
+
+-- the most bytes are no more than a patch stream may read, which numbers its records in 64 bits
+abbrev pub IsBounded : Choices → Type 0
+IsBounded c = max_bytes_of c ≤ 4294967295
 
 -- what a follower is asked for: the most bytes of the input, where the words say them, and whether its triples are printed
 pub record FollowChoices : Type 0 where

@@ -2,12 +2,12 @@
 use Rattle.std.specs.Prelude.{ℕ, ◌≤◌, cond, List, [], ◌∷◌, Option, None, Some, codes, option_map, IfSome}
 use Rattle.std.specs.Option.{option_and_then}
 use Rattle.words.specs.declared.table.Command.{Command}
-use Rattle.words.specs.declared.table.Command.TheVariants.{Replay as ToReplay, Drill as ToDrill, Follow as ToFollow}
-use Rattle.words.specs.Table.{Entry, command_named, drill_table, table_of}
+use Rattle.words.specs.declared.table.Command.TheVariants.{Replay as ToReplay, Drill as ToDrill, Patches as ToPatches, Follow as ToFollow}
+use Rattle.words.specs.Table.{Entry, command_named, drill_table, patches_table, replay_table, table_of}
 use Rattle.words.specs.Items.{Item, are_items, items_of, number_in}
-use Rattle.words.specs.Options.{IsAllowed, choices_of, follow_choices_of}
+use Rattle.words.specs.Options.{IsAllowed, IsBounded, choices_of, follow_choices_of}
 use Rattle.words.specs.declared.plan.Plan.{Plan}
-use Rattle.words.specs.declared.plan.Plan.TheVariants.{Replay, Drill, Follow}
+use Rattle.words.specs.declared.plan.Plan.TheVariants.{Replay, Drill, Patches, Follow}
 
 -- the greatest size of a drill
 abbrev pub greatest_size : ℕ
@@ -19,8 +19,9 @@ understood table words = cond (are_items table (items_of table words)) (Some (it
 
 -- what a command and its items ask for; the size of a drill has to be there
 abbrev pub asked : Command → List Item → Option Plan
-asked ToReplay items = Some (Replay (choices_of items))
+asked ToReplay items = Some (Replay (choices_of replay_table items))
 asked ToDrill items = option_map Drill (number_in drill_table (codes "--size") items)
+asked ToPatches items = Some (Patches (choices_of patches_table items))
 asked ToFollow items = Some (Follow (follow_choices_of items))
 
 -- the plan that the words are: a command, and then items of its table in any order, each at most once
@@ -32,4 +33,5 @@ plan_of (word ∷ words) = option_and_then (λ command. option_and_then (asked c
 abbrev pub IsSized : Plan → Type 0
 IsSized (Replay choices) = IsAllowed choices
 IsSized (Drill size) = (1 ≤ size) × (size ≤ greatest_size)
+IsSized (Patches choices) = IsAllowed choices × IsBounded choices
 IsSized (Follow choices) = IfSome choices.max_bytes (λ n. n ≤ 1099511627776)

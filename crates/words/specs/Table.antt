@@ -5,7 +5,7 @@ use Rattle.words.specs.Numbers.{number_between}
 use Rattle.words.specs.declared.table.ValueKind.{ValueKind}
 use Rattle.words.specs.declared.table.ValueKind.TheVariants.{Flag, Text, Number}
 use Rattle.words.specs.declared.table.Command.{Command}
-use Rattle.words.specs.declared.table.Command.TheVariants.{Replay, Drill, Follow}
+use Rattle.words.specs.declared.table.Command.TheVariants.{Replay, Drill, Patches, Follow}
 
 -- an item that a command has: its name, and the kind of its value
 pub record Entry : Type 0 where
@@ -18,12 +18,13 @@ entry name kind = record { name = name; kind = kind }
 
 -- the commands
 abbrev pub commands : List Command
-commands = Replay ∷ Drill ∷ Follow ∷ []
+commands = Replay ∷ Drill ∷ Patches ∷ Follow ∷ []
 
 -- the name of a command
 abbrev pub name_of : Command → List ℕ
 name_of Replay = codes "replay"
 name_of Drill = codes "drill"
+name_of Patches = codes "patches"
 name_of Follow = codes "follow"
 
 -- the command with this name
@@ -46,6 +47,15 @@ replay_table =
 abbrev pub drill_table : List Entry
 drill_table = entry (codes "--size") (Number 1 200000) ∷ []
 
+-- the items of a patch stream: it numbers its records in 64 bits, so it reads fewer bytes
+abbrev pub patches_table : List Entry
+patches_table =
+    entry (codes "--from") Text
+    ∷ entry (codes "--max-bytes") (Number 0 4294967295)
+    ∷ entry (codes "--max-terms") (Number 1 4294967295)
+    ∷ entry (codes "--horizon") (Number 0 9223372036854775807)
+    ∷ []
+
 -- the items of a follower
 abbrev pub follow_table : List Entry
 follow_table = entry (codes "--max-bytes") (Number 0 1099511627776) ∷ entry (codes "--export") Flag ∷ []
@@ -54,6 +64,7 @@ follow_table = entry (codes "--max-bytes") (Number 0 1099511627776) ∷ entry (c
 abbrev pub table_of : Command → List Entry
 table_of Replay = replay_table
 table_of Drill = drill_table
+table_of Patches = patches_table
 table_of Follow = follow_table
 
 -- the kind of the value of the item with this name, if the table has one

@@ -1,10 +1,10 @@
-// What a replay and a follower are asked for.
+// What a replay, a patch stream and a follower are asked for.
 
-ghost use Rattle.std.specs.Prelude.{◌≡◌, ◌≤◌, ◌^◌, codes, option_map};
+ghost use Rattle.std.specs.Prelude.{◌≡◌, ◌⊎◌, ◌≤◌, ◌^◌, codes, option_map};
 ghost use Rattle.words.specs.Items.{number_in};
-ghost use Rattle.words.specs.Table.{replay_table};
-ghost use Rattle.words.specs.Options.{IsAllowed, IsItemInRange, choices_of, follow_choices_of, follow_max_bytes_of, max_bytes_of, folder_of, max_terms_of};
-ghost use Rattle.words.specs.declared.table.Command.TheVariants.{Replay, Follow};
+ghost use Rattle.words.specs.Table.{table_of};
+ghost use Rattle.words.specs.Options.{IsAllowed, IsBounded, IsItemInRange, choices_of, follow_choices_of, follow_max_bytes_of, max_bytes_of, folder_of, max_terms_of};
+ghost use Rattle.words.specs.declared.table.Command.TheVariants.{Replay, Patches, Follow};
 
 use crate::items::Request;
 use std::marker::Model;
@@ -18,7 +18,7 @@ const MAX_BYTES: u64 = 1_073_741_824;
 /// For how many terms there is room where the words don't say how many.
 const MAX_TERMS: u32 = 20_000_000;
 
-/// What a replay is asked for, as the words say it.
+/// What a replay or a patch stream is asked for, as the words say it. A patch stream has no sections.
 #[derive(Debug, Drop)]
 pub struct ReplayOptions<'a> {
     folder: Option<&'a str>,
@@ -51,10 +51,11 @@ impl<'a> Model for ReplayOptions<'a> {
 }
 
 impl<'a> ReplayOptions<'a> {
-    /// What the items after `replay` ask for.
+    /// What the items after `replay` or `patches` ask for.
     pub fn of_items(items: &Request<'a>) -> ReplayOptions<'a>
-        requires { items.now.command ≡ Replay }
-        ensures { result ≡ choices_of items.now.items }
+        requires { (items.now.command ≡ Replay) ⊎ (items.now.command ≡ Patches) }
+        ensures choices { result ≡ choices_of (table_of items.now.command) items.now.items }
+        ensures bounded { items.now.command ≡ Patches → IsBounded result }
     {
         ReplayOptions {
             folder: items.text("--from"),
@@ -124,8 +125,8 @@ impl<'a> ReplayOptions<'a> {
 
 // The most terms that the items say.
 fn max_terms_in(items: &Request<'_>) -> Option<u32>
-    requires { items.now.command ≡ Replay }
-    ensures value { result ≡ number_in replay_table (codes "--max-terms") items.now.items }
+    requires { (items.now.command ≡ Replay) ⊎ (items.now.command ≡ Patches) }
+    ensures value { result ≡ number_in (table_of items.now.command) (codes "--max-terms") items.now.items }
     ensures within { IsItemInRange (codes "--max-terms") result }
 {
     let terms = items.number("--max-terms")?;

@@ -14,6 +14,8 @@ pub enum Plan<'a> {
     Replay(ReplayOptions<'a>),
     /// To replay deliveries and pages that are made from this number, and to print a summary.
     Drill(u32),
+    /// To replay the event lines of the input, and to tell how the stored triples change.
+    Patches(ReplayOptions<'a>),
     /// To rebuild a producer's triples from records of their changes.
     Follow(FollowOptions),
 }
@@ -40,6 +42,7 @@ fn asked<'a>(request: &Request<'a>) -> Option<Plan<'a>>
             let size = request.number("--size")?;
             Some(Plan::Drill(size as u32))
         }
+        Command::Patches => Some(Plan::Patches(ReplayOptions::of_items(request))),
         Command::Follow => Some(Plan::Follow(FollowOptions::of_items(request))),
     }
 }

@@ -1,7 +1,7 @@
 // The commands, and the table of each: the names of its items, with the kinds of their values.
 
 ghost use Rattle.std.specs.Prelude.{◌≡◌};
-ghost use Rattle.words.specs.Table.{command_named, drill_table, follow_table, has_value, kind_in, replay_table, table_of};
+ghost use Rattle.words.specs.Table.{command_named, drill_table, follow_table, has_value, kind_in, patches_table, replay_table, table_of};
 
 /// What an item has as its value.
 #[derive(Clone, Copy, Debug, PartialEq, Eq)]
@@ -21,6 +21,8 @@ pub enum Command {
     Replay,
     /// To replay deliveries and pages that are made from a number.
     Drill,
+    /// To replay the event lines of the input, and to tell how the stored triples change.
+    Patches,
     /// To rebuild a producer's triples from records of their changes.
     Follow,
 }
@@ -33,6 +35,7 @@ impl Command {
         match word {
             "replay" => Some(Command::Replay),
             "drill" => Some(Command::Drill),
+            "patches" => Some(Command::Patches),
             "follow" => Some(Command::Follow),
             _ => None,
         }
@@ -45,6 +48,7 @@ impl Command {
         match self {
             Command::Replay => replay_kind(name),
             Command::Drill => drill_kind(name),
+            Command::Patches => patches_kind(name),
             Command::Follow => follow_kind(name),
         }
     }
@@ -72,6 +76,19 @@ fn drill_kind(name: &str) -> Option<ValueKind>
 {
     match name {
         "--size" => Some(ValueKind::Number(1, 200_000)),
+        _ => None,
+    }
+}
+
+// The items of a patch stream: it numbers its records in 64 bits, so it reads fewer bytes.
+fn patches_kind(name: &str) -> Option<ValueKind>
+    ensures { result ≡ kind_in patches_table name.now }
+{
+    match name {
+        "--from" => Some(ValueKind::Text),
+        "--max-bytes" => Some(ValueKind::Number(0, 4_294_967_295)),
+        "--max-terms" => Some(ValueKind::Number(1, 4_294_967_295)),
+        "--horizon" => Some(ValueKind::Number(0, 9_223_372_036_854_775_807)),
         _ => None,
     }
 }

@@ -5,7 +5,6 @@ use Rattle.drill.specs.Source.{Source}
 use Rattle.drill_replay.specs.Playing.{HasBegun, IsPartOf, StandsAtEnd}
 use Rattle.drill_replay.specs.Summary.{drilled}
 use Rattle.drill_replay.proofs.Drills.{drilled_begun, part_in}
-use Rattle.transcript.specs.Printing.{output}
 use Rattle.session.specs.DrillPlaying.{told_of}
 use Rattle.session.proofs.DrillPlaying.{all_taken, few_none, starts}
 use Rattle.session.proofs.drill_playing.play.Goals as goal
@@ -25,7 +24,7 @@ returns-in_err-take_item-clause-begun g c =
 
 pub take_end-requires-clause-taken : goal.take_end-requires-clause-taken
 take_end-requires-clause-taken g c =
-    (output g.K.Sink c.loop-done.out, all_taken c.loop-done.run c.args.size c.loop-done.done _ c.loop-done.world c.loop-done.invariant.size_is c.loop-done-test.false c.loop-done.auto.done-end c.loop-done.invariant.taken)
+    all_taken c.loop-done.run c.args.size c.loop-done.done _ c.loop-done.world c.loop-done.invariant.size_is c.loop-done-test.false c.loop-done.auto.done-end c.loop-done.invariant.taken
 
 pub returns-in_err-take_end-clause-begun : goal.returns-in_err-take_end-clause-begun
 returns-in_err-take_end-clause-begun g c = inr (subst (λ k. StandsAtEnd k c.take_end.new.world.replay) c.loop-done.invariant.size_is c.in_err-take_end.ensures.err)

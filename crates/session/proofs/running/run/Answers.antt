@@ -1,6 +1,7 @@
 -- What a replay, a drill and a follower leave, by the plan that was read.
 use Rattle.std.proofs.Common.{◌≡◌, ◌∙◌, sym, ap, Some, refl}
 use Rattle.words.specs.declared.plan.Plan.TheVariants.{Replay, Drill, Follow}
+use Rattle.session.specs.declared.report.Report.TheVariants.{Answers}
 use Rattle.session.specs.declared.status.Status.TheVariants.{Ok as Ended}
 use Rattle.session.specs.Drilling.{DrillEnding}
 use Rattle.following.specs.Following.{moment as follow_moment}
@@ -19,7 +20,7 @@ use Rattle.session.proofs.running.run.Goals as goal
 
 pub returns-in-Ok-clause-replay : goal.returns-in-Ok-clause-replay
 returns-in-Ok-clause-replay g c = λ choices plan.
-    for_choices (λ x. ReplayEnding Ended (run_of (g.R.Revisions.contents c.args.ports.now.revisions) x) (moment g.S.Source g.R.Revisions g.K.Sink c.args.ports.now (world_at_start x)) (moment g.S.Source g.R.Revisions g.K.Sink c.replay.new.ports c.replay.new.world))
+    for_choices (λ x. ReplayEnding Ended (run_of Answers (g.R.Revisions.contents c.args.ports.now.revisions) x) (moment g.S.Source g.R.Revisions g.K.Sink c.args.ports.now (world_at_start x)) (moment g.S.Source g.R.Revisions g.K.Sink c.replay.new.ports c.replay.new.world))
     c.in-Some-Replay.options choices (ap Some (sym c.in-Some-Replay.field-0-is) ∙ c.in-Some-Replay.ensures.value ∙ plan) (record { outcome = c.in-Ok.ensures.ok; taken = c.in-Ok.ensures.taken })
 
 pub returns-in-Ok-clause-drill : goal.returns-in-Ok-clause-drill
@@ -37,7 +38,7 @@ returns-in-Ok-clause-limit g c = λ the plan.
 
 pub returns-in-Err-clause-replay : goal.returns-in-Err-clause-replay
 returns-in-Err-clause-replay g c = λ choices plan.
-    for_choices (λ x. ReplayEnding c.status.result (run_of (g.R.Revisions.contents c.args.ports.now.revisions) x) (moment g.S.Source g.R.Revisions g.K.Sink c.args.ports.now (world_at_start x)) (moment g.S.Source g.R.Revisions g.K.Sink c.replay.new.ports c.replay.new.world))
+    for_choices (λ x. ReplayEnding c.status.result (run_of Answers (g.R.Revisions.contents c.args.ports.now.revisions) x) (moment g.S.Source g.R.Revisions g.K.Sink c.args.ports.now (world_at_start x)) (moment g.S.Source g.R.Revisions g.K.Sink c.replay.new.ports c.replay.new.world))
     c.in-Some-Replay.options choices (ap Some (sym c.in-Some-Replay.field-0-is) ∙ c.in-Some-Replay.ensures.value ∙ plan) (replay_stopped _ _ _ _ _ c.status.ensures.stops c.in-Err.ensures.err c.in-Err.ensures.taken)
 
 pub returns-in-Err-clause-drill : goal.returns-in-Err-clause-drill

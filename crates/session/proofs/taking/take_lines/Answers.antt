@@ -1,16 +1,16 @@
 -- The start, a fault of the reader, a line that is refused, and a line that is taken.
-use Rattle.std.proofs.Common.{refl, sym, ◌∙◌, arith}
+use Rattle.std.proofs.Common.{refl, sym, ◌∙◌}
 use Rattle.std.proofs.lemmas.Result.{err_from_is_err_and}
 use Rattle.session.specs.Moment.{Run, moment, run_of}
 use Rattle.session.proofs.Deliveries.{rest_open}
 use Rattle.session.proofs.Ongoing.{delivered_on, none_gone, read_on}
-use Rattle.session.proofs.Progress.{delivery_stops, end_reached, fault_stops, line_stops, line_taken, nothing_begun, taken_on}
+use Rattle.session.proofs.Progress.{delivery_stops, end_reached, fault_stops, line_stops, line_taken, nothing_begun, numbers_left, taken_on}
 use Rattle.session.proofs.Reading.{nothing_left}
 use Rattle.session.proofs.taking.take_lines.Goals as goal
 
 pub loop-line-init : goal.loop-line-init
 loop-line-init g c =
-    let run : Run = run_of (g.R.Revisions.contents c.args.ports.now.revisions) c.args.plan.now in (
+    let run : Run = run_of c.args.report (g.R.Revisions.contents c.args.ports.now.revisions) c.args.plan.now in (
       rw (c.new-lines.ensures, c.max_bytes.ensures.value, c.requires.world, c.requires.first.0, c.requires.first.1) (nothing_begun run _ _ _ _),
       none_gone g.S.Source g.R.Revisions g.K.Sink _,
       refl,
@@ -32,19 +32,19 @@ returns-in_err-delivery-clause-err g c =
     rw (p.1, p.2) (line_stops _ _ _ _ _ c.loop-line.invariant.0 c.next.new.line.items c.next.new.self _ _ _ _ c.in-Some.number
     (record { first = line; total = c.in_ok-number.ensures.length; takes = bytes; goes = c.in_ok-number.ensures.goes_on; reads = c.next.ensures.reads }) number.0 refused)
 
-pub deliver-requires : goal.deliver-requires
-deliver-requires g c = rest_open _ _ _ _ c.loop-line.invariant.0.at_rest
+pub deliver-requires-clause-open : goal.deliver-requires-clause-open
+deliver-requires-clause-open g c = rest_open _ _ _ _ _ c.loop-line.invariant.0.at_rest
 
-pub returns-in_err-deliver-clause-err : goal.returns-in_err-deliver-clause-err
-returns-in_err-deliver-clause-err g c =
-    let p = err_from_is_err_and c.from_residual-in_err-deliver.result c.from_residual-in_err-deliver.ensures.1 in
+pub returns-in_err-done-clause-err : goal.returns-in_err-done-clause-err
+returns-in_err-done-clause-err g c =
+    let p = err_from_is_err_and c.from_residual-in_err-done.result c.from_residual-in_err-done.ensures.1 in
     let line = rw c.in-Some.is at c.in_ok-number.ensures.line in
     let bytes = rw c.in-Some.is at c.in_ok-number.ensures.bytes in
     let delivered = rw c.as_slice.ensures.value at c.in_ok-delivery.ensures.ok in
-    let cuts = rw (c.loop-line.invariant.1.revisions.known, c.folder-folder.ensures, c.loop-line.invariant.2 ∙ c.requires.limit) at c.in_err-deliver.ensures.err in
+    let cuts = rw (c.loop-line.invariant.1.revisions.known, c.folder-folder.ensures, c.loop-line.invariant.2 ∙ c.requires.limit) at c.in_err-done.ensures.err in
     rw (p.1, p.2) (delivery_stops _ _ _ _ _ c.loop-line.invariant.0 c.next.new.line.items c.next.new.self _ _
-    (moment g.S.Source g.R.Revisions g.K.Sink (record { events = c.next.new.source; revisions = c.deliver.new.revisions; out = c.deliver.new.out }) c.deliver.new.world) c.in_ok-delivery.delivery _
-    (record { first = line; total = c.in_ok-number.ensures.length; takes = bytes; goes = c.in_ok-number.ensures.goes_on; reads = c.next.ensures.reads }) delivered (omega (arith, c.asks-asked.ensures.number)) _ cuts)
+    (moment g.S.Source g.R.Revisions g.K.Sink (record { events = c.next.new.source; revisions = c.deliver.new.revisions; out = c.deliver.new.out }) c.deliver.new.world) c.in_ok-delivery.delivery
+    (record { first = line; total = c.in_ok-number.ensures.length; takes = bytes; goes = c.in_ok-number.ensures.goes_on; reads = c.next.ensures.reads }) delivered _ cuts)
 
 pub loop-line-preserved : goal.loop-line-preserved
 loop-line-preserved g c =
@@ -52,17 +52,18 @@ loop-line-preserved g c =
     let number = rw c.in-Some.is at c.in_ok-number.ensures.number in
     let bytes = rw c.in-Some.is at c.in_ok-number.ensures.bytes in
     let delivered = rw c.as_slice.ensures.value at c.in_ok-delivery.ensures.ok in
-    let takes = rw (c.loop-line.invariant.1.revisions.known, c.folder-folder.ensures, c.loop-line.invariant.2 ∙ c.requires.limit) at c.in_ok-deliver.ensures.ok in
-    let one = c.asks-asked.ensures.at_most_one in
-    let asked = c.asks-asked.ensures.number in (
+    let takes = rw (c.loop-line.invariant.1.revisions.known, c.folder-folder.ensures, c.loop-line.invariant.2 ∙ c.requires.limit) at c.in_ok-done.ensures.ok in (
       line_taken _ _ _ _ _ c.loop-line.invariant.0 c.next.new.line.items c.next.new.self _ _
-          (moment g.S.Source g.R.Revisions g.K.Sink (record { events = c.next.new.source; revisions = c.deliver.new.revisions; out = c.deliver.new.out }) c.deliver.new.world) c.in_ok-delivery.delivery _
-          (record { first = line; total = c.in_ok-number.ensures.length; takes = bytes; goes = c.in_ok-number.ensures.goes_on; reads = c.next.ensures.reads }) delivered (omega (arith, asked))
-          c.in_ok-number.ensures.later (sym number.1 ∙ number.0) c.in_ok-number.ensures.ended (omega (arith, asked, one)) takes,
+          (moment g.S.Source g.R.Revisions g.K.Sink (record { events = c.next.new.source; revisions = c.deliver.new.revisions; out = c.deliver.new.out }) c.deliver.new.world) c.in_ok-delivery.delivery
+          (record { first = line; total = c.in_ok-number.ensures.length; takes = bytes; goes = c.in_ok-number.ensures.goes_on; reads = c.next.ensures.reads }) delivered _
+          c.in_ok-number.ensures.later (sym number.1 ∙ number.0) c.in_ok-number.ensures.ended takes,
       delivered_on g.S.Source g.R.Revisions g.K.Sink _ c.loop-line.ports _ _ _ c.loop-line.invariant.1 c.next.ensures.later c.next.ensures.most c.deliver.ensures.source c.deliver.ensures.written,
       c.deliver.ensures.limit ∙ c.loop-line.invariant.2,
       (rw c.loop-line.invariant.2 at c.deliver.ensures.held) c.loop-line.invariant.3,
     )
+
+pub deliver-requires-clause-number : goal.deliver-requires-clause-number
+deliver-requires-clause-number g c = numbers_left c.args.report c.loop-line.reported c.loop-line.lines c.loop-line.invariant.0.few c.loop-line.invariant.0.sound c.loop-line.invariant.0.max (rw c.max_bytes.ensures.value at c.max_bytes.ensures.bounded)
 
 pub returns-clause-ok : goal.returns-clause-ok
 returns-clause-ok g c =
@@ -78,8 +79,8 @@ returns-in_err-number-clause-taken g c = taken_on _ _ _ _ _ c.loop-line.invarian
 pub returns-in_err-delivery-clause-taken : goal.returns-in_err-delivery-clause-taken
 returns-in_err-delivery-clause-taken g c = taken_on _ _ _ _ _ c.loop-line.invariant.0 c.next.new.self _ _ _ c.next.ensures.reads
 
-pub returns-in_err-deliver-clause-taken : goal.returns-in_err-deliver-clause-taken
-returns-in_err-deliver-clause-taken g c = taken_on _ _ _ _ _ c.loop-line.invariant.0 c.next.new.self _ _ _ c.next.ensures.reads
+pub returns-in_err-done-clause-taken : goal.returns-in_err-done-clause-taken
+returns-in_err-done-clause-taken g c = taken_on _ _ _ _ _ c.loop-line.invariant.0 c.next.new.self _ _ _ c.next.ensures.reads
 
 pub returns-clause-further : goal.returns-clause-further
 returns-clause-further g c = read_on g.S.Source g.R.Revisions g.K.Sink _ c.loop-line.ports _ c.loop-line.invariant.1 c.next.ensures.later c.next.ensures.most
@@ -90,8 +91,8 @@ returns-in_err-number-clause-further g c = read_on g.S.Source g.R.Revisions g.K.
 pub returns-in_err-delivery-clause-further : goal.returns-in_err-delivery-clause-further
 returns-in_err-delivery-clause-further g c = read_on g.S.Source g.R.Revisions g.K.Sink _ c.loop-line.ports _ c.loop-line.invariant.1 c.next.ensures.later c.next.ensures.most
 
-pub returns-in_err-deliver-clause-further : goal.returns-in_err-deliver-clause-further
-returns-in_err-deliver-clause-further g c = delivered_on g.S.Source g.R.Revisions g.K.Sink _ c.loop-line.ports _ _ _ c.loop-line.invariant.1 c.next.ensures.later c.next.ensures.most c.deliver.ensures.source c.deliver.ensures.written
+pub returns-in_err-done-clause-further : goal.returns-in_err-done-clause-further
+returns-in_err-done-clause-further g c = delivered_on g.S.Source g.R.Revisions g.K.Sink _ c.loop-line.ports _ _ _ c.loop-line.invariant.1 c.next.ensures.later c.next.ensures.most c.deliver.ensures.source c.deliver.ensures.written
 
-pub returns-in_err-deliver-clause-held : goal.returns-in_err-deliver-clause-held
-returns-in_err-deliver-clause-held g c = (rw c.loop-line.invariant.2 at c.deliver.ensures.held) c.loop-line.invariant.3
+pub returns-in_err-done-clause-held : goal.returns-in_err-done-clause-held
+returns-in_err-done-clause-held g c = (rw c.loop-line.invariant.2 at c.deliver.ensures.held) c.loop-line.invariant.3

@@ -1,5 +1,5 @@
 -- The deliveries of the item are taken and counted, one after the other.
-use Rattle.std.proofs.Common.{◌≡◌, ◌∙◌, ◌+◌, ◌*◌, ◌++◌, [], ◌∷◌, suc, take, drop, sym, subst, append-nil, arith}
+use Rattle.std.proofs.Common.{refl, ◌≡◌, ◌∙◌, ◌+◌, ◌*◌, ◌++◌, [], ◌∷◌, suc, take, drop, sym, subst, append-nil, arith}
 use Rattle.transcript.specs.Printing.{output}
 use Rattle.drill.specs.Drill.{IsSize, item_deliveries, drill}
 use Rattle.drill_replay.specs.Playing.{IsPartOf}
@@ -27,8 +27,8 @@ loop-delivery-init g c = record {
   silent = λ i. output g.K.Sink c.args.out.now;
 }
 
-pub deliver-requires : goal.deliver-requires
-deliver-requires g c = rest_open _ _ _ _ c.loop-delivery.invariant.taken.at_rest
+pub deliver-requires-clause-open : goal.deliver-requires-clause-open
+deliver-requires-clause-open g c = rest_open _ _ _ _ _ c.loop-delivery.invariant.taken.at_rest
 
 pub refused-requires : goal.refused-requires
 refused-requires g c =
@@ -78,7 +78,7 @@ returns-in-Err-clause-silent g c =
     let are : items ≡ item_deliveries (n + 1) = c.as_slice-delivery-items.ensures ∙ c.in_ok-list.ensures in
     let rest : drill (n + 1) ≡ (drill n ++ take i items) ++ d ∷ drop (suc i) items = cut n items i d are c.loop-delivery-test.true c.delivery-item.is in
     let all = next_of run.size n _ (drop (suc i) items) d (omega (arith, c.loop-delivery.invariant.size_is, c.requires.next)) rest in
-    c.deliver.ensures.silent (silent run _ all.0 d all.1) ∙ c.loop-delivery.invariant.silent
+    c.deliver.ensures.silent refl (silent run _ all.0 d all.1) ∙ c.loop-delivery.invariant.silent
 
 pub loop-delivery-preserved : goal.loop-delivery-preserved
 loop-delivery-preserved g c =
@@ -95,9 +95,9 @@ loop-delivery-preserved g c =
     record {
       size_is = before.size_is;
       taken = subst (λ l. HasTakenFirst (record run { pages = c.deliver.new.revisions; counts = c.add.new.self }) l (output g.K.Sink c.deliver.new.out) c.deliver.new.world) (one_more n items i d c.loop-delivery-test.true c.delivery-item.is)
-          (next_taken run _ all.0 d all.1 [] _ c.loop-delivery.world before.taken c.deliver.new.revisions c.add.new.self c.in-Ok.answer (output g.K.Sink c.deliver.new.out) c.deliver.new.world call.source.known call.ok call.answer c.add.ensures call.limit call.held);
-      few = few_more c.in-Ok.answer c.loop-delivery.self.counts c.add.new.self (6 * n + i) (6 * n + (i + 1)) c.add.ensures (omega arith) before.few;
-      silent = c.deliver.ensures.silent (silent run _ all.0 d all.1) ∙ before.silent;
+          (next_taken run _ all.0 d all.1 [] _ c.loop-delivery.world before.taken c.deliver.new.revisions c.add.new.self c.in-Ok.done.answer c.in-Ok.done.reported (output g.K.Sink c.deliver.new.out) c.deliver.new.world call.source.known call.ok call.answer c.add.ensures call.limit call.held);
+      few = few_more c.in-Ok.done.answer c.loop-delivery.self.counts c.add.new.self (6 * n + i) (6 * n + (i + 1)) c.add.ensures (omega arith) before.few;
+      silent = c.deliver.ensures.silent refl (silent run _ all.0 d all.1) ∙ before.silent;
     }
 
 pub returns-clause-taken : goal.returns-clause-taken

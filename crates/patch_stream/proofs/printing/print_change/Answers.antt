@@ -1,0 +1,21 @@
+-- The head, the lines of what came, and those of what is gone, or a prefix of them.
+use Rattle.std.proofs.Common.{◌++◌}
+use Rattle.std.proofs.lemmas.Result.{err_from_is_err_and}
+use Rattle.transcript.proofs.Parts.{prints_both, prints_first}
+use Rattle.patch_stream.proofs.printing.print_change.Goals as goal
+
+pub returns-in_err-print_head : goal.returns-in_err-print_head
+returns-in_err-print_head g c =
+    let p = err_from_is_err_and c.from_residual.result c.from_residual.ensures.1 in
+    rw (p.1, p.2) (prints_first _ _ (c.args.change.now.came.text.items ++ c.args.change.now.gone.text.items) _ _ c.in_err-print_head.ensures)
+
+pub returns-in_err-print_text : goal.returns-in_err-print_text
+returns-in_err-print_text g c =
+    let p = err_from_is_err_and c.from_residual-in_err-print_text.result c.from_residual-in_err-print_text.ensures.1 in
+    rw (p.1, p.2) (prints_both _ _ _ _ _ _ c.in_ok-print_head.ensures
+    (prints_first _ c.args.change.now.came.text.items c.args.change.now.gone.text.items _ _ (rw c.as_slice.ensures.value at c.in_err-print_text.ensures)))
+
+pub returns : goal.returns
+returns g c =
+    prints_both _ _ _ _ _ _ c.in_ok-print_head.ensures
+    (prints_both c.print_text-2.result c.args.change.now.came.text.items c.args.change.now.gone.text.items _ _ _ (rw c.as_slice.ensures.value at c.in_ok-print_text.ensures) (rw c.as_slice-2.ensures.value at c.print_text-2.ensures))

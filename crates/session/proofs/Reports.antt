@@ -1,0 +1,171 @@
+-- What is reported of a play, step by step.
+use Rattle.std.proofs.Common.{◌≡◌, refl, sym, subst, ◌∙◌, ap, ℕ, ◌+◌, ◌≤◌, ℤ, List, [], ◌∷◌, ◌++◌, append_assoc, append-nil, Option, None, Some, Ok, Err, flat_map, arith}
+use Rattle.std.proofs.lemmas.List.Concat.{flat_map-append}
+use Rattle.wq_io.specs.Streams.{after_known}
+use Rattle.rising.proofs.FirstPassing.{filter-first, filter-none}
+use Rattle.rdf_term.specs.Order.{triple_cmp}
+use Rattle.delivery.specs.declared.Delivery.{Delivery}
+use Rattle.delivery.specs.declared.Delivery.TheVariants.{Watermark}
+use Rattle.entity_model.specs.declared.event.Event.{Event}
+use Rattle.entity_model.specs.declared.mapping.MappingVersion.{MappingVersion}
+use Rattle.reorder_buffer.specs.Watermarks.{is_due}
+use Rattle.reorder_buffer.specs.Buffered.{first_due}
+use Rattle.replay_model.specs.Acceptance.{arrivals, version_in_force}
+use Rattle.replay_model.specs.Play.{Replies, play}
+use Rattle.replay_model.specs.ReplayState.{ReplayState, after_applying, after_end, after_mark, following}
+use Rattle.replay_model.specs.Union.{union}
+use Rattle.replay_model.proofs.Arrivals.{arrivals-push}
+use Rattle.replay_model.proofs.Following.{newly_due-end, newly_due-watermark}
+use Rattle.world.specs.Meaning.{meaning}
+use Rattle.transcript.specs.declared.write.Unwritten.{Unwritten}
+use Rattle.transcript.specs.declared.write.Unwritten.TheVariants.{WriteFault, OutOfMemory as NoMemory}
+use Rattle.replica.specs.Record.{record_text}
+use Rattle.transcript.specs.Printing.{IsCutShort, Output}
+use Rattle.patch_stream.specs.Stream.{Step, changes, record_of_step, step, steps_applied, steps_at, steps_due, steps_of_play, steps_to_end, stream_text}
+use Rattle.patch_stream.proofs.Streams.{changes-push, told-push}
+use Rattle.session.specs.declared.report.Report.{Report}
+use Rattle.session.specs.declared.report.Report.TheVariants.{Answers, Changes}
+use Rattle.session.specs.declared.stop.Halt.TheVariants.{Untold}
+use Rattle.session.specs.Course.{Course}
+use Rattle.session.specs.Moment.{Environment, Stage}
+use Rattle.session.specs.Report.{BreaksOffBy, HasReported, HasReportedAt, TellsBy, TellsStepBy, bytes_of}
+use Rattle.session.specs.Taking.{IsHeldUp}
+
+-- ---- due events
+
+module _ (version : MappingVersion) (replies : Replies) (w : ReplayState) where
+  pub steps-none : first_due w.buffer ≡ None → steps_due version replies w ≡ []
+  steps-none none = ap (steps_applied version replies w.played) (filter-none (is_due w.buffer.closed w.buffer.mark) w.buffer.waiting none)
+
+  -- the step of the least due event comes first
+  pub steps-some : (e : Event) → first_due w.buffer ≡ Some e →
+      steps_due version replies w
+      ≡ step (union triple_cmp (meaning version) w.played.records) (union triple_cmp (meaning version) (after_applying replies w (Some e)).played.records) ∷ steps_due version replies (after_applying replies w (Some e))
+  steps-some e some = ap (steps_applied version replies w.played) (filter-first (is_due w.buffer.closed w.buffer.mark) w.buffer.waiting e some)
+
+-- ---- deliveries
+
+module _ (hz : Option ℕ) (replies : Replies) (ds : List Delivery) where
+  pub steps-push : (d : Delivery) → steps_of_play hz replies (ds ++ d ∷ []) ≡ steps_of_play hz replies ds ++ steps_at hz replies (record { before = ds; delivery = d })
+  steps-push d =
+      ap (flat_map (steps_at hz replies)) (arrivals-push ds d)
+      ∙ flat_map-append (steps_at hz replies) (arrivals ds) (record { before = ds; delivery = d } ∷ [])
+      ∙ ap (λ l. steps_of_play hz replies ds ++ l) (append-nil (steps_at hz replies (record { before = ds; delivery = d })))
+
+  -- a delivery that applies and remaps nothing
+  pub steps-still : (d : Delivery) → steps_at hz replies (record { before = ds; delivery = d }) ≡ [] → steps_of_play hz replies (ds ++ d ∷ []) ≡ steps_of_play hz replies ds
+  steps-still d none = steps-push d ∙ ap (λ l. steps_of_play hz replies ds ++ l) none ∙ append-nil (steps_of_play hz replies ds)
+
+  pub steps-watermark : (m : ℤ) → steps_of_play hz replies (ds ++ Watermark m ∷ []) ≡ steps_of_play hz replies ds ++ steps_due (version_in_force ds) replies (after_mark (following hz replies ds) m)
+  steps-watermark m =
+      steps-push (Watermark m) ∙ ap (λ es. steps_of_play hz replies ds ++ steps_applied (version_in_force ds) replies (play hz replies ds) es) (newly_due-watermark hz ds m)
+
+  pub steps-end : steps_to_end hz replies ds ≡ steps_of_play hz replies ds ++ steps_due (version_in_force ds) replies (after_end (following hz replies ds))
+  steps-end = ap (λ es. steps_of_play hz replies ds ++ steps_applied (version_in_force ds) replies (play hz replies ds) es) (newly_due-end hz ds)
+
+-- ---- what is reported
+
+-- where no event is due, a whole play is reported
+pub all_reported : (report : Report) (course : Course) (reported : ℕ) (start now : Stage) (replies : Replies) → first_due now.world.buffer ≡ None → HasReported report course reported start now replies →
+    now.output.bytes ≡ bytes_of report course start replies
+all_reported Answers course reported start now replies none says = says
+all_reported Changes course reported start now replies none says =
+    says.bytes ∙ ap (λ l. after_known start.output.bytes (stream_text l))
+    (sym (append-nil says.steps) ∙ ap (λ l. says.steps ++ l) (sym (steps-none course.version replies now.world none)) ∙ says.are)
+
+-- a play whose next steps are those of another one's due events is reported as far
+pub reported_still : (report : Report) (course other : Course) (reported : ℕ) (start now then : Stage) (replies : Replies) → then.output ≡ now.output → (report ≡ Answers → other.bytes replies ≡ course.bytes replies) →
+    (report ≡ Changes → (first : List Step) → first ++ steps_due course.version replies now.world ≡ course.steps replies → first ++ steps_due other.version replies then.world ≡ other.steps replies) →
+    HasReported report course reported start now replies → HasReported report other reported start then replies
+reported_still Answers course other reported start now then replies same says on x = ap (λ (o : Output). o.bytes) same ∙ x ∙ sym (says refl)
+reported_still Changes course other reported start now then replies same says on x = record {
+  steps = x.steps;
+  are = on refl x.steps x.are;
+  counted = x.counted;
+  bytes = ap (λ (o : Output). o.bytes) same ∙ x.bytes;
+}
+
+-- one more step is reported
+pub reported_next : (report : Report) (course : Course) (reported reported_now : ℕ) (start now then : Stage) (s : Step) (replies : Replies) →
+    steps_due course.version replies now.world ≡ s ∷ steps_due course.version replies then.world → TellsStepBy report reported s now.output then.output (Ok reported_now) →
+    HasReported report course reported start now replies → HasReported report course reported_now start then replies
+reported_next Answers course reported reported_now start now then s replies first tells x = ap (λ (o : Output). o.bytes) tells.1 ∙ x
+reported_next Changes course reported reported_now start now then s replies first tells x = record {
+  steps = x.steps ++ s ∷ [];
+  are = append_assoc x.steps (s ∷ []) (steps_due course.version replies then.world) ∙ ap (λ l. x.steps ++ l) (sym first) ∙ x.are;
+  counted = tells.outcome.0 ∙ changes-push reported x.steps s x.counted;
+  bytes = told-push start.output.bytes now.output.bytes then.output.bytes reported x.steps s x.counted x.bytes tells.outcome.1;
+}
+
+-- one more step isn't reported wholly
+pub reported_but_last : (report : Report) (why : Unwritten) (course : Course) (reported : ℕ) (start now then : Stage) (s : Step) (replies : Replies) →
+    steps_due course.version replies now.world ≡ s ∷ steps_due course.version replies then.world → TellsStepBy report reported s now.output then.output (Err why) →
+    HasReported report course reported start now replies → HasReportedAt (Untold why) report course start then replies
+reported_but_last Answers why course reported start now then s replies first never x = absurd never
+reported_but_last Changes why course reported start now then s replies first tells x = record {
+  steps = x.steps;
+  last = s;
+  are = append_assoc x.steps (s ∷ []) (steps_due course.version replies then.world) ∙ ap (λ l. x.steps ++ l) (sym first) ∙ x.are;
+  differs = tells.outcome.0;
+  between = now.output;
+  bytes = x.bytes;
+  cut_short = subst (λ n. IsCutShort why (record_text (record_of_step (n + 1) s)) now.output then.output) x.counted tells.outcome.1;
+}
+
+-- where questions are answered, a step is no answer
+pub still_answered : (report : Report) (reported reported_now : ℕ) (s : Step) (old new : Output) → report ≡ Answers → TellsStepBy report reported s old new (Ok reported_now) → reported_now ≡ reported
+still_answered Answers reported reported_now s old new answers tells = tells.0
+still_answered Changes reported reported_now s old new answers tells = cc
+
+-- and prints nothing
+pub still_silent : (report : Report) (reported reported_now : ℕ) (s : Step) (old new : Output) → report ≡ Answers → TellsStepBy report reported s old new (Ok reported_now) → new ≡ old
+still_silent Answers reported reported_now s old new answers tells = tells.1
+still_silent Changes reported reported_now s old new answers tells = cc
+
+-- and it doesn't fail
+pub never_untold : {P : Type 0} (report : Report) (why : Unwritten) (reported : ℕ) (s : Step) (old new : Output) → report ≡ Answers → TellsStepBy report reported s old new (Err why) → P
+never_untold Answers why reported s old new answers never = absurd never
+never_untold Changes why reported s old new answers tells = cc
+
+-- where a record isn't written wholly because a write failed, the count of these rose
+pub untold_held_up : (report : Report) (why : Unwritten) (environment : Environment) (reported : ℕ) (s : Step) (old : Output) (now : Stage) (middle : Output) → old.faults ≤ middle.faults → TellsStepBy report reported s middle now.output (Err why) →
+    IsHeldUp (Untold why) environment old now
+untold_held_up Answers why environment reported s old now middle more never = absurd never
+untold_held_up Changes WriteFault environment reported s old now middle more tells = omega (arith, more, (tells.outcome.1.failed refl).1)
+untold_held_up Changes NoMemory environment reported s old now middle more tells = tt
+
+-- ---- pages that are mapped anew
+
+-- none is told yet
+pub tells_none : (report : Report) (reported : ℕ) (out : Output) → TellsBy report reported [] reported out out
+tells_none Answers reported out = (refl, refl)
+tells_none Changes reported out = record {
+  counted = λ earlier is. is ∙ ap changes (sym (append-nil earlier));
+  bytes = λ earlier start is was. was ∙ ap (λ l. after_known start (stream_text l)) (sym (append-nil earlier));
+}
+
+-- one more is told
+pub tells_next : (report : Report) (reported between now : ℕ) (steps : List Step) (s : Step) (old middle new : Output) → TellsBy report reported steps between old middle → TellsStepBy report between s middle new (Ok now) →
+    TellsBy report reported (steps ++ s ∷ []) now old new
+tells_next Answers reported between now steps s old middle new first then = (then.0 ∙ first.0, then.1 ∙ first.1)
+tells_next Changes reported between now steps s old middle new first then = record {
+  counted = λ earlier is.
+      let before = first.counted earlier is in
+      then.outcome.0 ∙ changes-push between (earlier ++ steps) s before ∙ ap changes (append_assoc earlier steps (s ∷ []));
+  bytes = λ earlier start is was.
+      let before = first.counted earlier is in
+      told-push start middle.bytes new.bytes between (earlier ++ steps) s before (first.bytes earlier start is was) then.outcome.1
+      ∙ ap (λ l. after_known start (stream_text l)) (append_assoc earlier steps (s ∷ []));
+}
+
+-- one more isn't told wholly
+pub tells_but_last : (report : Report) (why : Unwritten) (reported between : ℕ) (steps : List Step) (s : Step) (old middle new : Output) → TellsBy report reported steps between old middle →
+    TellsStepBy report between s middle new (Err why) → BreaksOffBy report why reported steps s old new
+tells_but_last Answers why reported between steps s old middle new first never = never
+tells_but_last Changes why reported between steps s old middle new first then = record {
+  differs = then.outcome.0;
+  between = middle;
+  told_then = between;
+  tells = first;
+  cut_short = then.outcome.1;
+}

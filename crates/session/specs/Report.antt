@@ -1,0 +1,110 @@
+-- What is reported of a play.
+use Rattle.std.specs.Prelude.{◌≡◌, ⊤, true, ℕ, ◌+◌, ◌-◌, ◌^◌, ◌<◌, List, [], ◌∷◌, ◌++◌, Option, Result, Ok, Err}
+use Rattle.wq_io.specs.Streams.{after_known}
+use Rattle.triple_store.specs.declared.telling.Telling.{Telling}
+use Rattle.triple_store.specs.declared.telling.Telling.TheVariants.{Nothing, Change}
+use Rattle.replay_model.specs.Transcript.{ask_section, asks}
+use Rattle.replay_model.specs.Play.{Replies}
+use Rattle.rdf_term.specs.declared.triple.Triple.{Triple}
+use Rattle.replica.specs.Record.{record_text}
+use Rattle.delivery.specs.declared.Delivery.{Delivery}
+use Rattle.transcript.specs.declared.write.Unwritten.{Unwritten}
+use Rattle.transcript.specs.Printing.{IsCutShort, Output, Prints}
+use Rattle.patch_stream.specs.Stream.{Step, TellsStep, changes, is_change, record_of_step, steps_due, stream_text}
+use Rattle.session.specs.declared.report.Report.{Report}
+use Rattle.session.specs.declared.report.Report.TheVariants.{Answers, Changes}
+use Rattle.session.specs.declared.stop.Halt.{Halt}
+use Rattle.session.specs.declared.stop.Halt.TheVariants.{Unapplied, Untold}
+use Rattle.session.specs.Course.{Course}
+use Rattle.session.specs.Moment.{Stage}
+
+-- whether an application and a remapping tell their change
+abbrev pub telling_of : Report → Telling
+telling_of Answers = Nothing
+telling_of Changes = Change
+
+-- where questions are answered, there is a number for one more answer
+abbrev pub HasNumberLeft : Report → ℕ → Type 0
+HasNumberLeft Answers reported = reported < 2 ^ 64 - 1
+HasNumberLeft Changes reported = ⊤
+
+-- where questions are answered, so many answers were given
+abbrev pub HasAnswered : Report → ℕ → List Delivery → Type 0
+HasAnswered Answers reported ds = reported ≡ asks ds
+HasAnswered Changes reported ds = ⊤
+
+-- the bytes of an output that has what is reported of a whole play
+abbrev pub bytes_of : Report → Course → Stage → Replies → Option (List ℕ)
+bytes_of Answers course start replies = course.bytes replies
+bytes_of Changes course start replies = after_known start.output.bytes (stream_text (course.steps replies))
+
+-- ---- how far the report of a play has come
+
+-- the output has the records of the steps that were made so far, so many; those of due events are still to be made
+pub record HasTold (course : Course) (reported : ℕ) (start now : Stage) (replies : Replies) : Type 0 where
+  pub steps : List Step
+  pub are : steps ++ steps_due course.version replies now.world ≡ course.steps replies
+  pub counted : reported ≡ changes steps
+  pub bytes : now.output.bytes ≡ after_known start.output.bytes (stream_text steps)
+
+-- the last step that was made changed what is stored, and its record wasn't written wholly behind those of the steps before it: a prefix of
+-- it was, and nothing else; where a write failed, not all of it
+pub record HasBrokenOff (why : Unwritten) (course : Course) (start now : Stage) (replies : Replies) : Type 0 where
+  pub steps : List Step
+  pub last : Step
+  pub are : (steps ++ last ∷ []) ++ steps_due course.version replies now.world ≡ course.steps replies
+  pub differs : is_change last ≡ true
+  pub between : Output
+  pub bytes : between.bytes ≡ after_known start.output.bytes (stream_text steps)
+  pub cut_short : IsCutShort why (record_text (record_of_step (changes steps + 1) last)) between now.output
+
+-- what is reported of a play so far, which is so many answers or records, is written
+abbrev pub HasReported : Report → Course → ℕ → Stage → Stage → Replies → Type 0
+HasReported Answers course reported start now replies = now.output.bytes ≡ course.bytes replies
+HasReported Changes course reported start now replies = HasTold course reported start now replies
+
+-- the same where a delivery wasn't taken wholly, but for the last record where that is why
+abbrev pub HasReportedAt : Halt → Report → Course → Stage → Stage → Replies → Type 0
+HasReportedAt (Unapplied why) report course start now replies = (reported : ℕ) × HasReported report course reported start now replies
+HasReportedAt (Untold why) Answers course start now replies = ⊥
+HasReportedAt (Untold why) Changes course start now replies = HasBrokenOff why course start now replies
+
+-- ---- answers
+
+-- a question is answered behind so many answers, where questions are answered, and how many were given then is said
+abbrev pub AnswersAsk : Report → ℕ → List Triple → Output → Output → Result ℕ Unwritten → Type 0
+AnswersAsk Answers reported triples old new (Ok now) = (now ≡ reported + 1) × Prints (ask_section (reported + 1) triples) old new (Ok tt)
+AnswersAsk Answers reported triples old new (Err why) = Prints (ask_section (reported + 1) triples) old new (Err why)
+AnswersAsk Changes reported triples old new (Ok now) = (now ≡ reported) × (new ≡ old)
+AnswersAsk Changes reported triples old new (Err why) = ⊥
+
+-- ---- steps that are told
+
+-- a step is told behind so many records, where changes are reported, and how many were written then is said
+abbrev pub TellsStepBy : Report → ℕ → Step → Output → Output → Result ℕ Unwritten → Type 0
+TellsStepBy Answers reported s old new (Ok now) = (now ≡ reported) × (new ≡ old)
+TellsStepBy Answers reported s old new (Err why) = ⊥
+TellsStepBy Changes reported s old new result = TellsStep reported s old new result
+
+-- the records of these steps were written behind so many, and so many are written then
+pub record Tells (told : ℕ) (steps : List Step) (told_now : ℕ) (old new : Option (List ℕ)) : Type 0 where
+  pub counted : (earlier : List Step) → told ≡ changes earlier → told_now ≡ changes (earlier ++ steps)
+  pub bytes : (earlier : List Step) (start : Option (List ℕ)) → told ≡ changes earlier → old ≡ after_known start (stream_text earlier) → new ≡ after_known start (stream_text (earlier ++ steps))
+
+-- where changes are reported; else nothing is written
+abbrev pub TellsBy : Report → ℕ → List Step → ℕ → Output → Output → Type 0
+TellsBy Answers reported steps reported_now old new = (reported_now ≡ reported) × (new ≡ old)
+TellsBy Changes reported steps reported_now old new = Tells reported steps reported_now old.bytes new.bytes
+
+-- the records of these steps were written, and that of a last one wasn't written wholly
+pub record BreaksOff (why : Unwritten) (told : ℕ) (steps : List Step) (last : Step) (old new : Output) : Type 0 where
+  pub differs : is_change last ≡ true
+  pub between : Output
+  pub told_then : ℕ
+  pub tells : Tells told steps told_then old.bytes between.bytes
+  pub cut_short : IsCutShort why (record_text (record_of_step (told_then + 1) last)) between new
+
+-- where changes are reported; else this never is
+abbrev pub BreaksOffBy : Report → Unwritten → ℕ → List Step → Step → Output → Output → Type 0
+BreaksOffBy Answers why reported steps last old new = ⊥
+BreaksOffBy Changes why reported steps last old new = BreaksOff why reported steps last old new
