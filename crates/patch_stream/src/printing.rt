@@ -20,7 +20,8 @@ use wq_io::Sink;
 /// records were told before, from 1 on; says how many were told then. None is told of a step that left the store alone.
 ///
 /// # Errors
-/// The output could not be written, or memory was refused: then a prefix of the record was written, and nothing else.
+/// The output could not be written, or memory was refused: then a prefix of the record was written, and nothing else. Where the next number
+/// doesn't fit 64 bits, it is said that memory was refused, and nothing is written.
 pub fn print_step<K: Sink>(
     alloc: Global,
     told: u64,

@@ -1,9 +1,9 @@
--- What a replay, a patch stream, a drill and a follower leave, by the plan that the words are.
+-- What a replay, a drill and a follower leave, by the plan that the words are.
 use Rattle.std.proofs.Common.{◌≡◌, subst, ℕ, Some, IfSome}
 use Rattle.following.specs.Following.{Moment as FollowMoment}
 use Rattle.words.specs.Options.{Choices, FollowChoices, max_bytes_of}
 use Rattle.words.specs.declared.plan.Plan.{Plan}
-use Rattle.words.specs.declared.plan.Plan.TheVariants.{Replay, Drill, Patches, Follow}
+use Rattle.words.specs.declared.plan.Plan.TheVariants.{Replay, Drill, Follow}
 use Rattle.session.specs.declared.status.Status.{Status}
 use Rattle.session.specs.declared.stop.Stop.{Stop}
 use Rattle.session.specs.Records.{FollowEnding, FollowStopped}
@@ -20,11 +20,6 @@ for_plan P read plan same p =
 
 pub for_choices : (P : Choices → Type 0) (read choices : Choices) → Some (Replay read) ≡ Some (Replay choices) → P read → P choices
 for_choices P read choices same p =
-    let is : read ≡ choices = cc in
-    subst P is p
-
-pub for_patches : (P : Choices → Type 0) (read choices : Choices) → Some (Patches read) ≡ Some (Patches choices) → P read → P choices
-for_patches P read choices same p =
     let is : read ≡ choices = cc in
     subst P is p
 
@@ -55,24 +50,6 @@ follow_no_replay P read choices same = cc
 
 pub follow_no_drill : (P : Type 0) (read : FollowChoices) (size : ℕ) → Some (Follow read) ≡ Some (Drill size) → P
 follow_no_drill P read size same = cc
-
-pub replay_no_patches : (P : Type 0) (read choices : Choices) → Some (Replay read) ≡ Some (Patches choices) → P
-replay_no_patches P read choices same = cc
-
-pub drill_no_patches : (P : Type 0) (size : ℕ) (choices : Choices) → Some (Drill size) ≡ Some (Patches choices) → P
-drill_no_patches P size choices same = cc
-
-pub follow_no_patches : (P : Type 0) (read : FollowChoices) (choices : Choices) → Some (Follow read) ≡ Some (Patches choices) → P
-follow_no_patches P read choices same = cc
-
-pub patches_no_replay : (P : Type 0) (read choices : Choices) → Some (Patches read) ≡ Some (Replay choices) → P
-patches_no_replay P read choices same = cc
-
-pub patches_no_drill : (P : Type 0) (read : Choices) (size : ℕ) → Some (Patches read) ≡ Some (Drill size) → P
-patches_no_drill P read size same = cc
-
-pub patches_no_follow : (P : Type 0) (read : Choices) (choices : FollowChoices) → Some (Patches read) ≡ Some (Follow choices) → P
-patches_no_follow P read choices same = cc
 
 -- a follower that stopped
 pub follow_stopped : (status : Status) (stop : Stop) (choices : FollowChoices) (before now : FollowMoment) → stop_of status ≡ Some stop → FollowStopped stop choices before now → FollowEnding status choices before now

@@ -26,9 +26,9 @@ ghost use Rattle.session.specs.Stop.{stop_of};
 ghost use Rattle.session.specs.Remapping.{IsFullOfStale, held_triples};
 ghost use Rattle.session.specs.Taking.{IsFull, judgement};
 
-/// A replay ends well, or for want of memory, where the words are understood, each line of the input is a delivery, the input is
-/// within the limit, no read and no write fails, and there is room for the page that the least due event wants and for the next page
-/// that is to be mapped anew.
+/// A replay, with its answers or its changes, ends well, or for want of memory, where the words are understood, each line of the input is
+/// a delivery, the input is within the limit, no read and no write fails, and there is room for the page that the least due event wants and
+/// for the next page that is to be mapped anew.
 pub fn good_input_is_replayed()
     ensures { (run : Run) (before now : Moment) (status : Status) (bytes : List ℕ) (ds : List Delivery) →
         (status ≡ Status.BadWords → ⊥) → IfSome (stop_of status) (λ stop. Stopped stop run before now) →
@@ -48,9 +48,9 @@ pub fn told_pages_have_room()
         run.environment.known ≡ Some contents → distinct (terms_there contents ds) ≤ run.environment.limit → ⊥ }
 {}
 
-/// A replay over told contents ends well, or for want of memory, where the words are understood, each line of the input is a
-/// delivery, the input is within the limit, no read and no write fails, and the different terms of all pages that the input may bring
-/// are no more than the limit.
+/// A replay over told contents, with its answers or its changes, ends well, or for want of memory, where the words are understood, each
+/// line of the input is a delivery, the input is within the limit, no read and no write fails, and the different terms of all pages that
+/// the input may bring are no more than the limit.
 pub fn fitting_input_is_replayed()
     ensures { (run : Run) (before now : Moment) (status : Status) (contents : ℕ → Option Bytes) (bytes : List ℕ) (ds : List Delivery) →
         (status ≡ Status.BadWords → ⊥) → IfSome (stop_of status) (λ stop. Stopped stop run before now) →
