@@ -40,7 +40,7 @@ use Rattle.session.specs.declared.report.Report.TheVariants.{Answers, Changes}
 use Rattle.session.specs.declared.stop.Halt.{Halt}
 use Rattle.session.specs.declared.stop.Halt.TheVariants.{Unapplied as NotApplied}
 use Rattle.session.specs.declared.stop.Stop.TheVariants.{OutOfMemory}
-use Rattle.session.specs.declared.stop.Unapplied.TheVariants.{OutOfMemory as Starved}
+use Rattle.term_pool.specs.declared.fault.PoolFault.TheVariants.{OutOfMemory as Starved}
 use Rattle.session.specs.Course.{Course, course_after, course_begun, course_remapping, course_to_end, said_behind}
 use Rattle.session.specs.Moment.{Environment, Stage, with_mapped, with_output, with_world, horizon_at}
 use Rattle.session.specs.Needed.{HaveRoom, HaveRoomBefore, needed_anew, needed_at, needed_by_due, needed_in, needed_to_end}

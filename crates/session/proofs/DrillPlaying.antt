@@ -31,7 +31,7 @@ use Rattle.session.specs.declared.stop.Stop.TheVariants.{OutOfMemory as Refused}
 use Rattle.session.specs.declared.report.Report.TheVariants.{Answers}
 use Rattle.session.specs.declared.stop.Halt.{Halt}
 use Rattle.session.specs.declared.stop.Halt.TheVariants.{Unapplied as NotApplied, Untold}
-use Rattle.session.specs.declared.stop.Unapplied.TheVariants.{StoreFull, OutOfMemory}
+use Rattle.term_pool.specs.declared.fault.PoolFault.TheVariants.{Full, OutOfMemory}
 use Rattle.session.specs.Counts.{HasCountedAt, RoseBy}
 use Rattle.session.specs.Course.{Course, course_after, course_begun, course_to_end}
 use Rattle.session.specs.DrillPlaying.{HasTakenFirst, LeavesDrill, drill_environment, drill_stage, told_of}
@@ -75,7 +75,7 @@ module _ (size : ℕ) (start now : Stage) (nothing : start.world ≡ nothing_del
       course_is (course_to_end ds start) reported at_end.leads at_end.rests at_end.mapped ∙ ap (λ (w : ReplayState). following_to_end w.buffer.horizon (replies_of size) ds) nothing
 
   unapplied_none : (halt : Halt) (made : ℕ) → HasCountedAt halt start.counts now.counts made now.world.played.side → failed_events now.world.played.side ≡ []
-  unapplied_none (NotApplied StoreFull) made counted = none_failed _ _ _ counted.failed still
+  unapplied_none (NotApplied Full) made counted = none_failed _ _ _ counted.failed still
   unapplied_none (Untold why) made counted = none_failed _ _ _ counted.failed still
   unapplied_none (NotApplied OutOfMemory) made counted = ⊎_elim (λ same. none_failed _ _ _ same.failed still) (λ more. none_failed _ _ _ more.failed still) counted
 
@@ -167,7 +167,7 @@ module _ (run : DrillRun) (ds after : List Delivery) (d : Delivery) (all : drill
       in_part halt part = ⊎_elim (λ none. inl (untaken halt none)) (λ some. inr (some.steps, within_is run.size taken.start now taken.nothing refl halt _ _ some ∙ ap (λ (w : ReplayState). after_some (replies_of run.size) some.steps (entered (following w.buffer.horizon (replies_of run.size) ds) d)) taken.nothing)) part
         where
           untaken : (halt : Halt) → IsUntaken halt before now → world_now.replay ≡ following None (replies_of run.size) ds
-          untaken (NotApplied StoreFull) never = absurd never
+          untaken (NotApplied Full) never = absurd never
           untaken (NotApplied OutOfMemory) same = same.0 ∙ stands
           untaken (Untold why) never = absurd never
 
@@ -192,7 +192,7 @@ module _ (run : DrillRun) (ds after : List Delivery) (d : Delivery) (all : drill
 
           by : (halt : Halt) → IsHeldUp halt (drill_environment run.size) out now →
               IsUntaken halt before now ⊎ IsWithin halt (drill_environment run.size) (course_begun ds (Some d) taken.start) (λ replies. entered (following taken.start.world.buffer.horizon replies ds) d) taken.start now → stop_of_halt halt ≡ Refused
-          by (NotApplied StoreFull) full part = absurd (full_never run.size world_now.replay (mapped_in world_now) is_size (begun at) mapped full)
+          by (NotApplied Full) full part = absurd (full_never run.size world_now.replay (mapped_in world_now) is_size (begun at) mapped full)
           by (NotApplied OutOfMemory) held_up part = refl
           by (Untold why) held_up part = absurd (⊎_elim (λ never. never) (λ within. within.says) part)
 
@@ -326,7 +326,7 @@ module _ (run : DrillRun) (folder : List ℕ) (out : Output) (world : WorldState
   pub end_starved : IsSize run.size → (halt : Halt) → StaysWithin halt (environment Answers (told_of run.pages.size) folder world.limit) 0 (with_world stage_before (after_end world.replay)) stage_now →
       KeepsVersion (mapped_in world) (mapped_in world_now) world.replay.played.records world_now.replay.played.records → IsHeldUp halt (environment Answers (told_of run.pages.size) folder world.limit) out stage_now → halt ≡ NotApplied OutOfMemory
   end_starved is_size (NotApplied OutOfMemory) stays keeps held_up = refl
-  end_starved is_size (NotApplied StoreFull) stays keeps full =
-      absurd (full_never run.size world_now.replay (mapped_in world_now) is_size (inr (end_halted (NotApplied StoreFull) stays)) (end_first keeps)
+  end_starved is_size (NotApplied Full) stays keeps full =
+      absurd (full_never run.size world_now.replay (mapped_in world_now) is_size (inr (end_halted (NotApplied Full) stays)) (end_first keeps)
       (subst (λ s. IsFull s world_now.replay (mapped_in world_now)) environment_at_end full))
   end_starved is_size (Untold why) stays keeps held_up = absurd (end_within (Untold why) stays).says

@@ -36,8 +36,8 @@ use Rattle.session.specs.Course.{Course}
 use Rattle.session.specs.declared.report.Report.{Report}
 use Rattle.session.specs.declared.report.Report.TheVariants.{Answers}
 use Rattle.session.specs.declared.stop.Halt.TheVariants.{Unapplied as NotApplied, Untold}
-use Rattle.session.specs.declared.stop.Unapplied.{Unapplied}
-use Rattle.session.specs.declared.stop.Unapplied.TheVariants.{StoreFull, OutOfMemory}
+use Rattle.term_pool.specs.declared.fault.PoolFault.{PoolFault as StoreFault}
+use Rattle.term_pool.specs.declared.fault.PoolFault.TheVariants.{Full, OutOfMemory}
 use Rattle.revisions.specs.declared.revisions.Revisions.{Ghosts as RevisionsOf}
 use Rattle.session.specs.Moment.{Environment, Stage, onward, environment, stage_in, with_mapped, with_world}
 use Rattle.session.specs.Needed.{HaveRoom, HaveRoomBefore, needed_by, needed_by_due, needed_for}
@@ -256,12 +256,12 @@ counted_on start now last made more side calls faults misses so_far = record {
 }
 
 -- the calls after a call that applied nothing: where there was no room one fetch was made, and where memory was refused at most one
-abbrev pub LastCalls : Unapplied → ℕ → ℕ → Type 0
-LastCalls StoreFull before now = now ≡ counted before
+abbrev pub LastCalls : StoreFault → ℕ → ℕ → Type 0
+LastCalls Full before now = now ≡ counted before
 LastCalls OutOfMemory before now = (now ≡ before) ⊎ (now ≡ counted before)
 
 -- the counts after a call that applied nothing
-pub record Lasts (why : Unapplied) (before now : SourceCounts) : Type 0 where
+pub record Lasts (why : StoreFault) (before now : SourceCounts) : Type 0 where
   pub calls : LastCalls why before.calls now.calls
   pub faults : before.faults ≤ now.faults
   pub misses : before.misses ≤ now.misses
@@ -270,8 +270,8 @@ counted_once : (start before now : SourceCounts) (made : ℕ) (side : List Entry
 counted_once start before now made side one faults misses so_far =
     counted_on start before now made (made + 1) side (one ∙ ap counted so_far.calls ∙ risen_by-more made start.calls true) faults misses so_far
 
-counted_last : (why : Unapplied) (start before now : SourceCounts) (made : ℕ) (side : List Entry) → Lasts why before now → HasCounted start before made side → HasCountedUnapplied why start now made side
-counted_last StoreFull start before now made side last so_far = counted_once start before now made side last.calls last.faults last.misses so_far
+counted_last : (why : StoreFault) (start before now : SourceCounts) (made : ℕ) (side : List Entry) → Lasts why before now → HasCounted start before made side → HasCountedUnapplied why start now made side
+counted_last Full start before now made side last so_far = counted_once start before now made side last.calls last.faults last.misses so_far
 counted_last OutOfMemory start before now made side last so_far = ⊎_elim
     (λ same. inl (counted_on start before now made made side (same ∙ so_far.calls) last.faults last.misses so_far))
     (λ one. inr (counted_once start before now made side one last.faults last.misses so_far))
@@ -300,7 +300,7 @@ none_due environment reported reported_now before out now last world new goes ca
 })
 
 -- a world that is under way in a play is where some of its due events were applied, after a call that applied nothing too
-pub within : (why : Unapplied) (environment : Environment) (course : Course) (begun : Replies → ReplayState) (reported : ℕ) (start now : Stage) (counts : SourceCounts) → Lasts why now.counts counts → IsUnderWay environment course begun reported start now →
+pub within : (why : StoreFault) (environment : Environment) (course : Course) (begun : Replies → ReplayState) (reported : ℕ) (start now : Stage) (counts : SourceCounts) → Lasts why now.counts counts → IsUnderWay environment course begun reported start now →
     IsWithin (NotApplied why) environment course begun start (onward now counts now.world)
 within why environment course begun reported start now counts last under_way =
     let honest : (contents : ℕ → Option Bytes) → environment.known ≡ Some contents → AgreeOnApplied now.world under_way.leads.explained.replies (replies_there contents now.world) =
@@ -353,7 +353,7 @@ within_untold report why contents folder limit course begun reported start befor
     }
 
 -- it is so whatever the versions are by which the pages are mapped
-pub within_mapped : (why : Unapplied) (environment : Environment) (course : Course) (begun : Replies → ReplayState) (start now : Stage) (mapped : Mapped) → IsWithin (NotApplied why) environment course begun start now →
+pub within_mapped : (why : StoreFault) (environment : Environment) (course : Course) (begun : Replies → ReplayState) (start now : Stage) (mapped : Mapped) → IsWithin (NotApplied why) environment course begun start now →
     IsWithin (NotApplied why) environment course begun start (with_mapped now mapped)
 within_mapped why environment course begun start now mapped x =
     let says : (reported : ℕ) (others : Replies) → HasReported environment.report course reported start now others → HasReported environment.report course reported start (with_mapped now mapped) others =
@@ -376,7 +376,7 @@ within_mapped why environment course begun start now mapped x =
     }
 
 -- an event isn't applied: the world is that before
-pub starved : (why : Unapplied) (environment : Environment) (reported reported_now : ℕ) (before : Stage) (out : Output) (now last : SourceCounts) (world new : WorldState) → Goes environment reported reported_now before (stage_in out now world) →
+pub starved : (why : StoreFault) (environment : Environment) (reported reported_now : ℕ) (before : Stage) (out : Output) (now last : SourceCounts) (world new : WorldState) → Goes environment reported reported_now before (stage_in out now world) →
     Lasts why now last → new ≡ world → StaysWithin (NotApplied why) environment reported before (stage_in out last new)
 starved why environment reported reported_now before out now last world new goes lasts same =
     rw same (λ course begun start is_mapped under_way. within why environment course begun reported_now start (stage_in out now world) last lasts (goes.leads course begun start is_mapped under_way))

@@ -44,8 +44,8 @@ use Rattle.session.specs.declared.report.Report.{Report}
 use Rattle.session.specs.declared.report.Report.TheVariants.{Answers, Changes}
 use Rattle.session.specs.declared.stop.Halt.{Halt}
 use Rattle.session.specs.declared.stop.Halt.TheVariants.{Unapplied as NotApplied, Untold}
-use Rattle.session.specs.declared.stop.Unapplied.{Unapplied}
-use Rattle.session.specs.declared.stop.Unapplied.TheVariants.{StoreFull as NoRoom, OutOfMemory as Starved}
+use Rattle.term_pool.specs.declared.fault.PoolFault.{PoolFault as StoreFault}
+use Rattle.term_pool.specs.declared.fault.PoolFault.TheVariants.{Full as NoRoom, OutOfMemory as Starved}
 use Rattle.session.specs.Taking.{AtEnd, HoldsDocuments, IsHeldUp, IsLeft, Leads, judgement, replies_there}
 use Rattle.words.specs.Options.{max_bytes_of}
 use Rattle.session.proofs.Needed.{all_met, due-none}
@@ -227,7 +227,7 @@ halted (Untold NotWritten) run before now between earlier rose stands = (rose_si
 halted (Untold Refused) run before now between earlier rose stands = inr (inr (inl stands))
 
 -- not all that is held was mapped anew
-pub left_stale : (why : Unapplied) (run : Run) (before now : Moment) → IsLeftStale why run.environment.limit now.stage.world.played.records now.stage.mapped → StandsAtMapping run before now → Stopped (stop_of_unapplied why) run before now
+pub left_stale : (why : StoreFault) (run : Run) (before now : Moment) → IsLeftStale why run.environment.limit now.stage.world.played.records now.stage.mapped → StandsAtMapping run before now → Stopped (stop_of_unapplied why) run before now
 left_stale NoRoom run before now full stands = inr (full, stands)
 left_stale Starved run before now stale stands = inl (inr stands)
 

@@ -25,7 +25,7 @@ use Rattle.world.specs.WorldState.{with_version_of}
 use Rattle.words.specs.Options.{max_bytes_of}
 use Rattle.session.specs.declared.stop.Stop.TheVariants.{StoreFull}
 use Rattle.session.specs.declared.stop.Halt.TheVariants.{Unapplied as NotApplied}
-use Rattle.session.specs.declared.stop.Unapplied.TheVariants.{StoreFull as NoRoom}
+use Rattle.term_pool.specs.declared.fault.PoolFault.TheVariants.{Full as NoRoom}
 use Rattle.told_pages.specs.Told.{terms_there, versions_told}
 use Rattle.told_pages.proofs.Fits.{ByTwoTold, fits}
 use Rattle.session.specs.Headline.{StandsAtMapping, Stopped}

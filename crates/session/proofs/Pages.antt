@@ -18,7 +18,7 @@ use Rattle.patch_stream.specs.Stream.{Step, step, steps_anew, steps_remapped}
 use Rattle.session.specs.declared.report.Report.{Report}
 use Rattle.session.specs.declared.report.Report.TheVariants.{Answers, Changes}
 use Rattle.session.specs.declared.stop.Halt.TheVariants.{Unapplied as NotApplied, Untold}
-use Rattle.session.specs.declared.stop.Unapplied.{Unapplied}
+use Rattle.term_pool.specs.declared.fault.PoolFault.{PoolFault as StoreFault}
 use Rattle.session.specs.Remapping.{IsLeftStale, mapped_in}
 use Rattle.session.specs.Report.{TellsBy, TellsStepBy}
 use Rattle.session.specs.Taking.{IsLeft, RemapsPages}
@@ -105,7 +105,7 @@ module _ (report : Report) (reported between : ℕ) (version : MappingVersion) (
   }
 
 -- the next one isn't mapped anew
-pub told_before : (report : Report) (why : Unapplied) (reported reported_now : ℕ) (version : MappingVersion) (old now new : WorldState) (out_old out_now : Output) → RemapsTold report reported reported_now version old now out_old out_now → new ≡ now →
+pub told_before : (report : Report) (why : StoreFault) (reported reported_now : ℕ) (version : MappingVersion) (old now new : WorldState) (out_old out_now : Output) → RemapsTold report reported reported_now version old now out_old out_now → new ≡ now →
     IsLeftStale why old.limit old.replay.played.records (mapped_in new) → RemapsPages (NotApplied why) report old.limit reported version old.replay.played.records (mapped_in old) (mapped_in new) out_old out_now
 told_before report why reported reported_now version old now new out_old out_now so_far same left = record {
   left = left;

@@ -39,7 +39,7 @@ use Rattle.session.specs.declared.stop.Halt.{Halt}
 use Rattle.session.specs.declared.stop.Halt.TheVariants.{Unapplied as NotApplied, Untold}
 use Rattle.session.specs.declared.stop.Stop.{Stop}
 use Rattle.session.specs.declared.stop.Stop.TheVariants.{BadLine, OutOfMemory}
-use Rattle.session.specs.declared.stop.Unapplied.TheVariants.{StoreFull as NoRoom, OutOfMemory as Starved}
+use Rattle.term_pool.specs.declared.fault.PoolFault.TheVariants.{Full as NoRoom, OutOfMemory as Starved}
 use Rattle.session.specs.Counts.{SourceCounts}
 use Rattle.session.specs.Course.{course_after, course_begun, course_remapping}
 use Rattle.session.specs.Headline.{IsPlayed, IsPlayedAfter, StandsAtPage, StandsAtQuestion, Stopped}

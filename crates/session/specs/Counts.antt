@@ -9,8 +9,8 @@ use Rattle.wq_io.specs.declared.sink.Sink.{Ghosts as SinkOf}
 use Rattle.session.specs.declared.ports.Ports.{Ports}
 use Rattle.session.specs.declared.stop.Halt.{Halt}
 use Rattle.session.specs.declared.stop.Halt.TheVariants.{Unapplied as NotApplied, Untold}
-use Rattle.session.specs.declared.stop.Unapplied.{Unapplied}
-use Rattle.session.specs.declared.stop.Unapplied.TheVariants.{StoreFull, OutOfMemory}
+use Rattle.term_pool.specs.declared.fault.PoolFault.{PoolFault as StoreFault}
+use Rattle.term_pool.specs.declared.fault.PoolFault.TheVariants.{Full, OutOfMemory}
 
 -- how many calls a source of revisions had, how many of them found nothing, and how many failed
 pub record SourceCounts : Type 0 where
@@ -35,8 +35,8 @@ pub record HasCounted (start now : SourceCounts) (made : ℕ) (side : List Entry
 
 -- the same where an event wasn't applied: for want of room one fetch more was made, which gave its page, and for want of memory
 -- perhaps one more
-abbrev pub HasCountedUnapplied : Unapplied → SourceCounts → SourceCounts → ℕ → List Entry → Type 0
-HasCountedUnapplied StoreFull start now made side = HasCounted start now (made + 1) side
+abbrev pub HasCountedUnapplied : StoreFault → SourceCounts → SourceCounts → ℕ → List Entry → Type 0
+HasCountedUnapplied Full start now made side = HasCounted start now (made + 1) side
 HasCountedUnapplied OutOfMemory start now made side = HasCounted start now made side ⊎ HasCounted start now (made + 1) side
 
 -- the same where a delivery wasn't taken wholly; an event that was applied and wasn't told is counted like any other

@@ -35,7 +35,7 @@ use Rattle.session.specs.declared.stop.Halt.TheVariants.{Unapplied, Untold}
 use Rattle.session.specs.declared.status.Status.{Status}
 use Rattle.session.specs.declared.stop.Stop.{Stop}
 use Rattle.session.specs.declared.stop.Stop.TheVariants.{BadLine, ReadFault, WriteFault, TooLong, StoreFull, OutOfMemory}
-use Rattle.session.specs.declared.stop.Unapplied.TheVariants.{StoreFull as NoRoom, OutOfMemory as Starved}
+use Rattle.term_pool.specs.declared.fault.PoolFault.TheVariants.{Full as NoRoom, OutOfMemory as Starved}
 use Rattle.session.specs.Counts.{HasCounted}
 use Rattle.session.specs.Course.{Course, course_after, course_printed, course_remapping, course_to_end}
 use Rattle.session.specs.Moment.{Moment, Run, Environment, Stage, with_mapped, with_output, horizon_at}

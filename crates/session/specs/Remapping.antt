@@ -11,8 +11,8 @@ use Rattle.replay_model.specs.Versions.{all_by, meaning_by}
 use Rattle.world.specs.Meaning.{meaning}
 use Rattle.world.specs.Roomed.{HasRoom, room_with}
 use Rattle.world.specs.WorldState.{WorldState, first_of, stale_by, with_version_of}
-use Rattle.session.specs.declared.stop.Unapplied.{Unapplied}
-use Rattle.session.specs.declared.stop.Unapplied.TheVariants.{StoreFull, OutOfMemory}
+use Rattle.term_pool.specs.declared.fault.PoolFault.{PoolFault as StoreFault}
+use Rattle.term_pool.specs.declared.fault.PoolFault.TheVariants.{Full, OutOfMemory}
 
 -- the version of the mapping in force, and which entities hold a page that is mapped by the second version; all others hold by the
 -- first
@@ -66,6 +66,6 @@ pub record IsFullOfStale (limit : ℕ) (records : Records) (mapped : Mapped) : T
   pub over : HasNoRoom limit records mapped entity page.revision page.content
 
 -- why this page isn't mapped anew
-abbrev pub IsLeftStale : Unapplied → ℕ → Records → Mapped → Type 0
-IsLeftStale StoreFull limit records mapped = IsFullOfStale limit records mapped
+abbrev pub IsLeftStale : StoreFault → ℕ → Records → Mapped → Type 0
+IsLeftStale Full limit records mapped = IsFullOfStale limit records mapped
 IsLeftStale OutOfMemory limit records mapped = ⊤

@@ -13,8 +13,8 @@ use Rattle.following.specs.declared.stop.FollowStop.TheVariants.{BadLine as BadR
 use Rattle.session.specs.declared.stop.Stop.{Stop}
 use Rattle.session.specs.declared.stop.Halt.{Halt}
 use Rattle.session.specs.declared.stop.Halt.TheVariants.{Unapplied as NotApplied, Untold}
-use Rattle.session.specs.declared.stop.Unapplied.{Unapplied}
-use Rattle.session.specs.declared.stop.Unapplied.TheVariants.{StoreFull as NoRoom, OutOfMemory as Starved}
+use Rattle.term_pool.specs.declared.fault.PoolFault.{PoolFault as StoreFault}
+use Rattle.term_pool.specs.declared.fault.PoolFault.TheVariants.{Full as NoRoom, OutOfMemory as Starved}
 use Rattle.session.specs.declared.stop.Stop.TheVariants.{BadLine, ReadFault, WriteFault, TooLong, StoreFull, OutOfMemory}
 use Rattle.session.specs.declared.status.Status.{Status}
 use Rattle.session.specs.declared.status.Status.TheVariants.{Ok as Ended, BadWords as WordsRefused, BadLine as LineRefused, ReadFault as ReadFailed, WriteFault as WriteFailed, TooLong as LimitPassed}
@@ -33,7 +33,7 @@ stop_of_unwritten NotWritten = WriteFault
 stop_of_unwritten Refused = OutOfMemory
 
 -- why a run stopped where not all due events were applied, or not all pages mapped anew
-abbrev pub stop_of_unapplied : Unapplied → Stop
+abbrev pub stop_of_unapplied : StoreFault → Stop
 stop_of_unapplied NoRoom = StoreFull
 stop_of_unapplied Starved = OutOfMemory
 

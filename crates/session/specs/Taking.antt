@@ -26,7 +26,7 @@ use Rattle.session.specs.declared.report.Report.{Report}
 use Rattle.session.specs.declared.report.Report.TheVariants.{Answers}
 use Rattle.session.specs.declared.stop.Halt.{Halt}
 use Rattle.session.specs.declared.stop.Halt.TheVariants.{Unapplied, Untold}
-use Rattle.session.specs.declared.stop.Unapplied.TheVariants.{StoreFull, OutOfMemory}
+use Rattle.term_pool.specs.declared.fault.PoolFault.TheVariants.{Full, OutOfMemory}
 use Rattle.session.specs.Counts.{HasCounted, HasCountedAt}
 use Rattle.session.specs.Course.{Course, course_after, course_begun, course_to_end}
 use Rattle.session.specs.Moment.{Environment, Stage, horizon_at}
@@ -130,7 +130,7 @@ pub record IsFull (environment : Environment) (world : ReplayState) (mapped : Ma
 
 -- why the least due event isn't applied, or the last one isn't told
 abbrev pub IsHeldUp : Halt → Environment → Output → Stage → Type 0
-IsHeldUp (Unapplied StoreFull) environment old now = IsFull environment now.world now.mapped
+IsHeldUp (Unapplied Full) environment old now = IsFull environment now.world now.mapped
 IsHeldUp (Unapplied OutOfMemory) environment old now = ⊤
 IsHeldUp (Untold WriteFault) environment old now = Rose old.faults now.output.faults
 IsHeldUp (Untold NoMemory) environment old now = ⊤
@@ -167,7 +167,7 @@ pub record AnswersInPart (why : Unwritten) (environment : Environment) (t : Turn
 
 -- nothing of a delivery was taken, as may be where memory was refused
 abbrev pub IsUntaken : Halt → Stage → Stage → Type 0
-IsUntaken (Unapplied StoreFull) before now = ⊥
+IsUntaken (Unapplied Full) before now = ⊥
 IsUntaken (Unapplied OutOfMemory) before now = (now.world ≡ before.world) × (now.counts ≡ before.counts) × (now.output ≡ before.output)
 IsUntaken (Untold why) before now = ⊥
 

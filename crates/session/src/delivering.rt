@@ -15,12 +15,13 @@ ghost use Rattle.session.specs.Taking.{AppliesDue, CutsOff, IsHeldUp, StaysWithi
 
 use crate::context::Context;
 use crate::remapping::take_mapping;
-use crate::stop::{Halt, Stop, Unapplied};
+use crate::stop::{Halt, Stop};
 use delivery::Delivery;
 use entity_model::Event;
 use rdf_term::OutOfMemory;
 use reorder_buffer::Taken;
 use revisions::Revisions;
+use triple_store::StoreFault;
 use world::{Application, World, WorldFault};
 use wq_io::Sink;
 
@@ -184,8 +185,8 @@ fn apply_due<R: Revisions, K: Sink>(
                 Err(why) => return Err(Halt::Untold(why)),
             },
             Err(WorldFault::Nothing) => return Ok(reported),
-            Err(WorldFault::Full) => return Err(Halt::Unapplied(Unapplied::StoreFull)),
-            Err(WorldFault::OutOfMemory) => return Err(Halt::Unapplied(Unapplied::OutOfMemory)),
+            Err(WorldFault::Full) => return Err(Halt::Unapplied(StoreFault::Full)),
+            Err(WorldFault::OutOfMemory) => return Err(Halt::Unapplied(StoreFault::OutOfMemory)),
         }
     }
 }

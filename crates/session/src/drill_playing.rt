@@ -8,7 +8,7 @@ ghost use Rattle.drill_replay.specs.Playing.{Counted, HasBegun, HasFew, IsByFirs
 ghost use Rattle.drill_replay.specs.Summary.{drilled};
 ghost use Rattle.session.specs.declared.stop.Halt.TheVariants.{Unapplied};
 ghost use Rattle.session.specs.declared.stop.Stop.TheVariants.{OutOfMemory as Refused};
-ghost use Rattle.session.specs.declared.stop.Unapplied.TheVariants.{OutOfMemory as Starved};
+ghost use Rattle.term_pool.specs.declared.fault.PoolFault.TheVariants.{OutOfMemory as Starved};
 ghost use Rattle.session.specs.DrillPlaying.{HasTakenFirst, LeavesDrill};
 
 use crate::context::Context;

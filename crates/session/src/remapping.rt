@@ -13,8 +13,9 @@ ghost use Rattle.session.specs.Report.{TellsBy};
 ghost use Rattle.session.specs.Taking.{RemapsPages};
 
 use crate::context::Context;
-use crate::stop::{Halt, Unapplied};
+use crate::stop::Halt;
 use entity_model::MappingVersion;
+use triple_store::StoreFault;
 use world::{Remapping, World, WorldFault};
 use wq_io::Sink;
 
@@ -60,9 +61,9 @@ pub fn take_mapping<K: Sink>(
                 }
             }
             Ok(None) => unreachable!(),
-            Err(WorldFault::Full) => return Err(Halt::Unapplied(Unapplied::StoreFull)),
+            Err(WorldFault::Full) => return Err(Halt::Unapplied(StoreFault::Full)),
             Err(WorldFault::Nothing) => unreachable!(),
-            Err(WorldFault::OutOfMemory) => return Err(Halt::Unapplied(Unapplied::OutOfMemory)),
+            Err(WorldFault::OutOfMemory) => return Err(Halt::Unapplied(StoreFault::OutOfMemory)),
         }
     }
     Ok(reported)

@@ -9,22 +9,14 @@ use event_line::LineCause;
 use following::{FollowStop, RecordCause};
 use rdf_term::OutOfMemory;
 use transcript::Unwritten;
+use triple_store::StoreFault;
 use wq_io::LineFault;
-
-// Why not all due events were applied, the least of them staying due; or not all pages mapped anew.
-#[derive(Clone, Copy, Debug, PartialEq, Eq)]
-pub enum Unapplied {
-    // There is no room for the terms of a page, new or mapped anew.
-    StoreFull,
-    // A request for memory was refused.
-    OutOfMemory,
-}
 
 // Why a delivery wasn't taken wholly: at which step it stopped.
 #[derive(Clone, Copy, Debug, PartialEq, Eq)]
 pub enum Halt {
-    // A due event wasn't applied, or a page not mapped anew.
-    Unapplied(Unapplied),
+    // The least due event wasn't applied, and stays due; or a page not mapped anew.
+    Unapplied(StoreFault),
     // The last event that was applied, or the last page that was mapped anew, wasn't told wholly.
     Untold(Unwritten),
 }
@@ -68,16 +60,16 @@ impl From<Unwritten> for Stop {
     }
 }
 
-impl From<Unapplied> for Stop {
+impl From<StoreFault> for Stop {
     ghost use Rattle.std.specs.Prelude.{◌≡◌};
     ghost use Rattle.session.specs.Stop.{stop_of_unapplied};
 
     ghost from_gives = { λ why stop. stop ≡ stop_of_unapplied why };
 
-    fn from(why: Unapplied) -> Stop {
+    fn from(why: StoreFault) -> Stop {
         match why {
-            Unapplied::StoreFull => Stop::StoreFull,
-            Unapplied::OutOfMemory => Stop::OutOfMemory,
+            StoreFault::Full => Stop::StoreFull,
+            StoreFault::OutOfMemory => Stop::OutOfMemory,
         }
     }
 }

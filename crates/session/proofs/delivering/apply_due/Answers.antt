@@ -2,7 +2,7 @@
 use Rattle.std.proofs.Common.{refl, ap, ◌∙◌, arith, Err, inl, inr, ⊎_elim}
 use Rattle.transcript.specs.Printing.{output}
 use Rattle.told_pages.proofs.Applying.{applies-fewer}
-use Rattle.session.specs.declared.stop.Unapplied.TheVariants.{StoreFull, OutOfMemory}
+use Rattle.term_pool.specs.declared.fault.PoolFault.TheVariants.{Full, OutOfMemory}
 use Rattle.session.specs.Counts.{counts}
 use Rattle.session.specs.Moment.{stage}
 use Rattle.session.proofs.Due.{IsApplied, applies-leads, goes-further, goes-nowhere, gone-on, none_due, starved, untold}
@@ -94,7 +94,7 @@ returns-in-Err-Nothing-clause-ok g c =
 pub returns-in-Err-Full-clause-err : goal.returns-in-Err-Full-clause-err
 returns-in-Err-Full-clause-err g c =
     let call = c.in-Err-Full.ensures in
-    starved StoreFull _ _ _ _ (output g.K.Sink c.loop-change.out) (counts g.R.Revisions c.loop-change.revisions) _ c.loop-change.world c.apply_next_with.new.self c.loop-change.invariant.goes
+    starved Full _ _ _ _ (output g.K.Sink c.loop-change.out) (counts g.R.Revisions c.loop-change.revisions) _ c.loop-change.world c.apply_next_with.new.self c.loop-change.invariant.goes
     (record { calls = call.calls_at_full (ap Err c.in-Err-Full.field-0-is); faults = call.more_faults; misses = call.more_misses }) call.err
 
 pub returns-in-Err-OutOfMemory-clause-err : goal.returns-in-Err-OutOfMemory-clause-err

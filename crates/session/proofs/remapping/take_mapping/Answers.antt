@@ -1,7 +1,7 @@
 -- No page yet, one more, and all of them.
 use Rattle.std.proofs.Common.{◌≡◌, ◌<◌, length, refl, sym, subst, ap, ◌∙◌, arith, Err}
 use Rattle.world.specs.WorldState.{WorldState, stale}
-use Rattle.session.specs.declared.stop.Unapplied.TheVariants.{StoreFull, OutOfMemory}
+use Rattle.term_pool.specs.declared.fault.PoolFault.TheVariants.{Full, OutOfMemory}
 use Rattle.session.specs.Remapping.{HoldsWithin}
 use Rattle.session.proofs.Pages.{told_all, told_before, told_but_last, told_next, told_none}
 use Rattle.session.proofs.Reports.{never_untold, still_silent}
@@ -89,7 +89,7 @@ returns-in-Err-Full-clause-err g c =
     let b = c.loop-world.invariant in
     let call = c.in-Err-Full.ensures in
     let some : 0 < length (stale c.loop-world.world) = omega (arith, c.stale.ensures.count, c.loop-world-test.true) in
-    told_before _ StoreFull _ _ _ _ c.loop-world.world c.remap_next_with.new.self _ _ b.told call.err (remaps_full _ _ c.loop-world.world c.remap_next_with.new.self b.told.remaps call.err some (call.full (ap Err c.in-Err-Full.field-0-is)))
+    told_before _ Full _ _ _ _ c.loop-world.world c.remap_next_with.new.self _ _ b.told call.err (remaps_full _ _ c.loop-world.world c.remap_next_with.new.self b.told.remaps call.err some (call.full (ap Err c.in-Err-Full.field-0-is)))
 
 pub returns-in-Err-Full-clause-written : goal.returns-in-Err-Full-clause-written
 returns-in-Err-Full-clause-written g c = c.loop-world.invariant.written
