@@ -176,7 +176,7 @@ export|'export' is no command
 ''|'' is no command
 'replay drill'|'replay drill' is no command
 events.jsonl|'events.jsonl' is a file; did you mean replay < events.jsonl?
---export|the command comes first: replay follow drill
+--export|the command comes first: replay patches follow drill
 folow --export|'folow' is no command; did you mean follow?
 replay --exprt|'--exprt' is no option of replay; did you mean --export?
 replay --exp|'--exp' is no option of replay; did you mean --export?
@@ -189,10 +189,19 @@ replay --|'--' is no option of replay
 replay --size 5|--size is an option of drill
 drill --size 5 --state|--state is an option of replay
 drill --export|--export is an option of replay and follow
+drill --max-bytes 5|--max-bytes is an option of replay, patches and follow
+patch --from pages|'patch' is no command; did you mean patches?
+patches --side|--side is an option of replay
+patches --max-byte 5|'--max-byte' is no option of patches; did you mean --max-bytes?
+patches --max-bytes 4294967296|--max-bytes takes a number from 0 to 4294967295, in digits
+patches --max-terms 0|--max-terms takes a number from 1 to 4294967295
+patches --horizon 9223372036854775808|--horizon takes a number from 0 to 9223372036854775807
+patches events.jsonl|'events.jsonl' is a file; did you mean < events.jsonl?
+patches pages|'pages' is a folder; did you mean --from pages?
 drill events.jsonl|'events.jsonl' is no option of drill
 drill pages|'pages' is no option of drill
-follow --from pages|--from is an option of replay
-follow --max-terms=5|--max-terms is an option of replay
+follow --from pages|--from is an option of replay and patches
+follow --max-terms=5|--max-terms is an option of replay and patches
 follow --size 5|--size is an option of drill
 follow --exprt|'--exprt' is no option of follow; did you mean --export?
 follow --sid|'--sid' is no option of follow
@@ -235,6 +244,8 @@ for words in '' -h --help --version help 'replay --help'; do
 done
 in_terminal "'$checkout/wdq' replay --max-bytes 1099511627776 --max-terms 4294967295 --horizon 0 --from x=y < /dev/null"
 shows 'words without a fault' $'wdq: words not understood\n\nwdq '
+in_terminal "'$checkout/wdq' patches --max-bytes 4294967295 --max-terms=4294967295 --horizon 0 --from pages < /dev/null"
+shows 'words of patches without a fault' $'wdq: words not understood\n\nwdq '
 in_terminal "'$checkout/wdq' follow --max-bytes=1099511627776 --export < /dev/null"
 shows 'words of follow without a fault' $'wdq: words not understood\n\nwdq '
 unset STAND_IN_STATUS
@@ -245,6 +256,8 @@ in_terminal "'$checkout/wdq' replay --export --from page < events.jsonl"
 shows 'no folder' $'wdq: there is no folder \'page\', so each revision will be missing\n{"kind"'
 in_terminal "'$checkout/wdq' replay --export --from events.jsonl < events.jsonl"
 shows 'a file as folder' $'wdq: \'events.jsonl\' is no folder, so each revision will be failed\n{"kind"'
+in_terminal "'$checkout/wdq' patches --from page < events.jsonl"
+shows 'no folder for patches' $'wdq: there is no folder \'page\', so each revision will be missing\n{"kind"'
 in_terminal "'$checkout/wdq' replay --export --from=pages < events.jsonl"
 wants 'a folder' '{"kind":"edit"}' "$shown"
 in_terminal "'$checkout/wdq' replay --export"
