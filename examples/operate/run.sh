@@ -1,8 +1,8 @@
 #!/bin/sh
 # Tries the scripts of this folder over a made-up Wikidata on the loopback address (made_up_wiki.py): a dump becomes pages and events, the
 # stream is followed from there and killed once, pages are fetched, what is in doubt is reconciled, and at the end the store holds what the
-# wiki has. It says each step, and what is missing; needs jq and Python 3.9 or newer. WDQ names the program; without it, it is this
-# repository's wdq.
+# wiki has, and so does one of rdflib (Debian's python3-rdflib), batch by batch. It says each step, and what is missing; needs jq and Python
+# 3.9 or newer. WDQ names the program; without it, it is this repository's wdq.
 #   ./run.sh
 case ${1-} in -h | --help) sed -n '2,6s/^# *//p' "$0"; exit 0 ;; esac
 cd "$(dirname "$0")" || exit 2
@@ -16,7 +16,8 @@ wdq=$(readlink -f "${WDQ:-../../crates/wdq/out/wdq}")
 work=$(mktemp -d) || exit 2
 server=
 follower=
-trap 'kill $server $follower 2>/dev/null; rm -rf "$work"' EXIT
+store=
+trap 'kill $server $follower $store 2>/dev/null; rm -rf "$work"' EXIT
 trap 'exit 130' INT TERM
 LC_ALL=C PYTHONDONTWRITEBYTECODE=1
 export LC_ALL PYTHONDONTWRITEBYTECODE
@@ -116,4 +117,30 @@ told "the store's $(wc -l < "$work/export.txt") triples are those of the pages t
 
 { grep '"kind"' "$work/dump.jsonl"; cat "$work/changes.jsonl"; } | export_over "$work/pages" | cmp -s - "$work/export.txt"
 told "one replay over all, without watermarks and reconciliations, gives the same" $?
+
+# --- Batch by batch into a SPARQL store ---
+
+# Does a step for each batch, as docs/QUERY_SERVICE.md says, with pages that are fetched batch by batch.
+try_steps() {
+  ./load_dump.py --into "$work/live" --began "$began" "$work/wiki/dump.json.gz" > "$work/grown.jsonl" 2>/dev/null || return
+  echo '{"watermark":"9999-12-31T23:59:59Z"}' > "$work/end.jsonl"
+  for batch in "$work"/batches/0*.jsonl "$work/end.jsonl"; do
+    ./fetch_pages.py "$@" --site "$site" --into "$work/live" "$batch" 2>/dev/null
+    cat "$batch" >> "$work/grown.jsonl"
+    jq -c -n -f ../sparql/settled.jq "$work/grown.jsonl" | "$wdq" patches --from "$work/live" |
+      ../sparql/updates.py --post "$url" --batch 20 || return
+  done
+  python3 -c 'import sys, urllib.request as r; sys.stdout.buffer.write(r.urlopen(sys.argv[1]).read())' "$url" | cmp -s - "$work/export.txt"
+}
+
+if /usr/bin/python3 -c 'import rdflib' 2>/dev/null; then
+  ../sparql/rdflib_store.py > "$work/url" &
+  store=$!
+  until [ -s "$work/url" ]; do kill -0 $store || exit 2; sleep 0.1; done
+  url=$(cat "$work/url")
+  try_steps "$@"
+  told "batch by batch, rdflib holds the same after record $(../sparql/updates.py --post "$url" --number)" $?
+else
+  echo "passed over: the store rdflib, python3-rdflib is missing"
+fi
 exit $failed

@@ -1,13 +1,14 @@
 #!/bin/sh
-# Tries updates.py with real stores, and says how each step went:
+# Sends records of `wdq patches` to real stores by updates.py, and says how each step went:
 #   examples/sparql/run.sh [-h]
 # Three streams go into each store: those of examples/feed and examples/item, and 2,000 edits (edits.py). At the end the store holds what
-# `wdq replay --export` prints. Then the 2,000 edits again, with updates.py killed in the middle and started again. The stores are rdflib
-# (Debian's python3-rdflib) and Virtuoso (virtuoso-opensource-7), each started here on the loopback address and stopped at the end. What
-# is missing is named, and its steps are passed over. Needs jq for the stream of examples/feed. Ends with 1 where a step went wrong.
+# `wdq replay --export` prints. Then the 2,000 edits again, with updates.py killed in the middle and started again, and as a file that
+# grows. The stores are rdflib (Debian's python3-rdflib) and Virtuoso (virtuoso-opensource-7), each started here on the loopback address
+# and stopped at the end. What is missing is named, and its steps are passed over; some need jq. WDQ names the program; without it, it is
+# this repository's wdq. Ends with 1 where a step went wrong.
 # shellcheck disable=SC2059,SC2086,SC2317 # words are split, formats have triples, and steps are called by name.
 cd "$(dirname "$0")" || exit 2
-case ${1-} in '') ;; *) sed -n '2,7s/^# \{0,1\}//p' run.sh; [ "$1" = -h ]; exit ;; esac
+case ${1-} in '') ;; *) sed -n '2,8s/^# \{0,1\}//p' run.sh; [ "$1" = -h ]; exit ;; esac
 wdq=$(readlink -f "${WDQ:-../../wdq}")
 work=$(mktemp -d) || exit 2
 store=
@@ -93,10 +94,14 @@ try_escapes() {
 
 make_stream() {
   "$wdq" replay --from "$2" --export < "$3" | grep -v '^#' > "$work/$1.export"
-  ./records.py --ask < "$3" | "$wdq" replay --from "$2" --export | ./records.py > "$work/$1.records"
   [ -s "$work/$1.export" ] || { echo "not as expected: wdq printed no export of $1"; exit 2; }
+  "$wdq" patches --from "$2" < "$3" > "$work/$1.records" || { echo "not as expected: wdq printed no records of $1"; exit 2; }
   changes=$(grep -vc '^#' "$work/$1.records")
   echo "stream $1: $(grep -c '^# patch' "$work/$1.records") records of $changes changes, $(wc -l < "$work/$1.export") triples at the end"
+}
+
+with_watermarks() {
+  jq -c -n --argjson delay 10 --argjson every 5 -f ../feed/watermarks.jq
 }
 
 make_streams() {
@@ -105,8 +110,7 @@ make_streams() {
   ./edits.py --size "$size" --pages "$work/pages" > "$work/edits.jsonl" || exit 2
   make_stream edits "$work/pages" "$work/edits.jsonl"
   command -v jq >/dev/null || { echo "passed over: the stream feed, jq is missing"; return; }
-  jq -R -c -f ../feed/events.jq < ../feed/stream.txt > "$work/changes.jsonl" &&
-    jq -c -n --argjson delay 10 --argjson every 5 -f ../feed/watermarks.jq < "$work/changes.jsonl" > "$work/feed.jsonl" || exit 2
+  jq -R -c -f ../feed/events.jq < ../feed/stream.txt | with_watermarks > "$work/feed.jsonl" || exit 2
   make_stream feed ../feed/pages "$work/feed.jsonl"
   streams="feed $streams"
 }
@@ -208,6 +212,39 @@ try_killed() {
   stop
 }
 
+# Applies an event file as far as its watermarks reach; $1 is what becomes of the records on the way.
+step() {
+  jq -c -n -f settled.jq "$work/grown.jsonl" | "$wdq" patches --from "$work/pages" | $1 | ./updates.py $words --batch 20
+}
+
+# The event file of the edits grows, always with events that wait at its end, and each step reads it from its start. Once the records are
+# cut off, as where wdq is killed. At the end it has other pages than before.
+try_growing() {
+  command -v jq >/dev/null || { echo "passed over: a file that grows, jq is missing"; return; }
+  "start_$1"
+  grep '"kind"' "$work/edits.jsonl" | with_watermarks > "$work/events.jsonl"
+  lines=$(wc -l < "$work/events.jsonl")
+  numbers='' fault=0
+  for part in 3 5 8; do
+    head -n $((lines * part / 10)) "$work/events.jsonl" > "$work/grown.jsonl"
+    [ $part -ne 5 ] || step "head -c $(($(wc -c < "$work/edits.records") * 4 / 10))" 2>/dev/null
+    numbers="$numbers $(./updates.py --post "$url" --number)"
+    step cat || fault=1
+  done
+  { cat "$work/events.jsonl"; tail -n 1 "$work/edits.jsonl"; } > "$work/grown.jsonl"
+  step cat && [ $fault -eq 0 ] && "same_$1" "$work/edits.export"
+  told "$1 holds the export of edits, whose file grew at records$numbers and had events that waited" $?
+  step 'sed s/plain/other/' 2> "$work/told.txt"
+  [ $? -eq 4 ] && grep -q 'were others' "$work/told.txt" && "same_$1" "$work/edits.export"
+  told "where a page was another one: $(cat "$work/told.txt")" $?
+  mv "$work/pages/1.json" "$work/kept.json"
+  step cat 2> "$work/told.txt"
+  [ $? -eq 4 ] && "same_$1" "$work/edits.export"
+  told "where a page is missing: $(cat "$work/told.txt")" $?
+  mv "$work/kept.json" "$work/pages/1.json"
+  stop
+}
+
 try_escapes_in() {
   "start_$1"
   ./updates.py $words < "$work/escapes.records" && ./compare.py --query "$url" --graph "$2" < "$work/written.txt" > "$work/compared.txt"
@@ -242,6 +279,7 @@ if /usr/bin/python3 -c 'import rdflib' 2>/dev/null; then
   try_escapes_in rdflib ""
   for stream in $streams; do try_stream rdflib "$stream" 1; done
   try_killed rdflib
+  try_growing rdflib
 else
   echo "passed over: the store rdflib, python3-rdflib is missing"
 fi
@@ -251,6 +289,7 @@ if command -v virtuoso-t >/dev/null && command -v isql-vt >/dev/null; then
   for stream in $streams; do try_stream virtuoso "$stream" 1; done
   try_stream virtuoso edits 50
   try_killed virtuoso
+  try_growing virtuoso
 else
   echo "passed over: the store virtuoso, virtuoso-opensource-7 is missing"
 fi

@@ -6,6 +6,7 @@ come, then those of the triples that go. The numbers rise by one. Each update fi
 its last record: <urn:wdq:stream> <urn:wdq:applied> NUMBER, in the graph <urn:wdq:stream>. With --post the script asks the store for this
 number first and passes over the records up to it, so it can be stopped at any time and started again over the same stream. An update
 that a store took in part is sent again whole, which does no harm: it only says which triples are there in the end and which aren't.
+With the number goes a digest of all records up to it: a stream is refused that begins otherwise than the one that the store has.
 
 --counts is for stores that spell numbers, points and language tags their own way, so that two triples of the stream are one there. It
 counts the triples of each value in an SQLite file, and a value goes with its last triple. Objects that such stores refuse or cut (points
@@ -13,11 +14,13 @@ on other globes, long numbers and IRIs) are sent as texts of the datatype <urn:w
 doesn't are only counted, so where the file is lost, read the stream from record 1.
 
 Statuses: 0 all records are applied; 1 a line is no part of a record; 2 the words are wrong; 3 the store or the file of counts failed or
-can't be reached; 4 the record after the last one applied is missing, or the counts are of another stream or ahead of the store.
+can't be reached; 4 the next record is missing, the stream ends before the store's number, the store's records were others, or the counts
+are of another stream or ahead of the store.
 """
 
 import argparse
 import decimal
+import hashlib
 import http.client
 import json
 import re
@@ -29,7 +32,9 @@ import urllib.parse
 import urllib.request
 
 STREAM = "<urn:wdq:stream>"
-NUMBER_PATTERN = f"GRAPH {STREAM} {{ {STREAM} <urn:wdq:applied> ?number }}"
+# The number of the last record applied; and this number, a space, and the digest of the records up to it.
+NUMBER, DIGEST = "urn:wdq:applied", "urn:wdq:digest"
+MARKS_PATTERN = f"GRAPH {STREAM} {{ {STREAM} ?name ?mark }}"
 UNREAD = "urn:wdq:unread"
 XSD = "http://www.w3.org/2001/XMLSchema#"
 POINT_TYPE = "http://www.opengis.net/ont/geosparql#wktLiteral"
@@ -101,6 +106,14 @@ class Record(typing.NamedTuple):
     number: int
     adds: list
     removes: list
+    digest: bytes
+
+
+class Applied(typing.NamedTuple):
+    """The number of the last record that a store has, and the digest of the records up to it, or None where it isn't known."""
+
+    number: int
+    digest: typing.Optional[str]
 
 
 # --- Reading N-Triples and records ---
@@ -159,15 +172,17 @@ def read_records(stream):
         if not head:
             raise Stopped(1, f"line {index}: the head of a record is due")
         number, adds, removes = map(int, head.groups())
-        yield Record(number, read_triples(lines, adds, index), read_triples(lines, removes, index))
+        digest = hashlib.sha256(line)
+        yield Record(number, read_triples(lines, adds, index, digest), read_triples(lines, removes, index, digest), digest.digest())
 
 
-def read_triples(lines, size, head):
+def read_triples(lines, size, head, digest):
     triples = []
     for _ in range(size):
         index, line = next(lines, (head, None))
         if line is None:
             raise Stopped(1, f"the stream ends inside the record of line {head}")
+        digest.update(b"\n" + line)
         try:
             triples.append(read_triple(line.decode()))
         except ValueError as fault:
@@ -266,8 +281,27 @@ class Counts:
 # --- Updates, and where they go ---
 
 
-def write_update(changes, number, graph):
-    """The update of these changes, a dict from lines of triples to whether they come, up to the record of this number."""
+class Chain:
+    """The digest of the records from 1 on, so that a store's stream is known again. It isn't known where these weren't read."""
+
+    def __init__(self, applied):
+        self.applied = applied
+        self.last = Applied(0, "")
+
+    def add(self, record):
+        """Takes the next record; Stopped where the store has other records up to this one."""
+        before = self.last.digest if record.number == self.last.number + 1 else None
+        if before is None and record.number == self.applied.number + 1:
+            before = self.applied.digest
+        digest = None if before is None else hashlib.sha256(before.encode() + record.digest).hexdigest()
+        self.last = Applied(record.number, digest)
+        is_known = digest is not None and self.applied.digest is not None
+        if record.number == self.applied.number and is_known and digest != self.applied.digest:
+            raise Stopped(4, f"the store's records up to {record.number} were others: clear its graphs, and apply all records")
+
+
+def write_update(changes, last, graph):
+    """The update of these changes, a dict from lines of triples to whether they come, up to the last record applied then."""
     parts = []
     for word, is_added in (("DELETE", False), ("INSERT", True)):
         lines = [line for line, comes in changes.items() if comes == is_added]
@@ -275,9 +309,14 @@ def write_update(changes, number, graph):
             block = "\n".join(lines[start:start + MOST_IN_BLOCK])
             parts.append(f"{word} DATA {{ GRAPH <{graph}> {{\n{block}\n}} }}" if graph else f"{word} DATA {{\n{block}\n}}")
     # At each moment the greatest number is that of the last record applied.
-    parts.append(f"INSERT DATA {{ {NUMBER_PATTERN.replace('?number', str(number))} }}")
-    parts.append(f"DELETE {{ {NUMBER_PATTERN} }} WHERE {{ {NUMBER_PATTERN} FILTER (?number < {number}) }}")
-    return f"# update {number}\n" + " ;\n".join(parts) + "\n"
+    digest = f'"{last.number} {last.digest}"'
+    marks = f"{STREAM} <{NUMBER}> {last.number} ."
+    if last.digest is not None:
+        marks = f"{STREAM} <{DIGEST}> {digest} . {marks}"
+    parts.append(f"INSERT DATA {{ GRAPH {STREAM} {{ {marks} }} }}")
+    is_old = f'STR(?mark) != "{last.number}" && STR(?mark) != {digest}'
+    parts.append(f"DELETE {{ {MARKS_PATTERN} }} WHERE {{ {MARKS_PATTERN} FILTER ({is_old}) }}")
+    return f"# update {last.number}\n" + " ;\n".join(parts) + "\n"
 
 
 class Printer:
@@ -287,7 +326,7 @@ class Printer:
         self.after = after
 
     def applied(self):
-        return self.after
+        return None if self.after is None else Applied(self.after, None)
 
     def send(self, update):
         sys.stdout.buffer.write(update.encode())
@@ -302,7 +341,11 @@ class Store:
         self.query_url = query_url
 
     def applied(self):
-        return max((int(row["number"]["value"]) for row in self.select(f"SELECT ?number WHERE {{ {NUMBER_PATTERN} }}")), default=0)
+        rows = self.select(f"SELECT ?name ?mark WHERE {{ {MARKS_PATTERN} }}")
+        marks = [(row["name"]["value"], row["mark"]["value"]) for row in rows]
+        number = max((int(mark) for name, mark in marks if name == NUMBER), default=0)
+        digests = dict(mark.split() for name, mark in marks if name == DIGEST)
+        return Applied(number, digests.get(str(number)))
 
     def select(self, query):
         url = f"{self.query_url}?{urllib.parse.urlencode({'query': query})}"
@@ -328,14 +371,14 @@ class Store:
 def apply(records, target, counts, batch, graph):
     """Applies the records after the last one that the target has, so many to an update."""
     counted = counts.number if counts else None
-    applied = target.applied()
-    if applied is None:
-        applied = counted or 0
+    chain = Chain(target.applied() or Applied(counted or 0, None))
+    applied = chain.applied.number
     last = applied if counted is None else counted
     if last > applied:
         raise Stopped(4, f"the counts are at record {last} and the store only at {applied}: restore both as they were at one time")
     changes, size = {}, 0
     for record in records:
+        chain.add(record)
         if record.number <= last:
             continue
         if record.number != last + 1:
@@ -348,17 +391,19 @@ def apply(records, target, counts, batch, graph):
                     changes[line] = is_added
         size += 1
         if size == batch or last == applied:
-            finish(changes, last, applied, target, counts, graph)
+            finish(changes, chain, target, counts, graph)
             changes, size = {}, 0
     if size:
-        finish(changes, last, applied, target, counts, graph)
+        finish(changes, chain, target, counts, graph)
+    if 0 < chain.last.number < applied and chain.last.digest is not None:
+        raise Stopped(4, f"the stream ends at record {chain.last.number}, and the store is at record {applied}")
 
 
-def finish(changes, last, applied, target, counts, graph):
-    if last > applied:
-        target.send(write_update(changes, last, graph))
+def finish(changes, chain, target, counts, graph):
+    if chain.last.number > chain.applied.number:
+        target.send(write_update(changes, chain.last, graph))
     if counts:
-        counts.keep(last)
+        counts.keep(chain.last.number)
 
 
 def at_least(least):
@@ -393,7 +438,7 @@ def main():
     target = Store(words.post, words.query or words.post) if words.post else Printer(words.after)
     try:
         if words.number:
-            print(target.applied())
+            print(target.applied().number)
             return 0
         counts = Counts(words.counts) if words.counts else None
         apply(read_records(sys.stdin.buffer), target, counts, words.batch, words.graph)
