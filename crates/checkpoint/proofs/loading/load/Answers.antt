@@ -1,0 +1,77 @@
+-- The start, a fault of the reader, a line that isn't taken, and the end.
+use Rattle.std.proofs.Common.{rules, ◌≡◌, ◌≢◌, ◌+◌, Err, refl, sym, ap, ◌∙◌, arith}
+use Rattle.std.proofs.lemmas.Result.{err_from_is_err_and}
+use Rattle.wq_io.specs.Lines.{taken}
+use Rattle.checkpoint.proofs.UnderWay.{all_loaded, begins, early_stops, fault_stops, goes_on, line_stops, none_left, nothing_left, unended_stops}
+use Rattle.checkpoint.proofs.loading.load.Goals as goal
+
+pub loop-line-init : goal.loop-line-init
+loop-line-init g c = (
+  rw c.with_limit-lines.ensures (begins c.args.room (g.S.Source.left c.args.file.now) c.in_ok-loader.loader.world c.in_ok-loader.loader.stage c.in_ok-loader.ensures.fresh.0 c.in_ok-loader.ensures.fresh.1 c.in_ok-loader.ensures.limit),
+  omega arith,
+  refl,
+)
+
+pub returns-in_err-number-clause-fault : goal.returns-in_err-number-clause-fault
+returns-in_err-number-clause-fault g c =
+    let p = err_from_is_err_and c.from_residual-in_err-number.result c.from_residual-in_err-number.ensures.1 in
+    rw (p.1, p.2) (fault_stops c.args.room _ _ _ _ _ _ _ c.loop-line.invariant.0 _ _ (g.S.Source.faults c.next.new.source) _ c.loop-line.invariant.1 c.in_err-number.ensures.cause)
+
+pub returns-in_err-take_line-clause-fault : goal.returns-in_err-take_line-clause-fault
+returns-in_err-take_line-clause-fault g c =
+    let p = err_from_is_err_and c.from_residual-in_err-take_line.result c.from_residual-in_err-take_line.ensures.1 in
+    let line = rw c.in-Some.is at c.in_ok-number.ensures.line in
+    let number = rw c.in-Some.is at c.in_ok-number.ensures.number in
+    let bad = rw c.as_slice.ensures.value at c.in_err-take_line.ensures.bad in
+    let full = rw c.as_slice.ensures.value at c.in_err-take_line.ensures.full in
+    rw (p.1, p.2) (line_stops c.args.room _ _ (g.S.Source.left c.next.new.source) _ c.next.new.self _ _ _ c.in-Some.number _ c.next.new.line.items c.loop-line.invariant.0
+    (record { first = line; total = c.in_ok-number.ensures.length; given = sym number.1 ∙ number.0 }) (number.0 ∙ ap (λ k. k + 1) (sym c.loop-line.invariant.0.given_is)) _
+    (λ k is. bad k (ap (λ fault. Err fault) is)) (λ is. full (ap (λ fault. Err fault) is))
+    (λ is. c.in_err-take_line.ensures.others.0 (ap (λ fault. Err fault) is)) (λ is. c.in_err-take_line.ensures.others.1 (ap (λ fault. Err fault) is)) _ _)
+
+pub loop-line-preserved : goal.loop-line-preserved
+loop-line-preserved g c =
+    let line = rw c.in-Some.is at c.in_ok-number.ensures.line in
+    let number = rw c.in-Some.is at c.in_ok-number.ensures.number in
+    let takes = rw c.as_slice.ensures.value at c.in_ok-take_line.ensures.ok in
+    let longer = rw c.as_slice-in-Some.ensures.value at c.with_line-length.ensures in (
+      goes_on c.args.room _ _ (g.S.Source.left c.next.new.source) _ c.next.new.self _ _ _ _ _ c.in-Some.number _ _ c.next.new.line.items c.loop-line.invariant.0
+          (record { first = line; total = c.in_ok-number.ensures.length; given = sym number.1 ∙ number.0 }) c.in_ok-number.ensures.goes_on
+          (number.0 ∙ ap (λ k. k + 1) (sym c.loop-line.invariant.0.given_is)) c.in_ok-number.ensures.ended takes c.in_ok-take_line.ensures.ready c.take_line.ensures.limit longer,
+      omega (arith, c.loop-line.invariant.1, c.next.ensures.later),
+      c.next.ensures.most ∙ c.loop-line.invariant.2,
+    )
+
+pub returns-then-taken-length-clause-fault : goal.returns-then-taken-length-clause-fault
+returns-then-taken-length-clause-fault g c =
+    let none = rw c.in_default.is at c.in_ok-number.ensures.line in
+    let same = rw c.in_default.is at c.in_ok-number.ensures.number in
+    let other : taken c.next.new.self ≢ c.loop-line.length = search rules in
+    unended_stops c.args.room _ (g.S.Source.left c.next.new.source) c.next.new.self _ _ _ _
+    (none_left c.args.room _ _ (g.S.Source.left c.next.new.source) _ c.next.new.self _ _ _ _ c.next.new.line.items c.loop-line.invariant.0 none.1 c.in_ok-number.ensures.length same
+    c.in_ok-number.ensures.goes_on c.in_ok-number.ensures.ended)
+    (rw none.1 none.0) other 0 0
+
+pub returns-in-Ok-clause-saved : goal.returns-in-Ok-clause-saved
+returns-in-Ok-clause-saved g c =
+    let none = rw c.in_default.is at c.in_ok-number.ensures.line in
+    let same = rw c.in_default.is at c.in_ok-number.ensures.number in
+    let equal : taken c.next.new.self ≡ c.loop-line.length = search rules in
+    rw c.in-Ok.ensures.world (all_loaded c.args.room _ (g.S.Source.left c.next.new.source) c.next.new.self c.loop-line.loader.world c.loop-line.loader.stage c.in-Ok.loaded.numbers _ _
+    (none_left c.args.room _ _ (g.S.Source.left c.next.new.source) _ c.next.new.self _ _ _ _ c.next.new.line.items c.loop-line.invariant.0 none.1 c.in_ok-number.ensures.length same
+    c.in_ok-number.ensures.goes_on c.in_ok-number.ensures.ended)
+    (rw none.1 none.0) equal c.in-Ok.ensures.numbers)
+
+pub returns-in-Ok-clause-whole : goal.returns-in-Ok-clause-whole
+returns-in-Ok-clause-whole g c =
+    let none = rw c.in_default.is at c.in_ok-number.ensures.line in
+    nothing_left c.next.new.self.held _ (rw none.1 none.0)
+
+pub returns-clause-fault : goal.returns-clause-fault
+returns-clause-fault g c =
+    let none = rw c.in_default.is at c.in_ok-number.ensures.line in
+    let same = rw c.in_default.is at c.in_ok-number.ensures.number in
+    rw c.in-Err.ensures.fault (early_stops c.args.room _ (g.S.Source.left c.next.new.source) c.next.new.self _ _ c.loop-line.given _
+    (none_left c.args.room _ _ (g.S.Source.left c.next.new.source) _ c.next.new.self _ _ _ _ c.next.new.line.items c.loop-line.invariant.0 none.1 c.in_ok-number.ensures.length same
+    c.in_ok-number.ensures.goes_on c.in_ok-number.ensures.ended)
+    (rw none.1 none.0) c.in-Err.ensures.short 0 0)

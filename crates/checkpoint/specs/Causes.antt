@@ -1,0 +1,66 @@
+-- Why a file isn't loaded.
+use Rattle.std.specs.Prelude.{◌≡◌, ⊤, ◌⊎◌, ℕ, ◌+◌, ◌<◌, List, ◌∷◌, length, Option, None, IfSome}
+use Rattle.wq_io.specs.Lines.{lines}
+use Rattle.wq_io.specs.Streams.{Rose}
+use Rattle.world.specs.WorldState.{WorldState}
+use Rattle.snapshot.specs.File.{feeds}
+use Rattle.snapshot.specs.Whole.{Loading, whole}
+use Rattle.checkpoint.specs.declared.fault.LoadFault.{LoadFault}
+use Rattle.checkpoint.specs.declared.fault.LoadFault.TheVariants.{ReadFault, TooLong, BadLine, Full, OutOfMemory}
+use Rattle.checkpoint.specs.declared.loader.Stage.{Stage}
+use Rattle.checkpoint.specs.Loading.{BeginsWith, IsReady, IsRefused, Overfills, loading_of}
+
+-- the most bytes that a file may have, and that a line may have without its line feed: a page has at most 8,388,608, of which each is at
+-- most six in JSON
+abbrev pub longest_file : ℕ
+longest_file = 1099511627776
+
+abbrev pub longest_line : ℕ
+longest_line = 67108864
+
+-- the line with this number is refused behind those before it, or is over-long
+pub record IsBadLine (bytes : List ℕ) (number : ℕ) : Type 0 where
+  pub done : List (List ℕ)
+  pub loading : Loading
+  pub first : BeginsWith bytes done loading
+  pub counted : number ≡ length done + 1
+  pub line : List ℕ
+  pub others : List (List ℕ)
+  pub next : first.others ≡ line ∷ others
+  pub refused : IsRefused line loading ⊎ (longest_line < length line)
+
+-- the lines end before the last one of a snapshot; the number is one more than theirs
+pub record EndsEarly (bytes : List ℕ) (number : ℕ) : Type 0 where
+  pub loading : Loading
+  pub all : BeginsWith bytes (lines bytes) loading
+  pub unended : whole loading ≡ None
+  pub counted : number ≡ length (lines bytes) + 1
+
+-- the last line, which has this number, isn't ended by a line feed
+pub record IsUnended (bytes : List ℕ) (number : ℕ) : Type 0 where
+  pub unended : feeds bytes ≡ None
+  pub counted : number ≡ length (lines bytes)
+
+abbrev pub IsNoSnapshot : List ℕ → ℕ → Type 0
+IsNoSnapshot bytes number = IsBadLine bytes number ⊎ (EndsEarly bytes number ⊎ IsUnended bytes number)
+
+-- a line is that of a record which has no room in a world that may be loaded from those before it, with room for so many terms
+pub record IsOverfull (room : ℕ) (bytes : List ℕ) : Type 0 where
+  pub world : WorldState
+  pub stage : Stage
+  pub done : List (List ℕ)
+  pub limit : world.limit ≡ room
+  pub ready : IsReady world stage (length done)
+  pub first : BeginsWith bytes done (loading_of world stage (length done))
+  pub line : List ℕ
+  pub others : List (List ℕ)
+  pub next : first.others ≡ line ∷ others
+  pub over : Overfills line world
+
+-- why a file isn't loaded, where its bytes are known
+abbrev pub HasCause : LoadFault → ℕ → Option (List ℕ) → ℕ → ℕ → Type 0
+HasCause ReadFault room left before now = Rose before now
+HasCause TooLong room left before now = IfSome left (λ bytes. longest_file < length bytes)
+HasCause (BadLine number) room left before now = IfSome left (λ bytes. IsNoSnapshot bytes number)
+HasCause Full room left before now = IfSome left (IsOverfull room)
+HasCause OutOfMemory room left before now = ⊤

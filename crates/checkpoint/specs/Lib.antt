@@ -1,0 +1,4 @@
+pub mod Causes
+pub mod Fault
+pub mod Loading
+pub mod Saved

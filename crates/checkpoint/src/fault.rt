@@ -1,0 +1,50 @@
+// Why nothing was loaded.
+
+ghost use Rattle.std.specs.Prelude.{◌≡◌};
+ghost use Rattle.checkpoint.specs.Fault.{fault_of};
+ghost use Rattle.checkpoint.specs.declared.fault.LoadFault.TheVariants.{OutOfMemory as Refused};
+
+use rdf_term::OutOfMemory;
+use thiserror::Error;
+use wq_io::LineFault;
+
+/// Why no world was loaded.
+#[derive(Clone, Copy, Debug, PartialEq, Eq, Error)]
+pub enum LoadFault {
+    /// The source failed.
+    #[error("read fault")]
+    ReadFault,
+    /// The file has more bytes than it may have.
+    #[error("snapshot too long")]
+    TooLong,
+    /// The line with this number, from 1, is none that may come there; or the lines end, and the number is one more than that of the last.
+    #[error("snapshot: line {0}")]
+    BadLine(u64),
+    /// The triples of the pages have more terms than there is room for.
+    #[error("the store is full")]
+    Full,
+    /// A request for memory was refused.
+    #[error("out of memory")]
+    OutOfMemory,
+}
+
+impl From<LineFault> for LoadFault {
+    ghost from_gives = { λ fault e. e ≡ fault_of fault };
+
+    fn from(fault: LineFault) -> LoadFault {
+        match fault {
+            LineFault::ReadFault => LoadFault::ReadFault,
+            LineFault::TooLong => LoadFault::TooLong,
+            LineFault::LineLong(number) => LoadFault::BadLine(number),
+            LineFault::OutOfMemory => LoadFault::OutOfMemory,
+        }
+    }
+}
+
+impl From<OutOfMemory> for LoadFault {
+    ghost from_gives = { λ _ e. e ≡ Refused };
+
+    fn from(_refused: OutOfMemory) -> LoadFault {
+        LoadFault::OutOfMemory
+    }
+}

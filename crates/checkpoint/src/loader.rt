@@ -1,0 +1,149 @@
+// A world that is put together line by line.
+
+ghost use Rattle.std.specs.Prelude.{◌≡◌, ℕ, ◌-◌, ◌≤◌, [], Some, IfOk, IsErrOf, OnErr, OnOk};
+ghost use Rattle.replay_model.specs.Play.{nothing_played};
+ghost use Rattle.replay_model.specs.ReplayState.{nothing_delivered, nothing_delivered_within};
+ghost use Rattle.replay_model.specs.Versions.{all_by};
+ghost use Rattle.world.specs.Restoring.{MayStand, restored};
+ghost use Rattle.snapshot.specs.declared.line.Line.TheVariants.{Entity};
+ghost use Rattle.snapshot.specs.Waiting.{at_mark};
+ghost use Rattle.snapshot.specs.Whole.{after_line, beginning};
+ghost use Rattle.checkpoint.specs.Loading.{HasNoRoom, IsOutOfPlace, IsReady, MayCome, loading_of};
+ghost use Rattle.checkpoint.specs.Saved.{numbers_of};
+ghost use Rattle.checkpoint.specs.declared.fault.LoadFault.TheVariants.{BadLine, Full, ReadFault, TooLong};
+
+use crate::fault::LoadFault;
+use crate::numbers::Numbers;
+use entity_model::EntityId;
+use entity_state::Record;
+use rdf_term::{OutOfMemory, Text};
+use snapshot::{Head, Line, replays_can_be_saved};
+use std::alloc::Global;
+use std::hash::RandomState;
+use world::{RestoreFault, World};
+
+/// How far the lines of a snapshot have come.
+#[derive(Clone, Copy, Debug, PartialEq, Eq)]
+pub(crate) enum Stage {
+    /// The head is still to come.
+    Unbegun,
+    /// The head was taken, and with it these numbers.
+    Begun(Numbers),
+    /// The last line was taken.
+    Ended(Numbers),
+}
+
+/// The world that the lines so far put together.
+#[derive(Drop)]
+pub(crate) struct Loader {
+    pub(crate) world: World,
+    pub(crate) stage: Stage,
+}
+
+impl Loader {
+    /// Before the first line, with room for so many terms. The hashes of the world are keyed by `keys`.
+    pub(crate) fn new(alloc: Global, keys: RandomState, room: u32) -> Result<Loader, OutOfMemory>
+        ensures fresh { IfOk result (λ loader. (loader.stage ≡ Stage.Unbegun) × IsReady loader.world loader.stage 0) }
+        ensures limit { IfOk result (λ loader. loader.world.limit ≡ room) }
+    {
+        let mut world = World::new(alloc, keys)?;
+        world.set_room(room);
+        Ok(Loader {
+            world,
+            stage: Stage::Unbegun,
+        })
+    }
+
+    /// Takes the line with this number, where it may come.
+    pub(crate) fn take(&mut self, line: Line, number: u64) -> Result<(), LoadFault>
+        requires number { 1 ≤ number }
+        requires ready { IsReady self.old.world self.old.stage (number - 1) }
+        ensures ok { OnOk result (after_line (loading_of self.old.world self.old.stage (number - 1)) line ≡ Some (loading_of self.new.world self.new.stage number)) }
+        ensures comes { OnOk result (MayCome (loading_of self.old.world self.old.stage (number - 1)) line) }
+        ensures ready { OnOk result (IsReady self.new.world self.new.stage number) }
+        ensures limit { self.new.world.limit ≡ self.old.world.limit }
+        ensures bad { (n : ℕ) → IsErrOf result (BadLine n) → (n ≡ number) × IsOutOfPlace (loading_of self.old.world self.old.stage (number - 1)) line }
+        ensures full { IsErrOf result Full → HasNoRoom self.old.world line }
+        ensures others { ¬ (IsErrOf result ReadFault) × ¬ (IsErrOf result TooLong) }
+    {
+        match (self.stage, line) {
+            (Stage::Unbegun, Line::Head(head)) => {
+                self.begin(head);
+                Ok(())
+            }
+            (Stage::Begun(_), Line::Remembered(event)) => Ok(self.world.remember(event)?),
+            (Stage::Begun(_), Line::Side(entry)) => Ok(self.world.note(entry)?),
+            (Stage::Begun(_), Line::Entity(id, entity)) => restore(
+                &mut self.world,
+                id,
+                entity,
+                number,
+            ),
+            (Stage::Begun(numbers), Line::End(lines)) if lines == number - 1 => {
+                self.stage = Stage::Ended(numbers);
+                Ok(())
+            }
+            _ => Err(LoadFault::BadLine(number)),
+        }
+    }
+
+    // Takes the head: the version, the horizon and the mark hold from now on.
+    fn begin(&mut self, head: Head)
+        requires { self.old.world.replay ≡ nothing_delivered }
+        ensures world { self.new.world ≡ record self.old.world { replay = (beginning head).state; mapping = head.mapping } }
+        ensures stage { self.new.stage ≡ Stage.Begun (numbers_of (beginning head)) }
+    {
+        self.world.set_mapping(head.mapping);
+        set_horizon(&mut self.world, head.horizon);
+        set_mark(&mut self.world, head.mark);
+        self.stage = Stage::Begun(Numbers {
+            asks: head.asks,
+            patches: head.patches,
+        });
+    }
+}
+
+// Sets the horizon, if there is one. Nothing was delivered yet.
+fn set_horizon(world: &mut World, horizon: Option<u64>)
+    requires { world.old.replay ≡ nothing_delivered }
+    ensures { world.new ≡ record world.old { replay = nothing_delivered_within horizon } }
+{
+    if let Some(micros) = horizon {
+        world.set_horizon(micros);
+    }
+}
+
+// Takes the mark, if there is one. Nothing else was delivered yet.
+fn set_mark(world: &mut World, mark: Option<i64>)
+    requires { world.old.replay ≡ nothing_delivered_within world.old.replay.buffer.horizon }
+    ensures { world.new ≡ record world.old { replay = record { buffer = at_mark world.old.replay.buffer.horizon mark []; played = nothing_played } } }
+{
+    replays_can_be_saved();
+    if let Some(mark) = mark {
+        world.raise(mark);
+    }
+}
+
+// Puts the record of an entity back, which stands in the line with this number.
+fn restore(
+    world: &mut World,
+    id: EntityId,
+    entity: Record<Text>,
+    number: u64,
+) -> Result<(), LoadFault>
+    ensures ok { OnOk result (world.new ≡ restored world.old id entity) }
+    ensures sound { OnOk result (MayStand world.old.replay.played.side id entity) }
+    ensures by_one { world.old.by_two ≡ all_by world.old.mapping world.old.replay.played.records →
+        world.new.by_two ≡ all_by world.new.mapping world.new.replay.played.records }
+    ensures err { OnErr result (world.new ≡ world.old) }
+    ensures bad { (n : ℕ) → IsErrOf result (BadLine n) → (n ≡ number) × ¬ (MayStand world.old.replay.played.side id entity) }
+    ensures full { IsErrOf result Full → HasNoRoom world.old (Entity id entity) }
+    ensures others { ¬ (IsErrOf result ReadFault) × ¬ (IsErrOf result TooLong) }
+{
+    match world.restore(id, entity) {
+        Ok(()) => Ok(()),
+        Err(RestoreFault::Unsound) => Err(LoadFault::BadLine(number)),
+        Err(RestoreFault::Full) => Err(LoadFault::Full),
+        Err(RestoreFault::OutOfMemory) => Err(LoadFault::OutOfMemory),
+    }
+}

@@ -1,0 +1,134 @@
+// The lines of a snapshot are read, and put into a world.
+
+ghost use Rattle.std.specs.Prelude.{◌≡◌, ◌⊎◌, ℕ, ◌+◌, ◌-◌, ◌^◌, ◌<◌, ◌≤◌, None, Some, length, min, IfErr, IfOk, IfSome, IsErrOf, OnOk};
+ghost use Rattle.std.specs.Str.{IsUtf8};
+ghost use Rattle.wq_io.specs.Streams.{IsAtEnd};
+ghost use Rattle.snapshot.specs.File.{saved_in_bytes};
+ghost use Rattle.snapshot.specs.LineText.{line_of};
+ghost use Rattle.snapshot.specs.Whole.{whole};
+ghost use Rattle.checkpoint.specs.Causes.{HasCause};
+ghost use Rattle.checkpoint.specs.Loading.{IsReady, IsRefused, IsResting, Overfills, TakesLine, loading_of};
+ghost use Rattle.checkpoint.specs.Saved.{saved_of, world_of};
+ghost use Rattle.checkpoint.specs.declared.fault.LoadFault.TheVariants.{BadLine, Full, ReadFault, TooLong};
+ghost use Rattle.checkpoint.specs.declared.loader.Stage.TheVariants.{Ended};
+
+use crate::fault::LoadFault;
+use crate::loader::{Loader, Stage};
+use crate::numbers::Numbers;
+use snapshot::{Line, read};
+use std::alloc::Global;
+use std::hash::RandomState;
+use std::str;
+use world::World;
+use wq_io::{Lines, Source};
+
+/// The most bytes that a file may have.
+const LONGEST_FILE: u64 = 1_099_511_627_776;
+
+/// The most bytes that a line may have without its line feed: a page has at most 8,388,608, of which each is at most six in JSON.
+const LONGEST_LINE: u64 = 67_108_864;
+
+/// A world that was loaded, and the counts that go on with it.
+#[derive(Drop)]
+pub struct Loaded {
+    pub world: World,
+    pub numbers: Numbers,
+}
+
+/// Reads a snapshot into a new world with room for so many terms: the world that was saved, every page mapped by the version in force,
+/// and no event due. The hashes of the world are keyed by `keys`. Whoever made the file, what is held is documents of their entities, an
+/// entity holds what its state wants exactly where no entry of the side output tells otherwise, and all has room.
+///
+/// # Errors
+/// The file could not be read; a line is none that may come there, or the lines end too early; the triples of the pages have more terms
+/// than there is room for; or memory was refused.
+pub fn load<S: Source>(
+    alloc: Global,
+    keys: RandomState,
+    room: u32,
+    file: &mut S,
+) -> Result<Loaded, LoadFault>
+    ensures saved { IfOk result (λ loaded. IfSome (S.left file.old) (λ bytes. saved_in_bytes bytes ≡ Some (saved_of loaded.world loaded.numbers))) }
+    ensures world { IfOk result (λ loaded. loaded.world ≡ world_of room (saved_of loaded.world loaded.numbers)) }
+    ensures rests { IfOk result (λ loaded. IsResting loaded.world.replay.buffer) }
+    ensures whole { OnOk result (IsAtEnd (S.left file.new)) }
+    ensures fault { IfErr result (λ fault. HasCause fault room (S.left file.old) (S.faults file.old) (S.faults file.new)) }
+    ensures later { S.faults file.old ≤ S.faults file.new }
+    ensures most { S.most_faults file.new ≡ S.most_faults file.old }
+{
+    let mut loader = Loader::new(alloc, keys, room)?;
+    let mut lines = Lines::with_limit(LONGEST_FILE, LONGEST_LINE);
+    let mut line = Vec::new(alloc);
+    let mut given = 0;
+    let mut length = 0;
+    while let Some(number) = lines.next(file, &mut line)? {
+        take_line(alloc, line.as_slice(), number, &mut loader)?;
+        given = number;
+        length = with_line(length, line.as_slice());
+    }
+    if lines.taken() != length {
+        return Err(LoadFault::BadLine(given));
+    }
+    match finish(loader, given) {
+        Ok(loaded) => Ok(loaded),
+        Err(fault) => Err(fault),
+    }
+}
+
+// The world that so many lines put together, where the last one was taken.
+fn finish(loader: Loader, given: u64) -> Result<Loaded, LoadFault>
+    requires { given < 2 ^ 63 }
+    ensures world { IfOk result (λ loaded. loaded.world ≡ loader.world) }
+    ensures numbers { IfOk result (λ loaded. loader.stage ≡ Ended loaded.numbers) }
+    ensures fault { IfErr result (λ fault. fault ≡ BadLine (given + 1)) }
+    ensures short { IfErr result (λ _. whole (loading_of loader.world loader.stage given) ≡ None) }
+{
+    match loader.stage {
+        Stage::Unbegun => Err(LoadFault::BadLine(given + 1)),
+        Stage::Begun(_) => Err(LoadFault::BadLine(given + 1)),
+        Stage::Ended(numbers) => Ok(Loaded {
+            world: loader.world,
+            numbers,
+        }),
+    }
+}
+
+// The length of the lines with one more and the line feed that ends it, as far as 64 bits count it.
+fn with_line(so_far: u64, line: &[u8]) -> u64
+    ensures { result ≡ min (so_far + length line.now + 1) (2 ^ 64 - 1) }
+{
+    so_far.saturating_add(line.len() as u64).saturating_add(1)
+}
+
+// Takes the line with this number, where it may come.
+fn take_line(alloc: Global, text: &[u8], number: u64, loader: &mut Loader) -> Result<(), LoadFault>
+    requires number { 1 ≤ number }
+    requires ready { IsReady loader.old.world loader.old.stage (number - 1) }
+    ensures ok { OnOk result (TakesLine text.now (loading_of loader.old.world loader.old.stage (number - 1)) (loading_of loader.new.world loader.new.stage number)) }
+    ensures ready { OnOk result (IsReady loader.new.world loader.new.stage number) }
+    ensures limit { loader.new.world.limit ≡ loader.old.world.limit }
+    ensures bad { (n : ℕ) → IsErrOf result (BadLine n) → (n ≡ number) × IsRefused text.now (loading_of loader.old.world loader.old.stage (number - 1)) }
+    ensures full { IsErrOf result Full → Overfills text.now loader.old.world }
+    ensures others { ¬ (IsErrOf result ReadFault) × ¬ (IsErrOf result TooLong) }
+{
+    match read_line(alloc, text, number) {
+        Ok(line) => loader.take(line, number),
+        Err(fault) => Err(fault),
+    }
+}
+
+// Reads the line with this number.
+fn read_line(alloc: Global, text: &[u8], number: u64) -> Result<Line, LoadFault>
+    ensures ok { IfOk result (λ line. line_of text.now ≡ Some line) }
+    ensures bad { (n : ℕ) → IsErrOf result (BadLine n) → (n ≡ number) × (¬ (IsUtf8 text.now) ⊎ (line_of text.now ≡ None)) }
+    ensures others { ¬ (IsErrOf result Full) × (¬ (IsErrOf result ReadFault) × ¬ (IsErrOf result TooLong)) }
+{
+    let Ok(text) = str::from_utf8(text) else {
+        return Err(LoadFault::BadLine(number));
+    };
+    match read(alloc, text) {
+        Ok(Some(line)) => Ok(line),
+        Ok(None) => Err(LoadFault::BadLine(number)),
+        Err(_) => Err(LoadFault::OutOfMemory),
+    }
+}

@@ -1,0 +1,10 @@
+// The counts of a run that go on in the next one.
+
+/// The counts of a run that the next one goes on with.
+#[derive(Clone, Copy, Debug, PartialEq, Eq)]
+pub struct Numbers {
+    /// How many questions were answered.
+    pub asks: u64,
+    /// The number of the last patch record, 0 where there was none.
+    pub patches: u64,
+}

@@ -1,0 +1,164 @@
+// A world is written as a snapshot.
+
+ghost use Rattle.std.specs.Prelude.{◌≡◌, ◌+◌, IfOk, flat_map, string_bytes};
+ghost use Rattle.replay_model.specs.Records.{record_of};
+ghost use Rattle.snapshot.specs.declared.line.Line.TheVariants.{Entity, Remembered, Side};
+ghost use Rattle.snapshot.specs.File.{file_text};
+ghost use Rattle.snapshot.specs.Whole.{head_of};
+ghost use Rattle.transcript.specs.Printing.{Prints, output};
+ghost use Rattle.checkpoint.specs.Saved.{ended, saved_of};
+
+use crate::numbers::Numbers;
+use entity_model::{EntityId, Event};
+use entity_state::{Held, Record};
+use rdf_term::{OutOfMemory, Text};
+use side_output::Entry;
+use snapshot::{Head, Line, documents_are_text, write};
+use std::alloc::Global;
+use std::str;
+use transcript::{Unwritten, write_all};
+use world::World;
+use wq_io::Sink;
+
+/// Writes the snapshot of a world, line by line: the head with the numbers, the events that are remembered, the side output, the records
+/// with the pages that are held, and the number of lines. The version in force is that of every page; so the world is read back where
+/// every held page is mapped by it, and no event is due.
+///
+/// # Errors
+/// The output could not be written, or memory was refused: then a prefix of the snapshot was written, and nothing else.
+pub fn save<K: Sink>(
+    alloc: Global,
+    world: &World,
+    numbers: Numbers,
+    out: &mut K,
+) -> Result<(), Unwritten>
+    ensures { Prints (file_text (saved_of world.now numbers)) (output K.Sink out.old) (output K.Sink out.new) result }
+{
+    let events = world.remembered()?;
+    let ids = world.entities()?;
+    let entries = world.entries();
+    let lines = count_lines(events.len(), entries.len(), ids.len())?;
+    write_line(alloc, &Line::Head(head_of(world, numbers)), out)?;
+    write_events(alloc, events.as_slice(), out)?;
+    write_entries(alloc, entries, out)?;
+    write_records(alloc, world, ids.as_slice(), out)?;
+    write_line(alloc, &Line::End(lines), out)
+}
+
+// How many lines there are before the last; refused where 64 bits don't count them, which would be more than any memory has.
+fn count_lines(events: usize, entries: usize, records: usize) -> Result<u64, OutOfMemory>
+    ensures { IfOk result (λ lines. lines ≡ events + entries + records + 1) }
+{
+    let lines = (events as u64)
+        .checked_add(entries as u64)
+        .and_then(|sum| sum.checked_add(records as u64))
+        .and_then(|sum| sum.checked_add(1));
+    lines.ok_or(OutOfMemory)
+}
+
+// What the first line says.
+fn head_of(world: &World, numbers: Numbers) -> Head
+    ensures { result ≡ head_of (saved_of world.now numbers) }
+{
+    Head {
+        mark: world.mark(),
+        horizon: world.horizon(),
+        mapping: world.mapping(),
+        asks: numbers.asks,
+        patches: numbers.patches,
+    }
+}
+
+// Writes the line of each event.
+fn write_events<K: Sink>(alloc: Global, events: &[Event], out: &mut K) -> Result<(), Unwritten>
+    ensures { Prints (flat_map (λ e. ended (Remembered e)) events.now) (output K.Sink out.old) (output K.Sink out.new) result }
+{
+    for event in events {
+        write_line(alloc, &Line::Remembered(*event), out)?;
+    }
+    Ok(())
+}
+
+// Writes the line of each entry of the side output.
+fn write_entries<K: Sink>(alloc: Global, entries: &[Entry], out: &mut K) -> Result<(), Unwritten>
+    ensures { Prints (flat_map (λ e. ended (Side e)) entries.now) (output K.Sink out.old) (output K.Sink out.new) result }
+{
+    for entry in entries {
+        write_line(alloc, &Line::Side(*entry), out)?;
+    }
+    Ok(())
+}
+
+// Writes the line of the record of each of these entities.
+fn write_records<K: Sink>(
+    alloc: Global,
+    world: &World,
+    ids: &[EntityId],
+    out: &mut K,
+) -> Result<(), Unwritten>
+    ensures { Prints (flat_map (λ x. ended (Entity x (record_of world.now.replay.played.records x))) ids.now)
+        (output K.Sink out.old) (output K.Sink out.new) result }
+{
+    for id in ids {
+        write_record(alloc, world, *id, out)?;
+    }
+    Ok(())
+}
+
+// Writes the line of the record of an entity. It has a copy of the page, which goes before the next one is made.
+fn write_record<K: Sink>(
+    alloc: Global,
+    world: &World,
+    id: EntityId,
+    out: &mut K,
+) -> Result<(), Unwritten>
+    ensures { Prints (ended (Entity id (record_of world.now.replay.played.records id))) (output K.Sink out.old) (output K.Sink out.new) result }
+{
+    let entity = record_of(alloc, world, id)?;
+    write_line(alloc, &Line::Entity(id, entity), out)
+}
+
+// The record of an entity, with a copy of the page that it holds.
+fn record_of(alloc: Global, world: &World, id: EntityId) -> Result<Record<Text>, OutOfMemory>
+    ensures { IfOk result (λ entity. entity ≡ record_of world.now.replay.played.records id) }
+{
+    let held = held_page(alloc, world, id)?;
+    Ok(Record {
+        state: world.state(id),
+        held,
+        reconciled: world.reconciled(id),
+    })
+}
+
+// A copy of the page that an entity holds, which is UTF-8 since it is a document.
+fn held_page(alloc: Global, world: &World, id: EntityId) -> Result<Option<Held<Text>>, OutOfMemory>
+    ensures { IfOk result (λ held. held ≡ (record_of world.now.replay.played.records id).held) }
+{
+    documents_are_text();
+    let Some((revision, bytes)) = world.held(id) else {
+        return Ok(None);
+    };
+    let Ok(page) = str::from_utf8(bytes) else {
+        unreachable!();
+    };
+    let content = Text::new(alloc, page)?;
+    Ok(Some(Held { revision, content }))
+}
+
+// Writes a line, and the line feed that ends it.
+fn write_line<K: Sink>(alloc: Global, line: &Line, out: &mut K) -> Result<(), Unwritten>
+    ensures { Prints (ended line.now) (output K.Sink out.old) (output K.Sink out.new) result }
+{
+    let text = line_and_feed(alloc, line)?;
+    write_all(text.as_bytes(), out)
+}
+
+// The text of a line with its line feed.
+#[tactic(auto, unfolding(crate::specs::Saved::ended))]
+fn line_and_feed(alloc: Global, line: &Line) -> Result<String, OutOfMemory>
+    ensures { IfOk result (λ text. string_bytes text ≡ ended line.now) }
+{
+    let mut text = write(alloc, line)?;
+    text.push_str("\n")?;
+    Ok(text)
+}
