@@ -9,8 +9,8 @@ use Rattle.snapshot.specs.File.{lines_in, saved_in_bytes}
 use Rattle.snapshot.specs.LineText.{line_of}
 use Rattle.snapshot.specs.Whole.{Loading, unbegun, after_line, after_lines, saved_in, whole}
 use Rattle.checkpoint.specs.declared.loader.Stage.{Stage}
-use Rattle.checkpoint.specs.Causes.{EndsEarly, IsBadLine, IsOverfull, IsUnended, longest_file, longest_line}
-use Rattle.checkpoint.specs.Loading.{IsReady, IsRefused, Leads, MayCome, Overfills, TakesLine, loading_of}
+use Rattle.checkpoint.specs.Causes.{EndsEarly, IsBadSnapshotLine, IsFileOverfull, IsUnended, longest_file, longest_line}
+use Rattle.checkpoint.specs.Loading.{IsReady, IsRefused, Leads, MayCome, Overfills, LoadsLine, loading_of}
 use Rattle.checkpoint.proofs.Feeds.{feeds-unended, feeds-whole}
 use Rattle.wq_io.proofs.LineLists.{one_line-cons}
 use Rattle.world.specs.WorldState.{WorldState}
@@ -41,7 +41,7 @@ lines_in-push (t ∷ done) items text item are is = by (line_of t) (lines_in don
 -- ---- the file
 
 -- these lines were read so far, and the others are still to come
-pub record HasRead (start : Option (List ℕ)) (reader : Reading) (left : Option (List ℕ)) (done : List (List ℕ)) : Type 0 where
+pub record HasReadLines (start : Option (List ℕ)) (reader : Reading) (left : Option (List ℕ)) (done : List (List ℕ)) : Type 0 where
   pub are : input_lines start ≡ option_map (λ (ls : List (List ℕ)). done ++ ls) (input_lines (unread reader left))
   pub counted : reader.given ≡ length done
   pub total : input_length reader left ≡ option_map length start
@@ -49,7 +49,7 @@ pub record HasRead (start : Option (List ℕ)) (reader : Reading) (left : Option
 -- the lines so far are the first ones of the file, and lead here
 pub record Progress (start : Option (List ℕ)) (reader : Reading) (left : Option (List ℕ)) (loading : Loading) (length_so_far : ℕ) : Type 0 where
   pub done : List (List ℕ)
-  pub read : HasRead start reader left done
+  pub read : HasReadLines start reader left done
   pub items : List Line
   pub are : lines_in done ≡ Some items
   pub lead : Leads unbegun items loading
@@ -94,7 +94,7 @@ measure : (all so_far text now : ℕ) → so_far ≡ min all (2 ^ 64 - 1) → no
 measure all so_far text now is next = omega arith
 
 pub line_read : (start left left_next : Option (List ℕ)) (reader next : Reading) (before now : Loading) (n m : ℕ) (text : List ℕ) → Progress start reader left before n
-    → IsNextLine text reader next left left_next → TakesLine text before now → m ≡ min (n + length text + 1) (2 ^ 64 - 1) → Progress start next left_next now m
+    → IsNextLine text reader next left left_next → LoadsLine text before now → m ≡ min (n + length text + 1) (2 ^ 64 - 1) → Progress start next left_next now m
 line_read start left left_next reader next before now n m text p is takes longer = record {
   done = p.done ++ text ∷ [];
   read = record {
@@ -166,7 +166,7 @@ module _ (bytes : List ℕ) (left : Option (List ℕ)) (reader : Reading) (loadi
     after_it None first = let never : Some behind.others ≡ None = sym behind.is ∙ first in cc
     after_it (Some others) first = (others, first)
 
-    pub refused_line : (number : ℕ) → number ≡ reader.given + 1 → IsRefused text loading → IsBadLine bytes number
+    pub refused_line : (number : ℕ) → number ≡ reader.given + 1 → IsRefused text loading → IsBadSnapshotLine bytes number
     refused_line number next_is refused =
         let there = after_it (input_lines (unread next left_next)) is.first in
         record {
@@ -180,7 +180,7 @@ module _ (bytes : List ℕ) (left : Option (List ℕ)) (reader : Reading) (loadi
           refused = inl refused;
         }
 
-    pub full_line : (w : WorldState) (stage : Stage) (room : ℕ) → loading ≡ loading_of w stage reader.given → w.limit ≡ room → IsReady w stage reader.given → Overfills text w → IsOverfull room bytes
+    pub full_line : (w : WorldState) (stage : Stage) (room : ℕ) → loading ≡ loading_of w stage reader.given → w.limit ≡ room → IsReady w stage reader.given → Overfills text w → IsFileOverfull room bytes
     full_line w stage room stands limit ready over =
         let there = after_it (input_lines (unread next left_next)) is.first in
         record {
@@ -216,7 +216,7 @@ module _ (bytes : List ℕ) (left : Option (List ℕ)) (reader : Reading) (loadi
       by (Some u) total over = let sum : reader.consumed + length u ≡ length bytes = cc in omega (arith, over.more, sound.within, sum)
 
   -- the next line is over-long
-  pub over_long : (number : ℕ) → number ≡ reader.given + 1 → reader.max_line ≡ longest_line → IfSome (unread reader left) (IsLineLong (room reader) reader.max_line) → IsBadLine bytes number
+  pub over_long : (number : ℕ) → number ≡ reader.given + 1 → reader.max_line ≡ longest_line → IfSome (unread reader left) (IsLineLong (room reader) reader.max_line) → IsBadSnapshotLine bytes number
   over_long number next_is limit over =
       let u = unread_bytes (unread reader left) behind.is in
       let long : IsLineLong (room reader) reader.max_line u.0 = at_known (unread reader left) u.0 (IsLineLong (room reader) reader.max_line) u.1 over in

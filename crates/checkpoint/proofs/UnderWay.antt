@@ -15,7 +15,7 @@ use Rattle.checkpoint.specs.declared.loader.Stage.TheVariants.{Unbegun, Ended}
 use Rattle.checkpoint.specs.declared.numbers.Numbers.{Numbers}
 use Rattle.checkpoint.specs.Causes.{HasCause, IsUnended, longest_file, longest_line}
 use Rattle.checkpoint.specs.Fault.{fault_of}
-use Rattle.checkpoint.specs.Loading.{IsReady, IsRefused, Overfills, TakesLine, loading_of}
+use Rattle.checkpoint.specs.Loading.{IsReady, IsRefused, Overfills, LoadsLine, loading_of}
 use Rattle.checkpoint.specs.Saved.{saved_of}
 use Rattle.checkpoint.proofs.Progress.{IsNextLine, Progress, ends_early, full_line, line_read, nothing_read, over_long, refused_line, saved, too_long, unended}
 
@@ -51,13 +51,13 @@ begins room start w stage is ready limit = record {
 pub goes_on : (room : ℕ) (start left left_next : Option (List ℕ)) (reader next : Reading) (w w2 : WorldState) (stage stage2 : Stage) (given number n m : ℕ) (text : List ℕ)
     → UnderWay room start reader left w stage given n → IsNextLine text reader next left left_next → GoesOn reader next text → number ≡ given + 1
     → (next.ended ≡ true → IsAtEnd left_next)
-    → TakesLine text (loading_of w stage (number - 1)) (loading_of w2 stage2 number) → IsReady w2 stage2 number → w2.limit ≡ w.limit → m ≡ min (n + length text + 1) (2 ^ 64 - 1)
+    → LoadsLine text (loading_of w stage (number - 1)) (loading_of w2 stage2 number) → IsReady w2 stage2 number → w2.limit ≡ w.limit → m ≡ min (n + length text + 1) (2 ^ 64 - 1)
     → UnderWay room start next left_next w2 stage2 number m
 goes_on room start left left_next reader next w w2 stage stage2 given number n m text u is goes next_is ended takes ready limit longer =
     let before : number - 1 ≡ given = omega arith in
     record {
       progress = line_read start left left_next reader next (loading_of w stage given) (loading_of w2 stage2 number) n m text u.progress is
-          (subst (λ k. TakesLine text (loading_of w stage k) (loading_of w2 stage2 number)) before takes) longer;
+          (subst (λ k. LoadsLine text (loading_of w stage k) (loading_of w2 stage2 number)) before takes) longer;
       ready = ready;
       limit = limit ∙ u.limit;
       given_is = next_is ∙ ap (λ k. k + 1) u.given_is ∙ sym is.given;

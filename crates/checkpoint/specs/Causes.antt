@@ -19,7 +19,7 @@ abbrev pub longest_line : ℕ
 longest_line = 67108864
 
 -- the line with this number is refused behind those before it, or is over-long
-pub record IsBadLine (bytes : List ℕ) (number : ℕ) : Type 0 where
+pub record IsBadSnapshotLine (bytes : List ℕ) (number : ℕ) : Type 0 where
   pub done : List (List ℕ)
   pub loading : Loading
   pub first : BeginsWith bytes done loading
@@ -42,10 +42,10 @@ pub record IsUnended (bytes : List ℕ) (number : ℕ) : Type 0 where
   pub counted : number ≡ length (lines bytes)
 
 abbrev pub IsNoSnapshot : List ℕ → ℕ → Type 0
-IsNoSnapshot bytes number = IsBadLine bytes number ⊎ (EndsEarly bytes number ⊎ IsUnended bytes number)
+IsNoSnapshot bytes number = IsBadSnapshotLine bytes number ⊎ (EndsEarly bytes number ⊎ IsUnended bytes number)
 
 -- a line is that of a record which has no room in a world that may be loaded from those before it, with room for so many terms
-pub record IsOverfull (room : ℕ) (bytes : List ℕ) : Type 0 where
+pub record IsFileOverfull (room : ℕ) (bytes : List ℕ) : Type 0 where
   pub world : WorldState
   pub stage : Stage
   pub done : List (List ℕ)
@@ -62,5 +62,5 @@ abbrev pub HasCause : LoadFault → ℕ → Option (List ℕ) → ℕ → ℕ �
 HasCause ReadFault room left before now = Rose before now
 HasCause TooLong room left before now = IfSome left (λ bytes. longest_file < length bytes)
 HasCause (BadLine number) room left before now = IfSome left (λ bytes. IsNoSnapshot bytes number)
-HasCause Full room left before now = IfSome left (IsOverfull room)
+HasCause Full room left before now = IfSome left (IsFileOverfull room)
 HasCause OutOfMemory room left before now = ⊤

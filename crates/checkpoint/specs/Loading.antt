@@ -69,19 +69,19 @@ pub record BeginsWith (bytes : List ℕ) (done : List (List ℕ)) (loading : Loa
   pub lead : Leads unbegun items loading
 
 -- the record of an entity has no room: the triples of its page, with those of all that is held, have more terms than there may be
-abbrev pub HasNoRoom : WorldState → Line → Type 0
-HasNoRoom w (Entity x r) = w.limit < room_with (meaning_by meaning w.by_two) w.replay.played.records (triples_held (meaning w.mapping) x r.held)
-HasNoRoom w (Begins h) = ⊥
-HasNoRoom w (Remembered e) = ⊥
-HasNoRoom w (Side entry) = ⊥
-HasNoRoom w (End m) = ⊥
+abbrev pub HasNoRoomForLine : WorldState → Line → Type 0
+HasNoRoomForLine w (Entity x r) = w.limit < room_with (meaning_by meaning w.by_two) w.replay.played.records (triples_held (meaning w.mapping) x r.held)
+HasNoRoomForLine w (Begins h) = ⊥
+HasNoRoomForLine w (Remembered e) = ⊥
+HasNoRoomForLine w (Side entry) = ⊥
+HasNoRoomForLine w (End m) = ⊥
 
 -- the line can't come now
 abbrev pub IsOutOfPlace : Loading → Line → Type 0
 IsOutOfPlace loading line = (after_line loading line ≡ None) ⊎ ¬ (MayCome loading line)
 
 -- the text is a line that may come now, and leads there
-pub record TakesLine (text : List ℕ) (before now : Loading) : Type 0 where
+pub record LoadsLine (text : List ℕ) (before now : Loading) : Type 0 where
   pub item : Line
   pub read : line_of text ≡ Some item
   pub comes : MayCome before item
@@ -95,4 +95,4 @@ IsRefused text loading = ¬ (IsUtf8 text) ⊎ ((item : Line) → line_of text �
 pub record Overfills (text : List ℕ) (w : WorldState) : Type 0 where
   pub item : Line
   pub read : line_of text ≡ Some item
-  pub over : HasNoRoom w item
+  pub over : HasNoRoomForLine w item

@@ -8,7 +8,7 @@ ghost use Rattle.world.specs.Restoring.{MayStand, restored};
 ghost use Rattle.snapshot.specs.declared.line.Line.TheVariants.{Entity};
 ghost use Rattle.snapshot.specs.Waiting.{at_mark};
 ghost use Rattle.snapshot.specs.Whole.{after_line, beginning};
-ghost use Rattle.checkpoint.specs.Loading.{HasNoRoom, IsOutOfPlace, IsReady, MayCome, loading_of};
+ghost use Rattle.checkpoint.specs.Loading.{HasNoRoomForLine, IsOutOfPlace, IsReady, MayCome, loading_of};
 ghost use Rattle.checkpoint.specs.Saved.{numbers_of};
 ghost use Rattle.checkpoint.specs.declared.fault.LoadFault.TheVariants.{BadLine, Full, ReadFault, TooLong};
 
@@ -63,7 +63,7 @@ impl Loader {
         ensures ready { OnOk result (IsReady self.new.world self.new.stage number) }
         ensures limit { self.new.world.limit ≡ self.old.world.limit }
         ensures bad { (n : ℕ) → IsErrOf result (BadLine n) → (n ≡ number) × IsOutOfPlace (loading_of self.old.world self.old.stage (number - 1)) line }
-        ensures full { IsErrOf result Full → HasNoRoom self.old.world line }
+        ensures full { IsErrOf result Full → HasNoRoomForLine self.old.world line }
         ensures others { ¬ (IsErrOf result ReadFault) × ¬ (IsErrOf result TooLong) }
     {
         match (self.stage, line) {
@@ -137,7 +137,7 @@ fn restore(
         world.new.by_two ≡ all_by world.new.mapping world.new.replay.played.records }
     ensures err { OnErr result (world.new ≡ world.old) }
     ensures bad { (n : ℕ) → IsErrOf result (BadLine n) → (n ≡ number) × ¬ (MayStand world.old.replay.played.side id entity) }
-    ensures full { IsErrOf result Full → HasNoRoom world.old (Entity id entity) }
+    ensures full { IsErrOf result Full → HasNoRoomForLine world.old (Entity id entity) }
     ensures others { ¬ (IsErrOf result ReadFault) × ¬ (IsErrOf result TooLong) }
 {
     match world.restore(id, entity) {

@@ -7,7 +7,7 @@ ghost use Rattle.snapshot.specs.File.{saved_in_bytes};
 ghost use Rattle.snapshot.specs.LineText.{line_of};
 ghost use Rattle.snapshot.specs.Whole.{whole};
 ghost use Rattle.checkpoint.specs.Causes.{HasCause};
-ghost use Rattle.checkpoint.specs.Loading.{IsReady, IsRefused, IsResting, Overfills, TakesLine, loading_of};
+ghost use Rattle.checkpoint.specs.Loading.{IsReady, IsRefused, IsResting, Overfills, LoadsLine, loading_of};
 ghost use Rattle.checkpoint.specs.Saved.{saved_of, world_of};
 ghost use Rattle.checkpoint.specs.declared.fault.LoadFault.TheVariants.{BadLine, Full, ReadFault, TooLong};
 ghost use Rattle.checkpoint.specs.declared.loader.Stage.TheVariants.{Ended};
@@ -104,7 +104,7 @@ fn with_line(so_far: u64, line: &[u8]) -> u64
 fn take_line(alloc: Global, text: &[u8], number: u64, loader: &mut Loader) -> Result<(), LoadFault>
     requires number { 1 ≤ number }
     requires ready { IsReady loader.old.world loader.old.stage (number - 1) }
-    ensures ok { OnOk result (TakesLine text.now (loading_of loader.old.world loader.old.stage (number - 1)) (loading_of loader.new.world loader.new.stage number)) }
+    ensures ok { OnOk result (LoadsLine text.now (loading_of loader.old.world loader.old.stage (number - 1)) (loading_of loader.new.world loader.new.stage number)) }
     ensures ready { OnOk result (IsReady loader.new.world loader.new.stage number) }
     ensures limit { loader.new.world.limit ≡ loader.old.world.limit }
     ensures bad { (n : ℕ) → IsErrOf result (BadLine n) → (n ≡ number) × IsRefused text.now (loading_of loader.old.world loader.old.stage (number - 1)) }

@@ -4,11 +4,11 @@ use Rattle.replica.specs.Replica.{ReplicaState, after}
 use Rattle.transcript.specs.declared.write.Unwritten.{Unwritten}
 use Rattle.transcript.specs.Printing.{Prints}
 use Rattle.words.specs.Options.{FollowChoices, follow_max_bytes_of}
-use Rattle.following.specs.Following.{Ending, HasFollowed, Moment, Stopped, follower_limit, replica_text}
+use Rattle.following.specs.Following.{Ending, HasFollowed, FollowMoment, StoppedFollowing, follower_limit, replica_text}
 use Rattle.following.specs.Stop.{stop_of_unwritten}
-use Rattle.following.specs.Taking.{HadRoom, HasTaken}
+use Rattle.following.specs.Taking.{HadRoom, HasTakenRecords}
 
-module _ (choices : FollowChoices) (before now : Moment) (state : ReplicaState) (taken : HasTaken (follow_max_bytes_of choices) before.input now.input state) (limit : state.limit ≡ follower_limit) where
+module _ (choices : FollowChoices) (before now : FollowMoment) (state : ReplicaState) (taken : HasTakenRecords (follow_max_bytes_of choices) before.input now.input state) (limit : state.limit ≡ follower_limit) where
   followed : HasFollowed choices taken.items state.applied before.input now.input
   followed = record {
     read = taken.read;
@@ -27,7 +27,7 @@ module _ (choices : FollowChoices) (before now : Moment) (state : ReplicaState) 
       record { items = taken.items; applied = state.applied; followed = followed; printed = printed.outcome }
 
   -- not all was printed
-  pub broken_off : (why : Unwritten) → Prints (replica_text choices.export state.applied state.triples) before.output now.output (Err why) → Stopped (stop_of_unwritten why) choices before now
+  pub broken_off : (why : Unwritten) → Prints (replica_text choices.export state.applied state.triples) before.output now.output (Err why) → StoppedFollowing (stop_of_unwritten why) choices before now
   broken_off why prints =
       let printed = subst (λ text. Prints text before.output now.output (Err why)) text_is prints in
       inr (why, refl, record { items = taken.items; applied = state.applied; followed = followed; cut_short = printed.outcome })

@@ -10,7 +10,7 @@ use Rattle.replica.specs.declared.reader.Begun.{Begun}
 use Rattle.replica.specs.declared.reader.PatchFault.{PatchFault}
 use Rattle.replica.specs.declared.record.PatchRecord.{PatchRecord}
 use Rattle.replica.specs.Reader.{HasCause}
-use Rattle.following.specs.Reading.{AreLinesOf, AreRecords, AreWhole, BeginsWith, HasRead, IsBadLine, IsOverLong, IsPastLimit, longest_line}
+use Rattle.following.specs.Reading.{AreLinesOf, AreRecords, AreWhole, BeginsWith, HasReadLines, IsBadRecordLine, IsOverLong, RecordsPastLimit, longest_line}
 
 same_lines : (limit : ℕ) (left : Option (List ℕ)) → input_lines left ≡ option_map (λ (ls : List (List ℕ)). [] ++ ls) (input_lines (unread (fresh limit longest_line) left))
 same_lines limit None = refl
@@ -25,7 +25,7 @@ same_bytes limit None = refl
 same_bytes limit (Some bytes) = refl
 
 -- before the first line
-pub nothing_read : (limit : ℕ) (left : Option (List ℕ)) → HasRead left (fresh limit longest_line) left []
+pub nothing_read : (limit : ℕ) (left : Option (List ℕ)) → HasReadLines left (fresh limit longest_line) left []
 nothing_read limit left = record {
   are = same_lines limit left;
   counted = refl;
@@ -105,11 +105,11 @@ pub record HasLimits (limit : ℕ) (reader : Reading) : Type 0 where
   pub line : reader.max_line ≡ longest_line
 
 module _ (limit : ℕ) (reader : Reading) (left : Option (List ℕ)) (done : List (List ℕ)) (items : List PatchRecord) (begun : Option Begun) (limits : HasLimits limit reader) (sound : IsSound reader) (are : AreLinesOf done items begun) where
-  known_now : (bytes : List ℕ) (read : HasRead (Some bytes) reader left done) → Known bytes done read.read reader.consumed (unread reader left)
+  known_now : (bytes : List ℕ) (read : HasReadLines (Some bytes) reader left done) → Known bytes done read.read reader.consumed (unread reader left)
   known_now bytes read = known_parts bytes done read.read reader.consumed (unread reader left) read.are read.total read.bytes
 
   -- the lines so far are the first ones
-  first_lines : (bytes : List ℕ) → HasRead (Some bytes) reader left done → BeginsWith limit bytes items begun
+  first_lines : (bytes : List ℕ) → HasReadLines (Some bytes) reader left done → BeginsWith limit bytes items begun
   first_lines bytes read =
       let parts = known_now bytes read in
       record {
@@ -122,19 +122,19 @@ module _ (limit : ℕ) (reader : Reading) (left : Option (List ℕ)) (done : Lis
         are = are;
       }
 
-  pub begins : (start : Option (List ℕ)) → HasRead start reader left done → IfSome start (λ bytes. BeginsWith limit bytes items begun)
+  pub begins : (start : Option (List ℕ)) → HasReadLines start reader left done → IfSome start (λ bytes. BeginsWith limit bytes items begun)
   begins None read = tt
   begins (Some bytes) read = first_lines bytes read
 
   -- what was read and a part of a line within the limit are within it
-  part_within : (start : Option (List ℕ)) (read : HasRead start reader left done) (part : List ℕ) → length part ≤ room reader → IfSome start (λ bytes. length (read.read ++ part) ≤ limit)
+  part_within : (start : Option (List ℕ)) (read : HasReadLines start reader left done) (part : List ℕ) → length part ≤ room reader → IfSome start (λ bytes. length (read.read ++ part) ≤ limit)
   part_within None read part few = tt
   part_within (Some bytes) read part few =
       let parts = known_now bytes read in
       omega (arith, length-append read.read part, parts.read_is, limits.bytes, sound.within, few)
 
   -- what was read and a part of a line are the bytes that were read
-  pub whole_read : (start left_now : Option (List ℕ)) (read : HasRead start reader left done) → StopsInLine reader left left_now → AreWhole limit start left_now items begun
+  pub whole_read : (start left_now : Option (List ℕ)) (read : HasReadLines start reader left done) → StopsInLine reader left left_now → AreWhole limit start left_now items begun
   whole_read start left_now read stops = record {
     read = read.read ++ stops.part;
     within = part_within start read stops.part stops.within;
@@ -144,7 +144,7 @@ module _ (limit : ℕ) (reader : Reading) (left : Option (List ℕ)) (done : Lis
   }
 
   -- the input goes past the limit
-  pub past_limit : (start : Option (List ℕ)) → HasRead start reader left done → IfSome (unread reader left) (IsTooLong (room reader) reader.max_line) → IfSome start (IsPastLimit limit)
+  pub past_limit : (start : Option (List ℕ)) → HasReadLines start reader left done → IfSome (unread reader left) (IsTooLong (room reader) reader.max_line) → IfSome start (RecordsPastLimit limit)
   unfolding first_lines known_now
   past_limit None read over = tt
   past_limit (Some bytes) read over =
@@ -161,7 +161,7 @@ module _ (limit : ℕ) (reader : Reading) (left : Option (List ℕ)) (done : Lis
       }
 
   -- the next line is over-long
-  pub over_long : (start : Option (List ℕ)) (number : ℕ) → HasRead start reader left done → number ≡ reader.given + 1 → IfSome (unread reader left) (IsLineLong (room reader) reader.max_line) →
+  pub over_long : (start : Option (List ℕ)) (number : ℕ) → HasReadLines start reader left done → number ≡ reader.given + 1 → IfSome (unread reader left) (IsLineLong (room reader) reader.max_line) →
       IfSome start (λ bytes. IsOverLong limit bytes number)
   unfolding first_lines
   over_long None number read next over = tt
@@ -178,37 +178,37 @@ module _ (limit : ℕ) (reader : Reading) (left : Option (List ℕ)) (done : Lis
       }
 
   -- at the end of the input all lines were read
-  all_lines : (bytes : List ℕ) (read : HasRead (Some bytes) reader left done) → IsAtEnd (unread reader left) → lines bytes ≡ done
+  all_lines : (bytes : List ℕ) (read : HasReadLines (Some bytes) reader left done) → IsAtEnd (unread reader left) → lines bytes ≡ done
   all_lines bytes read at_end =
       let parts = known_now bytes read in
       let none : parts.u ≡ [] = at_known (unread reader left) parts.u (λ u. u ≡ []) parts.is at_end in
       parts.are_lines ∙ ap (λ u. done ++ lines u) none ∙ append-nil done
 
-  all_records : (bytes : List ℕ) → HasRead (Some bytes) reader left done → IsAtEnd (unread reader left) → AreRecords limit bytes items begun
+  all_records : (bytes : List ℕ) → HasReadLines (Some bytes) reader left done → IsAtEnd (unread reader left) → AreRecords limit bytes items begun
   all_records bytes read at_end =
       let parts = known_now bytes read in
       let none : parts.u ≡ [] = at_known (unread reader left) parts.u (λ u. u ≡ []) parts.is at_end in
       let nothing : length parts.u ≡ 0 = ap length none in
       record { within = omega (arith, parts.total, limits.bytes, sound.within); are = subst (λ ls. AreLinesOf ls items begun) (sym (all_lines bytes read at_end)) are }
 
-  pub all_read : (start : Option (List ℕ)) → HasRead start reader left done → IsAtEnd (unread reader left) → IfSome start (λ bytes. AreRecords limit bytes items begun)
+  pub all_read : (start : Option (List ℕ)) → HasReadLines start reader left done → IsAtEnd (unread reader left) → IfSome start (λ bytes. AreRecords limit bytes items begun)
   all_read None read at_end = tt
   all_read (Some bytes) read at_end = all_records bytes read at_end
 
   -- how many lines the input has then
-  pub all_counted : (start : Option (List ℕ)) (number : ℕ) → HasRead start reader left done → IsAtEnd (unread reader left) → number ≡ reader.given + 1 → IfSome start (λ bytes. number ≡ length (lines bytes) + 1)
+  pub all_counted : (start : Option (List ℕ)) (number : ℕ) → HasReadLines start reader left done → IsAtEnd (unread reader left) → number ≡ reader.given + 1 → IfSome start (λ bytes. number ≡ length (lines bytes) + 1)
   all_counted None number read at_end next = tt
   all_counted (Some bytes) number read at_end next = next ∙ ap (λ n. n + 1) (read.counted ∙ ap length (sym (all_lines bytes read at_end)))
 
   module _ (line : List ℕ) (next : Reading) (left_next : Option (List ℕ)) (is : IsNextLine line reader next left left_next) where
-    bytes_grow : (start : Option (List ℕ)) (read : HasRead start reader left done) → start ≡ before_known (read.read ++ is.takes.moved) (unread next left_next)
+    bytes_grow : (start : Option (List ℕ)) (read : HasReadLines start reader left done) → start ≡ before_known (read.read ++ is.takes.moved) (unread next left_next)
     bytes_grow start read = read.bytes ∙ ap (λ (o : Option (List ℕ)). before_known read.read o) is.takes.front ∙ before_both read.read is.takes.moved (unread next left_next)
 
     -- the line isn't over-long
     short_line : length line ≤ longest_line
     short_line = subst (λ n. length line ≤ n) limits.line is.goes.short
 
-    known_next : (bytes : List ℕ) (read : HasRead (Some bytes) reader left done) → Known bytes (done ++ line ∷ []) (read.read ++ is.takes.moved) next.consumed (unread next left_next)
+    known_next : (bytes : List ℕ) (read : HasReadLines (Some bytes) reader left done) → Known bytes (done ++ line ∷ []) (read.read ++ is.takes.moved) next.consumed (unread next left_next)
     known_next bytes read =
         known_parts bytes (done ++ line ∷ []) (read.read ++ is.takes.moved) next.consumed (unread next left_next)
         (lines_grow (Some (lines bytes)) (input_lines (unread reader left)) (input_lines (unread next left_next)) done line read.are is.first) (is.total ∙ read.total) (bytes_grow (Some bytes) read)
@@ -220,8 +220,8 @@ module _ (limit : ℕ) (reader : Reading) (left : Option (List ℕ)) (done : Lis
     next_lines u v here there = let same : Some (lines u) ≡ Some (line ∷ lines v) = ap input_lines (sym here) ∙ is.first ∙ ap (λ (o : Option (List ℕ)). before_lines line (input_lines o)) there in cc
 
     -- this line is refused
-    pub bad_line : (start : Option (List ℕ)) (number : ℕ) (fault : PatchFault) → HasRead start reader left done → number ≡ reader.given + 1 → HasCause fault begun line →
-        IfSome start (λ bytes. IsBadLine fault limit bytes number)
+    pub bad_line : (start : Option (List ℕ)) (number : ℕ) (fault : PatchFault) → HasReadLines start reader left done → number ≡ reader.given + 1 → HasCause fault begun line →
+        IfSome start (λ bytes. IsBadRecordLine fault limit bytes number)
     unfolding first_lines
     bad_line None number fault read counted refused = tt
     bad_line (Some bytes) number fault read counted refused =
@@ -243,7 +243,7 @@ module _ (limit : ℕ) (reader : Reading) (left : Option (List ℕ)) (done : Lis
         }
 
     -- this line was read too
-    pub read_more : (start : Option (List ℕ)) → HasRead start reader left done → next.given ≡ reader.given + 1 → HasRead start next left_next (done ++ line ∷ [])
+    pub read_more : (start : Option (List ℕ)) → HasReadLines start reader left done → next.given ≡ reader.given + 1 → HasReadLines start next left_next (done ++ line ∷ [])
     read_more start read given = record {
       are = lines_grow (input_lines start) (input_lines (unread reader left)) (input_lines (unread next left_next)) done line read.are is.first;
       counted = given ∙ omega (arith, read.counted, length-append done (line ∷ []));

@@ -2,12 +2,12 @@
 use Rattle.std.proofs.Common.{◌≡◌, ℕ, zero, suc, ◌+◌, ◌<◌, ◌≤◌, ◌==◌, Bool, true, false, cond, nat_lt, is_some, List, [], ◌∷◌, ◌++◌, Option, None, Some, IfSome, IsSome, Result, Err, inl, inr, refl, sym, ◌∙◌, ap, subst, arith}
 use Rattle.std.proofs.lemmas.Bool.Decides.{nat_tests}
 use Rattle.replica.specs.declared.record.PatchRecord.{PatchRecord}
-use Rattle.replica.specs.Replica.{Follows, HasRoom, IsFull, ReplicaState, after, nothing_received, numbered, patched_if, room_with}
+use Rattle.replica.specs.Replica.{Follows, HasRoomForNext, HasNoRoomForNext, ReplicaState, after, nothing_received, numbered, patched_if, terms_with}
 use Rattle.replica.proofs.Following.{follows_nothing}
 use Rattle.term_pool.specs.declared.fault.PoolFault.{PoolFault}
 use Rattle.term_pool.specs.declared.fault.PoolFault.TheVariants.{Full, OutOfMemory as Unfed}
 use Rattle.following.specs.Stop.{HeldUp, stop_of_store}
-use Rattle.following.specs.Taking.{HadRoom, HasApplied, HasReceived, IsOverfull}
+use Rattle.following.specs.Taking.{HadRoom, HasApplied, HasReceived, IsRecordOverfull}
 
 -- ---- a record behind the others
 
@@ -29,8 +29,8 @@ still_after items item (suc n) there =
 
 still_roomed : (room : ℕ) (items : List PatchRecord) (item : PatchRecord) (n : ℕ) → ((k : ℕ) → 0 < k → k ≤ n → IsSome (numbered k items)) → HadRoom room items n → HadRoom room (items ++ item ∷ []) n
 still_roomed room items item n there roomed k below =
-    subst (λ o. IfSome o (λ it. room_with (after (items ++ item ∷ []) k) it.adds ≤ room)) (sym (still_numbered (k + 1) items item (there (k + 1) (omega arith) (omega arith))))
-    (subst (λ ts. IfSome (numbered (k + 1) items) (λ it. room_with ts it.adds ≤ room)) (sym (still_after items item k (λ j low high. there j low (omega arith)))) (roomed k below))
+    subst (λ o. IfSome o (λ it. terms_with (after (items ++ item ∷ []) k) it.adds ≤ room)) (sym (still_numbered (k + 1) items item (there (k + 1) (omega arith) (omega arith))))
+    (subst (λ ts. IfSome (numbered (k + 1) items) (λ it. terms_with ts it.adds ≤ room)) (sym (still_after items item k (λ j low high. there j low (omega arith)))) (roomed k below))
 
 -- a record was received
 pub receives : (items : List PatchRecord) (item : PatchRecord) (old new : ReplicaState) → new ≡ record old { waiting = new.waiting } → Follows (items ++ item ∷ []) new → HasReceived items old → HasReceived (items ++ item ∷ []) new
@@ -51,23 +51,23 @@ no_less m n h = grind (arith, nat_tests)
 
 module _ (items : List PatchRecord) (old new : ReplicaState) (received : HasReceived items old) (follows : Follows items new) (limit : new.limit ≡ old.limit) where
   -- there was room for the next record
-  next_roomed : HasRoom old → IfSome (numbered (old.applied + 1) items) (λ item. room_with (after items old.applied) item.adds ≤ old.limit)
+  next_roomed : HasRoomForNext old → IfSome (numbered (old.applied + 1) items) (λ item. terms_with (after items old.applied) item.adds ≤ old.limit)
   next_roomed room = by (numbered (old.applied + 1) items) refl
     where
-      by : (o : Option PatchRecord) → numbered (old.applied + 1) items ≡ o → IfSome o (λ item. room_with (after items old.applied) item.adds ≤ old.limit)
+      by : (o : Option PatchRecord) → numbered (old.applied + 1) items ≡ o → IfSome o (λ item. terms_with (after items old.applied) item.adds ≤ old.limit)
       by None is = tt
-      by (Some item) is = subst (λ ts. room_with ts item.adds ≤ old.limit) received.follows.triples (room item (received.follows.waits (old.applied + 1) (omega arith) ∙ is))
+      by (Some item) is = subst (λ ts. terms_with ts item.adds ≤ old.limit) received.follows.triples (room item (received.follows.waits (old.applied + 1) (omega arith) ∙ is))
 
   -- the next record was applied
-  pub moves : HasRoom old → new.applied ≡ old.applied + 1 → HasReceived items new
-  moves room applied = record { follows = follows; roomed = λ k below. subst (λ n. IfSome (numbered (k + 1) items) (λ item. room_with (after items k) item.adds ≤ n)) (sym limit) (by k (nat_lt k old.applied) refl (omega (arith, below, applied))) }
+  pub moves : HasRoomForNext old → new.applied ≡ old.applied + 1 → HasReceived items new
+  moves room applied = record { follows = follows; roomed = λ k below. subst (λ n. IfSome (numbered (k + 1) items) (λ item. terms_with (after items k) item.adds ≤ n)) (sym limit) (by k (nat_lt k old.applied) refl (omega (arith, below, applied))) }
     where
-      by : (k : ℕ) (b : Bool) → nat_lt k old.applied ≡ b → k ≤ old.applied → IfSome (numbered (k + 1) items) (λ item. room_with (after items k) item.adds ≤ old.limit)
+      by : (k : ℕ) (b : Bool) → nat_lt k old.applied ≡ b → k ≤ old.applied → IfSome (numbered (k + 1) items) (λ item. terms_with (after items k) item.adds ≤ old.limit)
       by k true is high = received.roomed k (less k old.applied is)
       by k false is high =
           let low = no_less k old.applied is in
           let same : k ≡ old.applied = omega (arith, low, high) in
-          subst (λ n. IfSome (numbered (n + 1) items) (λ item. room_with (after items n) item.adds ≤ old.limit)) (sym same) (next_roomed room)
+          subst (λ n. IfSome (numbered (n + 1) items) (λ item. terms_with (after items n) item.adds ≤ old.limit)) (sym same) (next_roomed room)
 
   -- none was due
   pub rests : new.applied ≡ old.applied → is_some (numbered (old.applied + 1) items) ≡ false → HasApplied items new
@@ -77,22 +77,22 @@ module _ (items : List PatchRecord) (old new : ReplicaState) (received : HasRece
   }
 
 -- there is no room for the next record
-pub overfull : (items : List PatchRecord) (state : ReplicaState) → HasReceived items state → IsFull state → IsOverfull state.limit items
+pub overfull : (items : List PatchRecord) (state : ReplicaState) → HasReceived items state → HasNoRoomForNext state → IsRecordOverfull state.limit items
 overfull items state received full = record {
   applied = state.applied;
   received = received.follows.received;
   item = full.item;
   next = sym (received.follows.waits (state.applied + 1) (omega arith)) ∙ full.waits;
-  over = subst (λ ts. state.limit < room_with ts full.item.adds) received.follows.triples full.over;
+  over = subst (λ ts. state.limit < terms_with ts full.item.adds) received.follows.triples full.over;
 }
 
 abbrev fault_is : PoolFault → Result Bool PoolFault
 fault_is fault = Err fault
 
 -- a fault of the replica
-pub held_up : (fault : PoolFault) (old state : ReplicaState) → (fault_is fault ≡ fault_is Full → IsFull state) → ((items : List PatchRecord) → HasReceived items old → HasReceived items state) → state.limit ≡ old.limit →
-    HeldUp (stop_of_store fault) ((items : List PatchRecord) → HasReceived items old → IsOverfull old.limit items)
-held_up Full old state full kept limit = inl (refl, λ items received. subst (λ n. IsOverfull n items) limit (overfull items state (kept items received) (full refl)))
+pub held_up : (fault : PoolFault) (old state : ReplicaState) → (fault_is fault ≡ fault_is Full → HasNoRoomForNext state) → ((items : List PatchRecord) → HasReceived items old → HasReceived items state) → state.limit ≡ old.limit →
+    HeldUp (stop_of_store fault) ((items : List PatchRecord) → HasReceived items old → IsRecordOverfull old.limit items)
+held_up Full old state full kept limit = inl (refl, λ items received. subst (λ n. IsRecordOverfull n items) limit (overfull items state (kept items received) (full refl)))
 held_up Unfed old state full kept limit = inr refl
 
 -- nothing was received

@@ -14,9 +14,9 @@ use Rattle.following.specs.declared.stop.FollowStop.{FollowStop}
 use Rattle.following.specs.declared.stop.FollowStop.TheVariants.{BadLine}
 use Rattle.following.specs.declared.stop.RecordCause.TheVariants.{Short}
 use Rattle.following.specs.Input.{Input}
-use Rattle.following.specs.Reading.{AreLinesOf, AreRecords, EndsInside, HasRead, longest_line}
-use Rattle.following.specs.Stop.{IsHalted, StopsAtLine, stop_of_line, stop_of_record}
-use Rattle.following.specs.Taking.{HasApplied, HasTaken, TakesLine}
+use Rattle.following.specs.Reading.{AreLinesOf, AreRecords, EndsInside, HasReadLines, longest_line}
+use Rattle.following.specs.Stop.{TakingStopped, StopsAtLine, stop_of_line, stop_of_record}
+use Rattle.following.specs.Taking.{HasApplied, HasTakenRecords, AppliesLine}
 use Rattle.following.proofs.Reading.{HasLimits, IsNextLine, all_counted, all_read, bad_line, begins, nothing_read, over_long, past_limit, read_more, whole_read}
 use Rattle.following.proofs.Received.{none_applied}
 
@@ -24,7 +24,7 @@ use Rattle.following.proofs.Received.{none_applied}
 pub record Progress (limit : ℕ) (before now : Input) (reader : Reading) (begun : Option Begun) (state : ReplicaState) (count : ℕ) : Type 0 where
   pub done : List (List ℕ)
   pub items : List PatchRecord
-  pub read : HasRead before.left reader now.left done
+  pub read : HasReadLines before.left reader now.left done
   pub are : AreLinesOf done items begun
   pub applied : HasApplied items state
   pub limits : HasLimits limit reader
@@ -55,7 +55,7 @@ rose_since first before now earlier rose = omega (arith, rose)
 
 module _ (limit : ℕ) (before now : Input) (reader : Reading) (begun : Option Begun) (state : ReplicaState) (count : ℕ) (so_far : Progress limit before now reader begun state count) where
   -- a fault of the reader of lines
-  pub fault_stops : (fault : LineFault) (room : ℕ) (input : Input) → HasLineCause fault reader now.left now.faults input.faults → Leaves fault reader now.left input.left → IsHalted (stop_of_line fault) limit room before input
+  pub fault_stops : (fault : LineFault) (room : ℕ) (input : Input) → HasLineCause fault reader now.left now.faults input.faults → Leaves fault reader now.left input.left → TakingStopped (stop_of_line fault) limit room before input
   fault_stops NotRead room input cause leaves = record {
     rose = rose_since before.faults now.faults input.faults so_far.earlier cause;
     items = so_far.items;
@@ -67,7 +67,7 @@ module _ (limit : ℕ) (before now : Input) (reader : Reading) (begun : Option B
   fault_stops NoMemory room input cause leaves = tt
 
   -- at the end all lines were taken, if no record lacks lines
-  pub end_reached : (input : Input) → (IsTrue false ↔ (lines_begun begun ≡ [] → ⊥)) → IsAtEnd input.left → IsAtEnd (unread reader now.left) → HasTaken limit before input state
+  pub end_reached : (input : Input) → (IsTrue false ↔ (lines_begun begun ≡ [] → ⊥)) → IsAtEnd input.left → IsAtEnd (unread reader now.left) → HasTakenRecords limit before input state
   end_reached input inside read at_end = record {
     items = so_far.items;
     read = read;
@@ -80,7 +80,7 @@ module _ (limit : ℕ) (before now : Input) (reader : Reading) (begun : Option B
       by (Some b) inside are = absurd (true≢false (sym (inside.1 (λ none. cc))))
 
   -- a record lacks lines there
-  pub cut_off : (input : Input) (room number : ℕ) → (lines_begun begun ≡ [] → ⊥) → IsAtEnd (unread reader now.left) → number ≡ count + 1 → IsHalted (BadLine number Short) limit room before input
+  pub cut_off : (input : Input) (room number : ℕ) → (lines_begun begun ≡ [] → ⊥) → IsAtEnd (unread reader now.left) → number ≡ count + 1 → TakingStopped (BadLine number Short) limit room before input
   cut_off input room number inside at_end next = by begun inside so_far.are
     where
       next_is : number ≡ reader.given + 1
@@ -98,35 +98,35 @@ module _ (limit : ℕ) (before now : Input) (reader : Reading) (begun : Option B
 
   module _ (line : List ℕ) (next : Reading) (input : Input) (is : IsNextLine line reader next now.left input.left) (further : Option Begun) where
     -- the reader of records refused the line
-    record_stops : (fault : PatchFault) (room number : ℕ) → number ≡ reader.given + 1 → HasCause fault begun line → IsHalted (stop_of_record number fault) limit room before input
+    record_stops : (fault : PatchFault) (room number : ℕ) → number ≡ reader.given + 1 → HasCause fault begun line → TakingStopped (stop_of_record number fault) limit room before input
     record_stops NoHead room number counted cause = bad_line limit reader now.left so_far.done so_far.items begun so_far.limits so_far.sound so_far.are line next input.left is before.left number NoHead so_far.read counted cause
     record_stops NoTriple room number counted cause = bad_line limit reader now.left so_far.done so_far.items begun so_far.limits so_far.sound so_far.are line next input.left is before.left number NoTriple so_far.read counted cause
     record_stops OutOfOrder room number counted cause = bad_line limit reader now.left so_far.done so_far.items begun so_far.limits so_far.sound so_far.are line next input.left is before.left number OutOfOrder so_far.read counted cause
     record_stops Starved room number counted cause = tt
 
-    read_now : next.given ≡ reader.given + 1 → HasRead before.left next input.left (so_far.done ++ line ∷ [])
+    read_now : next.given ≡ reader.given + 1 → HasReadLines before.left next input.left (so_far.done ++ line ∷ [])
     read_now given = read_more limit reader now.left so_far.done so_far.items begun so_far.limits so_far.sound so_far.are line next input.left is before.left so_far.read given
 
     limits_now : HasLimits limit next
     limits_now = record { bytes = is.goes.limit ∙ so_far.limits.bytes; line = is.goes.longest ∙ so_far.limits.line }
 
     -- a line isn't taken
-    pub line_stops : (stop : FollowStop) (room number : ℕ) → state.limit ≡ room → number ≡ reader.given + 1 → next.given ≡ reader.given + 1 → StopsAtLine stop number line begun further state → IsHalted stop limit room before input
-    line_stops stop room number same counted given why = subst (λ n. IsHalted stop limit n before input) same (⊎_elim
-        (λ bad. subst (λ s. IsHalted s limit state.limit before input) (sym bad.1) (record_stops bad.0 state.limit number counted bad.2))
+    pub line_stops : (stop : FollowStop) (room number : ℕ) → state.limit ≡ room → number ≡ reader.given + 1 → next.given ≡ reader.given + 1 → StopsAtLine stop number line begun further state → TakingStopped stop limit room before input
+    line_stops stop room number same counted given why = subst (λ n. TakingStopped stop limit n before input) same (⊎_elim
+        (λ bad. subst (λ s. TakingStopped s limit state.limit before input) (sym bad.1) (record_stops bad.0 state.limit number counted bad.2))
         (⊎_elim
         (λ full. let over = full.1 so_far.items so_far.done so_far.are so_far.applied in
-        subst (λ s. IsHalted s limit state.limit before input) (sym full.0) (record {
+        subst (λ s. TakingStopped s limit state.limit before input) (sym full.0) (record {
           items = over.0;
           begun = further;
           first = begins limit next input.left (so_far.done ++ line ∷ []) over.0 further limits_now is.goes.sound over.1 before.left (read_now given);
           full = over.2;
         }))
-        (λ refused. subst (λ s. IsHalted s limit state.limit before input) (sym refused) tt))
+        (λ refused. subst (λ s. TakingStopped s limit state.limit before input) (sym refused) tt))
         why)
 
     -- a line is taken
-    pub line_taken : (after : ReplicaState) (number : ℕ) → number ≡ next.given → next.given ≡ reader.given + 1 → now.faults ≤ input.faults → (next.ended ≡ true → IsAtEnd input.left) → TakesLine line begun further state after →
+    pub line_taken : (after : ReplicaState) (number : ℕ) → number ≡ next.given → next.given ≡ reader.given + 1 → now.faults ≤ input.faults → (next.ended ≡ true → IsAtEnd input.left) → AppliesLine line begun further state after →
         Progress limit before input next further after number
     line_taken after number counted given later ended takes =
         let taken = takes so_far.items so_far.done so_far.are so_far.applied in

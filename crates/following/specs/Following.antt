@@ -14,7 +14,7 @@ use Rattle.words.specs.Options.{FollowChoices, follow_max_bytes_of}
 use Rattle.following.specs.declared.stop.FollowStop.{FollowStop}
 use Rattle.following.specs.Input.{Input, input}
 use Rattle.following.specs.Reading.{AreRecords}
-use Rattle.following.specs.Stop.{IsHalted, stop_of_unwritten}
+use Rattle.following.specs.Stop.{TakingStopped, stop_of_unwritten}
 use Rattle.following.specs.Taking.{HadRoom}
 
 -- the line `# replica <applied>`
@@ -30,13 +30,13 @@ abbrev pub follower_limit : ℕ
 follower_limit = 20000000
 
 -- what stands at a moment
-pub record Moment : Type 0 where
+pub record FollowMoment : Type 0 where
   pub input : Input
   pub output : Output
 
 -- the moment that these are
-abbrev pub moment : {S K : Type 0} → SourceOf S → SinkOf K → S → K → Moment
-moment source sink events out = record { input = input source events; output = output sink out }
+abbrev pub follow_moment : {S K : Type 0} → SourceOf S → SinkOf K → S → K → FollowMoment
+follow_moment source sink events out = record { input = input source events; output = output sink out }
 
 -- the whole input was read and its lines are those of these records; the number is the greatest such that those up to it are there,
 -- and there was room for them
@@ -47,21 +47,21 @@ pub record HasFollowed (choices : FollowChoices) (items : List PatchRecord) (app
   pub roomed : HadRoom follower_limit items applied
 
 -- a follower ended well: the triples after these records were printed, if they were asked for
-pub record Ending (choices : FollowChoices) (before now : Moment) : Type 0 where
+pub record Ending (choices : FollowChoices) (before now : FollowMoment) : Type 0 where
   pub items : List PatchRecord
   pub applied : ℕ
   pub followed : HasFollowed choices items applied before.input now.input
   pub printed : now.output.bytes ≡ after_known before.output.bytes (replica_text choices.export applied (after items applied))
 
 -- all records were followed, and then a prefix of what is printed was written, and nothing else
-pub record BrokenOff (why : Unwritten) (choices : FollowChoices) (before now : Moment) : Type 0 where
+pub record BrokenOff (why : Unwritten) (choices : FollowChoices) (before now : FollowMoment) : Type 0 where
   pub items : List PatchRecord
   pub applied : ℕ
   pub followed : HasFollowed choices items applied before.input now.input
   pub cut_short : IsCutShort why (replica_text choices.export applied (after items applied)) before.output now.output
 
 -- a follower stopped before it printed anything, or while it printed
-abbrev pub Stopped : FollowStop → FollowChoices → Moment → Moment → Type 0
-Stopped stop choices before now =
-    (IsHalted stop (follow_max_bytes_of choices) follower_limit before.input now.input × (now.output.bytes ≡ before.output.bytes))
+abbrev pub StoppedFollowing : FollowStop → FollowChoices → FollowMoment → FollowMoment → Type 0
+StoppedFollowing stop choices before now =
+    (TakingStopped stop (follow_max_bytes_of choices) follower_limit before.input now.input × (now.output.bytes ≡ before.output.bytes))
     ⊎ ((why : Unwritten) × (stop ≡ stop_of_unwritten why) × BrokenOff why choices before now)

@@ -1,4 +1,4 @@
--- An input at a moment.
+-- An input at a moment of a run.
 use Rattle.std.specs.Prelude.{ℕ, List, Option}
 use Rattle.wq_io.specs.declared.source.Source.{Ghosts as SourceOf}
 

@@ -22,7 +22,7 @@ pub record AreLinesOf (lines : List (List ℕ)) (items : List PatchRecord) (begu
   pub unfinished : IfSome begun IsUnfinished
 
 -- these lines were read so far; the bytes that went into them stand before those that are unread
-pub record HasRead (start : Option (List ℕ)) (reader : Reading) (left : Option (List ℕ)) (done : List (List ℕ)) : Type 0 where
+pub record HasReadLines (start : Option (List ℕ)) (reader : Reading) (left : Option (List ℕ)) (done : List (List ℕ)) : Type 0 where
   pub are : input_lines start ≡ option_map (λ (ls : List (List ℕ)). done ++ ls) (input_lines (unread reader left))
   pub counted : reader.given ≡ length done
   pub total : input_length reader left ≡ option_map length start
@@ -54,7 +54,7 @@ pub record AreWhole (limit : ℕ) (left left_now : Option (List ℕ)) (items : L
   pub are : AreLinesOf (whole_lines read) items begun
 
 -- the line with this number is refused for this cause behind those before it, and ends within the limit
-pub record IsBadLine (fault : PatchFault) (limit : ℕ) (bytes : List ℕ) (number : ℕ) : Type 0 where
+pub record IsBadRecordLine (fault : PatchFault) (limit : ℕ) (bytes : List ℕ) (number : ℕ) : Type 0 where
   pub items : List PatchRecord
   pub begun : Option Begun
   pub first : BeginsWith limit bytes items begun
@@ -84,7 +84,7 @@ pub record EndsInside (limit : ℕ) (bytes : List ℕ) (number : ℕ) : Type 0 w
   pub counted : number ≡ length (lines bytes) + 1
 
 -- the input has more bytes than the limit; the first of them past it stands in a line that isn't over-long before it
-pub record IsPastLimit (limit : ℕ) (bytes : List ℕ) : Type 0 where
+pub record RecordsPastLimit (limit : ℕ) (bytes : List ℕ) : Type 0 where
   pub more : limit < length bytes
   pub items : List PatchRecord
   pub begun : Option Begun

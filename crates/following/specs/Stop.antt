@@ -18,8 +18,8 @@ use Rattle.following.specs.declared.stop.RecordCause.TheVariants.{LineLong, Head
 use Rattle.following.specs.declared.stop.FollowStop.{FollowStop}
 use Rattle.following.specs.declared.stop.FollowStop.TheVariants.{BadLine, ReadFault, WriteFault, TooLong, StoreFull, OutOfMemory}
 use Rattle.following.specs.Input.{Input}
-use Rattle.following.specs.Reading.{AreWhole, BeginsWith, EndsInside, IsBadLine, IsOverLong, IsPastLimit}
-use Rattle.following.specs.Taking.{IsOverfull, OverfillsByLine}
+use Rattle.following.specs.Reading.{AreWhole, BeginsWith, EndsInside, IsBadRecordLine, IsOverLong, RecordsPastLimit}
+use Rattle.following.specs.Taking.{IsRecordOverfull, OverfillsByLine}
 
 -- why a follower stopped at a fault of the reader of lines
 abbrev pub stop_of_line : LineFault → FollowStop
@@ -48,9 +48,9 @@ stop_of_unwritten Refused = OutOfMemory
 -- why the line with this number is refused
 abbrev pub IsRefused : RecordCause → ℕ → List ℕ → ℕ → Type 0
 IsRefused LineLong limit bytes number = IsOverLong limit bytes number
-IsRefused Head limit bytes number = IsBadLine NoHead limit bytes number
-IsRefused Triple limit bytes number = IsBadLine NoTriple limit bytes number
-IsRefused Order limit bytes number = IsBadLine OutOfOrder limit bytes number
+IsRefused Head limit bytes number = IsBadRecordLine NoHead limit bytes number
+IsRefused Triple limit bytes number = IsBadRecordLine NoTriple limit bytes number
+IsRefused Order limit bytes number = IsBadRecordLine OutOfOrder limit bytes number
 IsRefused Short limit bytes number = EndsInside limit bytes number
 
 -- a read failed; the whole lines that were read before are those of records
@@ -61,20 +61,20 @@ pub record IsUnread (limit : ℕ) (before now : Input) : Type 0 where
   pub whole : AreWhole limit before.left now.left items begun
 
 -- there is no room for a record that is due by the lines that were taken
-pub record HasNoRoom (limit room : ℕ) (left : Option (List ℕ)) : Type 0 where
+pub record HasNoRoomForRecord (limit room : ℕ) (left : Option (List ℕ)) : Type 0 where
   pub items : List PatchRecord
   pub begun : Option Begun
   pub first : IfSome left (λ bytes. BeginsWith limit bytes items begun)
-  pub full : IsOverfull room items
+  pub full : IsRecordOverfull room items
 
 -- why the taking of lines stopped, where an input may have so many bytes, and a store so many different terms
-abbrev pub IsHalted : FollowStop → ℕ → ℕ → Input → Input → Type 0
-IsHalted (BadLine number cause) limit room before now = IfSome before.left (λ bytes. IsRefused cause limit bytes number)
-IsHalted ReadFault limit room before now = IsUnread limit before now
-IsHalted WriteFault limit room before now = ⊥
-IsHalted TooLong limit room before now = IfSome before.left (IsPastLimit limit)
-IsHalted StoreFull limit room before now = HasNoRoom limit room before.left
-IsHalted OutOfMemory limit room before now = ⊤
+abbrev pub TakingStopped : FollowStop → ℕ → ℕ → Input → Input → Type 0
+TakingStopped (BadLine number cause) limit room before now = IfSome before.left (λ bytes. IsRefused cause limit bytes number)
+TakingStopped ReadFault limit room before now = IsUnread limit before now
+TakingStopped WriteFault limit room before now = ⊥
+TakingStopped TooLong limit room before now = IfSome before.left (RecordsPastLimit limit)
+TakingStopped StoreFull limit room before now = HasNoRoomForRecord limit room before.left
+TakingStopped OutOfMemory limit room before now = ⊤
 
 -- why records aren't applied: there is no room, as this says, or memory was refused
 abbrev pub HeldUp : FollowStop → Type 0 → Type 0

@@ -4,21 +4,21 @@ use Rattle.wq_io.specs.Streams.{IsAtEnd}
 use Rattle.replica.specs.declared.reader.Begun.{Begun}
 use Rattle.replica.specs.declared.record.PatchRecord.{PatchRecord}
 use Rattle.replica.specs.Laws.{IsGreatest}
-use Rattle.replica.specs.Replica.{Follows, ReplicaState, after, numbered, room_with}
+use Rattle.replica.specs.Replica.{Follows, ReplicaState, after, numbered, terms_with}
 use Rattle.following.specs.Input.{Input}
 use Rattle.following.specs.Reading.{AreLinesOf, AreRecords}
 
 -- there was room for each record up to this number, each number standing for the first record with it
 abbrev pub HadRoom : ℕ → List PatchRecord → ℕ → Type 0
-HadRoom room items n = (k : ℕ) → k < n → IfSome (numbered (k + 1) items) (λ item. room_with (after items k) item.adds ≤ room)
+HadRoom room items n = (k : ℕ) → k < n → IfSome (numbered (k + 1) items) (λ item. terms_with (after items k) item.adds ≤ room)
 
 -- the records up to this number were received, and there is no room for the next one, which was received too
-pub record IsOverfull (room : ℕ) (items : List PatchRecord) : Type 0 where
+pub record IsRecordOverfull (room : ℕ) (items : List PatchRecord) : Type 0 where
   pub applied : ℕ
   pub received : (number : ℕ) → 0 < number → number ≤ applied → IsSome (numbered number items)
   pub item : PatchRecord
   pub next : numbered (applied + 1) items ≡ Some item
-  pub over : room < room_with (after items applied) item.adds
+  pub over : room < terms_with (after items applied) item.adds
 
 -- the replica received these records, and had room for those that it applied
 pub record HasReceived (items : List PatchRecord) (state : ReplicaState) : Type 0 where
@@ -35,17 +35,17 @@ abbrev pub TakesRecord : PatchRecord → ReplicaState → ReplicaState → Type 
 TakesRecord item old new = (items : List PatchRecord) → HasApplied items old → HasApplied (items ++ item ∷ []) new
 
 -- a line is taken, and the record that it ends, if it ends one: the lines with it are those of further records, which the replica took
-abbrev pub TakesLine : List ℕ → Option Begun → Option Begun → ReplicaState → ReplicaState → Type 0
-TakesLine line old new before now = (items : List PatchRecord) (done : List (List ℕ)) → AreLinesOf done items old → HasApplied items before →
+abbrev pub AppliesLine : List ℕ → Option Begun → Option Begun → ReplicaState → ReplicaState → Type 0
+AppliesLine line old new before now = (items : List PatchRecord) (done : List (List ℕ)) → AreLinesOf done items old → HasApplied items before →
     (further : List PatchRecord) × AreLinesOf (done ++ line ∷ []) further new × HasApplied further now
 
 -- the line ends a record, and there is no room for it, or for one that waited for it
 abbrev pub OverfillsByLine : List ℕ → Option Begun → Option Begun → ReplicaState → Type 0
 OverfillsByLine line old new before = (items : List PatchRecord) (done : List (List ℕ)) → AreLinesOf done items old → HasApplied items before →
-    (further : List PatchRecord) × AreLinesOf (done ++ line ∷ []) further new × IsOverfull before.limit further
+    (further : List PatchRecord) × AreLinesOf (done ++ line ∷ []) further new × IsRecordOverfull before.limit further
 
 -- the whole input was read, its lines are those of these records, and the replica applied all that go
-pub record HasTaken (limit : ℕ) (before now : Input) (state : ReplicaState) : Type 0 where
+pub record HasTakenRecords (limit : ℕ) (before now : Input) (state : ReplicaState) : Type 0 where
   pub items : List PatchRecord
   pub read : IsAtEnd now.left
   pub are : IfSome before.left (λ bytes. AreRecords limit bytes items None)

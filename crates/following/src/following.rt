@@ -1,7 +1,7 @@
 // A follower: it takes the records of its input, and prints what it has then.
 
 ghost use Rattle.std.specs.Prelude.{◌≤◌, ◌≡◌, IfErr, OnOk};
-ghost use Rattle.following.specs.Following.{Ending, Stopped, moment};
+ghost use Rattle.following.specs.Following.{Ending, StoppedFollowing, follow_moment};
 
 use crate::printing::print_replica;
 use crate::stop::FollowStop;
@@ -30,8 +30,8 @@ pub fn follow<S: Source, K: Sink>(
     events: &mut S,
     out: &mut K,
 ) -> Result<(), FollowStop>
-    ensures ok { OnOk result (Ending options.now (moment S.Source K.Sink events.old out.old) (moment S.Source K.Sink events.new out.new)) }
-    ensures err { IfErr result (λ stop. Stopped stop options.now (moment S.Source K.Sink events.old out.old) (moment S.Source K.Sink events.new out.new)) }
+    ensures ok { OnOk result (Ending options.now (follow_moment S.Source K.Sink events.old out.old) (follow_moment S.Source K.Sink events.new out.new)) }
+    ensures err { IfErr result (λ stop. StoppedFollowing stop options.now (follow_moment S.Source K.Sink events.old out.old) (follow_moment S.Source K.Sink events.new out.new)) }
     ensures later { S.faults events.old ≤ S.faults events.new }
     ensures most { S.most_faults events.new ≡ S.most_faults events.old }
     ensures written { K.faults out.old ≤ K.faults out.new }

@@ -5,8 +5,8 @@ ghost use Rattle.replica.specs.declared.record.PatchRecord.{PatchRecord as TheRe
 ghost use Rattle.replica.specs.Record.{IsSound};
 ghost use Rattle.replica.specs.Replica.{nothing_received};
 ghost use Rattle.following.specs.Input.{input};
-ghost use Rattle.following.specs.Stop.{HeldUp, IsHalted, StopsAtLine};
-ghost use Rattle.following.specs.Taking.{HasApplied, HasReceived, HasTaken, IsOverfull, TakesLine, TakesRecord};
+ghost use Rattle.following.specs.Stop.{HeldUp, TakingStopped, StopsAtLine};
+ghost use Rattle.following.specs.Taking.{HasApplied, HasReceived, HasTakenRecords, IsRecordOverfull, AppliesLine, TakesRecord};
 
 use crate::stop::{FollowStop, RecordCause};
 use rdf_term::OutOfMemory;
@@ -26,8 +26,8 @@ pub fn take_records<S: Source>(
 ) -> Result<(), FollowStop>
     requires bytes { max_bytes ≤ 2 ^ 40 }
     requires new { replica.old ≡ nothing_received replica.old.limit }
-    ensures ok { OnOk result (HasTaken max_bytes (input S.Source events.old) (input S.Source events.new) replica.new) }
-    ensures err { IfErr result (λ stop. IsHalted stop max_bytes replica.old.limit (input S.Source events.old) (input S.Source events.new)) }
+    ensures ok { OnOk result (HasTakenRecords max_bytes (input S.Source events.old) (input S.Source events.new) replica.new) }
+    ensures err { IfErr result (λ stop. TakingStopped stop max_bytes replica.old.limit (input S.Source events.old) (input S.Source events.new)) }
     ensures limit { replica.new.limit ≡ replica.old.limit }
     ensures later { S.faults events.old ≤ S.faults events.new }
     ensures most { S.most_faults events.new ≡ S.most_faults events.old }
@@ -53,7 +53,7 @@ fn take_line(
     reader: &mut PatchReader,
     replica: &mut Replica,
 ) -> Result<(), FollowStop>
-    ensures ok { OnOk result (TakesLine line.now reader.old reader.new replica.old replica.new) }
+    ensures ok { OnOk result (AppliesLine line.now reader.old reader.new replica.old replica.new) }
     ensures err { IfErr result (λ stop. StopsAtLine stop number line.now reader.old reader.new replica.old) }
     ensures limit { replica.new.limit ≡ replica.old.limit }
 {
@@ -68,7 +68,7 @@ fn take_line(
 fn take_record(item: PatchRecord, replica: &mut Replica) -> Result<(), FollowStop>
     requires { IsSound item }
     ensures ok { OnOk result (TakesRecord item replica.old replica.new) }
-    ensures err { IfErr result (λ stop. HeldUp stop ((items : List TheRecord) → HasApplied items replica.old → IsOverfull replica.old.limit (items ++ item ∷ []))) }
+    ensures err { IfErr result (λ stop. HeldUp stop ((items : List TheRecord) → HasApplied items replica.old → IsRecordOverfull replica.old.limit (items ++ item ∷ []))) }
     ensures limit { replica.new.limit ≡ replica.old.limit }
 {
     match replica.receive(item) {
@@ -80,7 +80,7 @@ fn take_record(item: PatchRecord, replica: &mut Replica) -> Result<(), FollowSto
 // Applies the records that are due, one after the other.
 fn apply_due(replica: &mut Replica) -> Result<(), FollowStop>
     ensures ok { OnOk result ((items : List TheRecord) → HasReceived items replica.old → HasApplied items replica.new) }
-    ensures err { IfErr result (λ stop. HeldUp stop ((items : List TheRecord) → HasReceived items replica.old → IsOverfull replica.old.limit items)) }
+    ensures err { IfErr result (λ stop. HeldUp stop ((items : List TheRecord) → HasReceived items replica.old → IsRecordOverfull replica.old.limit items)) }
     ensures limit { replica.new.limit ≡ replica.old.limit }
 {
     loop {

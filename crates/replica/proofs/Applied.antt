@@ -28,7 +28,7 @@ use Rattle.triple_store.proofs.Standing.{owned, stored_if}
 use Rattle.triple_store.proofs.Taking.{one_of}
 use Rattle.replica.specs.declared.record.PatchRecord.{PatchRecord}
 use Rattle.replica.specs.Record.{IsSound}
-use Rattle.replica.specs.Replica.{AreOwnedOnce, effect, is_at_side, patched, room_with}
+use Rattle.replica.specs.Replica.{AreOwnedOnce, effect, is_at_side, patched, terms_with}
 use Rattle.replica.specs.TripleLine.{HasReadableTerms}
 
 -- ---- what comes and what goes
@@ -148,7 +148,7 @@ or_part true a = refl
 or_part false a = refl
 
 -- the effect needs the room that the record needs
-pub same_room : (counts : Counts) (item : PatchRecord) → room_for counts (effect (map.keys counts) item).adds ≡ room_with (map.keys counts) item.adds
+pub same_room : (counts : Counts) (item : PatchRecord) → room_for counts (effect (map.keys counts) item).adds ≡ terms_with (map.keys counts) item.adds
 same_room counts item =
     let came = (effect (map.keys counts) item).adds in
     let same : (t : Triple) → has triple_cmp t (map.keys counts ++ came) ≡ has triple_cmp t (map.keys counts ++ item.adds) = λ t.
@@ -173,10 +173,10 @@ module _ (old new : StoreState) (item : PatchRecord) (once : AreOwnedOnce (count
   keys_after (Ok done) applied = keys_then old new item once sound rest.sound applied.ok
   keys_after (Err fault) applied = tt
 
-  pub full_after : (r : Result (Unit {0}) PoolFault) → IsApplied r → r ≡ Err Full → limit_of old < room_with (map.keys (counts_in old)) item.adds
+  pub full_after : (r : Result (Unit {0}) PoolFault) → IsApplied r → r ≡ Err Full → limit_of old < terms_with (map.keys (counts_in old)) item.adds
   full_after r applied is = subst (λ n. limit_of old < n) (same_room (counts_in old) item) (applied.full is)
 
-  pub within_after : (r : Result (Unit {0}) PoolFault) → IsApplied r → OnOk r (room_with (map.keys (counts_in old)) item.adds ≤ limit_of old)
+  pub within_after : (r : Result (Unit {0}) PoolFault) → IsApplied r → OnOk r (terms_with (map.keys (counts_in old)) item.adds ≤ limit_of old)
   within_after r applied = on_ok_weaker r (subst (λ n. n ≤ limit_of old) (same_room (counts_in old) item)) applied.within
 
 -- ---- the store without triples

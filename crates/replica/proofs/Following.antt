@@ -6,7 +6,7 @@ use Rattle.std.proofs.lemmas.Bool.Decides.{nat_tests}
 use Rattle.rising.proofs.Bools.{or_false_left, or_false_right}
 use Rattle.replica.specs.declared.record.PatchRecord.{PatchRecord}
 use Rattle.replica.specs.Record.{IsSound}
-use Rattle.replica.specs.Replica.{Follows, IsFull, IsWaiting, ReplicaState, after, is_known, numbered, patched_if, room_with, waiting_at}
+use Rattle.replica.specs.Replica.{Follows, HasNoRoomForNext, IsWaiting, ReplicaState, after, is_known, numbered, patched_if, terms_with, waiting_at}
 
 -- ---- the first record with a number
 
@@ -158,10 +158,10 @@ pub follows_nothing : (limit : ℕ) → Follows [] (record { triples = []; appli
 follows_nothing limit = record { triples = refl; received = λ n low high. absurd (omega arith); waits = λ n high. refl }
 
 -- there is no room for the next record
-pub full_is : (state : ReplicaState) → MatchOption (waiting_at state.waiting (state.applied + 1)) ⊥ (λ item. state.limit < room_with state.triples item.adds) → IsFull state
+pub full_is : (state : ReplicaState) → MatchOption (waiting_at state.waiting (state.applied + 1)) ⊥ (λ item. state.limit < terms_with state.triples item.adds) → HasNoRoomForNext state
 full_is state full = by (waiting_at state.waiting (state.applied + 1)) refl full
   where
-    by : (o : Option PatchRecord) → waiting_at state.waiting (state.applied + 1) ≡ o → MatchOption o ⊥ (λ item. state.limit < room_with state.triples item.adds) → IsFull state
+    by : (o : Option PatchRecord) → waiting_at state.waiting (state.applied + 1) ≡ o → MatchOption o ⊥ (λ item. state.limit < terms_with state.triples item.adds) → HasNoRoomForNext state
     by None is h = absurd h
     by (Some item) is h = record { item = item; waits = is; over = h }
 

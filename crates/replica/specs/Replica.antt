@@ -61,8 +61,8 @@ pub record Follows (items : List PatchRecord) (state : ReplicaState) : Type 0 wh
   pub waits : (number : ℕ) → state.applied < number → waiting_at state.waiting number ≡ numbered number items
 
 -- the number of different terms of the triples and of those that come, together
-abbrev pub room_with : List Triple → List Triple → ℕ
-room_with triples adds = distinct (flat_map terms_of (triples ++ adds))
+abbrev pub terms_with : List Triple → List Triple → ℕ
+terms_with triples adds = distinct (flat_map terms_of (triples ++ adds))
 
 -- each stored triple has one owner
 abbrev pub AreOwnedOnce : Counts → Type 0
@@ -84,11 +84,11 @@ unfoldable pub effect : List Triple → PatchRecord → Patch
 effect triples item = record { adds = filter (is_at_side triples false) item.adds; removes = filter (is_at_side triples true) item.removes }
 
 -- the next record waits, and there is no room for its triples beside those that are there
-pub record IsFull (state : ReplicaState) : Type 0 where
+pub record HasNoRoomForNext (state : ReplicaState) : Type 0 where
   pub item : PatchRecord
   pub waits : waiting_at state.waiting (state.applied + 1) ≡ Some item
-  pub over : state.limit < room_with state.triples item.adds
+  pub over : state.limit < terms_with state.triples item.adds
 
 -- where the next record waits, there is room
-abbrev pub HasRoom : ReplicaState → Type 0
-HasRoom state = (item : PatchRecord) → waiting_at state.waiting (state.applied + 1) ≡ Some item → room_with state.triples item.adds ≤ state.limit
+abbrev pub HasRoomForNext : ReplicaState → Type 0
+HasRoomForNext state = (item : PatchRecord) → waiting_at state.waiting (state.applied + 1) ≡ Some item → terms_with state.triples item.adds ≤ state.limit

@@ -7,7 +7,7 @@ ghost use Rattle.rdf_term.specs.Order.{triple_cmp};
 ghost use Rattle.triple_store.specs.StoreState.{counts_in, limit_of};
 ghost use Rattle.replica.specs.declared.record.PatchRecord.{PatchRecord as TheRecord};
 ghost use Rattle.replica.specs.Record.{IsSound};
-ghost use Rattle.replica.specs.Replica.{AreOwnedOnce, effect, is_at_side, patched, patched_if, room_with, waiting_at};
+ghost use Rattle.replica.specs.Replica.{AreOwnedOnce, effect, is_at_side, patched, patched_if, terms_with, waiting_at};
 
 use crate::record::PatchRecord;
 use rdf_term::{List, OutOfMemory, Triple, TripleSet};
@@ -29,8 +29,8 @@ pub fn apply_waiting(
     ensures answer { IfOk result (λ moved. moved ≡ is_some (waiting_at waiting.now.entries number)) }
     ensures ok { OnOk result (map.keys (counts_in store.new) ≡ patched_if (map.keys (counts_in store.old)) (waiting_at waiting.now.entries number)) }
     ensures err { OnErr result (map.keys (counts_in store.new) ≡ map.keys (counts_in store.old)) }
-    ensures full { result ≡ Err StoreFault.Full → MatchOption (waiting_at waiting.now.entries number) ⊥ (λ item. limit_of store.old < room_with (map.keys (counts_in store.old)) item.adds) }
-    ensures within { OnOk result (IfSome (waiting_at waiting.now.entries number) (λ item. room_with (map.keys (counts_in store.old)) item.adds ≤ limit_of store.old)) }
+    ensures full { result ≡ Err StoreFault.Full → MatchOption (waiting_at waiting.now.entries number) ⊥ (λ item. limit_of store.old < terms_with (map.keys (counts_in store.old)) item.adds) }
+    ensures within { OnOk result (IfSome (waiting_at waiting.now.entries number) (λ item. terms_with (map.keys (counts_in store.old)) item.adds ≤ limit_of store.old)) }
     ensures limit { limit_of store.new ≡ limit_of store.old }
 {
     match waiting.get(&number) {
@@ -49,8 +49,8 @@ fn apply(alloc: Global, store: &mut Store, item: &PatchRecord) -> Result<(), Sto
     ensures once { AreOwnedOnce (counts_in store.new) }
     ensures ok { OnOk result (map.keys (counts_in store.new) ≡ patched (map.keys (counts_in store.old)) item.now) }
     ensures err { OnErr result (map.keys (counts_in store.new) ≡ map.keys (counts_in store.old)) }
-    ensures full { result ≡ Err StoreFault.Full → limit_of store.old < room_with (map.keys (counts_in store.old)) item.now.adds }
-    ensures within { OnOk result (room_with (map.keys (counts_in store.old)) item.now.adds ≤ limit_of store.old) }
+    ensures full { result ≡ Err StoreFault.Full → limit_of store.old < terms_with (map.keys (counts_in store.old)) item.now.adds }
+    ensures within { OnOk result (terms_with (map.keys (counts_in store.old)) item.now.adds ≤ limit_of store.old) }
     ensures limit { limit_of store.new ≡ limit_of store.old }
 {
     let Ok(patch) = effect(alloc, store, item) else {

@@ -6,7 +6,7 @@ ghost use Rattle.std.specs.Ordering.{nat_cmp};
 ghost use Rattle.replica.specs.declared.record.PatchRecord.{PatchRecord as TheRecord};
 ghost use Rattle.replica.specs.declared.replica.Received.TheVariants.{Fresh as IsFresh, Repeat as IsRepeat};
 ghost use Rattle.replica.specs.Record.{IsSound};
-ghost use Rattle.replica.specs.Replica.{Follows, HasRoom, IsFull, is_known, nothing_received, numbered, waiting_at};
+ghost use Rattle.replica.specs.Replica.{Follows, HasRoomForNext, HasNoRoomForNext, is_known, nothing_received, numbered, waiting_at};
 
 use crate::applying::apply_waiting;
 use crate::record::PatchRecord;
@@ -116,8 +116,8 @@ impl Replica {
         ensures answer { IfOk result (λ moved. (items : List TheRecord) → Follows items self.old → moved ≡ is_some (numbered (self.old.applied + 1) items)) }
         ensures follows { OnOk result ((items : List TheRecord) → Follows items self.old → Follows items self.new) }
         ensures counted { IfOk result (λ moved. self.new.applied ≡ self.old.applied + cond moved 1 0) }
-        ensures full { result ≡ Err StoreFault.Full → IsFull self.old }
-        ensures within { OnOk result (HasRoom self.old) }
+        ensures full { result ≡ Err StoreFault.Full → HasNoRoomForNext self.old }
+        ensures within { OnOk result (HasRoomForNext self.old) }
         ensures limit { self.new.limit ≡ self.old.limit }
         ensures small { self.new.applied < 2 ^ 64 }
         ensures err { OnErr result (self.new ≡ self.old) }

@@ -93,7 +93,7 @@ full_never size world mapped is_size begun is full =
 -- ---- one delivery of a drill
 
 -- a delivery that wasn't taken wholly: memory was refused, before it or at one of the events that it makes due
-pub record IsHalted (size : ℕ) (ds : List Delivery) (d : Delivery) (stop : Stop) (world : WorldState) : Type 0 where
+pub record IsDrillHalted (size : ℕ) (ds : List Delivery) (d : Delivery) (stop : Stop) (world : WorldState) : Type 0 where
   pub refused : stop ≡ Refused
   pub at : (world.replay ≡ following None (replies_of size) ds) ⊎ ((steps : ℕ) × (world.replay ≡ after_some (replies_of size) steps (entered (following None (replies_of size) ds) d)))
   pub first : IsByFirst world
@@ -177,7 +177,7 @@ module _ (run : DrillRun) (ds after : List Delivery) (d : Delivery) (all : drill
           (λ some. inr (record { before = ds; last = d; after = after; all = all; steps = some.0; is = some.1 }))
           at)
 
-      starves : IsSize run.size → (stop : Stop) (halt : Halt) → stop ≡ stop_of_halt halt → TakesInPart halt (drill_environment run.size) (turn 0 d) before now → IsHalted run.size ds d stop world_now
+      starves : IsSize run.size → (stop : Stop) (halt : Halt) → stop ≡ stop_of_halt halt → TakesInPart halt (drill_environment run.size) (turn 0 d) before now → IsDrillHalted run.size ds d stop world_now
       starves is_size stop halt is x = record {
         refused = is ∙ by halt x.held_up (x.world ds taken.start taken.at_rest);
         at = at;
@@ -197,7 +197,7 @@ module _ (run : DrillRun) (ds after : List Delivery) (d : Delivery) (all : drill
           by (Untold why) held_up part = absurd (⊎_elim (λ never. never) (λ within. within.says) part)
 
       -- it isn't taken wholly
-      pub cut_off : IsSize run.size → (stop : Stop) → CutsOff stop (environment Answers (told_of run.pages.size) folder world.limit) (turn 0 d) before now → IsHalted run.size ds d stop world_now
+      pub cut_off : IsSize run.size → (stop : Stop) → CutsOff stop (environment Answers (told_of run.pages.size) folder world.limit) (turn 0 d) before now → IsDrillHalted run.size ds d stop world_now
       cut_off is_size stop cuts = ⊎_elim
           (λ printing. absurd (no_question printing.2.pattern printing.2.is))
           (⊎_elim
@@ -206,7 +206,7 @@ module _ (run : DrillRun) (ds after : List Delivery) (d : Delivery) (all : drill
           (subst (λ s. CutsOff stop s (turn 0 d) before now) environment_is cuts)
 
 -- a drill that halted has come to a part of any deliveries of which those are the first
-pub halted_in : (size : ℕ) (ds rest whole : List Delivery) (d : Delivery) (stop : Stop) (world : WorldState) → whole ≡ ds ++ d ∷ rest → IsHalted size ds d stop world → IsPartOf size whole world.replay
+pub halted_in : (size : ℕ) (ds rest whole : List Delivery) (d : Delivery) (stop : Stop) (world : WorldState) → whole ≡ ds ++ d ∷ rest → IsDrillHalted size ds d stop world → IsPartOf size whole world.replay
 halted_in size ds rest whole d stop world all halted = ⊎_elim
     (λ same. inl (record { before = ds; after = d ∷ rest; all = all; is = same }))
     (λ some. inr (record { before = ds; last = d; after = rest; all = all; steps = some.0; is = some.1 }))
@@ -222,7 +222,7 @@ part_at_rest run ds out world taken = inl (record {
 })
 
 -- what it leaves
-pub leaves_halted : (size : ℕ) (ds : List Delivery) (d : Delivery) (stop : Stop) (world world_now : WorldState) → IsHalted size ds d stop world_now → world.limit ≡ 20000000 → HoldsWithin 20000000 world →
+pub leaves_halted : (size : ℕ) (ds : List Delivery) (d : Delivery) (stop : Stop) (world world_now : WorldState) → IsDrillHalted size ds d stop world_now → world.limit ≡ 20000000 → HoldsWithin 20000000 world →
     world_now.limit ≡ world.limit → (HoldsWithin world.limit world → HoldsWithin world.limit world_now) → LeavesDrill world_now
 leaves_halted size ds d stop world world_now halted limit within same held = record {
   first = halted.first;

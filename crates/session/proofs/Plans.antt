@@ -1,6 +1,6 @@
 -- What a replay, a drill and a follower leave, by the plan that the words are.
 use Rattle.std.proofs.Common.{◌≡◌, subst, ℕ, Some, IfSome}
-use Rattle.following.specs.Following.{Moment as FollowMoment}
+use Rattle.following.specs.Following.{FollowMoment}
 use Rattle.words.specs.Options.{Choices, FollowChoices, max_bytes_of}
 use Rattle.words.specs.declared.plan.Plan.{Plan}
 use Rattle.words.specs.declared.plan.Plan.TheVariants.{Replay, Drill, Follow}

@@ -43,7 +43,8 @@ use Rattle.term_pool.specs.declared.fault.PoolFault.TheVariants.{Full as NoRoom,
 use Rattle.session.specs.Counts.{SourceCounts}
 use Rattle.session.specs.Course.{course_after, course_begun, course_remapping}
 use Rattle.session.specs.Headline.{IsPlayed, IsPlayedAfter, StandsAtPage, StandsAtQuestion, Stopped}
-use Rattle.session.specs.Moment.{Input, Moment, Run, Environment, Stage, horizon_at, onward, with_mapped, with_output}
+use Rattle.following.specs.Input.{Input}
+use Rattle.session.specs.Moment.{Moment, Run, Environment, Stage, horizon_at, onward, with_mapped, with_output}
 use Rattle.session.specs.Needed.{HaveRoomBefore, needed_anew}
 use Rattle.session.specs.Reading.{AreFirst, HasRead, TakesByNeed}
 use Rattle.session.specs.Remapping.{IsLeftStale, Mapped, held_triples, mapped_by, remapped_some}

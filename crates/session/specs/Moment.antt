@@ -10,6 +10,7 @@ use Rattle.replay_model.specs.Records.{Bytes}
 use Rattle.replay_model.specs.ReplayState.{ReplayState, nothing_delivered_within}
 use Rattle.world.specs.WorldState.{WorldState}
 use Rattle.transcript.specs.Printing.{Output, output}
+use Rattle.following.specs.Input.{Input, input}
 use Rattle.session.specs.declared.ports.Ports.{Ports}
 use Rattle.session.specs.declared.report.Report.{Report}
 use Rattle.session.specs.Counts.{SourceCounts, counts}
@@ -63,12 +64,6 @@ with_output s out = record { output = out; counts = s.counts; world = s.world; m
 abbrev pub with_mapped : Stage → Mapped → Stage
 with_mapped s mapped = record { output = s.output; counts = s.counts; world = s.world; mapped = mapped }
 
--- an input at a moment: the bytes that are left of it, where they are known, and how many reads failed, as far as 64 bits
--- count them
-pub record Input : Type 0 where
-  pub left : Option (List ℕ)
-  pub faults : ℕ
-
 -- what stands at a moment of a run
 pub record Moment : Type 0 where
   pub input : Input
@@ -76,8 +71,8 @@ pub record Moment : Type 0 where
 
 -- the moment that these are
 abbrev pub moment : {S R K : Type 0} → SourceOf S → RevisionsOf R → SinkOf K → Ports S R K → WorldState → Moment
-moment input source sink ports world = record {
-  input = record { left = input.left ports.events; faults = input.faults ports.events };
+moment events source sink ports world = record {
+  input = input events ports.events;
   stage = stage source sink ports.revisions ports.out world;
 }
 

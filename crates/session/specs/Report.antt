@@ -87,21 +87,21 @@ TellsStepBy Answers reported s old new (Err why) = ⊥
 TellsStepBy Changes reported s old new result = TellsStep reported s old new result
 
 -- the records of these steps were written behind so many, and so many are written then
-pub record Tells (told : ℕ) (steps : List Step) (told_now : ℕ) (old new : Option (List ℕ)) : Type 0 where
+pub record HasToldSteps (told : ℕ) (steps : List Step) (told_now : ℕ) (old new : Option (List ℕ)) : Type 0 where
   pub counted : (earlier : List Step) → told ≡ changes earlier → told_now ≡ changes (earlier ++ steps)
   pub bytes : (earlier : List Step) (start : Option (List ℕ)) → told ≡ changes earlier → old ≡ after_known start (stream_text earlier) → new ≡ after_known start (stream_text (earlier ++ steps))
 
 -- where changes are reported; else nothing is written
 abbrev pub TellsBy : Report → ℕ → List Step → ℕ → Output → Output → Type 0
 TellsBy Answers reported steps reported_now old new = (reported_now ≡ reported) × (new ≡ old)
-TellsBy Changes reported steps reported_now old new = Tells reported steps reported_now old.bytes new.bytes
+TellsBy Changes reported steps reported_now old new = HasToldSteps reported steps reported_now old.bytes new.bytes
 
 -- the records of these steps were written, and that of a last one wasn't written wholly
 pub record BreaksOff (why : Unwritten) (told : ℕ) (steps : List Step) (last : Step) (old new : Output) : Type 0 where
   pub differs : is_change last ≡ true
   pub between : Output
   pub told_then : ℕ
-  pub tells : Tells told steps told_then old.bytes between.bytes
+  pub tells : HasToldSteps told steps told_then old.bytes between.bytes
   pub cut_short : IsCutShort why (record_text (record_of_step (told_then + 1) last)) between new
 
 -- where changes are reported; else this never is

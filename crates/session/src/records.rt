@@ -2,7 +2,7 @@
 
 ghost use Rattle.std.specs.Prelude.{◌≡◌, IfErr, OnOk};
 ghost use Rattle.replay_model.specs.ReplayState.{nothing_delivered};
-ghost use Rattle.following.specs.Following.{Ending, moment};
+ghost use Rattle.following.specs.Following.{Ending, follow_moment};
 ghost use Rattle.session.specs.Counts.{HaveGoneOn};
 ghost use Rattle.session.specs.Records.{FollowStopped};
 ghost use Rattle.session.specs.Remapping.{HoldsWithin};
@@ -29,9 +29,9 @@ pub fn follow_records<S: Source, R: Revisions, K: Sink>(
     world: &mut World,
 ) -> Result<(), Stop>
     requires world { world.old.replay ≡ nothing_delivered }
-    ensures ok { OnOk result (Ending options.now (moment S.Source K.Sink ports.old.events ports.old.out) (moment S.Source K.Sink ports.new.events ports.new.out)) }
+    ensures ok { OnOk result (Ending options.now (follow_moment S.Source K.Sink ports.old.events ports.old.out) (follow_moment S.Source K.Sink ports.new.events ports.new.out)) }
     ensures err { IfErr result (λ stop. FollowStopped stop options.now
-        (moment S.Source K.Sink ports.old.events ports.old.out) (moment S.Source K.Sink ports.new.events ports.new.out)) }
+        (follow_moment S.Source K.Sink ports.old.events ports.old.out) (follow_moment S.Source K.Sink ports.new.events ports.new.out)) }
     ensures others { ports.new ≡ record ports.old { events = ports.new.events; out = ports.new.out } }
     ensures empty { world.new ≡ record world.old { limit = 20000000 } }
     ensures held { HoldsWithin 20000000 world.new }

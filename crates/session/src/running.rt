@@ -11,7 +11,7 @@ ghost use Rattle.session.specs.Headline.{ReplayEnding};
 ghost use Rattle.session.specs.Moment.{moment, run_of, stage, world_at_start};
 ghost use Rattle.session.specs.Remapping.{HoldsWithin};
 ghost use Rattle.session.specs.Room.{limit_of_plan};
-ghost use Rattle.following.specs.Following.{moment as follow_moment};
+ghost use Rattle.following.specs.Following.{follow_moment};
 ghost use Rattle.words.specs.Options.{Choices, FollowChoices};
 ghost use Rattle.words.specs.Plan.{plan_of};
 ghost use Rattle.words.specs.declared.plan.Plan.{Plan as ThePlan};

@@ -13,7 +13,7 @@ use Rattle.rdf_term.specs.Order.{triple_cmp}
 use Rattle.entity_model.specs.declared.id.EntityId.{EntityId}
 use Rattle.entity_model.specs.EntityId.{entity_cmp, entity_cmp_total, entity_cmp_same}
 use Rattle.term_pool.specs.declared.fault.PoolFault.{PoolFault}
-use Rattle.subgraph.specs.Entries.{Entry, GraphState, graph_triples, room_with, triples_in, union_of}
+use Rattle.subgraph.specs.Entries.{Entry, GraphState, graph_triples, terms_with, triples_in, union_of}
 use Rattle.subgraph.specs.Placing.{AreApart, HaveLimit, IsPlaced, IsSetAt, set_at, set_of}
 use Rattle.subgraph.specs.Split.{entries_from, entries_in, entry, graph_of}
 use Rattle.subgraph.proofs.Owning.{gathered_if, id_tells, same_gathered}
@@ -380,20 +380,20 @@ some_graph (g ∷ gs) zero low = (g, refl)
 some_graph (g ∷ gs) (suc i) low = some_graph gs i (omega (arith, low))
 
 module _ (gs : List GraphState) (i : ℕ) (limit : ℕ) (ts : List Triple) (apart : AreApart gs) (have : HaveLimit limit gs) (low : i < length gs) where
-  pub is_full : IfSome (slice_get gs i) (λ g. g.limit < room_with (union_of g.sets) ts) → limit < room_with (graph_triples (entries_in gs) i) ts
+  pub is_full : IfSome (slice_get gs i) (λ g. g.limit < terms_with (union_of g.sets) ts) → limit < terms_with (graph_triples (entries_in gs) i) ts
   is_full full =
       let one : (g : GraphState) × (slice_get gs i ≡ Some g) = some_graph gs i low in
-      let here : one.0.limit < room_with (union_of one.0.sets) ts = subst (λ o. IfSome o (λ (g : GraphState). g.limit < room_with (union_of g.sets) ts)) one.1 full in
+      let here : one.0.limit < terms_with (union_of one.0.sets) ts = subst (λ o. IfSome o (λ (g : GraphState). g.limit < terms_with (union_of g.sets) ts)) one.1 full in
       let same : one.0.limit ≡ limit = have i one.0 one.1 in
-      let room : room_with (graph_triples (entries_in gs) i) ts ≡ room_with (union_of one.0.sets) ts = ap (λ us. room_with us ts) (graph_is gs i one.0 apart one.1) in
+      let room : terms_with (graph_triples (entries_in gs) i) ts ≡ terms_with (union_of one.0.sets) ts = ap (λ us. terms_with us ts) (graph_is gs i one.0 apart one.1) in
       omega (arith, here, same, room)
 
-  pub is_within : IfSome (slice_get gs i) (λ g. room_with (union_of g.sets) ts ≤ g.limit) → room_with (graph_triples (entries_in gs) i) ts ≤ limit
+  pub is_within : IfSome (slice_get gs i) (λ g. terms_with (union_of g.sets) ts ≤ g.limit) → terms_with (graph_triples (entries_in gs) i) ts ≤ limit
   is_within within =
       let one : (g : GraphState) × (slice_get gs i ≡ Some g) = some_graph gs i low in
-      let here : room_with (union_of one.0.sets) ts ≤ one.0.limit = subst (λ o. IfSome o (λ (g : GraphState). room_with (union_of g.sets) ts ≤ g.limit)) one.1 within in
+      let here : terms_with (union_of one.0.sets) ts ≤ one.0.limit = subst (λ o. IfSome o (λ (g : GraphState). terms_with (union_of g.sets) ts ≤ g.limit)) one.1 within in
       let same : one.0.limit ≡ limit = have i one.0 one.1 in
-      let room : room_with (graph_triples (entries_in gs) i) ts ≡ room_with (union_of one.0.sets) ts = ap (λ us. room_with us ts) (graph_is gs i one.0 apart one.1) in
+      let room : terms_with (graph_triples (entries_in gs) i) ts ≡ terms_with (union_of one.0.sets) ts = ap (λ us. terms_with us ts) (graph_is gs i one.0 apart one.1) in
       omega (arith, here, same, room)
 
 -- ---- graphs without entities

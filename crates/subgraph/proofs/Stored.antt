@@ -18,7 +18,7 @@ use Rattle.triple_store.specs.Room.{distinct, room_for, terms_of}
 use Rattle.triple_store.specs.StoreState.{IsSound, StoreState, counts_in}
 use Rattle.triple_store.specs.Updates.{MayCome}
 use Rattle.triple_store.proofs.Laid.{sound_owned}
-use Rattle.subgraph.specs.Entries.{owners_of, room_with, union_of}
+use Rattle.subgraph.specs.Entries.{owners_of, terms_with, union_of}
 use Rattle.subgraph.specs.Graph.{IsInStep, keys_at, meant, sets_in}
 use Rattle.subgraph.proofs.Owning.{few_owners, has-gathered}
 use Rattle.subgraph.proofs.Stepping.{get_set}
@@ -40,7 +40,7 @@ module _ (s : StoreState) (owned : List (EntityId × Keys)) (h : IsInStep s owne
       (λ t. sym (map.contains_key-keys (counts_in s) t) ∙ is_stored (counts_in s) t (sound_owned s h.sound) ∙ ap (nat_lt 0) (h.counted t) ∙ sym (has-gathered (λ (e : EntityId × List Triple). e.1) (sets_in s owned) t))
 
   -- the room that others need beside them
-  pub room_is : (ts : List Triple) → room_for (counts_in s) ts ≡ room_with (union_of (sets_in s owned)) ts
+  pub room_is : (ts : List Triple) → room_for (counts_in s) ts ≡ terms_with (union_of (sets_in s owned)) ts
   room_is ts = ap (λ (xs : List Triple). distinct (flat_map terms_of (xs ++ ts))) stored_union
 
 -- whether an entity has a set

@@ -49,5 +49,5 @@ pub record SplitState : Type 0 where
   pub limit : ℕ
 
 -- the number of different terms of triples and of others together
-abbrev pub room_with : List Triple → List Triple → ℕ
-room_with triples others = distinct (flat_map terms_of (triples ++ others))
+abbrev pub terms_with : List Triple → List Triple → ℕ
+terms_with triples others = distinct (flat_map terms_of (triples ++ others))

@@ -12,7 +12,7 @@ ghost use Rattle.rdf_term.specs.Pattern.{rows};
 ghost use Rattle.entity_model.specs.declared.id.EntityId.{EntityId as Id};
 ghost use Rattle.entity_model.specs.EntityId.{entity_cmp};
 ghost use Rattle.term_pool.specs.declared.fault.PoolFault.TheVariants.{Full};
-ghost use Rattle.subgraph.specs.Entries.{room_with, union_of};
+ghost use Rattle.subgraph.specs.Entries.{terms_with, union_of};
 ghost use Rattle.subgraph.specs.Graph.{keys_at, rising_keys};
 
 use base::OutOfMemory;
@@ -73,8 +73,8 @@ impl Graph {
         requires fit { AllByRecursion HasFitAndShortTerms new.now }
         ensures ok { OnOk result (self.new ≡ record self.old { sets = map.insert self.old.sets id (sorted triple_cmp new.now) }) }
         ensures err { OnErr result (self.new ≡ self.old) }
-        ensures full { result ≡ Err Full → self.old.limit < room_with (union_of self.old.sets) new.now }
-        ensures within { OnOk result (room_with (union_of self.old.sets) new.now ≤ self.old.limit) }
+        ensures full { result ≡ Err Full → self.old.limit < terms_with (union_of self.old.sets) new.now }
+        ensures within { OnOk result (terms_with (union_of self.old.sets) new.now ≤ self.old.limit) }
     {
         // A triple has at most as many owners as there are entities, so no count is at its last value.
         let entities = self.owned.len();

@@ -6,7 +6,7 @@ ghost use Rattle.rising.specs.Rising.{sorted};
 ghost use Rattle.rdf_term.specs.Fit.{HasFitAndShortTerms};
 ghost use Rattle.rdf_term.specs.Order.{triple_cmp};
 ghost use Rattle.term_pool.specs.declared.fault.PoolFault.TheVariants.{Full};
-ghost use Rattle.subgraph.specs.Entries.{room_with, union_of};
+ghost use Rattle.subgraph.specs.Entries.{terms_with, union_of};
 ghost use Rattle.subgraph.specs.Placing.{AreApart, IsPlaced, IsSetAt, set_at};
 ghost use Rattle.subgraph.specs.Split.{entry};
 
@@ -28,8 +28,8 @@ pub fn set_in(
     requires fit { AllByRecursion HasFitAndShortTerms new.now }
     ensures ok { OnOk result (IsPlaced graphs.old.items graphs.new.items id (Some (entry graph (sorted triple_cmp new.now)))) }
     ensures err { OnErr result (graphs.new.items ≡ graphs.old.items) }
-    ensures full { result ≡ Err Full → IfSome (slice_get graphs.old.items graph) (λ g. g.limit < room_with (union_of g.sets) new.now) }
-    ensures within { OnOk result (IfSome (slice_get graphs.old.items graph) (λ g. room_with (union_of g.sets) new.now ≤ g.limit)) }
+    ensures full { result ≡ Err Full → IfSome (slice_get graphs.old.items graph) (λ g. g.limit < terms_with (union_of g.sets) new.now) }
+    ensures within { OnOk result (IfSome (slice_get graphs.old.items graph) (λ g. terms_with (union_of g.sets) new.now ≤ g.limit)) }
 {
     let before = graph_with(graphs, id);
     match set_at(graphs, graph, id, new) {
@@ -80,8 +80,8 @@ fn set_at(
     requires fit { AllByRecursion HasFitAndShortTerms new.now }
     ensures ok { OnOk result (IsSetAt graphs.old.items graphs.new.items graph id (Some (sorted triple_cmp new.now))) }
     ensures err { OnErr result (graphs.new.items ≡ graphs.old.items) }
-    ensures full { result ≡ Err Full → IfSome (slice_get graphs.old.items graph) (λ g. g.limit < room_with (union_of g.sets) new.now) }
-    ensures within { OnOk result (IfSome (slice_get graphs.old.items graph) (λ g. room_with (union_of g.sets) new.now ≤ g.limit)) }
+    ensures full { result ≡ Err Full → IfSome (slice_get graphs.old.items graph) (λ g. g.limit < terms_with (union_of g.sets) new.now) }
+    ensures within { OnOk result (IfSome (slice_get graphs.old.items graph) (λ g. terms_with (union_of g.sets) new.now ≤ g.limit)) }
 {
     graphs[graph].set(id, new)
 }

@@ -8,7 +8,7 @@ ghost use Rattle.rdf_term.specs.Fit.{HasFitAndShortTerms};
 ghost use Rattle.rdf_term.specs.Order.{triple_cmp};
 ghost use Rattle.rdf_term.specs.Pattern.{rows};
 ghost use Rattle.term_pool.specs.declared.fault.PoolFault.TheVariants.{Full};
-ghost use Rattle.subgraph.specs.Entries.{graph_triples, room_with};
+ghost use Rattle.subgraph.specs.Entries.{graph_triples, terms_with};
 ghost use Rattle.subgraph.specs.Split.{entry, graph_of};
 
 use crate::graph::Graph;
@@ -80,8 +80,8 @@ impl Split {
         requires fit { AllByRecursion HasFitAndShortTerms new.now }
         ensures ok { OnOk result (self.new ≡ record self.old { entries = map.insert self.old.entries id (entry graph new.now) }) }
         ensures err { OnErr result (self.new ≡ self.old) }
-        ensures full { result ≡ Err Full → self.old.limit < room_with (graph_triples self.old.entries graph) new.now }
-        ensures within { OnOk result (room_with (graph_triples self.old.entries graph) new.now ≤ self.old.limit) }
+        ensures full { result ≡ Err Full → self.old.limit < terms_with (graph_triples self.old.entries graph) new.now }
+        ensures within { OnOk result (terms_with (graph_triples self.old.entries graph) new.now ≤ self.old.limit) }
     {
         let Ok(texts) = texts_of(self.alloc(), new) else {
             return Err(StoreFault::OutOfMemory);
@@ -105,8 +105,8 @@ impl Split {
         requires fit { AllByRecursion HasFitAndShortTerms new.now }
         ensures ok { OnOk result (self.new ≡ record self.old { entries = map.insert self.old.entries id (entry graph (sorted triple_cmp new.now)) }) }
         ensures err { OnErr result (self.new ≡ self.old) }
-        ensures full { result ≡ Err Full → self.old.limit < room_with (graph_triples self.old.entries graph) new.now }
-        ensures within { OnOk result (room_with (graph_triples self.old.entries graph) new.now ≤ self.old.limit) }
+        ensures full { result ≡ Err Full → self.old.limit < terms_with (graph_triples self.old.entries graph) new.now }
+        ensures within { OnOk result (terms_with (graph_triples self.old.entries graph) new.now ≤ self.old.limit) }
     {
         set_in(&mut self.graphs, id, graph, new)
     }

@@ -2,7 +2,7 @@
 use Rattle.std.proofs.Common.{◌∙◌, inl, refl, ap}
 use Rattle.std.proofs.lemmas.Result.{err_from_is_err_and}
 use Rattle.replica.specs.Replica.{ReplicaState}
-use Rattle.following.specs.Following.{moment}
+use Rattle.following.specs.Following.{follow_moment}
 use Rattle.following.proofs.Ended.{broken_off, ended}
 use Rattle.following.proofs.following.follow.Goals as goal
 
@@ -24,12 +24,12 @@ pub returns-in-Ok-clause-ok : goal.returns-in-Ok-clause-ok
 returns-in-Ok-clause-ok g c =
     let limit = c.take_records.ensures.limit ∙ ap (λ (s : ReplicaState). s.limit) c.in_ok-replica.ensures.new in
     let taken = rw c.max_bytes.ensures.value at c.in_ok-take_records.ensures.ok in
-    ended c.args.options.now (moment g.S.Source g.K.Sink c.args.events.now c.args.out.now) (moment g.S.Source g.K.Sink c.take_records.new.events c.print_replica.new.out) c.take_records.new.replica taken limit
+    ended c.args.options.now (follow_moment g.S.Source g.K.Sink c.args.events.now c.args.out.now) (follow_moment g.S.Source g.K.Sink c.take_records.new.events c.print_replica.new.out) c.take_records.new.replica taken limit
     (rw c.export.ensures at c.in-Ok.ensures)
 
 pub returns-clause-err : goal.returns-clause-err
 returns-clause-err g c =
     let limit = c.take_records.ensures.limit ∙ ap (λ (s : ReplicaState). s.limit) c.in_ok-replica.ensures.new in
     let taken = rw c.max_bytes.ensures.value at c.in_ok-take_records.ensures.ok in
-    rw c.from.ensures (broken_off c.args.options.now (moment g.S.Source g.K.Sink c.args.events.now c.args.out.now) (moment g.S.Source g.K.Sink c.take_records.new.events c.print_replica.new.out) c.take_records.new.replica taken limit c.in-Err.why
+    rw c.from.ensures (broken_off c.args.options.now (follow_moment g.S.Source g.K.Sink c.args.events.now c.args.out.now) (follow_moment g.S.Source g.K.Sink c.take_records.new.events c.print_replica.new.out) c.take_records.new.replica taken limit c.in-Err.why
     (rw c.export.ensures at c.in-Err.ensures))

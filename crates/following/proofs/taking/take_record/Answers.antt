@@ -2,7 +2,7 @@
 use Rattle.std.proofs.Common.{◌∷◌, ◌++◌, [], ap, inl, inr, subst, ⊎_elim}
 use Rattle.std.proofs.lemmas.Result.{IfErr-weaker, on_ok_weaker}
 use Rattle.replica.specs.Replica.{ReplicaState}
-use Rattle.following.specs.Taking.{IsOverfull}
+use Rattle.following.specs.Taking.{IsRecordOverfull}
 use Rattle.following.proofs.Received.{receives}
 use Rattle.following.proofs.taking.take_record.Goals as goal
 
@@ -16,7 +16,7 @@ returns-in-Ok-clause-err c =
     IfErr-weaker c.apply_due.result _ _ (λ stop h. ⊎_elim
     (λ full. inl (
       full.0,
-      λ items applied. subst (λ n. IsOverfull n (items ++ c.args.item ∷ [])) (ap (λ (s : ReplicaState). s.limit) c.receive.ensures.others) (full.1 (items ++ c.args.item ∷ [])
+      λ items applied. subst (λ n. IsRecordOverfull n (items ++ c.args.item ∷ [])) (ap (λ (s : ReplicaState). s.limit) c.receive.ensures.others) (full.1 (items ++ c.args.item ∷ [])
           (receives items c.args.item c.args.replica.now c.receive.new.self c.receive.ensures.others (c.in-Ok.ensures.follows items applied.received.follows) applied.received)),
     ))
     (λ refused. inr refused) h) c.apply_due.ensures.err

@@ -4,7 +4,7 @@ use Rattle.words.specs.declared.plan.Plan.TheVariants.{Replay, Drill, Follow}
 use Rattle.session.specs.declared.report.Report.TheVariants.{Answers}
 use Rattle.session.specs.declared.status.Status.TheVariants.{Ok as Ended}
 use Rattle.session.specs.Drilling.{DrillEnding}
-use Rattle.following.specs.Following.{moment as follow_moment}
+use Rattle.following.specs.Following.{follow_moment}
 use Rattle.session.specs.Records.{FollowEnding}
 use Rattle.session.specs.Headline.{ReplayEnding}
 use Rattle.session.specs.Moment.{moment, run_of, stage, world_at_start}

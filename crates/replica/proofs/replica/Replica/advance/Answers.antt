@@ -1,7 +1,7 @@
 -- The next record is applied where it waits.
 use Rattle.std.proofs.Common.{◌≡◌, ◌≤◌, ◌+◌, ◌^◌, ℕ, Some, ap, subst, sym, arith}
 use Rattle.replica.specs.declared.record.PatchRecord.{PatchRecord}
-use Rattle.replica.specs.Replica.{IsFull, IsWaiting, ReplicaState, waiting_at}
+use Rattle.replica.specs.Replica.{HasNoRoomForNext, IsWaiting, ReplicaState, waiting_at}
 use Rattle.replica.proofs.Following.{full_is, none_past, waiting_without}
 use Rattle.replica.proofs.replica.Replica.advance.Goals as goal
 
@@ -18,7 +18,7 @@ invariant_of-self c = (
 )
 
 pub returns-in-Err-clause-full : goal.returns-in-Err-clause-full
-returns-in-Err-clause-full c = λ is. subst IsFull c.self.view_is (full_is _ (c.in-Err.ensures.full is))
+returns-in-Err-clause-full c = λ is. subst HasNoRoomForNext c.self.view_is (full_is _ (c.in-Err.ensures.full is))
 
 pub returns-then-self-clause-answer : goal.returns-then-self-clause-answer
 returns-then-self-clause-answer c = λ items follows.
