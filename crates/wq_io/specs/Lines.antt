@@ -177,6 +177,15 @@ Leaves TooLong old left left_now = ⊤
 Leaves (LineLong number) old left left_now = ⊤
 Leaves OutOfMemory old left left_now = ⊤
 
+-- what a line has after a fault: the first bytes of what was unread, which have no line feed and lie within both limits; as many as were
+-- judged before
+pub record IsPartOfLine (old : Reading) (left : Option (List ℕ)) (line : List ℕ) : Type 0 where
+  pub others : Option (List ℕ)
+  pub front : unread old left ≡ before_known line others
+  pub in_line : IsOneLine line
+  pub within : length line ≤ room old
+  pub short : length line ≤ old.max_line
+
 -- the reader after a line or the end
 pub record GoesOn (old new : Reading) (line : List ℕ) : Type 0 where
   pub limit : new.max_bytes ≡ old.max_bytes

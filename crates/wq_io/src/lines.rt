@@ -2,7 +2,7 @@
 
 ghost use Rattle.std.specs.Prelude.{◌≡◌, ◌+◌, ◌<◌, ◌≤◌, ◌^◌, ◌↔◌, true, false, [], ◌∷◌, ◌++◌, length, take, drop, IsTrue, IfOk, IfErr, IfSome, OnOk, IsErr, is_err, MatchOption, MatchBool, vec_len, position, ◌==◌, ◌≢◌, IsNone, ◌⊎◌};
 ghost use Rattle.wq_io.specs.Streams.{before_known, IsAtEnd, Rose};
-ghost use Rattle.wq_io.specs.Lines.{fresh, taken, room, unread, input_length, GivesLine, GoesOn, HasCause, IsOneLine, IsSound, Leaves, ReadsAsNeeded, TakesBytes, line_feed, longest_line};
+ghost use Rattle.wq_io.specs.Lines.{fresh, taken, room, unread, input_length, GivesLine, GoesOn, HasCause, IsOneLine, IsPartOfLine, IsSound, Leaves, ReadsAsNeeded, TakesBytes, line_feed, longest_line};
 ghost use Rattle.wq_io.specs.Taking.{EndsAt, HasByte, IsEnded, IsLeftHeld, IsUnreadable, ReadsByNeed, Refills, TakesHeld};
 ghost use Rattle.wq_io.specs.declared.lines.LineFault.TheVariants.{ReadFault as NotRead, LineLong as OverLong, OutOfMemory as Refused};
 
@@ -106,10 +106,11 @@ impl Lines {
     }
 
     /// Puts the next line without its line feed into `line` and answers its number, from 1; `None` is the end of the
-    /// input. A last line without line feed is a line. The source is the one of the calls before.
+    /// input, and leaves `line` empty. A last line without line feed is a line. The source is the one of the calls before.
     ///
     /// `ReadFault` comes where a read failed, `TooLong` at the first byte past the limit of the input, `LineLong` at the first byte past the
-    /// limit of a line, whichever is judged first, and `OutOfMemory` where the line can't be held. After a fault the reader isn't asked again.
+    /// limit of a line, whichever is judged first, and `OutOfMemory` where the line can't be held. After a fault `line` has a first part of
+    /// the line, and the reader isn't asked again.
     pub fn next<S: Source>(
         &mut self,
         source: &mut S,
@@ -119,6 +120,8 @@ impl Lines {
         requires ended { self.old.ended ≡ true → IsAtEnd (S.left source.old) }
         ensures line { IfOk result (λ number.
             GivesLine (unread self.old (S.left source.old)) (unread self.new (S.left source.new)) number line.new.items) }
+        ensures cleared { IfOk result (λ number. IsNone number → line.new.items ≡ []) }
+        ensures part { IfErr result (λ _. IsPartOfLine self.old (S.left source.old) line.new.items) }
         ensures bytes { IfOk result (λ number. IfSome number (λ _.
             TakesBytes self.new.ended (unread self.old (S.left source.old)) (unread self.new (S.left source.new)) line.new.items)) }
         ensures number { IfOk result (λ number. MatchOption number (self.new.given ≡ self.old.given)
@@ -268,6 +271,7 @@ impl Lines {
         ensures takes { IfOk result (λ ended. TakesHeld self.old self.new line.old.items line.new.items ended) }
         ensures cause { IfErr result (λ fault. IsLeftHeld fault self.old line.old.items) }
         ensures unchanged { IsErr result → self.new ≡ self.old }
+        ensures kept { IsErr result → line.new.items ≡ line.old.items }
     {
         let number = self.given + 1;
         let max_line = self.max_line;
@@ -349,6 +353,7 @@ fn append(line: &mut Vec<u8>, bytes: &[u8], number: u64, max_line: u64) -> Resul
     ensures ok { OnOk result ((line.new.items ≡ line.old.items ++ bytes.now) × (length line.new.items ≤ max_line)) }
     ensures cause { IfErr result (λ fault. (fault ≡ Refused)
         ⊎ ((fault ≡ OverLong number) × (max_line < length line.old.items + length bytes.now))) }
+    ensures kept { IsErr result → line.new.items ≡ line.old.items }
 {
     if bytes.len() as u64 > max_line - line.len() as u64 {
         return Err(LineFault::LineLong(number));
