@@ -8,13 +8,13 @@ use Rattle.entity_model.specs.declared.id.IdKind.TheVariants.{Q, L}
 use Rattle.entity_model.specs.declared.lexeme.Lexeme.{Lexeme}
 use Rattle.entity_model.specs.declared.lexeme.Part.{Part}
 use Rattle.entity_model.specs.EntityId.{id_text}
-use Rattle.entity_model.specs.Lexeme.{IsPartId, form_mark, is_part_id, sense_mark}
+use Rattle.entity_model.specs.Lexeme.{IsPartId, is_part_id}
 use Rattle.entity_model.proofs.PartIds.{part_id-sound, part_id-complete}
-use Rattle.entity_json.specs.Joined.{InOptionalList}
+use Rattle.entity_json.specs.declared.lexeme.PartKind.{PartKind}
+use Rattle.entity_json.specs.declared.lexeme.PartKind.TheVariants.{Form, Sense}
 use Rattle.entity_json.specs.Leaves.{◌>>=◌, text_at, id_of_kind_at, optional_text_at}
-use Rattle.entity_json.specs.Lexemes.{IsForm, IsLexeme, IsSense}
-use Rattle.entity_json.specs.Reading.Items.{item_ids_at}
-use Rattle.entity_json.specs.Reading.Lexemes.{form_of, form_step, forms_at, lexeme_of, own_part_id, part_id_at, sense_of, sense_step, senses_at}
+use Rattle.entity_json.specs.Lexemes.{AreParts, HasFeatures, IsLexeme, IsPart, list_name, mark_of, texts_name}
+use Rattle.entity_json.specs.Reading.Lexemes.{features_by_kind, lexeme_of, own_part_id, part_id_at, part_of, parts_at}
 use Rattle.entity_json.specs.Reading.Statements.{statements_at}
 use Rattle.entity_json.specs.Reading.Terms.{labels_at}
 use Rattle.entity_json.proofs.Agree.{Agree, optional_list-sound, optional_list-complete}
@@ -36,87 +36,54 @@ id_at-complete : (x : EntityId) (mark : List ℕ) (t : Tree) (id : List ℕ) →
 unfolding part_id_at
 id_at-complete x mark t id text is = rw (text, part_id-complete x mark id is) refl
 
--- a form
-form-sound : (x : EntityId) (t : Tree) (p : Part) → form_of (id_text x ++ form_mark) t ≡ Some p → IsForm x t p
-unfolding form_of
-form-sound x t p e =
-    let id = bind_some (part_id_at (id_text x ++ form_mark) t) _ e in
-    let texts = bind_some (labels_at (codes "representations") t) _ id.1.1 in
-    let features = bind_some (item_ids_at (codes "grammaticalFeatures") t) _ texts.1.1 in
+-- its features
+features-sound : (kind : PartKind) (t : Tree) (xs : List EntityId) → features_by_kind kind t ≡ Some xs → HasFeatures kind t xs
+features-sound Form t xs e = item_ids-sound (codes "grammaticalFeatures") t xs e
+features-sound Sense t xs e = sym (some_is e)
+
+features-complete : (kind : PartKind) (t : Tree) (xs : List EntityId) → HasFeatures kind t xs → features_by_kind kind t ≡ Some xs
+features-complete Form t xs h = item_ids-complete (codes "grammaticalFeatures") t xs h
+features-complete Sense t xs h = ap Some (sym h)
+
+-- a part
+part-sound : (x : EntityId) (kind : PartKind) (t : Tree) (p : Part) → part_of kind (id_text x ++ mark_of kind) t ≡ Some p → IsPart x kind t p
+unfolding part_of
+part-sound x kind t p e =
+    let id = bind_some (part_id_at (id_text x ++ mark_of kind) t) _ e in
+    let texts = bind_some (labels_at (texts_name kind) t) _ id.1.1 in
+    let features = bind_some (features_by_kind kind t) _ texts.1.1 in
     let statements = bind_some (statements_at (codes "claims") t) _ features.1.1 in
     let is = some_is statements.1.1 in
-    let own = id_at-sound x form_mark t p.id (id.1.0 ∙ ap (λ (r : Part). Some r.id) is) in
+    let own = id_at-sound x (mark_of kind) t p.id (id.1.0 ∙ ap (λ (r : Part). Some r.id) is) in
     record {
-      part = record {
-        id = own.0;
-        is_id = own.1;
-        texts = labels-sound (codes "representations") t p.texts (texts.1.0 ∙ ap (λ (r : Part). Some r.texts) is);
-        statements = statements-sound t p.statements (statements.1.0 ∙ ap (λ (r : Part). Some r.statements) is);
-      };
-      features = item_ids-sound (codes "grammaticalFeatures") t p.features (features.1.0 ∙ ap (λ (r : Part). Some r.features) is);
+      id = own.0;
+      is_id = own.1;
+      texts = labels-sound (texts_name kind) t p.texts (texts.1.0 ∙ ap (λ (r : Part). Some r.texts) is);
+      features = features-sound kind t p.features (features.1.0 ∙ ap (λ (r : Part). Some r.features) is);
+      statements = statements-sound t p.statements (statements.1.0 ∙ ap (λ (r : Part). Some r.statements) is);
     }
 
-form-complete : (x : EntityId) (t : Tree) (p : Part) → IsForm x t p → form_of (id_text x ++ form_mark) t ≡ Some p
-unfolding form_of
-form-complete x t p h =
-    let id = id_at-complete x form_mark t p.id h.part.id h.part.is_id in
-    let texts = labels-complete (codes "representations") t p.texts h.part.texts in
-    let features = item_ids-complete (codes "grammaticalFeatures") t p.features h.features in
-    let statements = statements-complete t p.statements h.part.statements in
+part-complete : (x : EntityId) (kind : PartKind) (t : Tree) (p : Part) → IsPart x kind t p → part_of kind (id_text x ++ mark_of kind) t ≡ Some p
+unfolding part_of
+part-complete x kind t p h =
+    let id = id_at-complete x (mark_of kind) t p.id h.id h.is_id in
+    let texts = labels-complete (texts_name kind) t p.texts h.texts in
+    let features = features-complete kind t p.features h.features in
+    let statements = statements-complete t p.statements h.statements in
     rw (id, texts, features, statements) refl
 
-form_agrees : (x : EntityId) → Agree {X = ℕ × Tree} (λ item. form_of (id_text x ++ form_mark) item.1) (λ item p. IsForm x item.1 p)
-form_agrees x = record { sound = λ i p. form-sound x i.1 p; complete = λ i p. form-complete x i.1 p }
+part_agrees : (x : EntityId) (kind : PartKind) → Agree {X = ℕ × Tree} (λ item. part_of kind (id_text x ++ mark_of kind) item.1) (λ item p. IsPart x kind item.1 p)
+part_agrees x kind = record { sound = λ i p. part-sound x kind i.1 p; complete = λ i p. part-complete x kind i.1 p }
 
-forms-sound : (x : EntityId) (t : Tree) (ps : List Part) → forms_at x t ≡ Some ps → InOptionalList (λ value p. IsForm x value.1 p) (member_of (codes "forms") t) ps
-unfolding forms_at
-forms-sound x t ps e =
-    optional_list-sound (λ item. form_of (id_text x ++ form_mark) item.1) (λ item p. IsForm x item.1 p) (form_agrees x) (codes "forms") t (member_of (codes "forms") t) refl ps e
+parts-sound : (x : EntityId) (kind : PartKind) (t : Tree) (ps : List Part) → parts_at x kind t ≡ Some ps → AreParts x kind t ps
+unfolding parts_at
+parts-sound x kind t ps e =
+    optional_list-sound (λ item. part_of kind (id_text x ++ mark_of kind) item.1) (λ item p. IsPart x kind item.1 p) (part_agrees x kind) (list_name kind) t (member_of (list_name kind) t) refl ps e
 
-forms-complete : (x : EntityId) (t : Tree) (ps : List Part) → InOptionalList (λ value p. IsForm x value.1 p) (member_of (codes "forms") t) ps → forms_at x t ≡ Some ps
-unfolding forms_at
-forms-complete x t ps h =
-    optional_list-complete (λ item. form_of (id_text x ++ form_mark) item.1) (λ item p. IsForm x item.1 p) (form_agrees x) (codes "forms") t (member_of (codes "forms") t) refl ps h
-
--- a sense
-sense-sound : (x : EntityId) (t : Tree) (p : Part) → sense_of (id_text x ++ sense_mark) t ≡ Some p → IsSense x t p
-unfolding sense_of
-sense-sound x t p e =
-    let id = bind_some (part_id_at (id_text x ++ sense_mark) t) _ e in
-    let texts = bind_some (labels_at (codes "glosses") t) _ id.1.1 in
-    let statements = bind_some (statements_at (codes "claims") t) _ texts.1.1 in
-    let is = some_is statements.1.1 in
-    let own = id_at-sound x sense_mark t p.id (id.1.0 ∙ ap (λ (r : Part). Some r.id) is) in
-    record {
-      part = record {
-        id = own.0;
-        is_id = own.1;
-        texts = labels-sound (codes "glosses") t p.texts (texts.1.0 ∙ ap (λ (r : Part). Some r.texts) is);
-        statements = statements-sound t p.statements (statements.1.0 ∙ ap (λ (r : Part). Some r.statements) is);
-      };
-      features = sym (ap (λ (r : Part). r.features) is);
-    }
-
-sense-complete : (x : EntityId) (t : Tree) (p : Part) → IsSense x t p → sense_of (id_text x ++ sense_mark) t ≡ Some p
-unfolding sense_of
-sense-complete x t p h =
-    let id = id_at-complete x sense_mark t p.id h.part.id h.part.is_id in
-    let texts = labels-complete (codes "glosses") t p.texts h.part.texts in
-    let statements = statements-complete t p.statements h.part.statements in
-    rw (id, texts, statements, ← h.features) refl
-
-sense_agrees : (x : EntityId) → Agree {X = ℕ × Tree} (λ item. sense_of (id_text x ++ sense_mark) item.1) (λ item p. IsSense x item.1 p)
-sense_agrees x = record { sound = λ i p. sense-sound x i.1 p; complete = λ i p. sense-complete x i.1 p }
-
-senses-sound : (x : EntityId) (t : Tree) (ps : List Part) → senses_at x t ≡ Some ps → InOptionalList (λ value p. IsSense x value.1 p) (member_of (codes "senses") t) ps
-unfolding senses_at
-senses-sound x t ps e =
-    optional_list-sound (λ item. sense_of (id_text x ++ sense_mark) item.1) (λ item p. IsSense x item.1 p) (sense_agrees x) (codes "senses") t (member_of (codes "senses") t) refl ps e
-
-senses-complete : (x : EntityId) (t : Tree) (ps : List Part) → InOptionalList (λ value p. IsSense x value.1 p) (member_of (codes "senses") t) ps → senses_at x t ≡ Some ps
-unfolding senses_at
-senses-complete x t ps h =
-    optional_list-complete (λ item. sense_of (id_text x ++ sense_mark) item.1) (λ item p. IsSense x item.1 p) (sense_agrees x) (codes "senses") t (member_of (codes "senses") t) refl ps h
+parts-complete : (x : EntityId) (kind : PartKind) (t : Tree) (ps : List Part) → AreParts x kind t ps → parts_at x kind t ≡ Some ps
+unfolding parts_at
+parts-complete x kind t ps h =
+    optional_list-complete (λ item. part_of kind (id_text x ++ mark_of kind) item.1) (λ item p. IsPart x kind item.1 p) (part_agrees x kind) (list_name kind) t (member_of (list_name kind) t) refl ps h
 
 -- a lexeme, where the type says so
 pub lexeme-sound : (t : Tree) (x : Lexeme) → text_at (codes "type") t ≡ Some (codes "lexeme") → lexeme_of t ≡ Some x → IsLexeme t x
@@ -128,8 +95,8 @@ lexeme-sound t x type e =
     let category = bind_some (id_of_kind_at Q (codes "lexicalCategory") t) _ lemmas.1.1 in
     let language = bind_some (id_of_kind_at Q (codes "language") t) _ category.1.1 in
     let statements = bind_some (statements_at (codes "claims") t) _ language.1.1 in
-    let forms = bind_some (forms_at id.0 t) _ statements.1.1 in
-    let senses = bind_some (senses_at id.0 t) _ forms.1.1 in
+    let forms = bind_some (parts_at id.0 Form t) _ statements.1.1 in
+    let senses = bind_some (parts_at id.0 Sense t) _ forms.1.1 in
     let is = some_is senses.1.1 in
     let same : id.0 ≡ x.id = ap (λ (r : Lexeme). r.id) is in
     let id_is = id-sound (codes "id") L t x.id (id.1.0 ∙ ap Some same) in
@@ -142,8 +109,8 @@ lexeme-sound t x type e =
       category = has_item-sound (codes "lexicalCategory") t x.category (category.1.0 ∙ ap (λ (r : Lexeme). Some r.category) is);
       language = has_item-sound (codes "language") t x.language (language.1.0 ∙ ap (λ (r : Lexeme). Some r.language) is);
       statements = statements-sound t x.statements (statements.1.0 ∙ ap (λ (r : Lexeme). Some r.statements) is);
-      forms = forms-sound x.id t x.forms (ap (λ i. forms_at i t) (sym same) ∙ forms.1.0 ∙ ap (λ (r : Lexeme). Some r.forms) is);
-      senses = senses-sound x.id t x.senses (ap (λ i. senses_at i t) (sym same) ∙ senses.1.0 ∙ ap (λ (r : Lexeme). Some r.senses) is);
+      forms = parts-sound x.id Form t x.forms (ap (λ i. parts_at i Form t) (sym same) ∙ forms.1.0 ∙ ap (λ (r : Lexeme). Some r.forms) is);
+      senses = parts-sound x.id Sense t x.senses (ap (λ i. parts_at i Sense t) (sym same) ∙ senses.1.0 ∙ ap (λ (r : Lexeme). Some r.senses) is);
     }
 
 pub lexeme-complete : (t : Tree) (x : Lexeme) → IsLexeme t x → lexeme_of t ≡ Some x
@@ -155,6 +122,6 @@ lexeme-complete t x h =
     let category = has_item-complete (codes "lexicalCategory") t x.category h.category in
     let language = has_item-complete (codes "language") t x.language h.language in
     let statements = statements-complete t x.statements h.statements in
-    let forms = forms-complete x.id t x.forms h.forms in
-    let senses = senses-complete x.id t x.senses h.senses in
+    let forms = parts-complete x.id Form t x.forms h.forms in
+    let senses = parts-complete x.id Sense t x.senses h.senses in
     rw (id, modified, lemmas, category, language, statements, forms, senses) refl

@@ -40,7 +40,7 @@ use Rattle.entity_model.specs.Value.{is_entity_text, IsSmallTagged, optional_len
 use Rattle.entity_model.specs.Snak.{IsSmallContent, IsSmallSnak}
 use Rattle.entity_model.specs.Statement.{IsSmallReference, IsSmallStatement}
 use Rattle.entity_model.specs.Document.{IsSmallLink, IsSmallEntity, IsSmall}
-use Rattle.entity_model.specs.Lexeme.{form_mark, IsSmallLexeme, IsSmallPart, sense_mark}
+use Rattle.entity_model.specs.Lexeme.{IsSmallLexeme, IsSmallPart}
 use Rattle.entity_json.specs.declared.page.Page.{Page}
 use Rattle.entity_json.specs.Leaves.{◌>>=◌, text_at, list_of}
 use Rattle.entity_json.specs.Joined.{One, InList}
@@ -51,7 +51,9 @@ use Rattle.entity_json.specs.declared.values.NumberedType.TheVariants.{Property,
 use Rattle.entity_json.specs.Values.{numbered_letter, IsEntityValue, IsTime, IsQuantity, HasPrecision, IsGlobe, IsValue}
 use Rattle.entity_json.specs.Snaks.{HasValue, IsContent, IsDatatype, IsSnak, AreSnaks, value_type}
 use Rattle.entity_json.specs.Statements.{IsReference, HasMain, IsStatement, AreStatements}
-use Rattle.entity_json.specs.Lexemes.{IsForm, IsLexeme, IsPart, IsSense}
+use Rattle.entity_json.specs.declared.lexeme.PartKind.{PartKind}
+use Rattle.entity_json.specs.declared.lexeme.PartKind.TheVariants.{Form, Sense}
+use Rattle.entity_json.specs.Lexemes.{AreParts, IsLexeme, IsPart, list_name, mark_of, texts_name}
 use Rattle.entity_json.specs.Links.{IsLink}
 use Rattle.entity_json.specs.Pages.{HasDatatype, HasLinks, IsEntity, IsDocument, StandsAt, IsPage}
 use Rattle.entity_json.proofs.LightTrees.{text-length, number-length, optional_text-length, member-light, Light, only_of-light, one-all, in_list-all, in_optional_list-all, in_map-all}
@@ -255,20 +257,22 @@ entity-small t x l h = record {
   links = links-small x.id.kind t x.links l h.links;
 }
 
-part-small : (x : EntityId) (mark name : List ℕ) (t : Tree) (p : Part) → weight t ≤ 8388608 → IsPart x mark name t p → IsSmallPart x mark p
-part-small x mark name t p l h = record { id = h.is_id; texts = labels-small name t p.texts l h.texts; statements = statements-small t p.statements l h.statements }
+part-small : (x : EntityId) (kind : PartKind) (t : Tree) (p : Part) → weight t ≤ 8388608 → IsPart x kind t p → IsSmallPart x (mark_of kind) p
+part-small x kind t p l h =
+    record { id = h.is_id; texts = labels-small (texts_name kind) t p.texts l h.texts; statements = statements-small t p.statements l h.statements }
+
+parts-small : (x : EntityId) (kind : PartKind) (t : Tree) (ps : List Part) → weight t ≤ 8388608 → AreParts x kind t ps → All (IsSmallPart x (mark_of kind)) ps
+parts-small x kind t ps l h =
+    in_optional_list-all 8388608 (λ value p. IsPart x kind value.1 p) (IsSmallPart x (mark_of kind)) (λ v p light part. part-small x kind v.1 p light part)
+    (member_of (list_name kind) t) ps (omega (arith, member-light (list_name kind) t)) h
 
 lexeme-small : (t : Tree) (x : Lexeme) → weight t ≤ 8388608 → IsLexeme t x → IsSmallLexeme x
 lexeme-small t x l h = record {
   modified = omega (arith, optional_text-length (codes "modified") t x.modified h.modified, member-light (codes "modified") t);
   lemmas = labels-small (codes "lemmas") t x.lemmas l h.lemmas;
   statements = statements-small t x.statements l h.statements;
-  forms =
-      in_optional_list-all 8388608 (λ value p. IsForm x.id value.1 p) (IsSmallPart x.id form_mark) (λ v p light f. part-small x.id form_mark (codes "representations") v.1 p light f.part)
-      (member_of (codes "forms") t) x.forms (omega (arith, member-light (codes "forms") t)) h.forms;
-  senses =
-      in_optional_list-all 8388608 (λ value p. IsSense x.id value.1 p) (IsSmallPart x.id sense_mark) (λ v p light f. part-small x.id sense_mark (codes "glosses") v.1 p light f.part)
-      (member_of (codes "senses") t) x.senses (omega (arith, member-light (codes "senses") t)) h.senses;
+  forms = parts-small x.id Form t x.forms l h.forms;
+  senses = parts-small x.id Sense t x.senses l h.senses;
 }
 
 document-small : (t : Tree) (id : EntityId) (document : Document) → weight t ≤ 8388608 → IsDocument t id document → IsSmall document

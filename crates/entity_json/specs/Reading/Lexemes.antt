@@ -6,8 +6,11 @@ use Rattle.entity_model.specs.declared.id.IdKind.TheVariants.{Q, L}
 use Rattle.entity_model.specs.declared.lexeme.Lexeme.{Lexeme}
 use Rattle.entity_model.specs.declared.lexeme.Part.{Part}
 use Rattle.entity_model.specs.EntityId.{id_text}
-use Rattle.entity_model.specs.Lexeme.{form_mark, is_part_id, sense_mark}
+use Rattle.entity_model.specs.Lexeme.{is_part_id}
+use Rattle.entity_json.specs.declared.lexeme.PartKind.{PartKind}
+use Rattle.entity_json.specs.declared.lexeme.PartKind.TheVariants.{Form, Sense}
 use Rattle.entity_json.specs.Leaves.{◌>>=◌, text_at, id_of_kind_at, optional_text_at, optional_list_at}
+use Rattle.entity_json.specs.Lexemes.{list_name, mark_of, texts_name}
 use Rattle.entity_json.specs.Joined.{numbered}
 use Rattle.entity_json.specs.Reading.Items.{item_ids_at}
 use Rattle.entity_json.specs.Reading.Statements.{statements_at}
@@ -21,34 +24,27 @@ own_part_id front text = cond (is_part_id front text) (Some text) None
 unfoldable pub part_id_at : List ℕ → Tree → Option (List ℕ)
 part_id_at front t = text_at (codes "id") t >>= own_part_id front
 
--- a form whose id begins so
-unfoldable pub form_of : List ℕ → Tree → Option Part
-form_of front t = do
+-- the features, which a form alone has
+abbrev pub features_by_kind : PartKind → Tree → Option (List EntityId)
+features_by_kind Form t = item_ids_at (codes "grammaticalFeatures") t
+features_by_kind Sense t = Some []
+
+-- a part whose id begins so
+unfoldable pub part_of : PartKind → List ℕ → Tree → Option Part
+part_of kind front t = do
   id ← part_id_at front t
-  texts ← labels_at (codes "representations") t
-  features ← item_ids_at (codes "grammaticalFeatures") t
+  texts ← labels_at (texts_name kind) t
+  features ← features_by_kind kind t
   statements ← statements_at (codes "claims") t
   Some (record { id = id; texts = texts; features = features; statements = statements })
 
-abbrev pub form_step : List ℕ → ℕ × Tree → List Part → Option (List Part)
-form_step front item out = put out (form_of front item.1)
+-- one of a list, by its index
+abbrev pub part_step : PartKind → List ℕ → ℕ × Tree → List Part → Option (List Part)
+part_step kind front item out = put out (part_of kind front item.1)
 
-unfoldable pub forms_at : EntityId → Tree → Option (List Part)
-forms_at x t = optional_list_at (codes "forms") t >>= λ items. steps (form_step (id_text x ++ form_mark)) (numbered 0 items) []
-
--- a sense whose id begins so
-unfoldable pub sense_of : List ℕ → Tree → Option Part
-sense_of front t = do
-  id ← part_id_at front t
-  texts ← labels_at (codes "glosses") t
-  statements ← statements_at (codes "claims") t
-  Some (record { id = id; texts = texts; features = []; statements = statements })
-
-abbrev pub sense_step : List ℕ → ℕ × Tree → List Part → Option (List Part)
-sense_step front item out = put out (sense_of front item.1)
-
-unfoldable pub senses_at : EntityId → Tree → Option (List Part)
-senses_at x t = optional_list_at (codes "senses") t >>= λ items. steps (sense_step (id_text x ++ sense_mark)) (numbered 0 items) []
+-- those of a list that may be missing
+unfoldable pub parts_at : EntityId → PartKind → Tree → Option (List Part)
+parts_at x kind t = optional_list_at (list_name kind) t >>= λ items. steps (part_step kind (id_text x ++ mark_of kind)) (numbered 0 items) []
 
 -- a lexeme, where the page is that of one
 unfoldable pub lexeme_of : Tree → Option Lexeme
@@ -59,6 +55,6 @@ lexeme_of t = do
   category ← id_of_kind_at Q (codes "lexicalCategory") t
   language ← id_of_kind_at Q (codes "language") t
   statements ← statements_at (codes "claims") t
-  forms ← forms_at id t
-  senses ← senses_at id t
+  forms ← parts_at id Form t
+  senses ← parts_at id Sense t
   Some (record { id = id; modified = modified; lemmas = lemmas; category = category; language = language; statements = statements; forms = forms; senses = senses })
