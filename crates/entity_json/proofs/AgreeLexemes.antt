@@ -1,5 +1,5 @@
 -- Lexemes, forms and senses: how they are read agrees with the rule.
-use Rattle.std.proofs.Common.{◌≡◌, ℕ, List, [], ◌++◌, Option, Some, None, refl, sym, ap, ◌∙◌}
+use Rattle.std.proofs.Common.{◌≡◌, ℕ, List, ◌++◌, Some, refl, sym, ap, ◌∙◌}
 use Rattle.std.specs.Prelude.{codes}
 use Rattle.json_spell.specs.Tree.{Tree, member_of}
 use Rattle.json_spell.proofs.Opened.{some_is, bind_some, guarded}
@@ -12,7 +12,7 @@ use Rattle.entity_model.specs.Lexeme.{IsPartId, is_part_id}
 use Rattle.entity_model.proofs.PartIds.{part_id-sound, part_id-complete}
 use Rattle.entity_json.specs.declared.lexeme.PartKind.{PartKind}
 use Rattle.entity_json.specs.declared.lexeme.PartKind.TheVariants.{Form, Sense}
-use Rattle.entity_json.specs.Leaves.{◌>>=◌, text_at, id_of_kind_at, optional_text_at}
+use Rattle.entity_json.specs.Leaves.{text_at, id_of_kind_at, optional_text_at}
 use Rattle.entity_json.specs.Lexemes.{AreParts, HasFeatures, IsLexeme, IsPart, list_name, mark_of, texts_name}
 use Rattle.entity_json.specs.Reading.Lexemes.{features_by_kind, lexeme_of, own_part_id, part_id_at, part_of, parts_at}
 use Rattle.entity_json.specs.Reading.Statements.{statements_at}

@@ -7,14 +7,12 @@ use Rattle.json_spell.proofs.Opened.{some_is, bind_some, map_some, chosen, guard
 use Rattle.entity_model.specs.declared.id.IdKind.{IdKind}
 use Rattle.entity_model.specs.declared.id.IdKind.TheVariants.{P, Q, L}
 use Rattle.entity_model.specs.declared.id.EntityId.{EntityId}
-use Rattle.entity_model.specs.EntityId.{id_text}
 use Rattle.entity_model.specs.declared.entity.Link.{Link}
 use Rattle.entity_model.specs.declared.entity.Entity.{Entity}
 use Rattle.entity_model.specs.declared.document.Document.{Document}
 use Rattle.entity_model.specs.declared.document.Document.TheVariants.{Entity as AnEntity, Redirect, Lexeme as ALexeme}
 use Rattle.entity_json.specs.declared.page.Page.{Page}
-use Rattle.entity_json.specs.Leaves.{◌>>=◌, text_of, text_at, id_at, id_of_kind, id_of_kind_at, optional_text_at}
-use Rattle.entity_json.specs.Members.{HasId}
+use Rattle.entity_json.specs.Leaves.{◌>>=◌, text_of, text_at, id_at, id_of_kind_at, optional_text_at}
 use Rattle.entity_json.specs.Joined.{One}
 use Rattle.entity_json.specs.Links.{IsLink}
 use Rattle.entity_json.specs.Pages.{page_type, HasDatatype, HasLinks, IsEntity, IsDocument, StandsAt, IsPage}
@@ -26,7 +24,7 @@ use Rattle.entity_json.specs.Reading.Lexemes.{lexeme_of}
 use Rattle.entity_json.specs.Reading.Pages.{kind_of_type, page_kind, datatype_by_kind, links_by_kind, entity_of, entity_page, lexeme_page, page_of_kind, own_page, redirect_page, page_by, page_at, page_tree_by, page_tree_of, page_of}
 use Rattle.entity_json.proofs.Agree.{Agree, Walks, put_walks, map-sound, map-complete}
 use Rattle.entity_json.proofs.AgreeItems.{id-sound, id-complete, item_ids-sound, item_ids-complete}
-use Rattle.entity_json.proofs.AgreeLeaves.{same-from_test, id_at-sound, id_at-complete, id_of_kind-sound, id_of_kind-complete, optional_text_at-sound, optional_text_at-complete}
+use Rattle.entity_json.proofs.AgreeLeaves.{same-from_test, id_at-sound, id_at-complete, optional_text_at-sound, optional_text_at-complete}
 use Rattle.entity_json.proofs.AgreeLexemes.{lexeme-sound, lexeme-complete}
 use Rattle.entity_json.proofs.AgreeTagged.{labels-sound, labels-complete, aliases-sound, aliases-complete}
 use Rattle.entity_json.proofs.AgreeStatements.{statements-sound, statements-complete}

@@ -1,5 +1,5 @@
 -- The triples of a small document have fit and short terms.
-use Rattle.std.proofs.Common.{◌≡◌, ℕ, ◌≤◌, Bool, true, false, cond, List, [], ◌∷◌, ◌++◌, length, decimal, Option, Some, None, refl, arith}
+use Rattle.std.proofs.Common.{◌≡◌, ℕ, ◌≤◌, Bool, true, false, cond, List, [], ◌∷◌, ◌++◌, length, Option, Some, None, refl, arith}
 use Rattle.std.specs.List.{flat_map}
 use Rattle.std.proofs.lemmas.List.Elements.{recursion_from_All}
 use Rattle.rising.specs.Rising.{sorted}
@@ -11,23 +11,18 @@ use Rattle.entity_model.specs.declared.id.EntityId.{EntityId}
 use Rattle.entity_model.specs.declared.id.IdKind.{IdKind}
 use Rattle.entity_model.specs.declared.id.IdKind.TheVariants as Letter
 use Rattle.entity_model.specs.declared.value.Tagged.{Tagged}
-use Rattle.entity_model.specs.declared.value.Value.TheVariants.{Mono}
-use Rattle.entity_model.specs.declared.statement.Statement.{Statement}
 use Rattle.entity_model.specs.declared.entity.Entity.{Entity}
 use Rattle.entity_model.specs.declared.document.Document.{Document}
 use Rattle.entity_model.specs.declared.document.Document.TheVariants.{Entity as AnEntity, Redirect, Lexeme as ALexeme}
 use Rattle.entity_model.specs.Value.{IsSmallTagged, optional_length}
-use Rattle.entity_model.specs.Statement.{IsSmallStatement}
 use Rattle.entity_model.specs.Document.{IsSmall, IsSmallEntity, IsSmallLink}
-use Rattle.rdf_vocabulary.specs.declared.datatype.Datatype.TheVariants.{Integer, DateTime}
 use Rattle.rdf_vocabulary.specs.declared.predicate.Predicate.{Predicate}
 use Rattle.rdf_vocabulary.specs.declared.predicate.Predicate.TheVariants as Say
 use Rattle.rdf_vocabulary.specs.declared.prefix.Prefix.{Prefix}
-use Rattle.rdf_vocabulary.specs.declared.prefix.Prefix.TheVariants.{Wd, Data, Wdt, P, Ps, Psv, Pq, Pqv, Pr, Prv, Wdno, Wikibase}
-use Rattle.rdf_vocabulary.specs.declared.resource.Resource.TheVariants.{Dataset, PublicDomain}
+use Rattle.rdf_vocabulary.specs.declared.prefix.Prefix.TheVariants.{Wdt, P, Ps, Psv, Pq, Pqv, Pr, Prv, Wdno, Wikibase}
 use Rattle.rdf_vocabulary.specs.Predicate.{about}
 use Rattle.rdf_vocabulary.specs.Prefix.{entity_term, prefixed}
-use Rattle.rdf_vocabulary.proofs.Fit.{AreFit, about_fit, class_fit, join, join_all, plain_fit, resource_fit, prefixed_fit}
+use Rattle.rdf_vocabulary.proofs.Fit.{AreFit, about_fit, class_fit, join, join_all, prefixed_fit}
 use Rattle.rdf_vocabulary.proofs.Ids.{id_term_fit}
 use Rattle.entity_model.specs.declared.mapping.MappingVersion.{MappingVersion}
 use Rattle.page_rdf.specs.Dataset.{change_triples, dataset_term, number_triples, page_triples}

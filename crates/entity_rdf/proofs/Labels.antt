@@ -1,51 +1,29 @@
 -- The labels of the dump's blank nodes are short, rule by rule: the only ones are those of unknown values, hashes of 32 digits.
-use Rattle.std.proofs.Common.{◌≡◌, ℕ, Bool, true, nat_le, cond, List, [], ◌∷◌, ◌++◌, map, Option, Some, None, IfSome, refl, ap, subst}
-use Rattle.std.specs.List.{AllByRecursion}
-use Rattle.std.specs.Str.{bytes_eq}
+use Rattle.std.proofs.Common.{ℕ, List, [], ◌∷◌, ◌++◌, map, Option, Some, None, refl}
 use Rattle.rising.specs.Rising.{sorted}
-use Rattle.rdf_term.specs.declared.term.Term.{Term}
-use Rattle.rdf_term.specs.declared.term.Term.TheVariants.{Iri, Blank, Plain, Lang}
+use Rattle.rdf_term.specs.declared.term.Term.TheVariants.{Iri}
 use Rattle.rdf_term.specs.declared.triple.Triple.{Triple}
-use Rattle.rdf_term.specs.Grammar.{is_tag, is_word, iri_of, tagged_of}
+use Rattle.rdf_term.specs.Grammar.{is_word}
 use Rattle.rdf_term.specs.Order.{triple_cmp}
-use Rattle.rdf_term.specs.Triple.{triple}
 use Rattle.entity_model.specs.declared.id.EntityId.{EntityId}
-use Rattle.entity_model.specs.declared.value.Value.{Value}
 use Rattle.entity_model.specs.declared.value.Value.TheVariants as Values
-use Rattle.entity_model.specs.declared.snak.Snak.{Snak}
-use Rattle.entity_model.specs.declared.statement.Statement.{Statement}
 use Rattle.entity_model.specs.declared.entity.Entity.{Entity}
 use Rattle.entity_model.specs.declared.entity.Link.{Link}
 use Rattle.entity_model.specs.declared.document.Document.{Document}
 use Rattle.entity_model.specs.declared.document.Document.TheVariants.{Entity as AnEntity, Redirect, Lexeme as ALexeme}
 use Rattle.entity_model.specs.declared.mapping.MappingVersion.{MappingVersion}
-use Rattle.rdf_vocabulary.specs.declared.datatype.Datatype.TheVariants.{Decimal}
-use Rattle.rdf_vocabulary.specs.declared.predicate.Predicate.{Predicate}
-use Rattle.rdf_vocabulary.specs.declared.prefix.Prefix.TheVariants.{FilePath, Wd}
-use Rattle.rdf_vocabulary.specs.Datatype.{typed}
-use Rattle.rdf_vocabulary.specs.Fields.{hashed_name}
-use Rattle.rdf_vocabulary.specs.Prefix.{entity_term, prefixed}
-use Rattle.rdf_vocabulary.specs.Unreserved.{escaped_name}
-use Rattle.rdf_vocabulary.proofs.NamesFit.{length-hashed_name}
+use Rattle.rdf_vocabulary.specs.Prefix.{entity_term}
 use Rattle.rdf_vocabulary.proofs.Shared.{append_each, chosen}
-use Rattle.wb_values.specs.declared.literal.TimeText.{TimeText}
-use Rattle.wb_values.specs.declared.literal.TimeText.TheVariants.{DateTime, Plain as PlainTime}
-use Rattle.wb_values.specs.Decimal.{is_decimal}
-use Rattle.value_nodes.specs.Name.{node_name, number_one, one}
-use Rattle.value_nodes.specs.Nodes.{bound_triples, named_triples, node_triples, precision_triples, unit_term, value_part_triples}
-use Rattle.value_nodes.specs.Terms.{amount_term, commons_media, simple_term, text_term, time_text_term, url}
 use Rattle.sitelinks.specs.declared.sites.Site.{Site}
 use Rattle.sitelinks.specs.Article.{article_iri, badge_triple, found_triples, group_triple}
 use Rattle.sitelinks.specs.Site.{site_of}
-use Rattle.statement_rdf.specs.declared.role.Role.{Role}
-use Rattle.statement_rdf.specs.Gives.{SnakGives, simple_value, value_node, node_part, no_value, unknown_value, DirectGives, direct_value, direct_no_value, direct_unknown, StatementGives, claim, statement_class, statement_rank, best_rank, main_snak, best_snak, qualifier_snak, derived, source_class, source_snak}
-use Rattle.munger.specs.Short.{has_short_label, HasShortLabels}
+use Rattle.munger.specs.Short.{HasShortLabels}
 use Rattle.munger.proofs.Fit.{sorted_each}
 use Rattle.entity_rdf.specs.Dump.{dump}
 use Rattle.entity_rdf.specs.Gives.{Gives, EntityGives, class, label, preferred_label, name, description, alternative_label, dataset, dataset_about, license, format, revision, statement_count, identifier_count, link_count, modified, property_type, value_predicate, other_predicate, article, statement}
 use Rattle.entity_rdf.specs.Property.{is_datatype_char, other_predicates, type_triples, value_predicates}
 use Rattle.page_rdf.proofs.Each.{of_each_member, of_member}
-use Rattle.page_rdf.proofs.Labels.{AreShort, IsShort, said, statement_short, tagged_short}
+use Rattle.page_rdf.proofs.Labels.{AreShort, said, statement_short, tagged_short}
 use Rattle.lexeme_rdf.proofs.Labels.{lexeme_short}
 use Rattle.entity_rdf.proofs.Given.{dump_rules}
 

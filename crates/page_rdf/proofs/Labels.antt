@@ -1,13 +1,12 @@
 -- The labels of the blank nodes of statements are short: they are those of unknown values, hashes of 32 digits. No text is one.
-use Rattle.std.proofs.Common.{◌≡◌, ℕ, Bool, true, nat_le, cond, List, [], ◌∷◌, ◌++◌, map, Option, Some, None, IfSome, refl, ap, subst}
+use Rattle.std.proofs.Common.{◌≡◌, ℕ, Bool, true, nat_le, cond, List, Option, Some, None, IfSome, refl, ap, subst}
 use Rattle.std.specs.List.{AllByRecursion}
 use Rattle.std.specs.Str.{bytes_eq}
 use Rattle.rdf_term.specs.declared.term.Term.{Term}
 use Rattle.rdf_term.specs.declared.term.Term.TheVariants.{Iri, Blank, Plain, Lang}
 use Rattle.rdf_term.specs.declared.triple.Triple.{Triple}
-use Rattle.rdf_term.specs.Grammar.{is_tag, is_word, iri_of, tagged_of}
+use Rattle.rdf_term.specs.Grammar.{is_tag, iri_of, tagged_of}
 use Rattle.rdf_term.specs.Triple.{triple}
-use Rattle.entity_model.specs.declared.id.EntityId.{EntityId}
 use Rattle.entity_model.specs.declared.value.Value.{Value}
 use Rattle.entity_model.specs.declared.value.Value.TheVariants as Values
 use Rattle.entity_model.specs.declared.snak.Snak.{Snak}
@@ -18,7 +17,7 @@ use Rattle.rdf_vocabulary.specs.declared.predicate.Predicate.{Predicate}
 use Rattle.rdf_vocabulary.specs.declared.prefix.Prefix.TheVariants.{FilePath, Wd}
 use Rattle.rdf_vocabulary.specs.Datatype.{typed}
 use Rattle.rdf_vocabulary.specs.Fields.{hashed_name}
-use Rattle.rdf_vocabulary.specs.Prefix.{entity_term, prefixed}
+use Rattle.rdf_vocabulary.specs.Prefix.{prefixed}
 use Rattle.rdf_vocabulary.specs.Unreserved.{escaped_name}
 use Rattle.rdf_vocabulary.proofs.NamesFit.{length-hashed_name}
 use Rattle.rdf_vocabulary.proofs.Shared.{append_each, chosen}
