@@ -29,6 +29,8 @@ rdfs http://www.w3.org/2000/01/rdf-schema#
 owl http://www.w3.org/2002/07/owl#
 skos http://www.w3.org/2004/02/skos/core#
 prov http://www.w3.org/ns/prov#
+ontolex http://www.w3.org/ns/lemon/ontolex#
+dct http://purl.org/dc/terms/
 xsd http://www.w3.org/2001/XMLSchema#
 geo http://www.opengis.net/ont/geosparql#";
 

@@ -26,9 +26,9 @@ use Rattle.statement_rdf.specs.Node.{reference_node, statement_node}
 use Rattle.statement_rdf.specs.Snak.{content_triples, link_triples, snak_triples}
 use Rattle.statement_rdf.specs.Statement.{direct_content, head_triples, main_triples, reference_triples, source_triples, statement_triples, where_best}
 use Rattle.sitelinks.specs.Article.{article_triples}
-use Rattle.entity_rdf.specs.About.{dataset_term}
+use Rattle.page_rdf.specs.Dataset.{dataset_term}
+use Rattle.page_rdf.specs.Statements.{statements_triples}
 use Rattle.entity_rdf.specs.Dump.{entity_triples, spoken_triples}
-use Rattle.entity_rdf.specs.Statements.{statements_triples}
 use Rattle.drill.specs.Drill.{item}
 use Rattle.drill_pages.proofs.Parts.{HasNone, IsLabelled, IsSourced}
 use Rattle.drill_pages.proofs.Covered.{Covered, at_most, joined, none, own, said}
@@ -134,17 +134,17 @@ module _ (version : MappingVersion) (i rev : ℕ) (e : Entity) where
       of_entity = inr (inl refl)
 
   -- a page with such statements
-  labelled : {n : ℕ} (S : List Statement → Type 0) → IsLabelled S e → Covered subjects n (statements_triples version (item i) e.statements) → Covered [] (n + 26) (entity_triples version (item i) rev e)
+  labelled : {n : ℕ} (S : List Statement → Type 0) → IsLabelled S e → Covered subjects n (statements_triples version (entity_term (item i)) e.statements) → Covered [] (n + 26) (entity_triples version (item i) rev e)
   labelled {n} S h c =
-      subst (λ links. Covered [] (n + 26) (spoken_triples (item i) rev e ++ flat_map (article_triples (item i)) links ++ statements_triples version (item i) e.statements)) (sym h.links)
+      subst (λ links. Covered [] (n + 26) (spoken_triples (item i) rev e ++ flat_map (article_triples (item i)) links ++ statements_triples version (entity_term (item i)) e.statements)) (sym h.links)
       (at_most (n + 26) (omega arith) (own (entity_term (item i)) (own (dataset_term (item i))
       (joined (joined (spoken h.label h.labels h.descriptions h.aliases h.modified) none) c))))
 
   pub unstated : IsLabelled HasNone e → Covered [] 26 (entity_triples version (item i) rev e)
-  unstated h = labelled HasNone h (subst (λ ss. Covered subjects 0 (statements_triples version (item i) ss)) (sym h.statements) none)
+  unstated h = labelled HasNone h (subst (λ ss. Covered subjects 0 (statements_triples version (entity_term (item i)) ss)) (sym h.statements) none)
 
   pub stated : IsLabelled IsSourced e → Covered [] 72 (entity_triples version (item i) rev e)
   stated h =
       let one = h.statements in
-      labelled IsSourced h (subst (λ ss. Covered subjects 46 (statements_triples version (item i) ss)) (sym one.one)
+      labelled IsSourced h (subst (λ ss. Covered subjects 46 (statements_triples version (entity_term (item i)) ss)) (sym one.one)
       (joined (statement_parts version (entity_term (item i)) one.statement _ one.reference one.snak (inr (inl refl)) one.unqualified one.from one.says) none))

@@ -4,7 +4,7 @@ use Rattle.json_spell.specs.Grammar.{Reads}
 use Rattle.json_spell.specs.Tree.{Tree}
 use Rattle.json_spell.proofs.Complete.{one_tree}
 use Rattle.entity_model.specs.declared.document.Document.{Document}
-use Rattle.entity_model.specs.declared.document.Document.TheVariants.{Entity as AnEntity, Redirect}
+use Rattle.entity_model.specs.declared.document.Document.TheVariants.{Entity as AnEntity, Redirect, Lexeme as ALexeme}
 use Rattle.entity_model.specs.declared.mapping.MappingVersion.{MappingVersion}
 use Rattle.entity_model.specs.declared.statement.Statement.{Statement}
 use Rattle.entity_json.specs.declared.page.Page.{Page}
@@ -37,10 +37,12 @@ module _ (version : MappingVersion) (i rev : ℕ) where
   unstated_page : (d : Document) → IsLabelledPage HasNone d → Covered [] 26 (dump version (item i) rev d)
   unstated_page (AnEntity e) h = unstated version i rev e h
   unstated_page (Redirect y) h = absurd h
+  unstated_page (ALexeme l) h = absurd h
 
   stated_page : (d : Document) → IsLabelledPage IsSourced d → Covered [] 72 (dump version (item i) rev d)
   stated_page (AnEntity e) h = stated version i rev e h
   stated_page (Redirect y) h = absurd h
+  stated_page (ALexeme l) h = absurd h
 
   -- the triples of an earlier page have at most 27 terms
   pub earlier_few : (j : ℕ) → j < 2 ^ 64 → Covered [] 27 (meaning version (item i) rev (earlier_page j))

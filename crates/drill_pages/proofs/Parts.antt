@@ -3,18 +3,18 @@ use Rattle.std.proofs.Common.{◌≡◌, ◌∙◌, refl, sym, ap, subst, ℕ, �
 use Rattle.std.specs.Prelude.{codes}
 use Rattle.json_spell.specs.Tree.{Tree, array, no_trees, tree, member_of}
 use Rattle.entity_model.specs.declared.document.Document.{Document}
-use Rattle.entity_model.specs.declared.document.Document.TheVariants.{Entity as AnEntity, Redirect}
+use Rattle.entity_model.specs.declared.document.Document.TheVariants.{Entity as AnEntity, Redirect, Lexeme as ALexeme}
 use Rattle.entity_model.specs.declared.entity.Entity.{Entity}
 use Rattle.entity_model.specs.declared.entity.Link.{Link}
 use Rattle.entity_model.specs.declared.id.EntityId.{EntityId}
 use Rattle.entity_model.specs.declared.id.IdKind.{IdKind}
-use Rattle.entity_model.specs.declared.id.IdKind.TheVariants.{P, Q}
+use Rattle.entity_model.specs.declared.id.IdKind.TheVariants.{P, Q, L}
 use Rattle.entity_model.specs.declared.snak.Snak.{Snak}
 use Rattle.entity_model.specs.declared.statement.Reference.{Reference}
 use Rattle.entity_model.specs.declared.statement.Statement.{Statement}
 use Rattle.entity_model.specs.declared.value.Tagged.{Tagged}
 use Rattle.entity_json.specs.declared.page.Page.{Page}
-use Rattle.entity_json.specs.Leaves.{◌>>=◌, text_of}
+use Rattle.entity_json.specs.Leaves.{◌>>=◌, text_at, text_of}
 use Rattle.entity_json.specs.Maps.{map_at}
 use Rattle.entity_json.specs.Members.{HasOptionalText}
 use Rattle.entity_json.specs.Pages.{HasLinks, IsDocument, IsEntity, IsPage, StandsAt}
@@ -49,12 +49,14 @@ pub record IsLabelled (S : List Statement → Type 0) (e : Entity) : Type 0 wher
 abbrev pub IsLabelledPage : (List Statement → Type 0) → Document → Type 0
 IsLabelledPage S (AnEntity e) = IsLabelled S e
 IsLabelledPage S (Redirect y) = ⊥
+IsLabelledPage S (ALexeme l) = ⊥
 
--- the members of a tree that has one label
+-- the members of the tree of an item that has one label
 record HasLabel (S : List Statement → Type 0) (t : Tree) : Type 0 where
   entry : List ℕ × Tree
   alone : member_of (codes "entities") t ≡ None
   no_redirect : member_of (codes "redirect") t ≡ None
+  type : text_at (codes "type") t ≡ Some (codes "item")
   labels : map_at (codes "labels") t ≡ Some (entry ∷ [])
   descriptions : map_at (codes "descriptions") t ≡ Some []
   aliases : map_at (codes "aliases") t ≡ Some []
@@ -65,6 +67,7 @@ record HasLabel (S : List Statement → Type 0) (t : Tree) : Type 0 where
 module _ (S : List Statement → Type 0) (t : Tree) (has : HasLabel S t) where
   links_none : (kind : IdKind) (xs : List Link) → HasLinks kind t xs → xs ≡ []
   links_none P xs h = h
+  links_none L xs h = h
   links_none Q xs h = none_in_map _ (codes "sitelinks") t xs has.links h
 
   modified_none : (modified : Option (List ℕ)) → HasOptionalText (codes "modified") t modified → modified ≡ None
@@ -86,6 +89,7 @@ module _ (S : List Statement → Type 0) (t : Tree) (has : HasLabel S t) where
   document_labelled : (id : EntityId) (document : Document) → IsDocument t id document → IsLabelledPage S document
   document_labelled id (AnEntity e) h = labelled e h.1
   document_labelled id (Redirect y) h = let never = sym (ap (λ o. o >>= text_of) has.no_redirect) ∙ h.1.text in absurd cc
+  document_labelled id (ALexeme l) h = let never = sym has.type ∙ h.1.type in absurd cc
 
   page_labelled : (p : Page) → IsPage t p → IsLabelledPage S p.document
   page_labelled p h =
@@ -98,6 +102,7 @@ earlier_has i = record {
   entry = (codes "en", _);
   alone = refl;
   no_redirect = refl;
+  type = refl;
   labels = refl;
   descriptions = refl;
   aliases = refl;
@@ -137,6 +142,7 @@ later_has i = record {
   entry = (codes "en", _);
   alone = refl;
   no_redirect = refl;
+  type = refl;
   labels = refl;
   descriptions = refl;
   aliases = refl;

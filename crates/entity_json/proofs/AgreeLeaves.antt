@@ -6,7 +6,7 @@ use Rattle.std.proofs.lemmas.Slice.Eq.{bytes_eq-Decides}
 use Rattle.json_spell.specs.Tree.{Tree, member_of}
 use Rattle.json_spell.proofs.Opened.{some_is, bind_some, map_some}
 use Rattle.entity_model.specs.declared.id.IdKind.{IdKind}
-use Rattle.entity_model.specs.declared.id.IdKind.TheVariants.{P, Q}
+use Rattle.entity_model.specs.declared.id.IdKind.TheVariants.{P, Q, L}
 use Rattle.entity_model.specs.declared.id.EntityId.{EntityId}
 use Rattle.entity_model.specs.EntityId.{IsId, id_text}
 use Rattle.entity_model.specs.IdOf.{id_of}
@@ -40,12 +40,18 @@ id_at-complete name t x h = ap (λ o. o >>= id_of) h.text ∙ id_of-text x h.is_
 of_same_kind-sound : (k l : IdKind) (x y : EntityId) → of_same_kind k l x ≡ Some y → (l ≡ k) × (x ≡ y)
 of_same_kind-sound P P x y e = (refl, some_is e)
 of_same_kind-sound P Q x y e = absurd cc
+of_same_kind-sound P L x y e = absurd cc
 of_same_kind-sound Q P x y e = absurd cc
 of_same_kind-sound Q Q x y e = (refl, some_is e)
+of_same_kind-sound Q L x y e = absurd cc
+of_same_kind-sound L P x y e = absurd cc
+of_same_kind-sound L Q x y e = absurd cc
+of_same_kind-sound L L x y e = (refl, some_is e)
 
 of_same_kind-complete : (k : IdKind) (x : EntityId) → of_same_kind k k x ≡ Some x
 of_same_kind-complete P x = refl
 of_same_kind-complete Q x = refl
+of_same_kind-complete L x = refl
 
 -- the text of an id of a kind
 pub record IsIdOf (kind : IdKind) (text : List ℕ) (x : EntityId) : Type 0 where

@@ -1,54 +1,33 @@
--- Links, entities and pages: how they are read agrees with the rules, and so a tree is at most one page.
+-- Links, items, properties and pages: how they are read agrees with the rules, and so a tree is at most one page.
 use Rattle.std.proofs.Common.{◌≡◌, ℕ, List, Option, Some, None, option_map, ⊎_elim, refl, sym, ap, ◌∙◌}
 use Rattle.std.specs.Prelude.{codes}
 use Rattle.std.specs.Str.{bytes_eq}
 use Rattle.json_spell.specs.Tree.{Tree, member_of}
 use Rattle.json_spell.proofs.Opened.{some_is, bind_some, map_some, chosen, guarded}
 use Rattle.entity_model.specs.declared.id.IdKind.{IdKind}
-use Rattle.entity_model.specs.declared.id.IdKind.TheVariants.{P, Q}
+use Rattle.entity_model.specs.declared.id.IdKind.TheVariants.{P, Q, L}
 use Rattle.entity_model.specs.declared.id.EntityId.{EntityId}
-use Rattle.entity_model.specs.EntityId.{id_text}
 use Rattle.entity_model.specs.declared.entity.Link.{Link}
 use Rattle.entity_model.specs.declared.entity.Entity.{Entity}
 use Rattle.entity_model.specs.declared.document.Document.{Document}
-use Rattle.entity_model.specs.declared.document.Document.TheVariants.{Entity as AnEntity, Redirect}
+use Rattle.entity_model.specs.declared.document.Document.TheVariants.{Entity as AnEntity, Redirect, Lexeme as ALexeme}
 use Rattle.entity_json.specs.declared.page.Page.{Page}
-use Rattle.entity_json.specs.Leaves.{◌>>=◌, text_of, text_at, id_at, id_of_kind, id_of_kind_at, optional_text_at}
-use Rattle.entity_json.specs.Members.{HasId}
-use Rattle.entity_json.specs.Joined.{One, InOptionalList}
-use Rattle.entity_json.specs.Links.{IsBadge, IsLink}
+use Rattle.entity_json.specs.Leaves.{◌>>=◌, text_of, text_at, id_at, id_of_kind_at, optional_text_at}
+use Rattle.entity_json.specs.Joined.{One}
+use Rattle.entity_json.specs.Links.{IsLink}
 use Rattle.entity_json.specs.Pages.{page_type, HasDatatype, HasLinks, IsEntity, IsDocument, StandsAt, IsPage}
 use Rattle.entity_json.specs.Reading.Terms.{labels_at, aliases_at}
 use Rattle.entity_json.specs.Reading.Statements.{statements_at}
-use Rattle.entity_json.specs.Reading.Links.{badge_of, badges_at, link_of, link_step, links_at}
-use Rattle.entity_json.specs.Reading.Pages.{kind_of_type, page_kind, datatype_by_kind, links_by_kind, entity_of, entity_page, redirect_page, page_by, page_at, page_tree_by, page_tree_of, page_of}
-use Rattle.entity_json.proofs.Agree.{Agree, Walks, put_walks, optional_list-sound, optional_list-complete, map-sound, map-complete}
-use Rattle.entity_json.proofs.AgreeLeaves.{same-from_test, id_at-sound, id_at-complete, id_of_kind-sound, id_of_kind-complete, optional_text_at-sound, optional_text_at-complete}
+use Rattle.entity_json.specs.Reading.Items.{item_ids_at}
+use Rattle.entity_json.specs.Reading.Links.{link_of, link_step, links_at}
+use Rattle.entity_json.specs.Reading.Lexemes.{lexeme_of}
+use Rattle.entity_json.specs.Reading.Pages.{kind_of_type, page_kind, datatype_by_kind, links_by_kind, entity_of, entity_page, lexeme_page, page_of_kind, own_page, redirect_page, page_by, page_at, page_tree_by, page_tree_of, page_of}
+use Rattle.entity_json.proofs.Agree.{Agree, Walks, put_walks, map-sound, map-complete}
+use Rattle.entity_json.proofs.AgreeItems.{id-sound, id-complete, item_ids-sound, item_ids-complete}
+use Rattle.entity_json.proofs.AgreeLeaves.{same-from_test, id_at-sound, id_at-complete, optional_text_at-sound, optional_text_at-complete}
+use Rattle.entity_json.proofs.AgreeLexemes.{lexeme-sound, lexeme-complete}
 use Rattle.entity_json.proofs.AgreeTagged.{labels-sound, labels-complete, aliases-sound, aliases-complete}
 use Rattle.entity_json.proofs.AgreeStatements.{statements-sound, statements-complete}
-
--- a badge
-badge-sound : (t : Tree) (x : EntityId) → badge_of t ≡ Some x → IsBadge t x
-badge-sound t x e =
-    let text = bind_some (text_of t) (id_of_kind Q) e in
-    let id = id_of_kind-sound Q text.0 x text.1.1 in
-    record { text = text.1.0 ∙ ap Some id.is; is_id = id.is_id; letter = id.letter }
-
-badge-complete : (t : Tree) (x : EntityId) → IsBadge t x → badge_of t ≡ Some x
-badge-complete t x h = ap (λ o. o >>= id_of_kind Q) h.text ∙ id_of_kind-complete Q (id_text x) x (record { is_id = h.is_id; letter = h.letter; is = refl })
-
-badge_agrees : Agree {X = ℕ × Tree} (λ item. badge_of item.1) (λ item x. IsBadge item.1 x)
-badge_agrees = record { sound = λ i x. badge-sound i.1 x; complete = λ i x. badge-complete i.1 x }
-
-badges-sound : (t : Tree) (xs : List EntityId) → badges_at (codes "badges") t ≡ Some xs → InOptionalList (λ value x. IsBadge value.1 x) (member_of (codes "badges") t) xs
-unfolding badges_at
-badges-sound t xs e =
-    optional_list-sound (λ item. badge_of item.1) (λ item x. IsBadge item.1 x) badge_agrees (codes "badges") t (member_of (codes "badges") t) refl xs e
-
-badges-complete : (t : Tree) (xs : List EntityId) → InOptionalList (λ value x. IsBadge value.1 x) (member_of (codes "badges") t) xs → badges_at (codes "badges") t ≡ Some xs
-unfolding badges_at
-badges-complete t xs h =
-    optional_list-complete (λ item. badge_of item.1) (λ item x. IsBadge item.1 x) badge_agrees (codes "badges") t (member_of (codes "badges") t) refl xs h
 
 -- a link
 link-sound : (t : Tree) (x : Link) → link_of t ≡ Some x → IsLink t x
@@ -56,18 +35,18 @@ unfolding link_of
 link-sound t x e =
     let site = bind_some (text_at (codes "site") t) _ e in
     let title = bind_some (text_at (codes "title") t) _ site.1.1 in
-    let badges = bind_some (badges_at (codes "badges") t) _ title.1.1 in
+    let badges = bind_some (item_ids_at (codes "badges") t) _ title.1.1 in
     let is = some_is badges.1.1 in
     record {
       site = site.1.0 ∙ ap (λ (r : Link). Some r.site) is;
       title = title.1.0 ∙ ap (λ (r : Link). Some r.title) is;
-      badges = badges-sound t x.badges (badges.1.0 ∙ ap (λ (r : Link). Some r.badges) is);
+      badges = item_ids-sound (codes "badges") t x.badges (badges.1.0 ∙ ap (λ (r : Link). Some r.badges) is);
     }
 
 link-complete : (t : Tree) (x : Link) → IsLink t x → link_of t ≡ Some x
 unfolding link_of
 link-complete t x h =
-    let badges = badges-complete t x.badges h.badges in
+    let badges = item_ids-complete (codes "badges") t x.badges h.badges in
     rw (h.site, h.title, badges) refl
 
 link_walks : Walks link_step (One (λ member x. IsLink member.1 x))
@@ -78,11 +57,13 @@ link_walks =
 links-sound : (kind : IdKind) (t : Tree) (xs : List Link) → links_by_kind kind t ≡ Some xs → HasLinks kind t xs
 unfolding links_at
 links-sound P t xs e = sym (some_is e)
+links-sound L t xs e = sym (some_is e)
 links-sound Q t xs e = map-sound link_step (One (λ member x. IsLink member.1 x)) link_walks (codes "sitelinks") t xs e
 
 links-complete : (kind : IdKind) (t : Tree) (xs : List Link) → HasLinks kind t xs → links_by_kind kind t ≡ Some xs
 unfolding links_at
 links-complete P t xs h = ap Some (sym h)
+links-complete L t xs h = ap Some (sym h)
 links-complete Q t xs h = map-complete link_step (One (λ member x. IsLink member.1 x)) link_walks (codes "sitelinks") t xs h
 
 -- the kind that a page's type stands for
@@ -90,12 +71,16 @@ kind_of_type-sound : (type : List ℕ) (kind : IdKind) → kind_of_type type ≡
 kind_of_type-sound type kind e =
     ⊎_elim
     (λ h. same-from_test type (codes "item") h.0 ∙ ap page_type (some_is h.1))
-    (λ h. let other = guarded (bytes_eq type (codes "property")) h.1 in same-from_test type (codes "property") other.0 ∙ ap page_type (some_is other.1))
+    (λ h. ⊎_elim
+    (λ k. same-from_test type (codes "property") k.0 ∙ ap page_type (some_is k.1))
+    (λ k. let last = guarded (bytes_eq type (codes "lexeme")) k.1 in same-from_test type (codes "lexeme") last.0 ∙ ap page_type (some_is last.1))
+    (chosen (bytes_eq type (codes "property")) h.1))
     (chosen (bytes_eq type (codes "item")) e)
 
 kind_of_type-complete : (kind : IdKind) → kind_of_type (page_type kind) ≡ Some kind
 kind_of_type-complete P = refl
 kind_of_type-complete Q = refl
+kind_of_type-complete L = refl
 
 page_kind-sound : (t : Tree) (kind : IdKind) → page_kind t ≡ Some kind → text_at (codes "type") t ≡ Some (page_type kind)
 unfolding page_kind
@@ -112,22 +97,15 @@ datatype-sound : (kind : IdKind) (t : Tree) (o : Option (List ℕ)) → datatype
 datatype-sound P t None e = let found = map_some Some (text_at (codes "datatype") t) e in let no = found.1.1 in absurd cc
 datatype-sound P t (Some s) e = let found = map_some Some (text_at (codes "datatype") t) e in found.1.0 ∙ found.1.1
 datatype-sound Q t o e = sym (some_is e)
+datatype-sound L t o e = absurd cc
 
 datatype-complete : (kind : IdKind) (t : Tree) (o : Option (List ℕ)) → HasDatatype kind t o → datatype_by_kind kind t ≡ Some o
 datatype-complete P t None h = absurd h
 datatype-complete P t (Some s) h = ap (option_map Some) h
 datatype-complete Q t o h = ap Some (sym h)
+datatype-complete L t o h = absurd h
 
 -- an entity
-id-sound : (kind : IdKind) (t : Tree) (x : EntityId) → id_of_kind_at kind (codes "id") t ≡ Some x → HasId (codes "id") t x × (x.kind ≡ kind)
-id-sound kind t x e =
-    let text = bind_some (text_at (codes "id") t) (id_of_kind kind) e in
-    let id = id_of_kind-sound kind text.0 x text.1.1 in
-    (record { is_id = id.is_id; text = text.1.0 ∙ ap Some id.is }, id.letter)
-
-id-complete : (t : Tree) (x : EntityId) → HasId (codes "id") t x → id_of_kind_at x.kind (codes "id") t ≡ Some x
-id-complete t x h = ap (λ o. o >>= id_of_kind x.kind) h.text ∙ id_of_kind-complete x.kind (id_text x) x (record { is_id = h.is_id; letter = refl; is = refl })
-
 entity-sound : (t : Tree) (x : Entity) → entity_of t ≡ Some x → IsEntity t x
 unfolding entity_of
 entity-sound t x e =
@@ -141,7 +119,7 @@ entity-sound t x e =
     let statements = bind_some (statements_at (codes "claims") t) _ aliases.1.1 in
     let links = bind_some (links_by_kind kind.0 t) _ statements.1.1 in
     let is = some_is links.1.1 in
-    let id_is = id-sound kind.0 t x.id (id.1.0 ∙ ap (λ (r : Entity). Some r.id) is) in
+    let id_is = id-sound (codes "id") kind.0 t x.id (id.1.0 ∙ ap (λ (r : Entity). Some r.id) is) in
     let kind_is : kind.0 ≡ x.id.kind = sym id_is.1 in
     record {
       type = page_kind-sound t kind.0 kind.1.0 ∙ ap (λ k. Some (page_type k)) kind_is;
@@ -159,7 +137,7 @@ entity-complete : (t : Tree) (x : Entity) → IsEntity t x → entity_of t ≡ S
 unfolding entity_of
 entity-complete t x h =
     let kind = page_kind-complete t x.id.kind h.type in
-    let id = id-complete t x.id h.id in
+    let id = id-complete (codes "id") t x.id h.id in
     let datatype = datatype-complete x.id.kind t x.datatype h.datatype in
     let modified = optional_text_at-complete (codes "modified") t x.modified h.modified in
     let labels = labels-complete (codes "labels") t x.labels h.labels in
@@ -176,6 +154,29 @@ entity_page-sound t page no_redirect e =
     let found = map_some _ (entity_of t) e in
     rw (← found.1.1) (no_redirect, entity-sound t found.0 found.1.0, refl)
 
+lexeme_page-sound : (t : Tree) (page : Page) → member_of (codes "redirect") t ≡ None → text_at (codes "type") t ≡ Some (page_type L) → lexeme_page t ≡ Some page → IsDocument t page.id page.document
+unfolding lexeme_page
+lexeme_page-sound t page no_redirect type e =
+    let found = map_some _ (lexeme_of t) e in
+    rw (← found.1.1) (no_redirect, lexeme-sound t found.0 type found.1.0, refl)
+
+page_of_kind-sound : (t : Tree) (kind : IdKind) (page : Page) → member_of (codes "redirect") t ≡ None → text_at (codes "type") t ≡ Some (page_type kind) → page_of_kind t kind ≡ Some page → IsDocument t page.id page.document
+page_of_kind-sound t P page no_redirect type e = entity_page-sound t page no_redirect e
+page_of_kind-sound t Q page no_redirect type e = entity_page-sound t page no_redirect e
+page_of_kind-sound t L page no_redirect type e = lexeme_page-sound t page no_redirect type e
+
+own_page-sound : (t : Tree) (page : Page) → member_of (codes "redirect") t ≡ None → own_page t ≡ Some page → IsDocument t page.id page.document
+unfolding own_page
+own_page-sound t page no_redirect e =
+    let kind = bind_some (page_kind t) (page_of_kind t) e in
+    page_of_kind-sound t kind.0 page no_redirect (page_kind-sound t kind.0 kind.1.0) kind.1.1
+
+-- the page of an item or a property is that of its kind
+of_entity : (t : Tree) (kind : IdKind) (o : Option (List ℕ)) → HasDatatype kind t o → page_of_kind t kind ≡ entity_page t
+of_entity t P o h = refl
+of_entity t Q o h = refl
+of_entity t L o h = absurd h
+
 redirect_page-sound : (t : Tree) (page : Page) → redirect_page t ≡ Some page → IsDocument t page.id page.document
 unfolding redirect_page
 redirect_page-sound t page e =
@@ -185,7 +186,7 @@ redirect_page-sound t page e =
     rw (← is) (id_at-sound (codes "entity") t id.0 id.1.0, id_at-sound (codes "redirect") t target.0 target.1.0)
 
 page_by-sound : (m : Option Tree) (t : Tree) (page : Page) → member_of (codes "redirect") t ≡ m → page_by m t ≡ Some page → IsDocument t page.id page.document
-page_by-sound None t page is e = entity_page-sound t page is e
+page_by-sound None t page is e = own_page-sound t page is e
 page_by-sound (Some u) t page is e = redirect_page-sound t page e
 
 page_at-sound : (t : Tree) (page : Page) → page_at t ≡ Some page → IsDocument t page.id page.document
@@ -193,10 +194,15 @@ unfolding page_at
 page_at-sound t page e = page_by-sound (member_of (codes "redirect") t) t page refl e
 
 page_at-complete : (t : Tree) (id : EntityId) (document : Document) → IsDocument t id document → page_at t ≡ Some (record { id = id; document = document })
-unfolding page_at entity_page redirect_page
+unfolding page_at own_page entity_page lexeme_page redirect_page
 page_at-complete t id (AnEntity x) h =
+    let kind = page_kind-complete t x.id.kind h.1.type in
     let entity = entity-complete t x h.1 in
-    rw (h.0, entity, ← h.2) refl
+    rw (h.0, kind, of_entity t x.id.kind x.datatype h.1.datatype, entity, ← h.2) refl
+page_at-complete t id (ALexeme x) h =
+    let kind = page_kind-complete t L h.1.type in
+    let lexeme = lexeme-complete t x h.1 in
+    rw (h.0, kind, lexeme, ← h.2) refl
 page_at-complete t id (Redirect y) h =
     let there = bind_some (member_of (codes "redirect") t) text_of h.1.text in
     let source = id_at-complete (codes "entity") t id h.0 in

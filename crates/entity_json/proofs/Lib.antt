@@ -9,6 +9,8 @@ pub mod AgreeTagged
 pub mod AgreeValues
 pub mod AgreeSnaks
 pub mod AgreeStatements
+pub mod AgreeItems
+pub mod AgreeLexemes
 pub mod AgreePages
 pub mod LightTrees
 pub mod SmallPages

@@ -17,7 +17,7 @@ use Rattle.json_spell.specs.Tree.{Tree, member_of}
 use Rattle.json_spell.specs.Weight.{weight, weight_there, are_distinct}
 use Rattle.json_spell.proofs.Names.{names_weight}
 use Rattle.entity_model.specs.declared.id.IdKind.{IdKind}
-use Rattle.entity_model.specs.declared.id.IdKind.TheVariants.{P, Q}
+use Rattle.entity_model.specs.declared.id.IdKind.TheVariants.{P, Q, L}
 use Rattle.entity_model.specs.declared.id.EntityId.{EntityId}
 use Rattle.entity_model.specs.declared.value.Tagged.{Tagged}
 use Rattle.entity_model.specs.declared.value.TimeParts.{TimeParts}
@@ -33,11 +33,14 @@ use Rattle.entity_model.specs.declared.statement.Statement.{Statement}
 use Rattle.entity_model.specs.declared.entity.Link.{Link}
 use Rattle.entity_model.specs.declared.entity.Entity.{Entity as AnyEntity}
 use Rattle.entity_model.specs.declared.document.Document.{Document}
-use Rattle.entity_model.specs.declared.document.Document.TheVariants.{Entity as AnEntity, Redirect}
-use Rattle.entity_model.specs.Value.{is_entity_text, optional_length, text_length, IsSmallValue}
+use Rattle.entity_model.specs.declared.document.Document.TheVariants.{Entity as AnEntity, Redirect, Lexeme as ALexeme}
+use Rattle.entity_model.specs.declared.lexeme.Lexeme.{Lexeme}
+use Rattle.entity_model.specs.declared.lexeme.Part.{Part}
+use Rattle.entity_model.specs.Value.{is_entity_text, IsSmallTagged, optional_length, text_length, IsSmallValue}
 use Rattle.entity_model.specs.Snak.{IsSmallContent, IsSmallSnak}
 use Rattle.entity_model.specs.Statement.{IsSmallReference, IsSmallStatement}
-use Rattle.entity_model.specs.Document.{IsSmallTagged, IsSmallLink, IsSmallEntity, IsSmall}
+use Rattle.entity_model.specs.Document.{IsSmallLink, IsSmallEntity, IsSmall}
+use Rattle.entity_model.specs.Lexeme.{IsSmallLexeme, IsSmallPart}
 use Rattle.entity_json.specs.declared.page.Page.{Page}
 use Rattle.entity_json.specs.Leaves.{◌>>=◌, text_at, list_of}
 use Rattle.entity_json.specs.Joined.{One, InList}
@@ -48,6 +51,9 @@ use Rattle.entity_json.specs.declared.values.NumberedType.TheVariants.{Property,
 use Rattle.entity_json.specs.Values.{numbered_letter, IsEntityValue, IsTime, IsQuantity, HasPrecision, IsGlobe, IsValue}
 use Rattle.entity_json.specs.Snaks.{HasValue, IsContent, IsDatatype, IsSnak, AreSnaks, value_type}
 use Rattle.entity_json.specs.Statements.{IsReference, HasMain, IsStatement, AreStatements}
+use Rattle.entity_json.specs.declared.lexeme.PartKind.{PartKind}
+use Rattle.entity_json.specs.declared.lexeme.PartKind.TheVariants.{Form, Sense}
+use Rattle.entity_json.specs.Lexemes.{AreParts, IsLexeme, IsPart, list_name, mark_of, texts_name}
 use Rattle.entity_json.specs.Links.{IsLink}
 use Rattle.entity_json.specs.Pages.{HasDatatype, HasLinks, IsEntity, IsDocument, StandsAt, IsPage}
 use Rattle.entity_json.proofs.LightTrees.{text-length, number-length, optional_text-length, member-light, Light, only_of-light, one-all, in_list-all, in_optional_list-all, in_map-all}
@@ -218,6 +224,7 @@ link-small t x l h =
 
 links-small : (kind : IdKind) (t : Tree) (xs : List Link) → weight t ≤ 8388608 → HasLinks kind t xs → All IsSmallLink xs
 links-small P t xs l h = All-same IsSmallLink xs [] h (All-nil IsSmallLink)
+links-small L t xs l h = All-same IsSmallLink xs [] h (All-nil IsSmallLink)
 links-small Q t xs l h =
     in_map-all 8388608 (One (λ member x. IsLink member.1 x)) IsSmallLink
     (one-all (Light 8388608) (λ member x. IsLink member.1 x) IsSmallLink (λ m x. link-small m.1 x)) (codes "sitelinks") t xs l h
@@ -237,6 +244,7 @@ entity_datatype-length : (kind : IdKind) (t : Tree) (o : Option (List ℕ)) → 
 entity_datatype-length P t None l h = absurd h
 entity_datatype-length P t (Some s) l h = omega (arith, text-length (member_of (codes "datatype") t) s h, member-light (codes "datatype") t)
 entity_datatype-length Q t o l h = omega (arith, ap optional_length h)
+entity_datatype-length L t o l h = absurd h
 
 entity-small : (t : Tree) (x : AnyEntity) → weight t ≤ 8388608 → IsEntity t x → IsSmallEntity x
 entity-small t x l h = record {
@@ -249,9 +257,28 @@ entity-small t x l h = record {
   links = links-small x.id.kind t x.links l h.links;
 }
 
+part-small : (x : EntityId) (kind : PartKind) (t : Tree) (p : Part) → weight t ≤ 8388608 → IsPart x kind t p → IsSmallPart x (mark_of kind) p
+part-small x kind t p l h =
+    record { id = h.is_id; texts = labels-small (texts_name kind) t p.texts l h.texts; statements = statements-small t p.statements l h.statements }
+
+parts-small : (x : EntityId) (kind : PartKind) (t : Tree) (ps : List Part) → weight t ≤ 8388608 → AreParts x kind t ps → All (IsSmallPart x (mark_of kind)) ps
+parts-small x kind t ps l h =
+    in_optional_list-all 8388608 (λ value p. IsPart x kind value.1 p) (IsSmallPart x (mark_of kind)) (λ v p light part. part-small x kind v.1 p light part)
+    (member_of (list_name kind) t) ps (omega (arith, member-light (list_name kind) t)) h
+
+lexeme-small : (t : Tree) (x : Lexeme) → weight t ≤ 8388608 → IsLexeme t x → IsSmallLexeme x
+lexeme-small t x l h = record {
+  modified = omega (arith, optional_text-length (codes "modified") t x.modified h.modified, member-light (codes "modified") t);
+  lemmas = labels-small (codes "lemmas") t x.lemmas l h.lemmas;
+  statements = statements-small t x.statements l h.statements;
+  forms = parts-small x.id Form t x.forms l h.forms;
+  senses = parts-small x.id Sense t x.senses l h.senses;
+}
+
 document-small : (t : Tree) (id : EntityId) (document : Document) → weight t ≤ 8388608 → IsDocument t id document → IsSmall document
 document-small t id (AnEntity x) l h = entity-small t x l h.1
 document-small t id (Redirect y) l h = tt
+document-small t id (ALexeme x) l h = lexeme-small t x l h.1
 
 page_tree-light : (o : Option Tree) (tree t : Tree) → weight_there o ≤ 8388608 → weight tree ≤ 8388608 → StandsAt o tree t → weight t ≤ 8388608
 page_tree-light None tree t m l h = omega (arith, ap weight h)

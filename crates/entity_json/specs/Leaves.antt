@@ -7,7 +7,7 @@ use Rattle.std.specs.Str.Parse.{digits_value}
 use Rattle.std.specs.Fmt.{decimal}
 use Rattle.json_spell.specs.Tree.{Tree, null, boolean, number, string, array, object, Trees, no_trees, tree, member_of}
 use Rattle.entity_model.specs.declared.id.IdKind.{IdKind}
-use Rattle.entity_model.specs.declared.id.IdKind.TheVariants.{P, Q}
+use Rattle.entity_model.specs.declared.id.IdKind.TheVariants.{P, Q, L}
 use Rattle.entity_model.specs.declared.id.EntityId.{EntityId}
 use Rattle.entity_model.specs.IdOf.{id_of}
 
@@ -98,8 +98,13 @@ optional_list_at name t = listed (member_of name t)
 abbrev pub of_same_kind : IdKind → IdKind → EntityId → Option EntityId
 of_same_kind P P id = Some id
 of_same_kind P Q id = None
+of_same_kind P L id = None
 of_same_kind Q P id = None
 of_same_kind Q Q id = Some id
+of_same_kind Q L id = None
+of_same_kind L P id = None
+of_same_kind L Q id = None
+of_same_kind L L id = Some id
 
 -- the id of the kind that a text is
 abbrev pub id_of_kind : IdKind → List ℕ → Option EntityId

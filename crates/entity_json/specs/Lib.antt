@@ -8,6 +8,8 @@ pub mod Faults
 pub mod Answers
 pub mod Members
 pub mod Joined
+pub mod Items
+pub mod Lexemes
 pub mod Properties
 pub mod Tagged
 pub mod Values

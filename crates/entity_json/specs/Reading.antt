@@ -5,5 +5,7 @@ pub mod Values
 pub mod Snaks
 pub mod Statements
 pub mod Terms
+pub mod Items
+pub mod Lexemes
 pub mod Links
 pub mod Pages

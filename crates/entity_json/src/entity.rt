@@ -22,12 +22,15 @@ fn kind_of_type(name: &str) -> Option<IdKind>
     if name == "item" {
         return Some(IdKind::Q);
     }
-    (name == "property").then_some(IdKind::P)
+    if name == "property" {
+        return Some(IdKind::P);
+    }
+    (name == "lexeme").then_some(IdKind::L)
 }
 
 // The kind of the entity whose page it is.
 #[tactic(auto, unfolding(crate::specs::Reading::Pages::page_kind))]
-fn page_kind(json: &Json<'_, '_>) -> Result<IdKind, PartFault>
+pub fn page_kind(json: &Json<'_, '_>) -> Result<IdKind, PartFault>
     ensures { Finds result (page_kind (json_view json.now)) }
 {
     match kind_of_type(text_at(json, "type")?) {
@@ -36,7 +39,7 @@ fn page_kind(json: &Json<'_, '_>) -> Result<IdKind, PartFault>
     }
 }
 
-// The datatype, which a property alone has.
+// The datatype, which a property alone has. A lexeme is neither a property nor an item.
 fn datatype_by_kind<'a>(
     alloc: Global,
     kind: IdKind,
@@ -47,6 +50,7 @@ fn datatype_by_kind<'a>(
     match kind {
         IdKind::P => Ok(Some(copy_text_at(alloc, json, "datatype")?)),
         IdKind::Q => Ok(None),
+        IdKind::L => Err(PartFault::Shape),
     }
 }
 
@@ -59,7 +63,7 @@ fn links_by_kind<'a>(
     ensures { Finds result (links_by_kind kind (json_view json.now)) }
 {
     match kind {
-        IdKind::P => Ok(List::new(alloc)),
+        IdKind::P | IdKind::L => Ok(List::new(alloc)),
         IdKind::Q => links_at(alloc, json, "sitelinks"),
     }
 }

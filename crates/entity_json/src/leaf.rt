@@ -158,7 +158,7 @@ pub fn id_of_kind(kind: IdKind, text: &str) -> Result<EntityId, PartFault>
         return Err(PartFault::Shape);
     };
     match (kind, id.kind) {
-        (IdKind::P, IdKind::P) | (IdKind::Q, IdKind::Q) => Ok(id),
+        (IdKind::P, IdKind::P) | (IdKind::Q, IdKind::Q) | (IdKind::L, IdKind::L) => Ok(id),
         _ => Err(PartFault::Shape),
     }
 }

@@ -1,7 +1,7 @@
 //! The documents of entity pages in JSON.
 //!
-//! `documents` has the call, and `page` the page of a tree: a redirect, or an entity of `entity` with the parts that
-//! `terms`, `statements`, `snaks`, `values` and `links` read. All of these read leaves by `leaf` and `number`, maps by
+//! `documents` has the call, and `page` the page of a tree: a redirect, an item or property of `entity`, or a lexeme of
+//! `lexeme`, with the parts that `terms`, `statements`, `snaks`, `values`, `links` and `items` read. All of these read leaves by `leaf` and `number`, maps by
 //! `map`, and lists by the loops of `each`. `part` and `fault` have what a part and a page are refused for.
 #![tactic(auto)]
 
@@ -9,8 +9,10 @@ mod documents;
 mod each;
 mod entity;
 mod fault;
+mod items;
 mod laws;
 mod leaf;
+mod lexeme;
 mod links;
 mod map;
 mod number;

@@ -2,51 +2,17 @@
 
 ghost use Rattle.json_spell.specs.View.{json_view, member_view};
 ghost use Rattle.entity_json.specs.Finds.{Finds, Makes};
-ghost use Rattle.entity_json.specs.Reading.Links.{badge_of, badge_step, badges_at, link_of, link_step, links_at};
+ghost use Rattle.entity_json.specs.Reading.Links.{link_of, link_step, links_at};
 
-use crate::each::{EntryReader, ItemReader, each_found_entry, each_found_item};
-use crate::leaf::{copy_text_at, id_of_kind, optional_list_at, text_of};
+use crate::each::{EntryReader, each_found_entry};
+use crate::items::item_ids_at;
+use crate::leaf::copy_text_at;
 use crate::map::map_at;
 use crate::part::PartFault;
 use base::List;
-use entity_model::{EntityId, IdKind, Link};
+use entity_model::Link;
 use json_spell::{Json, Member};
 use std::alloc::Global;
-
-// A badge: the id of an item.
-fn badge_of(json: &Json<'_, '_>) -> Result<EntityId, PartFault>
-    ensures { Finds result (badge_of (json_view json.now)) }
-{
-    id_of_kind(IdKind::Q, text_of(json)?)
-}
-
-struct BadgeReader;
-
-impl<'a> ItemReader<'a, EntityId> for BadgeReader {
-    ghost reads = { λ reader item out. badge_step item out };
-
-    fn read(
-        &self,
-        _alloc: Global,
-        _index: usize,
-        json: &Json<'_, 'a>,
-        out: &mut List<EntityId>,
-    ) -> Result<(), PartFault> {
-        out.push(badge_of(json)?)?;
-        Ok(())
-    }
-}
-
-// The badges under the name, which may be missing.
-#[tactic(auto, unfolding(crate::specs::Reading::Links::badges_at))]
-fn badges_at(alloc: Global, json: &Json<'_, '_>, name: &str) -> Result<List<EntityId>, PartFault>
-    ensures { Finds result (badges_at name.now (json_view json.now)) }
-{
-    let items = optional_list_at(json, name)?;
-    let mut badges = List::new(alloc);
-    each_found_item(alloc, &BadgeReader, items, &mut badges)?;
-    Ok(badges)
-}
 
 // A link.
 #[tactic(auto, unfolding(crate::specs::Reading::Links::link_of))]
@@ -55,7 +21,7 @@ fn link_of<'a>(alloc: Global, json: &Json<'_, 'a>) -> Result<Link<'a>, PartFault
 {
     let site = copy_text_at(alloc, json, "site")?;
     let title = copy_text_at(alloc, json, "title")?;
-    let badges = badges_at(alloc, json, "badges")?;
+    let badges = item_ids_at(alloc, json, "badges")?;
     Ok(Link {
         site,
         title,

@@ -1,14 +1,15 @@
-// Pages: which value of a JSON text is the page, and whether it is a redirect or an entity.
+// Pages: which value of a JSON text is the page, and whether it is a redirect, an item or property, or a lexeme.
 
 ghost use Rattle.json_spell.specs.View.{json_view};
 ghost use Rattle.entity_json.specs.Finds.{Finds, FindsBy};
-ghost use Rattle.entity_json.specs.Reading.Pages.{entity_page, redirect_page, page_at, page_tree_of, page_of};
+ghost use Rattle.entity_json.specs.Reading.Pages.{entity_page, lexeme_page, own_page, redirect_page, page_at, page_tree_of, page_of};
 
-use crate::entity::entity_of;
+use crate::entity::{entity_of, page_kind};
 use crate::leaf::id_at;
+use crate::lexeme::lexeme_of;
 use crate::map::only_of;
 use crate::part::PartFault;
-use entity_model::{Document, EntityId};
+use entity_model::{Document, EntityId, IdKind};
 use json_spell::Json;
 use std::alloc::Global;
 
@@ -33,6 +34,29 @@ fn entity_page<'a>(alloc: Global, json: &Json<'_, 'a>) -> Result<Page<'a>, PartF
     })
 }
 
+// The page of a lexeme.
+#[tactic(auto, unfolding(crate::specs::Reading::Pages::lexeme_page))]
+fn lexeme_page<'a>(alloc: Global, json: &Json<'_, 'a>) -> Result<Page<'a>, PartFault>
+    ensures { Finds result (lexeme_page (json_view json.now)) }
+{
+    let lexeme = lexeme_of(alloc, json)?;
+    Ok(Page {
+        id: lexeme.id,
+        document: Document::Lexeme(lexeme),
+    })
+}
+
+// The page of an entity, by its kind.
+#[tactic(auto, unfolding(crate::specs::Reading::Pages::own_page))]
+fn own_page<'a>(alloc: Global, json: &Json<'_, 'a>) -> Result<Page<'a>, PartFault>
+    ensures { Finds result (own_page (json_view json.now)) }
+{
+    match page_kind(json)? {
+        IdKind::P | IdKind::Q => entity_page(alloc, json),
+        IdKind::L => lexeme_page(alloc, json),
+    }
+}
+
 // The page of a redirect.
 #[tactic(auto, unfolding(crate::specs::Reading::Pages::redirect_page))]
 fn redirect_page<'a>(json: &Json<'_, 'a>) -> Result<Page<'a>, PartFault>
@@ -53,7 +77,7 @@ fn page_at<'a>(alloc: Global, json: &Json<'_, 'a>) -> Result<Page<'a>, PartFault
 {
     match json.get("redirect") {
         Some(_) => redirect_page(json),
-        None => entity_page(alloc, json),
+        None => own_page(alloc, json),
     }
 }
 

@@ -8,7 +8,7 @@ use Rattle.std.proofs.lemmas.Bool.Decides.{nat_tests}
 use Rattle.std.proofs.lemmas.Bool.{and_parts}
 use Rattle.std.proofs.lemmas.Slice.Eq.{bytes_eq-Decides}
 use Rattle.entity_model.specs.declared.id.IdKind.{IdKind}
-use Rattle.entity_model.specs.declared.id.IdKind.TheVariants.{P, Q}
+use Rattle.entity_model.specs.declared.id.IdKind.TheVariants.{P, Q, L}
 use Rattle.entity_model.specs.declared.id.EntityId.{EntityId}
 use Rattle.entity_model.specs.IdKind.{letter_of}
 use Rattle.entity_model.specs.EntityId.{IsId, id_text}
@@ -33,6 +33,7 @@ id_with_number-text kind n low high =
 text_by_kind : (kind : IdKind) (n : ℕ) → 0 < n → n < 2 ^ 32 → id_of (letter_of kind ∷ decimal n) ≡ Some (record { kind = kind; number = n })
 text_by_kind P n low high = rw (value_of n high) (id_with_number-text P n low high)
 text_by_kind Q n low high = rw (value_of n high) (id_with_number-text Q n low high)
+text_by_kind L n low high = rw (value_of n high) (id_with_number-text L n low high)
 
 -- the text of an id is that id
 pub id_of-text : (id : EntityId) → IsId id → id_of (id_text id) ≡ Some id
@@ -50,21 +51,26 @@ id_with_number-sound kind n digits id is =
     let same : decimal n ≡ digits = (bytes_eq-Decides (decimal n) digits).0 others.1 in
     rw (← choice.1) ((low, high), ap (λ ds. letter_of kind ∷ ds) same)
 
-letters : (letter : ℕ) (digits : List ℕ) (id : EntityId) (p q : Bool) → (letter == 80) ≡ p → (letter == 81) ≡ q →
-    cond p (id_with_number P (digits_value 10 digits) digits) (cond q (id_with_number Q (digits_value 10 digits) digits) None) ≡ Some id →
+letters : (letter : ℕ) (digits : List ℕ) (id : EntityId) (p q l : Bool) → (letter == 80) ≡ p → (letter == 81) ≡ q → (letter == 76) ≡ l →
+    cond p (id_with_number P (digits_value 10 digits) digits)
+    (cond q (id_with_number Q (digits_value 10 digits) digits)
+    (cond l (id_with_number L (digits_value 10 digits) digits) None)) ≡ Some id →
     IsId id × (id_text id ≡ letter ∷ digits)
-letters letter digits id true q is_p is_q is =
+letters letter digits id true q l is_p is_q is_l is =
     let same : letter ≡ 80 = grind (arith, nat_tests) in
     rw same (id_with_number-sound P (digits_value 10 digits) digits id is)
-letters letter digits id false true is_p is_q is =
+letters letter digits id false true l is_p is_q is_l is =
     let same : letter ≡ 81 = grind (arith, nat_tests) in
     rw same (id_with_number-sound Q (digits_value 10 digits) digits id is)
-letters letter digits id false false is_p is_q is = cc
+letters letter digits id false false true is_p is_q is_l is =
+    let same : letter ≡ 76 = grind (arith, nat_tests) in
+    rw same (id_with_number-sound L (digits_value 10 digits) digits id is)
+letters letter digits id false false false is_p is_q is_l is = cc
 
 -- what is read has that text
 pub id_of-sound : (text : List ℕ) (id : EntityId) → id_of text ≡ Some id → IsId id × (id_text id ≡ text)
 id_of-sound [] id is = cc
-id_of-sound (letter ∷ digits) id is = letters letter digits id (letter == 80) (letter == 81) refl refl is
+id_of-sound (letter ∷ digits) id is = letters letter digits id (letter == 80) (letter == 81) (letter == 76) refl refl refl is
 
 none_read : (text : List ℕ) (read : Option EntityId) → id_of text ≡ read →
     ((id : EntityId) → IsId id → id_text id ≡ text → ◌≡◌ {A = Option EntityId} None (Some id)) → ◌≡◌ {A = Option EntityId} None read

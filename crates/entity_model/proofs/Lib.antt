@@ -1,2 +1,3 @@
 mod Number
 pub mod IdReading
+pub mod PartIds

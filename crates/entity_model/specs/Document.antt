@@ -3,18 +3,15 @@ use Rattle.std.specs.Prelude.{◌≡◌, ◌+◌, ◌≤◌, true, [], None, is_
 use Rattle.std.specs.List.{All}
 use Rattle.entity_model.specs.declared.id.EntityId.{EntityId}
 use Rattle.entity_model.specs.declared.id.IdKind.{IdKind}
-use Rattle.entity_model.specs.declared.id.IdKind.TheVariants.{P, Q}
-use Rattle.entity_model.specs.declared.value.Tagged.{Tagged}
+use Rattle.entity_model.specs.declared.id.IdKind.TheVariants.{P, Q, L}
 use Rattle.entity_model.specs.declared.entity.Link.{Link}
 use Rattle.entity_model.specs.declared.entity.Entity.{Entity}
 use Rattle.entity_model.specs.declared.document.Document.{Document}
-use Rattle.entity_model.specs.declared.document.Document.TheVariants.{Entity as AnEntity, Redirect}
-use Rattle.entity_model.specs.Value.{optional_length}
+use Rattle.entity_model.specs.declared.document.Document.TheVariants.{Entity as AnEntity, Redirect, Lexeme as ALexeme}
+use Rattle.entity_model.specs.declared.lexeme.Lexeme.{Lexeme}
+use Rattle.entity_model.specs.Lexeme.{IsSmallLexeme}
+use Rattle.entity_model.specs.Value.{IsSmallTagged, optional_length}
 use Rattle.entity_model.specs.Statement.{IsSmallStatement}
-
--- a text and its language have at most 8 MiB together
-abbrev pub IsSmallTagged : Tagged → Type 0
-IsSmallTagged tagged = length tagged.text + length tagged.language ≤ 8388608
 
 -- a site and a title have at most 8 MiB together
 abbrev pub IsSmallLink : Link → Type 0
@@ -34,18 +31,26 @@ pub record IsSmallEntity (entity : Entity) : Type 0 where
 abbrev pub IsSmall : Document → Type 0
 IsSmall (AnEntity entity) = IsSmallEntity entity
 IsSmall (Redirect target) = Unit {0}
+IsSmall (ALexeme lexeme) = IsSmallLexeme lexeme
 
--- the entity has what its kind has and no other does: a property a datatype, and an item perhaps links
+-- the entity has what its kind has and no other does: a property a datatype, and an item perhaps links. A lexeme is none
 abbrev pub HasPartsOf : IdKind → Entity → Type 0
 HasPartsOf P entity = (is_some entity.datatype ≡ true) × (entity.links ≡ [])
 HasPartsOf Q entity = entity.datatype ≡ None
+HasPartsOf L entity = ⊥
 
 -- the entity is x, with the parts that the letter of x wants
 pub record IsEntityOf (x : EntityId) (entity : Entity) : Type 0 where
   pub id : entity.id ≡ x
   pub parts : HasPartsOf x.kind entity
 
+-- the lexeme is x, whose letter is that of lexemes
+pub record IsLexemeOf (x : EntityId) (lexeme : Lexeme) : Type 0 where
+  pub id : lexeme.id ≡ x
+  pub letter : x.kind ≡ L
+
 -- the document is one of x; that of a redirect may name an entity of any kind
 abbrev pub IsDocumentOf : EntityId → Document → Type 0
 IsDocumentOf x (AnEntity entity) = IsEntityOf x entity
 IsDocumentOf x (Redirect target) = Unit {0}
+IsDocumentOf x (ALexeme lexeme) = IsLexemeOf x lexeme

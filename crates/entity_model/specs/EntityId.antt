@@ -17,7 +17,7 @@ id_text id = letter_of id.kind ∷ decimal id.number
 abbrev pub IsId : EntityId → Type 0
 IsId id = (0 < id.number) × (id.number < 2 ^ 32)
 
--- the order of ids: properties before items, and then by number
+-- the order of ids: properties, then items, then lexemes, and then by number
 abbrev pub entity_cmp : EntityId → EntityId → Ordering
 entity_cmp = then_cmp (on (λ (e : EntityId). id_kind_place e.kind) nat_cmp) (on (λ (e : EntityId). e.number) nat_cmp)
 

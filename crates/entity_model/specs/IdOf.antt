@@ -4,7 +4,7 @@ use Rattle.std.specs.Fmt.{decimal}
 use Rattle.std.specs.Str.{bytes_eq}
 use Rattle.std.specs.Str.Parse.{digits_value}
 use Rattle.entity_model.specs.declared.id.IdKind.{IdKind}
-use Rattle.entity_model.specs.declared.id.IdKind.TheVariants.{P, Q}
+use Rattle.entity_model.specs.declared.id.IdKind.TheVariants.{P, Q, L}
 use Rattle.entity_model.specs.declared.id.EntityId.{EntityId}
 use Rattle.entity_model.specs.IdKind.{letter_of}
 
@@ -18,4 +18,5 @@ abbrev pub id_of : List ℕ → Option EntityId
 id_of [] = None
 id_of (letter ∷ digits) =
     cond (letter == letter_of P) (id_with_number P (digits_value 10 digits) digits)
-    (cond (letter == letter_of Q) (id_with_number Q (digits_value 10 digits) digits) None)
+    (cond (letter == letter_of Q) (id_with_number Q (digits_value 10 digits) digits)
+    (cond (letter == letter_of L) (id_with_number L (digits_value 10 digits) digits) None))

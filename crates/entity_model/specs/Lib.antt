@@ -8,4 +8,5 @@ pub mod Value
 pub mod Reference
 pub mod Snak
 pub mod Statement
+pub mod Lexeme
 pub mod Document

@@ -2,6 +2,7 @@
 use Rattle.std.specs.Prelude.{◌≡◌, ℕ, ◌+◌, ◌≤◌, Bool, true, ◌&&◌, ◌||◌, ◌==◌, nat_le, List, length, Option, Some, None}
 use Rattle.std.specs.Char.{is_ascii_alphanumeric}
 use Rattle.std.specs.List.{list_all}
+use Rattle.entity_model.specs.declared.value.Tagged.{Tagged}
 use Rattle.entity_model.specs.declared.value.Value.{Value}
 use Rattle.entity_model.specs.declared.value.Value.TheVariants.{Entity, Str, Time, Quantity, Globe, Mono, Other}
 
@@ -27,6 +28,10 @@ text_length (Globe globe) =
     length globe.latitude + length globe.longitude + optional_length globe.precision + length globe.globe
 text_length (Mono tagged) = length tagged.text + length tagged.language
 text_length Other = 0
+
+-- a text and its language have at most 8 MiB together
+abbrev pub IsSmallTagged : Tagged → Type 0
+IsSmallTagged tagged = length tagged.text + length tagged.language ≤ 8388608
 
 -- where the value is an entity, its id is one
 abbrev pub HasEntityText : Value → Type 0

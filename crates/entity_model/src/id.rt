@@ -17,6 +17,8 @@ pub enum IdKind {
     P,
     /// An item, as Q42.
     Q,
+    /// A lexeme, as L99.
+    L,
 }
 
 impl IdKind {
@@ -41,7 +43,7 @@ impl EntityId {
     ghost use Rattle.entity_model.specs.EntityId.{id_text, IsId};
     ghost use Rattle.entity_model.specs.IdOf.{id_of};
 
-    /// Reads an id: the letter P or Q, and then a number from 1 to 4,294,967,295 in decimal without
+    /// Reads an id: the letter P, Q or L, and then a number from 1 to 4,294,967,295 in decimal without
     /// a leading zero. Any other text is none.
     pub fn read(text: &str) -> Option<EntityId>
         ensures sound { IfSome result (λ id. IsId id × (id_text id ≡ text.now)) }
@@ -69,6 +71,7 @@ impl EntityId {
         let string = match self.kind {
             IdKind::P => format!(in alloc; "P{number}")?,
             IdKind::Q => format!(in alloc; "Q{number}")?,
+            IdKind::L => format!(in alloc; "L{number}")?,
         };
         Ok(Text::from_string(string))
     }
@@ -79,18 +82,19 @@ fn split_letter(text: &str) -> Option<(IdKind, &str)>
     ensures none { IfNone result ((kind : IdKind) (rest : List ℕ) → text.now ≢ letter_of kind ∷ rest) }
     ensures parts { IfSome result (λ parts. text.now ≡ letter_of parts.0 ∷ parts.1.now) }
 {
-    match text.strip_prefix('P') {
-        Some(rest) => Some((IdKind::P, rest)),
-        None => {
-            let rest = text.strip_prefix('Q')?;
-            Some((IdKind::Q, rest))
-        }
+    if let Some(rest) = text.strip_prefix('P') {
+        return Some((IdKind::P, rest));
     }
+    if let Some(rest) = text.strip_prefix('Q') {
+        return Some((IdKind::Q, rest));
+    }
+    let rest = text.strip_prefix('L')?;
+    Some((IdKind::L, rest))
 }
 
 /// Reads a number from 1 to 4,294,967,295 in decimal without a leading zero.
-fn read_number(digits: &str) -> Option<u32>
-    ensures sound { IfSome result (λ n. (0 < n) × (decimal n ≡ digits.now)) }
+pub(crate) fn read_number(digits: &str) -> Option<u32>
+    ensures sound { IfSome result (λ n. (0 < n) × (n < 2 ^ 32) × (decimal n ≡ digits.now)) }
     ensures complete { (n : ℕ) → 0 < n → n < 2 ^ 32 → decimal n ≡ digits.now → result ≡ Some n }
 {
     if starts_above_zero(digits) {

@@ -1,4 +1,4 @@
-//! The values that the whole workspace speaks of: the ids of Wikidata's items and properties, the
+//! The values that the whole workspace speaks of: the ids of Wikidata's entities, the
 //! events of their pages with the order in which they are applied, the documents of pages with all
 //! that they say, the reasons for which the bytes of a page are no document, and the versions of the rules by which
 //! a page is mapped.
@@ -8,6 +8,7 @@ mod document;
 mod entity;
 mod event;
 mod id;
+mod lexeme;
 mod mapping;
 mod snak;
 mod statement;
@@ -18,6 +19,7 @@ pub use document::Document;
 pub use entity::{Entity, Link};
 pub use event::{Event, Kind};
 pub use id::{EntityId, IdKind};
+pub use lexeme::{Lexeme, Part, is_part_id};
 pub use mapping::MappingVersion;
 pub use snak::{Content, Snak};
 pub use statement::{Rank, Reference, Statement};

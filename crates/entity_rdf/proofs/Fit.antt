@@ -1,5 +1,5 @@
 -- The triples of a small document have fit and short terms.
-use Rattle.std.proofs.Common.{◌≡◌, ℕ, ◌≤◌, Bool, true, false, cond, List, [], ◌∷◌, ◌++◌, length, decimal, Option, Some, None, refl, arith}
+use Rattle.std.proofs.Common.{◌≡◌, ℕ, ◌≤◌, Bool, true, false, cond, List, [], ◌∷◌, ◌++◌, length, Option, Some, None, refl, arith}
 use Rattle.std.specs.List.{flat_map}
 use Rattle.std.proofs.lemmas.List.Elements.{recursion_from_All}
 use Rattle.rising.specs.Rising.{sorted}
@@ -11,49 +11,31 @@ use Rattle.entity_model.specs.declared.id.EntityId.{EntityId}
 use Rattle.entity_model.specs.declared.id.IdKind.{IdKind}
 use Rattle.entity_model.specs.declared.id.IdKind.TheVariants as Letter
 use Rattle.entity_model.specs.declared.value.Tagged.{Tagged}
-use Rattle.entity_model.specs.declared.value.Value.TheVariants.{Mono}
-use Rattle.entity_model.specs.declared.statement.Statement.{Statement}
 use Rattle.entity_model.specs.declared.entity.Entity.{Entity}
 use Rattle.entity_model.specs.declared.document.Document.{Document}
-use Rattle.entity_model.specs.declared.document.Document.TheVariants.{Entity as AnEntity, Redirect}
-use Rattle.entity_model.specs.Value.{optional_length}
-use Rattle.entity_model.specs.Statement.{IsSmallStatement}
-use Rattle.entity_model.specs.Document.{IsSmall, IsSmallEntity, IsSmallLink, IsSmallTagged}
-use Rattle.rdf_vocabulary.specs.declared.datatype.Datatype.TheVariants.{Integer, DateTime}
+use Rattle.entity_model.specs.declared.document.Document.TheVariants.{Entity as AnEntity, Redirect, Lexeme as ALexeme}
+use Rattle.entity_model.specs.Value.{IsSmallTagged, optional_length}
+use Rattle.entity_model.specs.Document.{IsSmall, IsSmallEntity, IsSmallLink}
 use Rattle.rdf_vocabulary.specs.declared.predicate.Predicate.{Predicate}
 use Rattle.rdf_vocabulary.specs.declared.predicate.Predicate.TheVariants as Say
 use Rattle.rdf_vocabulary.specs.declared.prefix.Prefix.{Prefix}
-use Rattle.rdf_vocabulary.specs.declared.prefix.Prefix.TheVariants.{Wd, Data, Wdt, P, Ps, Psv, Pq, Pqv, Pr, Prv, Wdno, Wikibase}
-use Rattle.rdf_vocabulary.specs.declared.resource.Resource.TheVariants.{Dataset, PublicDomain}
+use Rattle.rdf_vocabulary.specs.declared.prefix.Prefix.TheVariants.{Wdt, P, Ps, Psv, Pq, Pqv, Pr, Prv, Wdno, Wikibase}
 use Rattle.rdf_vocabulary.specs.Predicate.{about}
 use Rattle.rdf_vocabulary.specs.Prefix.{entity_term, prefixed}
-use Rattle.rdf_vocabulary.proofs.Fit.{AreFit, about_fit, class_fit, join, join_all, plain_fit, resource_fit, prefixed_fit}
-use Rattle.digits.proofs.Decimals.{decimal_short}
+use Rattle.rdf_vocabulary.proofs.Fit.{AreFit, about_fit, class_fit, join, join_all, prefixed_fit}
 use Rattle.rdf_vocabulary.proofs.Ids.{id_term_fit}
-use Rattle.value_nodes.proofs.Fit.{literal_fit, simple_term_fit}
 use Rattle.entity_model.specs.declared.mapping.MappingVersion.{MappingVersion}
-use Rattle.statement_rdf.specs.Ranking.{is_best}
-use Rattle.statement_rdf.proofs.Fit.{statement_triples_fit}
-use Rattle.entity_rdf.specs.About.{alias_triples, change_triples, class_of, class_triples, dataset_term, dataset_triples, description_triples, format_version, identifiers, label_triples, link_count, number_term, number_triples, page_triples, tagged_term}
+use Rattle.page_rdf.specs.Dataset.{change_triples, dataset_term, number_triples, page_triples}
+use Rattle.page_rdf.specs.Statements.{statements_triples}
+use Rattle.page_rdf.proofs.Fit.{change_fit, dataset_fit, entity_fit, number_fit, numbers_fit, page_fit, statements_fit, text_fit}
+use Rattle.lexeme_rdf.proofs.Fit.{lexdump_list_fit}
+use Rattle.entity_rdf.specs.About.{alias_triples, class_of, class_triples, dataset_triples, description_triples, label_triples, link_count}
 use Rattle.entity_rdf.specs.Property.{datatype_triples, is_datatype_char, other_predicates, predicate_triple, property_triples, property_triples_of, type_name, value_predicates}
-use Rattle.entity_rdf.specs.Statements.{judged_triples, statements_triples}
 use Rattle.entity_rdf.specs.Dump.{dump, spoken_triples, text_triples}
 use Rattle.sitelinks.specs.Article.{article_triples}
 use Rattle.sitelinks.proofs.Fit.{article_triples_fit}
 use Rattle.munger.proofs.Fit.{sorted_each}
 use Rattle.entity_rdf.proofs.TypeNames.{type_name_iri, type_name_short}
-
-entity_fit : (x : EntityId) → IsFitAndShort (entity_term x)
-entity_fit x = id_term_fit Wd x
-
-dataset_fit : (x : EntityId) → IsFitAndShort (dataset_term x)
-dataset_fit x = id_term_fit Data x
-
-text_fit : (t : Tagged) → IsSmallTagged t → IsFitAndShort (tagged_term t)
-text_fit t small = simple_term_fit [] (Mono t) (record { texts = small; id = tt })
-
-number_fit : (n : ℕ) → IsFitAndShort (number_term n)
-number_fit n = literal_fit (decimal n) Integer (omega (arith, decimal_short n))
 
 label_fit : (node : Term) → IsFitAndShort node → (t : Tagged) → IsSmallTagged t → AreFit (label_triples node t)
 label_fit node n t small =
@@ -80,36 +62,10 @@ texts_fit x e small =
     (join_all IsSmallTagged (description_triples node) e.descriptions (description_fit node n) (recursion_from_All IsSmallTagged e.descriptions small.descriptions)))
     (join_all IsSmallTagged (alias_triples node) e.aliases (alias_fit node n) (recursion_from_All IsSmallTagged e.aliases small.aliases))
 
-page_fit : (x : EntityId) → AreFit (page_triples x)
-unfolding format_version
-page_fit x =
-    let node = dataset_term x in
-    let n = dataset_fit x in (
-      class_fit node Dataset n,
-      (
-        about_fit node Say.About _ n (entity_fit x),
-        (about_fit node Say.License _ n (resource_fit PublicDomain), (about_fit node Say.SoftwareVersion _ n (plain_fit format_version (omega arith)), tt)),
-      ),
-    )
-
-numbers_fit : (x : EntityId) (rev : ℕ) (statements : List Statement) → AreFit (number_triples (dataset_term x) rev statements)
-numbers_fit x rev statements =
-    let node = dataset_term x in
-    let n = dataset_fit x in (
-      about_fit node Say.Version _ n (number_fit rev),
-      (
-        about_fit node Say.Statements _ n (number_fit (length statements)),
-        (about_fit node Say.Identifiers _ n (number_fit (identifiers statements)), tt),
-      ),
-    )
-
 count_fit : (kind : IdKind) (x : EntityId) (links : ℕ) → AreFit (link_count kind (dataset_term x) links)
 count_fit Letter.P x links = tt
+count_fit Letter.L x links = tt
 count_fit Letter.Q x links = (about_fit (dataset_term x) Say.Sitelinks _ (dataset_fit x) (number_fit links), tt)
-
-change_fit : (x : EntityId) (time : Option (List ℕ)) → optional_length time ≤ 8388608 → AreFit (change_triples (dataset_term x) time)
-change_fit x None small = tt
-change_fit x (Some time) small = (about_fit (dataset_term x) Say.DateModified _ (dataset_fit x) (literal_fit time DateTime (omega (arith, small))), tt)
 
 set_fit : (x : EntityId) (rev : ℕ) (e : Entity) → IsSmallEntity e → AreFit (dataset_triples x rev e)
 set_fit x rev e small =
@@ -148,10 +104,7 @@ property_fit Letter.P x datatype small =
     let types = datatype_triples (entity_term x) datatype in
     join (types ++ value_predicates x) (other_predicates x) (join types (value_predicates x) (datatype_fit x datatype small) (values_fit x)) (others_fit x)
 property_fit Letter.Q x datatype small = tt
-
-statements_fit : (version : MappingVersion) (x : EntityId) (e : Entity) → IsSmallEntity e → AreFit (statements_triples version x e.statements)
-statements_fit version x e small =
-    join_all IsSmallStatement (judged_triples version x e.statements) e.statements (λ s is. statement_triples_fit version (entity_term x) s (is_best e.statements s) (entity_fit x) is) (recursion_from_All IsSmallStatement e.statements small.statements)
+property_fit Letter.L x datatype small = tt
 
 articles_fit : (x : EntityId) (e : Entity) → IsSmallEntity e → AreFit (flat_map (article_triples x) e.links)
 articles_fit x e small =
@@ -170,9 +123,10 @@ list_fit : (version : MappingVersion) (x : EntityId) (rev : ℕ) (document : Doc
 list_fit version x rev (AnEntity e) small =
     let spoken = spoken_triples x rev e in
     let articles = flat_map (article_triples x) e.links in
-    join (spoken ++ articles) (statements_triples version x e.statements)
+    join (spoken ++ articles) (statements_triples version (entity_term x) e.statements)
     (join spoken articles (spoken_fit x rev e small) (articles_fit x e small))
-    (statements_fit version x e small)
+    (statements_fit version (entity_term x) e.statements (entity_fit x) small.statements)
+list_fit version x rev (ALexeme l) small = lexdump_list_fit version x rev l small
 list_fit version x rev (Redirect y) small = (about_fit (entity_term x) Say.SameAs _ (entity_fit x) (entity_fit y), tt)
 
 -- the set of a small document's triples

@@ -6,18 +6,20 @@ use Rattle.rising.specs.Rising.{In}
 use Rattle.rdf_term.specs.declared.triple.Triple.{Triple}
 use Rattle.entity_model.specs.declared.id.EntityId.{EntityId}
 use Rattle.entity_model.specs.declared.id.IdKind.{IdKind}
-use Rattle.entity_model.specs.declared.id.IdKind.TheVariants.{P, Q}
+use Rattle.entity_model.specs.declared.id.IdKind.TheVariants.{P, Q, L}
 use Rattle.entity_model.specs.declared.entity.Entity.{Entity}
 use Rattle.entity_model.specs.declared.document.Document.{Document}
-use Rattle.entity_model.specs.declared.document.Document.TheVariants.{Entity as AnEntity, Redirect}
+use Rattle.entity_model.specs.declared.document.Document.TheVariants.{Entity as AnEntity, Redirect, Lexeme as ALexeme}
 use Rattle.entity_model.specs.declared.mapping.MappingVersion.{MappingVersion}
 use Rattle.rdf_vocabulary.specs.Prefix.{entity_term}
 use Rattle.statement_rdf.specs.Ranking.{is_best}
 use Rattle.statement_rdf.proofs.Given.{statement_rules}
 use Rattle.statement_rdf.proofs.Members.{in_front, in_back, in_either, in_flat_map, flat_map_in}
-use Rattle.entity_rdf.specs.About.{alias_triples, change_triples, class_triples, dataset_term, dataset_triples, description_triples, label_triples, link_count as link_counts, number_triples, page_triples}
+use Rattle.page_rdf.specs.Dataset.{change_triples, dataset_term, number_triples, page_triples}
+use Rattle.page_rdf.specs.Statements.{judged_triples, statements_triples}
+use Rattle.lexeme_rdf.proofs.Given.{lexdump_rules}
+use Rattle.entity_rdf.specs.About.{alias_triples, class_triples, dataset_triples, description_triples, label_triples, link_count as link_counts}
 use Rattle.entity_rdf.specs.Property.{datatype_triples, other_predicates, property_triples, property_triples_of, value_predicates}
-use Rattle.entity_rdf.specs.Statements.{judged_triples, statements_triples}
 use Rattle.entity_rdf.specs.Dump.{dump, entity_triples, spoken_triples, text_triples}
 use Rattle.sitelinks.specs.Article.{article_triples}
 use Rattle.entity_rdf.specs.Gives.{Gives, EntityGives, class, label, preferred_label, name, description, alternative_label, dataset, dataset_about, license, format, revision, statement_count, identifier_count, link_count, modified, property_type, value_predicate, other_predicate, article, statement}
@@ -62,6 +64,7 @@ module _ (version : MappingVersion) (x : EntityId) (rev : ℕ) (e : Entity) (t :
 
   by_link_count : (k : IdKind) → x.kind ≡ k → In t (link_counts k (dataset_term x) (length e.links)) → EntityGives version x rev e t
   by_link_count P is h = absurd h
+  by_link_count L is h = absurd h
   by_link_count Q is (inl said) = link_count is said
   by_link_count Q is (inr none) = absurd none
 
@@ -85,10 +88,11 @@ module _ (version : MappingVersion) (x : EntityId) (rev : ℕ) (e : Entity) (t :
         | inr other ↦ other_predicate is other
       ]
   by_property Q is h = absurd h
+  by_property L is h = absurd h
 
-  by_statement : In t (statements_triples version x e.statements) → EntityGives version x rev e t
+  by_statement : In t (statements_triples version (entity_term x) e.statements) → EntityGives version x rev e t
   by_statement h =
-      let found = flat_map_in (judged_triples version x e.statements) t e.statements h in
+      let found = flat_map_in (judged_triples version (entity_term x) e.statements) t e.statements h in
       statement found.0 found.1 ((statement_rules version (entity_term x) found.0 (is_best e.statements found.0) t).0 found.2)
 
   by_text : In t (text_triples x e) → EntityGives version x rev e t
@@ -143,7 +147,7 @@ module _ (version : MappingVersion) (x : EntityId) (rev : ℕ) (e : Entity) (t :
   entity_gives h =
       let spoken = spoken_triples x rev e in
       let articles = flat_map (article_triples x) e.links in
-      elim (in_either t (spoken ++ articles) (statements_triples version x e.statements) h) [
+      elim (in_either t (spoken ++ articles) (statements_triples version (entity_term x) e.statements) h) [
         | inl front ↦ elim (in_either t spoken articles front) [
           | inl one ↦ by_spoken one
           | inr one ↦ by_article one
@@ -155,7 +159,7 @@ module _ (version : MappingVersion) (x : EntityId) (rev : ℕ) (e : Entity) (t :
   in_spoken h =
       let spoken = spoken_triples x rev e in
       let articles = flat_map (article_triples x) e.links in
-      in_front t (spoken ++ articles) (statements_triples version x e.statements) (in_front t spoken articles h)
+      in_front t (spoken ++ articles) (statements_triples version (entity_term x) e.statements) (in_front t spoken articles h)
 
   in_texts : In t (text_triples x e) → In t (entity_triples version x rev e)
   in_texts h =
@@ -256,14 +260,15 @@ module _ (version : MappingVersion) (x : EntityId) (rev : ℕ) (e : Entity) (t :
   entity_given (article l among said) =
       let spoken = spoken_triples x rev e in
       let articles = flat_map (article_triples x) e.links in
-      in_front t (spoken ++ articles) (statements_triples version x e.statements) (in_back t spoken articles (in_flat_map (article_triples x) t l e.links among said))
+      in_front t (spoken ++ articles) (statements_triples version (entity_term x) e.statements) (in_back t spoken articles (in_flat_map (article_triples x) t l e.links among said))
   entity_given (statement s among gives) =
       let spoken = spoken_triples x rev e in
       let articles = flat_map (article_triples x) e.links in
       let said = (statement_rules version (entity_term x) s (is_best e.statements s) t).1 gives in
-      in_back t (spoken ++ articles) (statements_triples version x e.statements) (in_flat_map (judged_triples version x e.statements) t s e.statements among said)
+      in_back t (spoken ++ articles) (statements_triples version (entity_term x) e.statements) (in_flat_map (judged_triples version (entity_term x) e.statements) t s e.statements among said)
 
 -- the list and the rules say the same
 pub dump_rules : (version : MappingVersion) (x : EntityId) (rev : ℕ) (document : Document) (t : Triple) → In t (dump version x rev document) ↔ Gives version x rev document t
 dump_rules version x rev (AnEntity e) t = (entity_gives version x rev e t, entity_given version x rev e t)
+dump_rules version x rev (ALexeme l) t = lexdump_rules version x rev l t
 dump_rules version x rev (Redirect y) t = ((λ h. elim h [ inl is ↦ is | inr none ↦ absurd none ]), (λ is. inl is))

@@ -1,114 +1,31 @@
 -- The labels of the dump's blank nodes are short, rule by rule: the only ones are those of unknown values, hashes of 32 digits.
-use Rattle.std.proofs.Common.{◌≡◌, ℕ, Bool, true, nat_le, cond, List, [], ◌∷◌, ◌++◌, map, Option, Some, None, IfSome, refl, ap, subst}
-use Rattle.std.specs.List.{AllByRecursion}
-use Rattle.std.specs.Str.{bytes_eq}
+use Rattle.std.proofs.Common.{ℕ, List, [], ◌∷◌, ◌++◌, map, Option, Some, None, refl}
 use Rattle.rising.specs.Rising.{sorted}
-use Rattle.rdf_term.specs.declared.term.Term.{Term}
-use Rattle.rdf_term.specs.declared.term.Term.TheVariants.{Iri, Blank, Plain, Lang}
+use Rattle.rdf_term.specs.declared.term.Term.TheVariants.{Iri}
 use Rattle.rdf_term.specs.declared.triple.Triple.{Triple}
-use Rattle.rdf_term.specs.Grammar.{is_tag, is_word, iri_of, tagged_of}
+use Rattle.rdf_term.specs.Grammar.{is_word}
 use Rattle.rdf_term.specs.Order.{triple_cmp}
-use Rattle.rdf_term.specs.Triple.{triple}
 use Rattle.entity_model.specs.declared.id.EntityId.{EntityId}
-use Rattle.entity_model.specs.declared.value.Value.{Value}
 use Rattle.entity_model.specs.declared.value.Value.TheVariants as Values
-use Rattle.entity_model.specs.declared.snak.Snak.{Snak}
-use Rattle.entity_model.specs.declared.statement.Statement.{Statement}
 use Rattle.entity_model.specs.declared.entity.Entity.{Entity}
 use Rattle.entity_model.specs.declared.entity.Link.{Link}
 use Rattle.entity_model.specs.declared.document.Document.{Document}
-use Rattle.entity_model.specs.declared.document.Document.TheVariants.{Entity as AnEntity, Redirect}
+use Rattle.entity_model.specs.declared.document.Document.TheVariants.{Entity as AnEntity, Redirect, Lexeme as ALexeme}
 use Rattle.entity_model.specs.declared.mapping.MappingVersion.{MappingVersion}
-use Rattle.rdf_vocabulary.specs.declared.datatype.Datatype.TheVariants.{Decimal}
-use Rattle.rdf_vocabulary.specs.declared.predicate.Predicate.{Predicate}
-use Rattle.rdf_vocabulary.specs.declared.prefix.Prefix.TheVariants.{FilePath, Wd}
-use Rattle.rdf_vocabulary.specs.Datatype.{typed}
-use Rattle.rdf_vocabulary.specs.Fields.{hashed_name}
-use Rattle.rdf_vocabulary.specs.Prefix.{entity_term, prefixed}
-use Rattle.rdf_vocabulary.specs.Unreserved.{escaped_name}
-use Rattle.rdf_vocabulary.proofs.NamesFit.{length-hashed_name}
+use Rattle.rdf_vocabulary.specs.Prefix.{entity_term}
 use Rattle.rdf_vocabulary.proofs.Shared.{append_each, chosen}
-use Rattle.wb_values.specs.declared.literal.TimeText.{TimeText}
-use Rattle.wb_values.specs.declared.literal.TimeText.TheVariants.{DateTime, Plain as PlainTime}
-use Rattle.wb_values.specs.Decimal.{is_decimal}
-use Rattle.value_nodes.specs.Name.{node_name, number_one, one}
-use Rattle.value_nodes.specs.Nodes.{bound_triples, named_triples, node_triples, precision_triples, unit_term, value_part_triples}
-use Rattle.value_nodes.specs.Terms.{amount_term, commons_media, simple_term, text_term, time_text_term, url}
 use Rattle.sitelinks.specs.declared.sites.Site.{Site}
 use Rattle.sitelinks.specs.Article.{article_iri, badge_triple, found_triples, group_triple}
 use Rattle.sitelinks.specs.Site.{site_of}
-use Rattle.statement_rdf.specs.declared.role.Role.{Role}
-use Rattle.statement_rdf.specs.Gives.{SnakGives, simple_value, value_node, node_part, no_value, unknown_value, DirectGives, direct_value, direct_no_value, direct_unknown, StatementGives, claim, statement_class, statement_rank, best_rank, main_snak, best_snak, qualifier_snak, derived, source_class, source_snak}
-use Rattle.munger.specs.Short.{has_short_label, HasShortLabels}
+use Rattle.munger.specs.Short.{HasShortLabels}
 use Rattle.munger.proofs.Fit.{sorted_each}
 use Rattle.entity_rdf.specs.Dump.{dump}
 use Rattle.entity_rdf.specs.Gives.{Gives, EntityGives, class, label, preferred_label, name, description, alternative_label, dataset, dataset_about, license, format, revision, statement_count, identifier_count, link_count, modified, property_type, value_predicate, other_predicate, article, statement}
 use Rattle.entity_rdf.specs.Property.{is_datatype_char, other_predicates, type_triples, value_predicates}
-use Rattle.entity_rdf.proofs.Each.{of_each_member, of_member}
+use Rattle.page_rdf.proofs.Each.{of_each_member, of_member}
+use Rattle.page_rdf.proofs.Labels.{AreShort, said, statement_short, tagged_short}
+use Rattle.lexeme_rdf.proofs.Labels.{lexeme_short}
 use Rattle.entity_rdf.proofs.Given.{dump_rules}
-
--- the label is short, where the term is a blank node
-abbrev IsShort : Term → Type 0
-IsShort term = has_short_label term ≡ true
-
--- so are those of the triples' blank nodes
-abbrev AreShort : List Triple → Type 0
-AreShort triples = AllByRecursion HasShortLabels triples
-
--- the blank node of a hashed name
-blank_short : (fields : List ℕ) → IsShort (Blank (hashed_name fields))
-blank_short fields = ap (λ n. nat_le n 32) (length-hashed_name fields)
-
--- the terms of values, none of which is a blank node
-tagged_short : (text tag : List ℕ) → IsShort (tagged_of text tag)
-tagged_short text tag = chosen IsShort (is_tag tag) (Lang text tag) (Plain text) refl refl
-
-text_short : (datatype text : List ℕ) → IsShort (text_term datatype text)
-text_short datatype text =
-    let file = prefixed FilePath (escaped_name text) in
-    chosen IsShort (bytes_eq datatype url) (iri_of text) (cond (bytes_eq datatype commons_media) file (Plain text)) refl
-    (chosen IsShort (bytes_eq datatype commons_media) file (Plain text) refl refl)
-
-amount_short : (text : List ℕ) → IsShort (amount_term text)
-amount_short text = chosen IsShort (is_decimal text) (typed text Decimal) (Plain text) refl refl
-
-unit_short : (unit : List ℕ) → IsShort (unit_term unit)
-unit_short unit = chosen IsShort (bytes_eq unit one) (prefixed Wd number_one) (iri_of unit) refl refl
-
-time_short : (text : TimeText) → IsShort (time_text_term text)
-time_short (DateTime text) = refl
-time_short (PlainTime text) = refl
-
-simple_short : (datatype : List ℕ) (value : Value) → IfSome (simple_term datatype value) IsShort
-simple_short datatype (Values.Entity id) = refl
-simple_short datatype (Values.Str text) = text_short datatype text
-simple_short datatype (Values.Time time) = time_short _
-simple_short datatype (Values.Quantity quantity) = amount_short quantity.amount
-simple_short datatype (Values.Globe globe) = refl
-simple_short datatype (Values.Mono tagged) = tagged_short tagged.text tagged.language
-simple_short datatype Values.Other = tt
-
--- the parts of a value's node
-bound_short : (node : List ℕ) (predicate : Predicate) (bound : Option (List ℕ)) → AreShort (bound_triples (Iri node) predicate bound)
-bound_short node predicate None = tt
-bound_short node predicate (Some bound) = search amount_short
-
-precision_short : (node : List ℕ) (precision : Option (List ℕ)) → AreShort (precision_triples (Iri node) precision)
-precision_short node None = tt
-precision_short node (Some precision) = search
-
-parts_short : (node : List ℕ) (value : Value) → AreShort (value_part_triples (Iri node) value)
-parts_short node (Values.Time time) = search time_short parts 12
-parts_short node (Values.Quantity quantity) = search (append_each HasShortLabels, bound_short, amount_short, unit_short) parts 12
-parts_short node (Values.Globe globe) = search (append_each HasShortLabels, precision_short) parts 12
-parts_short node (Values.Entity id) = tt
-parts_short node (Values.Str text) = tt
-parts_short node (Values.Mono tagged) = tt
-parts_short node Values.Other = tt
-
-node_short : (value : Value) (node : Option (List ℕ)) → AreShort (named_triples value node)
-node_short value None = tt
-node_short value (Some node) = parts_short _ value
 
 -- a link's triples
 badges_short : (iri : List ℕ) (badges : List EntityId) → AreShort (map (badge_triple (Iri iri)) badges)
@@ -123,66 +40,35 @@ link_short x link (Some site) =
     let last : AreShort (badges ++ group) = append_each HasShortLabels badges group (badges_short _ link.badges) (search) in
     search tagged_short parts 12
 
--- what a rule gives, whose subject and predicate are IRIs
 module _ (t : Triple) where
-  said : {subject predicate : List ℕ} {object : Term} → t ≡ triple (Iri subject) (Iri predicate) object → IsShort object → HasShortLabels t
-  said is object = rw is (record { subject = refl; predicate = refl; object = object })
-
-  simple_said : {subject predicate : List ℕ} {object : Term} (datatype : List ℕ) (value : Value) → simple_term datatype value ≡ Some object
-      → t ≡ triple (Iri subject) (Iri predicate) object → HasShortLabels t
-  simple_said datatype value found is = said is (subst (λ o. IfSome o IsShort) found (simple_short datatype value))
-
-  snak_short : (version : MappingVersion) (subject id : List ℕ) (role : Role) (snak : Snak) → SnakGives version (Iri subject) id role snak t → HasShortLabels t
-  snak_short version subject id role snak (simple_value value term content found is) = simple_said snak.datatype value found is
-  snak_short version subject id role snak (value_node value node content found is) = said is refl
-  snak_short version subject id role snak (node_part value content among) = of_member HasShortLabels (node_triples version value) t (node_short value (node_name version value)) among
-  snak_short version subject id role snak (no_value content is) = said is refl
-  snak_short version subject id role snak (unknown_value content is) = said is (blank_short _)
-
-  direct_short : (x : EntityId) (id : List ℕ) (snak : Snak) → DirectGives (entity_term x) id snak t → HasShortLabels t
-  direct_short x id snak (direct_value value term content found is) = simple_said snak.datatype value found is
-  direct_short x id snak (direct_no_value content is) = said is refl
-  direct_short x id snak (direct_unknown content is) = said is (blank_short _)
-
   module _ (version : MappingVersion) (x : EntityId) where
-    statement_short : (s : Statement) (best : Bool) → StatementGives version (entity_term x) s best t → HasShortLabels t
-    statement_short s best (claim is) = said is refl
-    statement_short s best (statement_class is) = said is refl
-    statement_short s best (statement_rank is) = said is refl
-    statement_short s best (best_rank holds is) = said is refl
-    statement_short s best (main_snak gives) = snak_short version _ s.id _ s.main gives
-    statement_short s best (best_snak holds gives) = direct_short x s.id s.main gives
-    statement_short s best (qualifier_snak snak among gives) = snak_short version _ s.id _ snak gives
-    statement_short s best (derived r among is) = said is refl
-    statement_short s best (source_class r among is) = said is refl
-    statement_short s best (source_snak r snak among within gives) = snak_short version _ s.id _ snak gives
-
     entity_short : (rev : ℕ) (e : Entity) → EntityGives version x rev e t → HasShortLabels t
-    entity_short rev e (class is) = said is refl
-    entity_short rev e (label l among is) = said is (tagged_short l.text l.language)
-    entity_short rev e (preferred_label l among is) = said is (tagged_short l.text l.language)
-    entity_short rev e (name l among is) = said is (tagged_short l.text l.language)
-    entity_short rev e (description d among is) = said is (tagged_short d.text d.language)
-    entity_short rev e (alternative_label a among is) = said is (tagged_short a.text a.language)
-    entity_short rev e (dataset is) = said is refl
-    entity_short rev e (dataset_about is) = said is refl
-    entity_short rev e (license is) = said is refl
-    entity_short rev e (format is) = said is refl
-    entity_short rev e (revision is) = said is refl
-    entity_short rev e (statement_count is) = said is refl
-    entity_short rev e (identifier_count is) = said is refl
-    entity_short rev e (link_count kind is) = said is refl
-    entity_short rev e (modified time found is) = said is refl
+    entity_short rev e (class is) = said t is refl
+    entity_short rev e (label l among is) = said t is (tagged_short l.text l.language)
+    entity_short rev e (preferred_label l among is) = said t is (tagged_short l.text l.language)
+    entity_short rev e (name l among is) = said t is (tagged_short l.text l.language)
+    entity_short rev e (description d among is) = said t is (tagged_short d.text d.language)
+    entity_short rev e (alternative_label a among is) = said t is (tagged_short a.text a.language)
+    entity_short rev e (dataset is) = said t is refl
+    entity_short rev e (dataset_about is) = said t is refl
+    entity_short rev e (license is) = said t is refl
+    entity_short rev e (format is) = said t is refl
+    entity_short rev e (revision is) = said t is refl
+    entity_short rev e (statement_count is) = said t is refl
+    entity_short rev e (identifier_count is) = said t is refl
+    entity_short rev e (link_count kind is) = said t is refl
+    entity_short rev e (modified time found is) = said t is refl
     entity_short rev e (property_type datatype kind found among) =
         of_member HasShortLabels (type_triples (entity_term x) datatype) t (chosen AreShort (is_word is_datatype_char datatype) _ [] (search) tt) among
     entity_short rev e (value_predicate kind among) = of_member HasShortLabels (value_predicates x) t (search parts 12) among
     entity_short rev e (other_predicate kind among) = of_member HasShortLabels (other_predicates x) t (search parts 12) among
     entity_short rev e (article l found among) = of_member HasShortLabels (found_triples x l (site_of l.site)) t (link_short x l (site_of l.site)) among
-    entity_short rev e (statement s found gives) = statement_short s _ gives
+    entity_short rev e (statement s found gives) = statement_short t version _ s _ gives
 
     document_short : (rev : ℕ) (document : Document) → Gives version x rev document t → HasShortLabels t
     document_short rev (AnEntity e) gives = entity_short rev e gives
-    document_short rev (Redirect y) is = said is refl
+    document_short rev (Redirect y) is = said t is refl
+    document_short rev (ALexeme l) gives = lexeme_short t version x rev l gives
 
 -- the set of a document's triples
 pub dump_labels : (version : MappingVersion) (x : EntityId) (rev : ℕ) (document : Document) → AreShort (sorted triple_cmp (dump version x rev document))

@@ -1,7 +1,6 @@
 pub mod Capitals
 pub mod Given
 pub mod TypeNames
-pub mod Each
 pub mod Fit
 pub mod Labels
 pub mod Direct

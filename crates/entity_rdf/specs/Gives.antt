@@ -10,7 +10,7 @@ use Rattle.entity_model.specs.declared.statement.Statement.{Statement}
 use Rattle.entity_model.specs.declared.entity.Entity.{Entity}
 use Rattle.entity_model.specs.declared.entity.Link.{Link}
 use Rattle.entity_model.specs.declared.document.Document.{Document}
-use Rattle.entity_model.specs.declared.document.Document.TheVariants.{Entity as AnEntity, Redirect}
+use Rattle.entity_model.specs.declared.document.Document.TheVariants.{Entity as AnEntity, Redirect, Lexeme as ALexeme}
 use Rattle.entity_model.specs.declared.mapping.MappingVersion.{MappingVersion}
 use Rattle.rdf_vocabulary.specs.declared.datatype.Datatype.TheVariants.{DateTime}
 use Rattle.rdf_vocabulary.specs.declared.predicate.Predicate.TheVariants as Say
@@ -22,7 +22,10 @@ use Rattle.rdf_vocabulary.specs.Resource.{class_triple, resource_term}
 use Rattle.sitelinks.specs.Article.{article_triples}
 use Rattle.statement_rdf.specs.Gives.{StatementGives}
 use Rattle.statement_rdf.specs.Ranking.{is_best}
-use Rattle.entity_rdf.specs.About.{class_of, dataset_term, format_version, identifiers, number_term, tagged_term}
+use Rattle.lexeme_rdf.specs.Gives.{LexemeGives}
+use Rattle.page_rdf.specs.Dataset.{dataset_term, format_version, identifiers, number_term}
+use Rattle.page_rdf.specs.Texts.{tagged_term}
+use Rattle.entity_rdf.specs.About.{class_of}
 use Rattle.entity_rdf.specs.Property.{other_predicates, type_triples, value_predicates}
 
 -- the document of an entity says the triple
@@ -48,7 +51,8 @@ pub data EntityGives (version : MappingVersion) (x : EntityId) (rev : ℕ) (e : 
   article : (l : Link) → In l e.links → In t (article_triples x l) → EntityGives version x rev e t
   statement : (s : Statement) → In s e.statements → StatementGives version (entity_term x) s (is_best e.statements s) t → EntityGives version x rev e t
 
--- the document says the triple: that of a redirect, that it is the entity which is named
+-- the document says the triple: that of a redirect, that it is the entity which is named, and that of a lexeme by rules of its own
 abbrev pub Gives : MappingVersion → EntityId → ℕ → Document → Triple → Type 0
 Gives version x rev (AnEntity e) t = EntityGives version x rev e t
 Gives version x rev (Redirect y) t = t ≡ about (entity_term x) Say.SameAs (entity_term y)
+Gives version x rev (ALexeme l) t = LexemeGives version x rev l t

@@ -60,10 +60,11 @@ other_predicates x =
     ∷ predicate_triple x Say.ReferenceValue Prv
     ∷ predicate_triple x Say.Novalue Wdno ∷ []
 
--- what is said of a property; an item is none
+-- what is said of a property; an item or a lexeme is none
 abbrev pub property_triples_of : IdKind → EntityId → Option (List ℕ) → List Triple
 property_triples_of Letter.P x datatype = datatype_triples (entity_term x) datatype ++ value_predicates x ++ other_predicates x
 property_triples_of Letter.Q x datatype = []
+property_triples_of Letter.L x datatype = []
 
 abbrev pub property_triples : EntityId → Option (List ℕ) → List Triple
 property_triples x datatype = property_triples_of x.kind x datatype

@@ -4,9 +4,10 @@ ghost use Rattle.std.specs.Prelude.{◌≡◌, OnOk};
 ghost use Rattle.std.specs.List.{flat_map};
 ghost use Rattle.triple_sink.specs.Gains.{Gains};
 ghost use Rattle.triple_sink.specs.TermRef.{meant};
-ghost use Rattle.entity_rdf.specs.About.{alias_triples, class_of, class_triples, description_triples, label_triples, tagged_term};
+ghost use Rattle.entity_rdf.specs.About.{alias_triples, class_of, class_triples, description_triples, label_triples};
 
 use entity_model::{EntityId, IdKind, Tagged};
+use page_rdf::text_ref;
 use rdf_term::OutOfMemory;
 use rdf_vocabulary::{Predicate, Prefix, Resource};
 use triple_sink::{Setting, TermRef, TripleSink, emit_about, emit_class};
@@ -31,14 +32,8 @@ fn class_of(kind: IdKind) -> Resource
     match kind {
         IdKind::P => Resource::Property,
         IdKind::Q => Resource::Item,
+        IdKind::L => Resource::Lexeme,
     }
-}
-
-// The text in its language.
-fn text_ref<'m>(text: &'m Tagged<'_>) -> TermRef<'m>
-    ensures { meant result ≡ tagged_term text.now }
-{
-    TermRef::tagged(text.text.as_str(), text.language.as_str())
 }
 
 // Emits a label, which has three predicates.

@@ -1,9 +1,9 @@
 //! The RDF of entity pages ("Wikibase RDF Dump Format").
 //!
-//! `about` has what a page says of its entity, `dataset` what it says of itself, `property` what a property's page says of
-//! its predicates, and `statements` what its statements say; `walk` puts the rules together. `dump` has what a walk
-//! makes, of the dump and of what munging leaves of it, as sets and as texts, `room` how much room the texts get at
-//! first, and `laws` what holds of the rules.
+//! `about` has what a page says of its entity, `dataset` what it says of itself, and `property` what a property's page says
+//! of its predicates; `walk` puts the rules together with those of lexemes. `dump` has what a walk makes, of the dump
+//! and of what munging leaves of it, as sets and as texts, `room` how much room the texts get at first, and `laws` what
+//! holds of the rules.
 #![tactic(auto)]
 
 mod about;
@@ -12,7 +12,6 @@ mod dump;
 mod laws;
 mod property;
 mod room;
-mod statements;
 mod walk;
 
 pub use dump::{direct_texts, direct_triples, dump_triples};

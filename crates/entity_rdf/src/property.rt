@@ -163,7 +163,7 @@ fn emit_other_predicates<S: TripleSink>(
     emit_predicate(setting, id, Predicate::Novalue, Prefix::Wdno, out)
 }
 
-/// Emits what the page of a property says of its predicates. An item's page says nothing of them.
+/// Emits what the page of a property says of its predicates. The page of an item or a lexeme says nothing of them.
 pub(crate) fn emit_property<S: TripleSink>(
     setting: Setting,
     id: EntityId,
@@ -180,6 +180,6 @@ pub(crate) fn emit_property<S: TripleSink>(
             emit_value_predicates(setting, id, out)?;
             emit_other_predicates(setting, id, out)
         }
-        IdKind::Q => Ok(()),
+        IdKind::Q | IdKind::L => Ok(()),
     }
 }

@@ -2,7 +2,7 @@
 
 ghost use Rattle.std.specs.Prelude.{◌≤◌};
 
-use entity_model::{Document, Entity};
+use entity_model::{Document, Entity, Lexeme, Part};
 
 // What is given at most, however large the page is.
 const MOST: usize = 1_048_576;
@@ -10,10 +10,12 @@ const MOST: usize = 1_048_576;
 // What the triples of a page come to that are there whatever it says.
 const PAGE: usize = 1024;
 
-// What the triples of a statement, of a site link and of a text come to, mostly.
+// What the triples of a statement, of a site link, of a form or sense without texts, and of a text come to, mostly.
 const STATEMENT: usize = 2048;
 
 const LINK: usize = 768;
+
+const PART: usize = 512;
 
 const TEXT: usize = 128;
 
@@ -25,6 +27,7 @@ pub(crate) fn room(document: &Document) -> usize
     match document {
         Document::Entity(entity) => entity_room(entity).min(MOST),
         Document::Redirect(_) => PAGE,
+        Document::Lexeme(lexeme) => lexeme_room(lexeme).min(MOST),
     }
 }
 
@@ -38,4 +41,30 @@ fn entity_room(entity: &Entity) -> usize {
     PAGE.saturating_add(entity.statements.len().saturating_mul(STATEMENT))
         .saturating_add(entity.links.len().saturating_mul(LINK))
         .saturating_add(texts.saturating_mul(TEXT))
+}
+
+// The guess for a lexeme's page. A text of it has two triples.
+fn lexeme_room(lexeme: &Lexeme) -> usize {
+    PAGE.saturating_add(part_room(lexeme.statements.len(), lexeme.lemmas.len()))
+        .saturating_add(parts_room(lexeme.forms.as_slice()))
+        .saturating_add(parts_room(lexeme.senses.as_slice()))
+}
+
+// The guess for forms or senses.
+fn parts_room(parts: &[Part]) -> usize {
+    let mut room: usize = 0;
+    for part in parts {
+        let texts = part.texts.len().saturating_add(part.features.len());
+        room = room
+            .saturating_add(PART)
+            .saturating_add(part_room(part.statements.len(), texts));
+    }
+    room
+}
+
+// The guess for so many statements and texts.
+fn part_room(statements: usize, texts: usize) -> usize {
+    statements
+        .saturating_mul(STATEMENT)
+        .saturating_add(texts.saturating_mul(2 * TEXT))
 }

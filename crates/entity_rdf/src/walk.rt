@@ -10,8 +10,9 @@ ghost use Rattle.entity_rdf.specs.Dump.{dump, entity_triples, redirect_triples, 
 use crate::about::{emit_aliases, emit_descriptions, emit_entity_class, emit_labels};
 use crate::dataset::emit_dataset;
 use crate::property::emit_property;
-use crate::statements::emit_statements;
 use entity_model::{Document, Entity, EntityId, Link};
+use lexeme_rdf::emit_lexeme;
+use page_rdf::emit_statements;
 use rdf_term::OutOfMemory;
 use rdf_vocabulary::{Predicate, Prefix};
 use sitelinks::emit_article;
@@ -33,6 +34,7 @@ pub fn emit_dump<S: TripleSink>(
     match document {
         Document::Entity(entity) => emit_entity(setting, id, rev, entity, out),
         Document::Redirect(target) => emit_redirect(setting, id, *target, out),
+        Document::Lexeme(lexeme) => emit_lexeme(setting, id, rev, lexeme, out),
     }
 }
 
@@ -62,7 +64,8 @@ fn emit_entity<S: TripleSink>(
 {
     emit_spoken(setting, id, rev, entity, out)?;
     emit_articles(setting, id, entity.links.as_slice(), out)?;
-    emit_statements(setting, id, &entity.statements, out)
+    let subject = TermRef::Id(Prefix::Wd, id);
+    emit_statements(setting, &subject, &entity.statements, out)
 }
 
 // Emits what the page says but for its site links and statements.

@@ -13,31 +13,32 @@ use Rattle.rdf_vocabulary.specs.Prefix.{entity_term}
 use Rattle.statement_rdf.specs.Ranking.{is_best}
 use Rattle.statement_rdf.proofs.Given.{statement_rules}
 use Rattle.statement_rdf.proofs.Members.{in_front, in_back, in_either, in_flat_map, flat_map_in}
-use Rattle.entity_rdf.specs.About.{change_triples, dataset_term, number_triples, page_triples}
-use Rattle.lexeme_rdf.specs.declared.lexeme.Lexeme.{Lexeme}
-use Rattle.lexeme_rdf.specs.declared.lexeme.Part.{Part}
-use Rattle.lexeme_rdf.specs.declared.predicate.LexicalPredicate.{LexicalPredicate}
-use Rattle.lexeme_rdf.specs.declared.predicate.LexicalPredicate.TheVariants as Words
+use Rattle.page_rdf.specs.Dataset.{change_triples, dataset_term, number_triples, page_triples}
+use Rattle.entity_model.specs.declared.lexeme.Lexeme.{Lexeme}
+use Rattle.entity_model.specs.declared.lexeme.Part.{Part}
+use Rattle.rdf_vocabulary.specs.declared.predicate.Predicate.{Predicate}
+use Rattle.rdf_vocabulary.specs.declared.predicate.Predicate.TheVariants as Say
 use Rattle.lexeme_rdf.specs.Dump.{lexdump, part_triples, spoken_triples}
 use Rattle.lexeme_rdf.specs.Entry.{entry_triples, lemma_triples}
 use Rattle.lexeme_rdf.specs.Form.{feature_triples, form_head, form_triples}
 use Rattle.lexeme_rdf.specs.Gives.{EntryGives, lexical_entry, lexeme, language, category, TextGives, spelled, label, PageGives, dataset, dataset_about, license, format, revision, statement_count, identifier_count, modified}
 use Rattle.lexeme_rdf.specs.Gives.{FormGives, lexical_form, form_class, wikibase_form, representation, feature, SenseGives, lexical_sense, sense_class, wikibase_sense, gloss, OwnGives, one}
 use Rattle.lexeme_rdf.specs.Gives.{LexemeGives, entry, lemma, page, form, sense, statement, form_statement, sense_statement}
-use Rattle.lexeme_rdf.specs.Lexeme.{part_term}
+use Rattle.lexeme_rdf.specs.Part.{part_term}
 use Rattle.lexeme_rdf.specs.Page.{lexeme_page_triples}
 use Rattle.lexeme_rdf.specs.Sense.{sense_head, sense_triples}
-use Rattle.lexeme_rdf.specs.Statements.{all_statements, judged_triples, own_triples, part_statements}
+use Rattle.page_rdf.specs.Statements.{judged_triples, statements_triples}
+use Rattle.lexeme_rdf.specs.Statements.{all_statements, part_statements}
 use Rattle.lexeme_rdf.specs.Texts.{text_triples}
 
 module _ (t : Triple) where
   -- a text of a node
-  text_gives : (word : LexicalPredicate) (node : Term) (text : Tagged) → In t (text_triples word node text) → TextGives word node text t
+  text_gives : (word : Predicate) (node : Term) (text : Tagged) → In t (text_triples word node text) → TextGives word node text t
   text_gives word node text (inl is) = spelled is
   text_gives word node text (inr (inl is)) = label is
   text_gives word node text (inr (inr none)) = absurd none
 
-  text_given : (word : LexicalPredicate) (node : Term) (text : Tagged) → TextGives word node text t → In t (text_triples word node text)
+  text_given : (word : Predicate) (node : Term) (text : Tagged) → TextGives word node text t → In t (text_triples word node text)
   text_given word node text (spelled is) = inl is
   text_given word node text (label is) = inr (inl is)
 
@@ -54,15 +55,15 @@ module _ (t : Triple) where
     | inr none ↦ absurd none
   ]
 
-  text_form : (entity : Term) (f : Part) → In t (flat_map (text_triples Words.Representation (part_term f.id)) f.texts) → FormGives entity f t
+  text_form : (entity : Term) (f : Part) → In t (flat_map (text_triples Say.Representation (part_term f.id)) f.texts) → FormGives entity f t
   text_form entity f h =
-      let found = flat_map_in (text_triples Words.Representation (part_term f.id)) t f.texts h in
-      representation found.0 found.1 (text_gives Words.Representation (part_term f.id) found.0 found.2)
+      let found = flat_map_in (text_triples Say.Representation (part_term f.id)) t f.texts h in
+      representation found.0 found.1 (text_gives Say.Representation (part_term f.id) found.0 found.2)
 
   form_gives : (entity : Term) (f : Part) → In t (form_triples entity f) → FormGives entity f t
   form_gives entity f h =
       let head = form_head entity (part_term f.id) in
-      let texts = flat_map (text_triples Words.Representation (part_term f.id)) f.texts in
+      let texts = flat_map (text_triples Say.Representation (part_term f.id)) f.texts in
       elim (in_either t (head ++ texts) (flat_map (feature_triples (part_term f.id)) f.features) h) [
         | inl front ↦ elim (in_either t head texts front) [
           | inl part ↦ head_form entity f part
@@ -74,7 +75,7 @@ module _ (t : Triple) where
   in_form_head : (entity : Term) (f : Part) → In t (form_head entity (part_term f.id)) → In t (form_triples entity f)
   in_form_head entity f h =
       let head = form_head entity (part_term f.id) in
-      let texts = flat_map (text_triples Words.Representation (part_term f.id)) f.texts in
+      let texts = flat_map (text_triples Say.Representation (part_term f.id)) f.texts in
       in_front t (head ++ texts) (flat_map (feature_triples (part_term f.id)) f.features) (in_front t head texts h)
 
   form_given : (entity : Term) (f : Part) → FormGives entity f t → In t (form_triples entity f)
@@ -83,12 +84,12 @@ module _ (t : Triple) where
   form_given entity f (wikibase_form is) = in_form_head entity f (inr (inr (inl is)))
   form_given entity f (representation text among gives) =
       let head = form_head entity (part_term f.id) in
-      let texts = flat_map (text_triples Words.Representation (part_term f.id)) f.texts in
-      let there = in_flat_map (text_triples Words.Representation (part_term f.id)) t text f.texts among (text_given Words.Representation (part_term f.id) text gives) in
+      let texts = flat_map (text_triples Say.Representation (part_term f.id)) f.texts in
+      let there = in_flat_map (text_triples Say.Representation (part_term f.id)) t text f.texts among (text_given Say.Representation (part_term f.id) text gives) in
       in_front t (head ++ texts) (flat_map (feature_triples (part_term f.id)) f.features) (in_back t head texts there)
   form_given entity f (feature item among is) =
       let head = form_head entity (part_term f.id) in
-      let texts = flat_map (text_triples Words.Representation (part_term f.id)) f.texts in
+      let texts = flat_map (text_triples Say.Representation (part_term f.id)) f.texts in
       let features = flat_map (feature_triples (part_term f.id)) f.features in
       in_back t (head ++ texts) features (in_flat_map (feature_triples (part_term f.id)) t item f.features among (inl is))
 
@@ -99,21 +100,21 @@ module _ (t : Triple) where
   head_sense entity s (inr (inr (inl is))) = wikibase_sense is
   head_sense entity s (inr (inr (inr none))) = absurd none
 
-  text_sense : (entity : Term) (s : Part) → In t (flat_map (text_triples Words.Definition (part_term s.id)) s.texts) → SenseGives entity s t
+  text_sense : (entity : Term) (s : Part) → In t (flat_map (text_triples Say.Definition (part_term s.id)) s.texts) → SenseGives entity s t
   text_sense entity s h =
-      let found = flat_map_in (text_triples Words.Definition (part_term s.id)) t s.texts h in
-      gloss found.0 found.1 (text_gives Words.Definition (part_term s.id) found.0 found.2)
+      let found = flat_map_in (text_triples Say.Definition (part_term s.id)) t s.texts h in
+      gloss found.0 found.1 (text_gives Say.Definition (part_term s.id) found.0 found.2)
 
   sense_gives : (entity : Term) (s : Part) → In t (sense_triples entity s) → SenseGives entity s t
   sense_gives entity s h =
       let head = sense_head entity (part_term s.id) in
-      elim (in_either t head (flat_map (text_triples Words.Definition (part_term s.id)) s.texts) h) [
+      elim (in_either t head (flat_map (text_triples Say.Definition (part_term s.id)) s.texts) h) [
         | inl part ↦ head_sense entity s part
         | inr part ↦ text_sense entity s part
       ]
 
   in_sense_head : (entity : Term) (s : Part) → In t (sense_head entity (part_term s.id)) → In t (sense_triples entity s)
-  in_sense_head entity s h = in_front t (sense_head entity (part_term s.id)) (flat_map (text_triples Words.Definition (part_term s.id)) s.texts) h
+  in_sense_head entity s h = in_front t (sense_head entity (part_term s.id)) (flat_map (text_triples Say.Definition (part_term s.id)) s.texts) h
 
   sense_given : (entity : Term) (s : Part) → SenseGives entity s t → In t (sense_triples entity s)
   sense_given entity s (lexical_sense is) = in_sense_head entity s (inl is)
@@ -121,16 +122,16 @@ module _ (t : Triple) where
   sense_given entity s (wikibase_sense is) = in_sense_head entity s (inr (inr (inl is)))
   sense_given entity s (gloss text among gives) =
       let head = sense_head entity (part_term s.id) in
-      let texts = flat_map (text_triples Words.Definition (part_term s.id)) s.texts in
-      in_back t head texts (in_flat_map (text_triples Words.Definition (part_term s.id)) t text s.texts among (text_given Words.Definition (part_term s.id) text gives))
+      let texts = flat_map (text_triples Say.Definition (part_term s.id)) s.texts in
+      in_back t head texts (in_flat_map (text_triples Say.Definition (part_term s.id)) t text s.texts among (text_given Say.Definition (part_term s.id) text gives))
 
   -- the statements of a subject
-  own_gives : (version : MappingVersion) (subject : Term) (all : List Statement) → In t (own_triples version subject all) → OwnGives version subject all t
+  own_gives : (version : MappingVersion) (subject : Term) (all : List Statement) → In t (statements_triples version subject all) → OwnGives version subject all t
   own_gives version subject all h =
       let found = flat_map_in (judged_triples version subject all) t all h in
       one found.0 found.1 ((statement_rules version subject found.0 (is_best all found.0) t).0 found.2)
 
-  own_given : (version : MappingVersion) (subject : Term) (all : List Statement) → OwnGives version subject all t → In t (own_triples version subject all)
+  own_given : (version : MappingVersion) (subject : Term) (all : List Statement) → OwnGives version subject all t → In t (statements_triples version subject all)
   own_given version subject all (one s among gives) =
       in_flat_map (judged_triples version subject all) t s all among ((statement_rules version subject s (is_best all s) t).1 gives)
 
@@ -144,8 +145,8 @@ module _ (version : MappingVersion) (x : EntityId) (rev : ℕ) (l : Lexeme) (t :
 
   by_lemma : In t (lemma_triples x l) → LexemeGives version x rev l t
   by_lemma h =
-      let found = flat_map_in (text_triples Words.Lemma (entity_term x)) t l.lemmas h in
-      lemma found.0 found.1 (text_gives t Words.Lemma (entity_term x) found.0 found.2)
+      let found = flat_map_in (text_triples Say.Lemma (entity_term x)) t l.lemmas h in
+      lemma found.0 found.1 (text_gives t Say.Lemma (entity_term x) found.0 found.2)
 
   by_dataset : In t (page_triples x) → PageGives x rev l t
   by_dataset (inl is) = dataset is
@@ -211,7 +212,7 @@ module _ (version : MappingVersion) (x : EntityId) (rev : ℕ) (l : Lexeme) (t :
 
   by_statement : In t (all_statements version x l) → LexemeGives version x rev l t
   by_statement h =
-      let own = own_triples version (entity_term x) l.statements in
+      let own = statements_triples version (entity_term x) l.statements in
       let forms = flat_map (part_statements version) l.forms in
       elim (in_either t (own ++ forms) (flat_map (part_statements version) l.senses) h) [
         | inl front ↦ elim (in_either t own forms front) [
@@ -295,7 +296,7 @@ module _ (version : MappingVersion) (x : EntityId) (rev : ℕ) (l : Lexeme) (t :
   lexeme_given : LexemeGives version x rev l t → In t (lexdump version x rev l)
   lexeme_given (entry gives) = entry_given gives
   lexeme_given (lemma text among gives) =
-      let there : In t (lemma_triples x l) = in_flat_map (text_triples Words.Lemma (entity_term x)) t text l.lemmas among (text_given t Words.Lemma (entity_term x) text gives) in
+      let there : In t (lemma_triples x l) = in_flat_map (text_triples Say.Lemma (entity_term x)) t text l.lemmas among (text_given t Say.Lemma (entity_term x) text gives) in
       in_spoken (in_front t (entry_triples x l ++ lemma_triples x l) (lexeme_page_triples x rev l) (in_back t (entry_triples x l) (lemma_triples x l) there))
   lexeme_given (page gives) = page_given gives
   lexeme_given (form f among gives) =
@@ -307,18 +308,18 @@ module _ (version : MappingVersion) (x : EntityId) (rev : ℕ) (l : Lexeme) (t :
       let senses = flat_map (sense_triples (entity_term x)) l.senses in
       in_parts (in_back t forms senses (in_flat_map (sense_triples (entity_term x)) t s l.senses among (sense_given t (entity_term x) s gives)))
   lexeme_given (statement gives) =
-      let own = own_triples version (entity_term x) l.statements in
+      let own = statements_triples version (entity_term x) l.statements in
       let forms = flat_map (part_statements version) l.forms in
       let senses = flat_map (part_statements version) l.senses in
       in_statements (in_front t (own ++ forms) senses (in_front t own forms (own_given t version (entity_term x) l.statements gives)))
   lexeme_given (form_statement f among gives) =
-      let own = own_triples version (entity_term x) l.statements in
+      let own = statements_triples version (entity_term x) l.statements in
       let forms = flat_map (part_statements version) l.forms in
       let senses = flat_map (part_statements version) l.senses in
       let there = in_flat_map (part_statements version) t f l.forms among (own_given t version (part_term f.id) f.statements gives) in
       in_statements (in_front t (own ++ forms) senses (in_back t own forms there))
   lexeme_given (sense_statement s among gives) =
-      let own = own_triples version (entity_term x) l.statements in
+      let own = statements_triples version (entity_term x) l.statements in
       let forms = flat_map (part_statements version) l.forms in
       let senses = flat_map (part_statements version) l.senses in
       in_statements (in_back t (own ++ forms) senses (in_flat_map (part_statements version) t s l.senses among (own_given t version (part_term s.id) s.statements gives)))

@@ -1,5 +1,5 @@
 -- What munging leaves of the dump of a lexeme: which triples they are, and that those of a small one are fit and short.
-use Rattle.std.proofs.Common.{ℕ, List, subst}
+use Rattle.std.proofs.Common.{ℕ, List}
 use Rattle.std.specs.Prelude.{◌↔◌}
 use Rattle.std.specs.List.{AllByRecursion, flat_map}
 use Rattle.rising.specs.Rising.{In, sorted}
@@ -9,15 +9,13 @@ use Rattle.rdf_term.specs.Order.{triple_cmp}
 use Rattle.rdf_term.proofs.Members.{member_triples}
 use Rattle.entity_model.specs.declared.id.EntityId.{EntityId}
 use Rattle.entity_model.specs.declared.mapping.MappingVersion.{MappingVersion}
+use Rattle.entity_model.specs.Lexeme.{IsSmallLexeme}
 use Rattle.munger.specs.Munging.{munge, munged}
 use Rattle.munger.proofs.Fit.{munge_fit}
-use Rattle.munger.proofs.MungedList.{munge_of_list}
 use Rattle.statement_rdf.proofs.Members.{in_flat_map, flat_map_in}
-use Rattle.entity_rdf.proofs.Each.{of_each_member, of_member}
-use Rattle.lexeme_rdf.specs.declared.lexeme.Lexeme.{Lexeme}
+use Rattle.entity_model.specs.declared.lexeme.Lexeme.{Lexeme}
 use Rattle.lexeme_rdf.specs.Dump.{lexdump}
 use Rattle.lexeme_rdf.specs.Keeps.{LexemeKeeps, left}
-use Rattle.lexeme_rdf.specs.Lexeme.{IsSmallLexeme}
 use Rattle.lexeme_rdf.proofs.Fit.{lexdump_fit}
 use Rattle.lexeme_rdf.proofs.Given.{lexdump_rules}
 use Rattle.lexeme_rdf.proofs.Labels.{lexdump_labels}
@@ -29,13 +27,6 @@ module _ (version : MappingVersion) (x : EntityId) (rev : ℕ) (l : Lexeme) wher
   -- the set
   pub kept_set_fit : IsSmallLexeme l → AllByRecursion HasFitAndShortTerms (munge x (sorted triple_cmp (lexdump version x rev l)))
   kept_set_fit small = munge_fit x (sorted triple_cmp given) (lexdump_fit version x rev l small) (lexdump_labels version x rev l)
-
-  -- the list that the set is made of
-  pub kept_list_fit : IsSmallLexeme l → AllByRecursion HasFitAndShortTerms (flat_map (munged x) (lexdump version x rev l))
-  kept_list_fit small =
-      let list = flat_map (munged x) given in
-      let set : AllByRecursion HasFitAndShortTerms (sorted triple_cmp list) = subst (AllByRecursion HasFitAndShortTerms) (munge_of_list x given) (kept_set_fit small) in
-      of_each_member HasFitAndShortTerms list (λ t there. of_member HasFitAndShortTerms (sorted triple_cmp list) t set ((member_triples t list).1 there))
 
   kept : (t : Triple) → In t (munge x (sorted triple_cmp given)) → LexemeKeeps version x rev l t
   kept t h =

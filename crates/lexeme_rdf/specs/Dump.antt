@@ -5,7 +5,7 @@ use Rattle.rdf_term.specs.declared.triple.Triple.{Triple}
 use Rattle.entity_model.specs.declared.id.EntityId.{EntityId}
 use Rattle.entity_model.specs.declared.mapping.MappingVersion.{MappingVersion}
 use Rattle.rdf_vocabulary.specs.Prefix.{entity_term}
-use Rattle.lexeme_rdf.specs.declared.lexeme.Lexeme.{Lexeme}
+use Rattle.entity_model.specs.declared.lexeme.Lexeme.{Lexeme}
 use Rattle.lexeme_rdf.specs.Entry.{entry_triples, lemma_triples}
 use Rattle.lexeme_rdf.specs.Form.{form_triples}
 use Rattle.lexeme_rdf.specs.Page.{lexeme_page_triples}

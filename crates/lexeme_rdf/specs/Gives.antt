@@ -17,26 +17,24 @@ use Rattle.rdf_vocabulary.specs.Prefix.{entity_term}
 use Rattle.rdf_vocabulary.specs.Resource.{class_triple, resource_term}
 use Rattle.statement_rdf.specs.Gives.{StatementGives}
 use Rattle.statement_rdf.specs.Ranking.{is_best}
-use Rattle.entity_rdf.specs.About.{dataset_term, format_version, identifiers, number_term, tagged_term}
-use Rattle.lexeme_rdf.specs.declared.class.LexicalClass.TheVariants as Classes
-use Rattle.lexeme_rdf.specs.declared.lexeme.Lexeme.{Lexeme}
-use Rattle.lexeme_rdf.specs.declared.lexeme.Part.{Part}
-use Rattle.lexeme_rdf.specs.declared.predicate.LexicalPredicate.{LexicalPredicate}
-use Rattle.lexeme_rdf.specs.declared.predicate.LexicalPredicate.TheVariants as Words
-use Rattle.lexeme_rdf.specs.Class.{is_a}
-use Rattle.lexeme_rdf.specs.Lexeme.{part_term}
-use Rattle.lexeme_rdf.specs.Predicate.{says}
+use Rattle.page_rdf.specs.Dataset.{dataset_term, format_version, identifiers, number_term}
+use Rattle.page_rdf.specs.Texts.{tagged_term}
+use Rattle.rdf_vocabulary.specs.declared.resource.Resource.TheVariants as Classes
+use Rattle.entity_model.specs.declared.lexeme.Lexeme.{Lexeme}
+use Rattle.entity_model.specs.declared.lexeme.Part.{Part}
+use Rattle.rdf_vocabulary.specs.declared.predicate.Predicate.{Predicate}
+use Rattle.lexeme_rdf.specs.Part.{part_term}
 
 -- what is said of a lexeme itself
 pub data EntryGives (x : EntityId) (l : Lexeme) (t : Triple) : Type 0 where
-  lexical_entry : t ≡ is_a (entity_term x) Classes.LexicalEntry → EntryGives x l t
-  lexeme : t ≡ is_a (entity_term x) Classes.Lexeme → EntryGives x l t
-  language : t ≡ says (entity_term x) Words.Language (entity_term l.language) → EntryGives x l t
-  category : t ≡ says (entity_term x) Words.LexicalCategory (entity_term l.category) → EntryGives x l t
+  lexical_entry : t ≡ class_triple (entity_term x) Classes.LexicalEntry → EntryGives x l t
+  lexeme : t ≡ class_triple (entity_term x) Classes.Lexeme → EntryGives x l t
+  language : t ≡ about (entity_term x) Say.Language (entity_term l.language) → EntryGives x l t
+  category : t ≡ about (entity_term x) Say.LexicalCategory (entity_term l.category) → EntryGives x l t
 
 -- a text of a node, which is a label too
-pub data TextGives (predicate : LexicalPredicate) (node : Term) (text : Tagged) (t : Triple) : Type 0 where
-  spelled : t ≡ says node predicate (tagged_term text) → TextGives predicate node text t
+pub data TextGives (predicate : Predicate) (node : Term) (text : Tagged) (t : Triple) : Type 0 where
+  spelled : t ≡ about node predicate (tagged_term text) → TextGives predicate node text t
   label : t ≡ about node Say.Label (tagged_term text) → TextGives predicate node text t
 
 -- what is said of the page
@@ -52,18 +50,18 @@ pub data PageGives (x : EntityId) (rev : ℕ) (l : Lexeme) (t : Triple) : Type 0
 
 -- what is said of a form of the entity
 pub data FormGives (entity : Term) (f : Part) (t : Triple) : Type 0 where
-  lexical_form : t ≡ says entity Words.LexicalForm (part_term f.id) → FormGives entity f t
-  form_class : t ≡ is_a (part_term f.id) Classes.Form → FormGives entity f t
-  wikibase_form : t ≡ is_a (part_term f.id) Classes.WikibaseForm → FormGives entity f t
-  representation : (text : Tagged) → In text f.texts → TextGives Words.Representation (part_term f.id) text t → FormGives entity f t
-  feature : (item : EntityId) → In item f.features → t ≡ says (part_term f.id) Words.GrammaticalFeature (entity_term item) → FormGives entity f t
+  lexical_form : t ≡ about entity Say.LexicalForm (part_term f.id) → FormGives entity f t
+  form_class : t ≡ class_triple (part_term f.id) Classes.Form → FormGives entity f t
+  wikibase_form : t ≡ class_triple (part_term f.id) Classes.WikibaseForm → FormGives entity f t
+  representation : (text : Tagged) → In text f.texts → TextGives Say.Representation (part_term f.id) text t → FormGives entity f t
+  feature : (item : EntityId) → In item f.features → t ≡ about (part_term f.id) Say.GrammaticalFeature (entity_term item) → FormGives entity f t
 
 -- what is said of a sense of the entity
 pub data SenseGives (entity : Term) (s : Part) (t : Triple) : Type 0 where
-  lexical_sense : t ≡ says entity Words.Sense (part_term s.id) → SenseGives entity s t
-  sense_class : t ≡ is_a (part_term s.id) Classes.LexicalSense → SenseGives entity s t
-  wikibase_sense : t ≡ is_a (part_term s.id) Classes.WikibaseSense → SenseGives entity s t
-  gloss : (text : Tagged) → In text s.texts → TextGives Words.Definition (part_term s.id) text t → SenseGives entity s t
+  lexical_sense : t ≡ about entity Say.Sense (part_term s.id) → SenseGives entity s t
+  sense_class : t ≡ class_triple (part_term s.id) Classes.LexicalSense → SenseGives entity s t
+  wikibase_sense : t ≡ class_triple (part_term s.id) Classes.WikibaseSense → SenseGives entity s t
+  gloss : (text : Tagged) → In text s.texts → TextGives Say.Definition (part_term s.id) text t → SenseGives entity s t
 
 -- a statement of a subject says the triple, best or not among those of the subject alone
 pub data OwnGives (version : MappingVersion) (subject : Term) (all : List Statement) (t : Triple) : Type 0 where
@@ -72,7 +70,7 @@ pub data OwnGives (version : MappingVersion) (subject : Term) (all : List Statem
 -- the page of a lexeme says the triple
 pub data LexemeGives (version : MappingVersion) (x : EntityId) (rev : ℕ) (l : Lexeme) (t : Triple) : Type 0 where
   entry : EntryGives x l t → LexemeGives version x rev l t
-  lemma : (text : Tagged) → In text l.lemmas → TextGives Words.Lemma (entity_term x) text t → LexemeGives version x rev l t
+  lemma : (text : Tagged) → In text l.lemmas → TextGives Say.Lemma (entity_term x) text t → LexemeGives version x rev l t
   page : PageGives x rev l t → LexemeGives version x rev l t
   form : (f : Part) → In f l.forms → FormGives (entity_term x) f t → LexemeGives version x rev l t
   sense : (s : Part) → In s l.senses → SenseGives (entity_term x) s t → LexemeGives version x rev l t

@@ -5,7 +5,7 @@ use Rattle.rdf_term.specs.declared.triple.Triple.{Triple}
 use Rattle.entity_model.specs.declared.id.EntityId.{EntityId}
 use Rattle.entity_model.specs.declared.mapping.MappingVersion.{MappingVersion}
 use Rattle.munger.specs.Munging.{munged}
-use Rattle.lexeme_rdf.specs.declared.lexeme.Lexeme.{Lexeme}
+use Rattle.entity_model.specs.declared.lexeme.Lexeme.{Lexeme}
 use Rattle.lexeme_rdf.specs.Gives.{LexemeGives}
 
 -- the triple is left of one that a rule gives

@@ -1,12 +1,10 @@
-pub mod Class
 pub mod Dump
 pub mod Entry
 pub mod Form
 pub mod Gives
 pub mod Keeps
-pub mod Lexeme
 pub mod Page
-pub mod Predicate
+pub mod Part
 pub mod Sense
 pub mod Statements
 pub mod Texts

@@ -1,22 +1,19 @@
-// What the store keeps of the dump of a lexeme.
+// What the store keeps of the dump of a lexeme, as a set.
 
-ghost use Rattle.std.specs.Prelude.{◌≡◌, ◌++◌, IfOk};
+ghost use Rattle.std.specs.Prelude.{◌≡◌, IfOk};
 ghost use Rattle.std.specs.List.{AllByRecursion, flat_map};
 ghost use Rattle.rdf_term.specs.Fit.{HasFitAndShortTerms};
 ghost use Rattle.rising.specs.Rising.{sorted};
 ghost use Rattle.rdf_term.specs.Order.{triple_cmp};
 ghost use Rattle.munger.specs.Munging.{munge, munged};
-ghost use Rattle.lexeme_rdf.specs.Lexeme.{IsSmallLexeme};
+ghost use Rattle.entity_model.specs.Lexeme.{IsSmallLexeme};
 ghost use Rattle.lexeme_rdf.specs.Dump.{lexdump};
 
-use crate::lexeme::Lexeme;
-use crate::room::room;
 use crate::walk::emit_lexeme;
-use entity_model::EntityId;
+use entity_model::{EntityId, Lexeme};
 use munger::{Munged, Page};
 use rdf_term::{List, OutOfMemory, Triple, TripleSet};
-use triple_sink::{Setting, TripleSink};
-use triple_texts::TripleTexts;
+use triple_sink::Setting;
 
 /// The set that munging leaves of the dump of the lexeme of a revision of `id`, made by one walk and without the dump.
 #[tactic(auto, using(crate::proofs::Kept::kept_set_fit, munger::proofs::MungedList::munge_of_list))]
@@ -35,23 +32,6 @@ pub fn lexeme_triples(
     TripleSet::from_list(triples)
 }
 
-/// The triples that munging leaves of the dump of the lexeme of a revision of `id`, by their texts, made by one walk. A
-/// triple may stand there more than once.
-#[tactic(auto, using(crate::proofs::Kept::kept_list_fit, munger::proofs::MungedList::munge_of_list))]
-pub fn lexeme_texts(
-    setting: Setting,
-    id: EntityId,
-    rev: u64,
-    lexeme: &Lexeme,
-) -> Result<TripleTexts, OutOfMemory>
-    ensures value { IfOk result (λ texts. sorted triple_cmp texts ≡ munge id (sorted triple_cmp (lexdump setting.version id rev lexeme.now))) }
-
-    // The terms are fit and short where the lexeme is small.
-    ensures fit { IsSmallLexeme lexeme.now → IfOk result (AllByRecursion HasFitAndShortTerms) }
-{
-    munged_texts(setting, id, rev, lexeme)
-}
-
 // What is left of the triples of the dump, in their order.
 #[tactic(auto, using(munger::proofs::Kept::kept_is))]
 fn munged_list(
@@ -62,36 +42,9 @@ fn munged_list(
 ) -> Result<List<Triple>, OutOfMemory>
     ensures { IfOk result (λ triples. triples ≡ flat_map (munged id) (lexdump setting.version id rev lexeme.now)) }
 {
-    munge_into(setting, id, rev, lexeme, List::new(setting.alloc))
-}
-
-// What is left of the triples of the dump, by their texts, in their order.
-#[tactic(auto, using(munger::proofs::Kept::kept_is))]
-fn munged_texts(
-    setting: Setting,
-    id: EntityId,
-    rev: u64,
-    lexeme: &Lexeme,
-) -> Result<TripleTexts, OutOfMemory>
-    ensures { IfOk result (λ texts. texts ≡ flat_map (munged id) (lexdump setting.version id rev lexeme.now)) }
-{
-    let texts = TripleTexts::with_room(setting.alloc, room(lexeme))?;
-    munge_into(setting, id, rev, lexeme, texts)
-}
-
-// The sink with what it keeps of what is left of each triple of the dump.
-fn munge_into<S: TripleSink + Drop>(
-    setting: Setting,
-    id: EntityId,
-    rev: u64,
-    lexeme: &Lexeme,
-    inner: S,
-) -> Result<S, OutOfMemory>
-    ensures { IfOk result (λ sink. S.items sink ≡ S.items inner ++ flat_map (λ triple. flat_map (S.keeps inner) (munged id triple)) (lexdump setting.version id rev lexeme.now)) }
-{
     let mut out = Munged {
         page: Page::new(setting.alloc, id)?,
-        inner,
+        inner: List::new(setting.alloc),
     };
     emit_lexeme(setting, id, rev, lexeme, &mut out)?;
     Ok(out.inner)

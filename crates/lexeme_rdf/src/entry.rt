@@ -4,14 +4,11 @@ ghost use Rattle.std.specs.Prelude.{◌≡◌, OnOk};
 ghost use Rattle.triple_sink.specs.Gains.{Gains};
 ghost use Rattle.lexeme_rdf.specs.Entry.{entry_triples, lemma_triples};
 
-use crate::class::{LexicalClass, emit_lexical_class};
-use crate::lexeme::Lexeme;
-use crate::predicate::{LexicalPredicate, emit_lexical};
 use crate::texts::emit_texts;
-use entity_model::EntityId;
+use entity_model::{EntityId, Lexeme};
 use rdf_term::OutOfMemory;
-use rdf_vocabulary::Prefix;
-use triple_sink::{Setting, TermRef, TripleSink};
+use rdf_vocabulary::{Predicate, Prefix, Resource};
+use triple_sink::{Setting, TermRef, TripleSink, emit_about, emit_class};
 
 /// Emits the classes of the lexeme, its language and its lexical category.
 pub(crate) fn emit_entry<S: TripleSink>(
@@ -24,15 +21,15 @@ pub(crate) fn emit_entry<S: TripleSink>(
     ensures stays { S.rest out.new ≡ S.rest out.old }
 {
     let entity = TermRef::Id(Prefix::Wd, id);
-    emit_lexical_class(setting, &entity, LexicalClass::LexicalEntry, out)?;
-    emit_lexical_class(setting, &entity, LexicalClass::Lexeme, out)?;
+    emit_class(setting.alloc, &entity, Resource::LexicalEntry, out)?;
+    emit_class(setting.alloc, &entity, Resource::Lexeme, out)?;
     let language = TermRef::Id(Prefix::Wd, lexeme.language);
-    emit_lexical(setting, &entity, LexicalPredicate::Language, &language, out)?;
+    emit_about(setting.alloc, &entity, Predicate::Language, &language, out)?;
     let category = TermRef::Id(Prefix::Wd, lexeme.category);
-    emit_lexical(
-        setting,
+    emit_about(
+        setting.alloc,
         &entity,
-        LexicalPredicate::LexicalCategory,
+        Predicate::LexicalCategory,
         &category,
         out,
     )
@@ -50,5 +47,5 @@ pub(crate) fn emit_lemmas<S: TripleSink>(
 {
     let entity = TermRef::Id(Prefix::Wd, id);
     let lemmas = lexeme.lemmas.as_slice();
-    emit_texts(setting, &entity, LexicalPredicate::Lemma, lemmas, out)
+    emit_texts(setting, &entity, Predicate::Lemma, lemmas, out)
 }

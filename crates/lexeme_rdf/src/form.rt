@@ -6,14 +6,11 @@ ghost use Rattle.triple_sink.specs.Gains.{Gains};
 ghost use Rattle.triple_sink.specs.TermRef.{meant};
 ghost use Rattle.lexeme_rdf.specs.Form.{feature_triples, form_head, form_triples};
 
-use crate::class::{LexicalClass, emit_lexical_class};
-use crate::lexeme::Part;
-use crate::predicate::{LexicalPredicate, emit_lexical};
 use crate::texts::emit_texts;
-use entity_model::EntityId;
+use entity_model::{EntityId, Part};
 use rdf_term::OutOfMemory;
-use rdf_vocabulary::Prefix;
-use triple_sink::{Setting, TermRef, TripleSink};
+use rdf_vocabulary::{Predicate, Prefix, Resource};
+use triple_sink::{Setting, TermRef, TripleSink, emit_about, emit_class};
 
 /// Emits the forms of the lexeme, each without its statements.
 pub(crate) fn emit_forms<S: TripleSink>(
@@ -44,7 +41,7 @@ fn emit_form<S: TripleSink>(
     let node = TermRef::Named(Prefix::Wd, form.id.as_str());
     emit_head(setting, entity, &node, out)?;
     let texts = form.texts.as_slice();
-    emit_texts(setting, &node, LexicalPredicate::Representation, texts, out)?;
+    emit_texts(setting, &node, Predicate::Representation, texts, out)?;
     emit_features(setting, &node, form.features.as_slice(), out)
 }
 
@@ -58,9 +55,9 @@ fn emit_head<S: TripleSink>(
     ensures gains { OnOk result (Gains S.items S.keeps out.old out.new (form_head (meant entity.now) (meant node.now))) }
     ensures stays { S.rest out.new ≡ S.rest out.old }
 {
-    emit_lexical(setting, entity, LexicalPredicate::LexicalForm, node, out)?;
-    emit_lexical_class(setting, node, LexicalClass::Form, out)?;
-    emit_lexical_class(setting, node, LexicalClass::WikibaseForm, out)
+    emit_about(setting.alloc, entity, Predicate::LexicalForm, node, out)?;
+    emit_class(setting.alloc, node, Resource::Form, out)?;
+    emit_class(setting.alloc, node, Resource::WikibaseForm, out)
 }
 
 // Emits the grammatical features of the form.
@@ -75,10 +72,10 @@ fn emit_features<S: TripleSink>(
 {
     for feature in features {
         let item = TermRef::Id(Prefix::Wd, *feature);
-        emit_lexical(
-            setting,
+        emit_about(
+            setting.alloc,
             node,
-            LexicalPredicate::GrammaticalFeature,
+            Predicate::GrammaticalFeature,
             &item,
             out,
         )?;

@@ -7,7 +7,7 @@ ghost use Rattle.rdf_term.specs.Order.{triple_cmp};
 ghost use Rattle.entity_model.specs.declared.id.EntityId.{EntityId};
 ghost use Rattle.entity_model.specs.declared.mapping.MappingVersion.{MappingVersion};
 ghost use Rattle.munger.specs.Munging.{munge};
-ghost use Rattle.lexeme_rdf.specs.declared.lexeme.Lexeme.{Lexeme};
+ghost use Rattle.entity_model.specs.declared.lexeme.Lexeme.{Lexeme};
 ghost use Rattle.lexeme_rdf.specs.Dump.{lexdump};
 ghost use Rattle.lexeme_rdf.specs.Gives.{LexemeGives};
 ghost use Rattle.lexeme_rdf.specs.Keeps.{LexemeKeeps};

@@ -6,13 +6,11 @@ ghost use Rattle.triple_sink.specs.Gains.{Gains};
 ghost use Rattle.triple_sink.specs.TermRef.{meant};
 ghost use Rattle.lexeme_rdf.specs.Sense.{sense_head, sense_triples};
 
-use crate::class::{LexicalClass, emit_lexical_class};
-use crate::lexeme::Part;
-use crate::predicate::{LexicalPredicate, emit_lexical};
 use crate::texts::emit_texts;
+use entity_model::Part;
 use rdf_term::OutOfMemory;
-use rdf_vocabulary::Prefix;
-use triple_sink::{Setting, TermRef, TripleSink};
+use rdf_vocabulary::{Predicate, Prefix, Resource};
+use triple_sink::{Setting, TermRef, TripleSink, emit_about, emit_class};
 
 /// Emits the senses of the lexeme, each without its statements.
 pub(crate) fn emit_senses<S: TripleSink>(
@@ -43,7 +41,7 @@ fn emit_sense<S: TripleSink>(
     let node = TermRef::Named(Prefix::Wd, sense.id.as_str());
     emit_head(setting, entity, &node, out)?;
     let texts = sense.texts.as_slice();
-    emit_texts(setting, &node, LexicalPredicate::Definition, texts, out)
+    emit_texts(setting, &node, Predicate::Definition, texts, out)
 }
 
 // Emits that the lexeme has the sense, and the sense's classes.
@@ -56,7 +54,7 @@ fn emit_head<S: TripleSink>(
     ensures gains { OnOk result (Gains S.items S.keeps out.old out.new (sense_head (meant entity.now) (meant node.now))) }
     ensures stays { S.rest out.new ≡ S.rest out.old }
 {
-    emit_lexical(setting, entity, LexicalPredicate::Sense, node, out)?;
-    emit_lexical_class(setting, node, LexicalClass::LexicalSense, out)?;
-    emit_lexical_class(setting, node, LexicalClass::WikibaseSense, out)
+    emit_about(setting.alloc, entity, Predicate::Sense, node, out)?;
+    emit_class(setting.alloc, node, Resource::LexicalSense, out)?;
+    emit_class(setting.alloc, node, Resource::WikibaseSense, out)
 }

@@ -2,13 +2,12 @@
 
 ghost use Rattle.std.specs.Prelude.{◌≡◌, OnOk};
 ghost use Rattle.std.specs.List.{flat_map};
-ghost use Rattle.entity_rdf.specs.About.{tagged_term};
 ghost use Rattle.triple_sink.specs.Gains.{Gains};
 ghost use Rattle.triple_sink.specs.TermRef.{meant};
 ghost use Rattle.lexeme_rdf.specs.Texts.{text_triples};
 
-use crate::predicate::{LexicalPredicate, emit_lexical};
 use entity_model::Tagged;
+use page_rdf::text_ref;
 use rdf_term::OutOfMemory;
 use rdf_vocabulary::Predicate;
 use triple_sink::{Setting, TermRef, TripleSink, emit_about};
@@ -17,7 +16,7 @@ use triple_sink::{Setting, TermRef, TripleSink, emit_about};
 pub(crate) fn emit_texts<S: TripleSink>(
     setting: Setting,
     node: &TermRef<'_>,
-    predicate: LexicalPredicate,
+    predicate: Predicate,
     texts: &[Tagged],
     out: &mut S,
 ) -> Result<(), OutOfMemory>
@@ -34,7 +33,7 @@ pub(crate) fn emit_texts<S: TripleSink>(
 fn emit_text<S: TripleSink>(
     setting: Setting,
     node: &TermRef<'_>,
-    predicate: LexicalPredicate,
+    predicate: Predicate,
     text: &Tagged,
     out: &mut S,
 ) -> Result<(), OutOfMemory>
@@ -42,13 +41,6 @@ fn emit_text<S: TripleSink>(
     ensures stays { S.rest out.new ≡ S.rest out.old }
 {
     let text = text_ref(text);
-    emit_lexical(setting, node, predicate, &text, out)?;
+    emit_about(setting.alloc, node, predicate, &text, out)?;
     emit_about(setting.alloc, node, Predicate::Label, &text, out)
-}
-
-// The text in its language.
-fn text_ref<'m>(text: &'m Tagged<'_>) -> TermRef<'m>
-    ensures { meant result ≡ tagged_term text.now }
-{
-    TermRef::tagged(text.text.as_str(), text.language.as_str())
 }

@@ -6,11 +6,10 @@ ghost use Rattle.lexeme_rdf.specs.Dump.{lexdump, part_triples, spoken_triples};
 
 use crate::entry::{emit_entry, emit_lemmas};
 use crate::form::emit_forms;
-use crate::lexeme::Lexeme;
-use crate::page::emit_page;
+use crate::page::emit_lexeme_page;
 use crate::sense::emit_senses;
 use crate::statements::emit_all_statements;
-use entity_model::EntityId;
+use entity_model::{EntityId, Lexeme};
 use rdf_term::OutOfMemory;
 use rdf_vocabulary::Prefix;
 use triple_sink::{Setting, TermRef, TripleSink};
@@ -46,7 +45,7 @@ fn emit_spoken<S: TripleSink>(
 {
     emit_entry(setting, id, lexeme, out)?;
     emit_lemmas(setting, id, lexeme, out)?;
-    emit_page(setting, id, rev, lexeme, out)
+    emit_lexeme_page(setting, id, rev, lexeme, out)
 }
 
 // Emits the forms and the senses, without their statements.

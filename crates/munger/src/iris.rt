@@ -86,6 +86,7 @@ fn letter_of(kind: IdKind) -> u8
     match kind {
         IdKind::P => b'P',
         IdKind::Q => b'Q',
+        IdKind::L => b'L',
     }
 }
 

@@ -35,6 +35,7 @@ decimal_iri n = digits_onto_iri 64 n [] refl
 letter_fit : (kind : IdKind) → is_iri_char (letter_of kind) ≡ true
 letter_fit Kinds.P = refl
 letter_fit Kinds.Q = refl
+letter_fit Kinds.L = refl
 
 -- an id may stand in an IRI
 pub id_text_iri : (id : EntityId) → is_iri (id_text id) ≡ true

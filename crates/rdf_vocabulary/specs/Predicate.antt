@@ -9,7 +9,7 @@ use Rattle.rdf_vocabulary.specs.declared.predicate.Predicate.TheVariants.{RdfTyp
 use Rattle.rdf_vocabulary.specs.declared.predicate.Predicate.TheVariants.{License, SameAs, WasDerivedFrom, Rank, Statements, Identifiers, Sitelinks, Badge, WikiGroup, PropertyType, DirectClaim, Claim}
 use Rattle.rdf_vocabulary.specs.declared.predicate.Predicate.TheVariants.{StatementProperty, StatementValue, Qualifier, QualifierValue, Reference, ReferenceValue, Novalue, TimeValue, TimePrecision}
 use Rattle.rdf_vocabulary.specs.declared.predicate.Predicate.TheVariants.{TimeTimezone, TimeCalendarModel, QuantityAmount, QuantityUnit, QuantityUpperBound, QuantityLowerBound, GeoLatitude}
-use Rattle.rdf_vocabulary.specs.declared.predicate.Predicate.TheVariants.{GeoLongitude, GeoPrecision, GeoGlobe}
+use Rattle.rdf_vocabulary.specs.declared.predicate.Predicate.TheVariants.{GeoLongitude, GeoPrecision, GeoGlobe, Language, LexicalCategory, Lemma, LexicalForm, Representation, GrammaticalFeature, Sense, Definition}
 
 -- the text of a predicate's IRI
 unfoldable pub predicate_text : Predicate → List ℕ
@@ -56,6 +56,14 @@ predicate_text GeoLatitude = codes "http://wikiba.se/ontology#geoLatitude"
 predicate_text GeoLongitude = codes "http://wikiba.se/ontology#geoLongitude"
 predicate_text GeoPrecision = codes "http://wikiba.se/ontology#geoPrecision"
 predicate_text GeoGlobe = codes "http://wikiba.se/ontology#geoGlobe"
+predicate_text Language = codes "http://purl.org/dc/terms/language"
+predicate_text LexicalCategory = codes "http://wikiba.se/ontology#lexicalCategory"
+predicate_text Lemma = codes "http://wikiba.se/ontology#lemma"
+predicate_text LexicalForm = codes "http://www.w3.org/ns/lemon/ontolex#lexicalForm"
+predicate_text Representation = codes "http://www.w3.org/ns/lemon/ontolex#representation"
+predicate_text GrammaticalFeature = codes "http://wikiba.se/ontology#grammaticalFeature"
+predicate_text Sense = codes "http://www.w3.org/ns/lemon/ontolex#sense"
+predicate_text Definition = codes "http://www.w3.org/2004/02/skos/core#definition"
 
 -- the predicate as a term
 abbrev pub predicate_term : Predicate → Term

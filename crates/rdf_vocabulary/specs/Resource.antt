@@ -6,7 +6,7 @@ use Rattle.rdf_term.specs.declared.triple.Triple.{Triple}
 use Rattle.rdf_vocabulary.specs.declared.predicate.Predicate.TheVariants.{RdfType}
 use Rattle.rdf_vocabulary.specs.declared.resource.Resource.{Resource}
 use Rattle.rdf_vocabulary.specs.declared.resource.Resource.TheVariants.{Item, Property, Statement, Reference, BestRank, PreferredRank, NormalRank, DeprecatedRank, TimeValue, QuantityValue}
-use Rattle.rdf_vocabulary.specs.declared.resource.Resource.TheVariants.{GlobecoordinateValue, Dataset, Article, PublicDomain}
+use Rattle.rdf_vocabulary.specs.declared.resource.Resource.TheVariants.{GlobecoordinateValue, Dataset, Article, PublicDomain, LexicalEntry, Lexeme, Form, WikibaseForm, LexicalSense, WikibaseSense}
 use Rattle.rdf_vocabulary.specs.Predicate.{about}
 
 -- the text of a resource's IRI
@@ -25,6 +25,12 @@ resource_text GlobecoordinateValue = codes "http://wikiba.se/ontology#Globecoord
 resource_text Dataset = codes "http://schema.org/Dataset"
 resource_text Article = codes "http://schema.org/Article"
 resource_text PublicDomain = codes "http://creativecommons.org/publicdomain/zero/1.0/"
+resource_text LexicalEntry = codes "http://www.w3.org/ns/lemon/ontolex#LexicalEntry"
+resource_text Lexeme = codes "http://wikiba.se/ontology#Lexeme"
+resource_text Form = codes "http://www.w3.org/ns/lemon/ontolex#Form"
+resource_text WikibaseForm = codes "http://wikiba.se/ontology#Form"
+resource_text LexicalSense = codes "http://www.w3.org/ns/lemon/ontolex#LexicalSense"
+resource_text WikibaseSense = codes "http://wikiba.se/ontology#Sense"
 
 -- the resource as a term
 abbrev pub resource_term : Resource → Term

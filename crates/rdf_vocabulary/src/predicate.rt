@@ -95,6 +95,22 @@ pub enum Predicate {
     GeoPrecision,
     /// `http://wikiba.se/ontology#geoGlobe`.
     GeoGlobe,
+    /// `http://purl.org/dc/terms/language`.
+    Language,
+    /// `http://wikiba.se/ontology#lexicalCategory`.
+    LexicalCategory,
+    /// `http://wikiba.se/ontology#lemma`.
+    Lemma,
+    /// `http://www.w3.org/ns/lemon/ontolex#lexicalForm`.
+    LexicalForm,
+    /// `http://www.w3.org/ns/lemon/ontolex#representation`.
+    Representation,
+    /// `http://wikiba.se/ontology#grammaticalFeature`.
+    GrammaticalFeature,
+    /// `http://www.w3.org/ns/lemon/ontolex#sense`.
+    Sense,
+    /// `http://www.w3.org/2004/02/skos/core#definition`.
+    Definition,
 }
 
 impl Predicate {
@@ -147,6 +163,14 @@ impl Predicate {
             Predicate::GeoLongitude => "http://wikiba.se/ontology#geoLongitude",
             Predicate::GeoPrecision => "http://wikiba.se/ontology#geoPrecision",
             Predicate::GeoGlobe => "http://wikiba.se/ontology#geoGlobe",
+            Predicate::Language => "http://purl.org/dc/terms/language",
+            Predicate::LexicalCategory => "http://wikiba.se/ontology#lexicalCategory",
+            Predicate::Lemma => "http://wikiba.se/ontology#lemma",
+            Predicate::LexicalForm => "http://www.w3.org/ns/lemon/ontolex#lexicalForm",
+            Predicate::Representation => "http://www.w3.org/ns/lemon/ontolex#representation",
+            Predicate::GrammaticalFeature => "http://wikiba.se/ontology#grammaticalFeature",
+            Predicate::Sense => "http://www.w3.org/ns/lemon/ontolex#sense",
+            Predicate::Definition => "http://www.w3.org/2004/02/skos/core#definition",
         }
     }
 

@@ -37,6 +37,18 @@ pub enum Resource {
     Article,
     /// `http://creativecommons.org/publicdomain/zero/1.0/`.
     PublicDomain,
+    /// `http://www.w3.org/ns/lemon/ontolex#LexicalEntry`.
+    LexicalEntry,
+    /// `http://wikiba.se/ontology#Lexeme`.
+    Lexeme,
+    /// `http://www.w3.org/ns/lemon/ontolex#Form`.
+    Form,
+    /// `http://wikiba.se/ontology#Form`.
+    WikibaseForm,
+    /// `http://www.w3.org/ns/lemon/ontolex#LexicalSense`.
+    LexicalSense,
+    /// `http://wikiba.se/ontology#Sense`.
+    WikibaseSense,
 }
 
 impl Resource {
@@ -60,6 +72,12 @@ impl Resource {
             Resource::Dataset => "http://schema.org/Dataset",
             Resource::Article => "http://schema.org/Article",
             Resource::PublicDomain => "http://creativecommons.org/publicdomain/zero/1.0/",
+            Resource::LexicalEntry => "http://www.w3.org/ns/lemon/ontolex#LexicalEntry",
+            Resource::Lexeme => "http://wikiba.se/ontology#Lexeme",
+            Resource::Form => "http://www.w3.org/ns/lemon/ontolex#Form",
+            Resource::WikibaseForm => "http://wikiba.se/ontology#Form",
+            Resource::LexicalSense => "http://www.w3.org/ns/lemon/ontolex#LexicalSense",
+            Resource::WikibaseSense => "http://wikiba.se/ontology#Sense",
         }
     }
 

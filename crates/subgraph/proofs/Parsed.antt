@@ -12,7 +12,7 @@ use Rattle.std.proofs.lemmas.Str.Parse.{IsNumeralModel, numerals_by_fold}
 use Rattle.std.proofs.lemmas.List.{length-map}
 use Rattle.entity_model.specs.declared.id.EntityId.{EntityId}
 use Rattle.entity_model.specs.declared.id.IdKind.{IdKind}
-use Rattle.entity_model.specs.declared.id.IdKind.TheVariants.{P, Q}
+use Rattle.entity_model.specs.declared.id.IdKind.TheVariants.{P, Q, L}
 use Rattle.entity_model.specs.EntityId.{IsId, id_text}
 use Rattle.entity_model.specs.IdOf.{id_of}
 use Rattle.entity_model.proofs.IdReading.{id_of-sound, id_of-text}
@@ -126,6 +126,7 @@ item_back text id is = by (id_of text) refl is
   where
     by_kind : (x : EntityId) (k : IdKind) → x.kind ≡ k → id_of text ≡ Some x → cond (is_q k) (Some x) None ≡ Some id → IsItem id × (id_text id ≡ text)
     by_kind x P kind read h = cc
+    by_kind x L kind read h = cc
     by_kind x Q kind read h =
         let same : x ≡ id = cc in
         let sound : IsId x × (id_text x ≡ text) = id_of-sound text x read in

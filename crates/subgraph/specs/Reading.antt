@@ -2,7 +2,7 @@
 use Rattle.std.specs.Prelude.{ℕ, Bool, true, false, cond, ◌==◌, nat_le, List, [], ◌∷◌, length, Option, None, Some}
 use Rattle.entity_model.specs.declared.id.EntityId.{EntityId}
 use Rattle.entity_model.specs.declared.id.IdKind.{IdKind}
-use Rattle.entity_model.specs.declared.id.IdKind.TheVariants.{P, Q}
+use Rattle.entity_model.specs.declared.id.IdKind.TheVariants.{P, Q, L}
 use Rattle.entity_model.specs.IdOf.{id_of}
 use Rattle.subgraph.specs.declared.routes.Route.{Route}
 use Rattle.subgraph.specs.Routes.{colon, comma, have_own_names, is_name, semicolon}
@@ -32,6 +32,7 @@ read_each read (x ∷ xs) = with_first (read x) (read_each read xs)
 abbrev pub is_q : IdKind → Bool
 is_q P = false
 is_q Q = true
+is_q L = false
 
 abbrev pub if_item : Option EntityId → Option EntityId
 if_item None = None

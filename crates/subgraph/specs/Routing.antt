@@ -5,7 +5,7 @@ use Rattle.std.specs.Option.{option_to_list}
 use Rattle.std.specs.Ordering.{eq_by_cmp}
 use Rattle.rising.specs.Rising.{has}
 use Rattle.entity_model.specs.declared.document.Document.{Document}
-use Rattle.entity_model.specs.declared.document.Document.TheVariants.{Entity as AnEntity, Redirect}
+use Rattle.entity_model.specs.declared.document.Document.TheVariants.{Entity as AnEntity, Redirect, Lexeme as ALexeme}
 use Rattle.entity_model.specs.declared.id.EntityId.{EntityId}
 use Rattle.entity_model.specs.declared.id.IdKind.TheVariants.{P}
 use Rattle.entity_model.specs.declared.snak.Content.{Content}
@@ -57,3 +57,4 @@ leads classes route = list_any (λ class. has entity_cmp class classes) route.cl
 abbrev pub route_of : List Route → Document → ℕ
 route_of routes (AnEntity entity) = position_or_len (leads (classes_said entity.statements)) routes
 route_of routes (Redirect target) = length routes
+route_of routes (ALexeme lexeme) = length routes

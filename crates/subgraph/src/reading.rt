@@ -101,7 +101,7 @@ fn read_item(text: &Text) -> Option<EntityId>
     let id = EntityId::read(text.as_str())?;
     match id.kind {
         IdKind::Q => Some(id),
-        IdKind::P => None,
+        IdKind::P | IdKind::L => None,
     }
 }
 

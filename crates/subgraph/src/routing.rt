@@ -19,7 +19,7 @@ const INSTANCE_OF: EntityId = EntityId {
 };
 
 /// The graph that the document of an entity goes to, by its index from 0: that of the first route with a class that a best statement of P31
-/// ("instance of") has as its value. Where there is none it goes to the last graph, and so does a document that isn't an entity.
+/// ("instance of") has as its value. Where there is none it goes to the last graph, and so does a redirect or a lexeme.
 pub fn route(alloc: Global, routes: &Routes, document: &Document) -> Result<usize, OutOfMemory>
     ensures graph { IfOk result (λ graph. graph ≡ route_of routes.now document.now) }
     ensures bound { IfOk result (λ graph. graph ≤ length routes.now) }
@@ -30,7 +30,7 @@ pub fn route(alloc: Global, routes: &Routes, document: &Document) -> Result<usiz
             let classes = classes_said(alloc, &entity.statements)?;
             Ok(first_leading(routes, &classes))
         }
-        Document::Redirect(_) => Ok(routes.len()),
+        Document::Redirect(_) | Document::Lexeme(_) => Ok(routes.len()),
     }
 }
 

@@ -138,6 +138,7 @@ fn letter(kind: IdKind) -> &'static str
     match kind {
         IdKind::P => "P",
         IdKind::Q => "Q",
+        IdKind::L => "L",
     }
 }
 

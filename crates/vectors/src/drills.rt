@@ -126,7 +126,7 @@ fn pages_are_documents(rt: HostRuntime) -> Result<(), Fail> {
                 entity.labels.len(),
                 entity.statements.len(),
             )),
-            Document::Redirect(_) => None,
+            Document::Redirect(_) | Document::Lexeme(_) => None,
         };
         assert_eq!(rt; found, Some((item(1), 1, statements)), "of {rev}");
     }

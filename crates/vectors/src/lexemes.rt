@@ -1,9 +1,8 @@
-// A lexeme with one lemma, one form and one sense: what is kept of it, worked out by hand from the rules. Pages of lexemes
-// aren't read yet, and no id has the letter L, so the lexeme has the id of an item.
+// A lexeme with one lemma, one form and one sense: what is kept of it, worked out by hand from the rules.
 
 use crate::munged::check_lines;
-use entity_model::{EntityId, MappingVersion, Tagged};
-use lexeme_rdf::{Lexeme, Part, lexeme_texts, lexeme_triples};
+use entity_model::{EntityId, Lexeme, MappingVersion, Part, Tagged};
+use lexeme_rdf::lexeme_triples;
 use rdf_term::{CowText, List};
 use std::alloc::Global;
 use std::test::Fail;
@@ -16,26 +15,26 @@ gloss en move fast";
 
 // The triples that are kept of revision 1.
 const KEPT: &str = "\
-<http://www.wikidata.org/entity/Q2-F1> <http://wikiba.se/ontology#grammaticalFeature> <http://www.wikidata.org/entity/Q1> .
-<http://www.wikidata.org/entity/Q2-F1> <http://www.w3.org/1999/02/22-rdf-syntax-ns#type> <http://wikiba.se/ontology#Form> .
-<http://www.wikidata.org/entity/Q2-F1> <http://www.w3.org/1999/02/22-rdf-syntax-ns#type> <http://www.w3.org/ns/lemon/ontolex#Form> .
-<http://www.wikidata.org/entity/Q2-F1> <http://www.w3.org/2000/01/rdf-schema#label> \"ran\"@en .
-<http://www.wikidata.org/entity/Q2-F1> <http://www.w3.org/ns/lemon/ontolex#representation> \"ran\"@en .
-<http://www.wikidata.org/entity/Q2-S1> <http://www.w3.org/1999/02/22-rdf-syntax-ns#type> <http://wikiba.se/ontology#Sense> .
-<http://www.wikidata.org/entity/Q2-S1> <http://www.w3.org/1999/02/22-rdf-syntax-ns#type> <http://www.w3.org/ns/lemon/ontolex#LexicalSense> .
-<http://www.wikidata.org/entity/Q2-S1> <http://www.w3.org/2000/01/rdf-schema#label> \"move fast\"@en .
-<http://www.wikidata.org/entity/Q2-S1> <http://www.w3.org/2004/02/skos/core#definition> \"move fast\"@en .
-<http://www.wikidata.org/entity/Q2> <http://purl.org/dc/terms/language> <http://www.wikidata.org/entity/Q1860> .
-<http://www.wikidata.org/entity/Q2> <http://schema.org/version> \"1\"^^<http://www.w3.org/2001/XMLSchema#integer> .
-<http://www.wikidata.org/entity/Q2> <http://wikiba.se/ontology#identifiers> \"0\"^^<http://www.w3.org/2001/XMLSchema#integer> .
-<http://www.wikidata.org/entity/Q2> <http://wikiba.se/ontology#lemma> \"run\"@en .
-<http://www.wikidata.org/entity/Q2> <http://wikiba.se/ontology#lexicalCategory> <http://www.wikidata.org/entity/Q24905> .
-<http://www.wikidata.org/entity/Q2> <http://wikiba.se/ontology#statements> \"0\"^^<http://www.w3.org/2001/XMLSchema#integer> .
-<http://www.wikidata.org/entity/Q2> <http://www.w3.org/1999/02/22-rdf-syntax-ns#type> <http://wikiba.se/ontology#Lexeme> .
-<http://www.wikidata.org/entity/Q2> <http://www.w3.org/1999/02/22-rdf-syntax-ns#type> <http://www.w3.org/ns/lemon/ontolex#LexicalEntry> .
-<http://www.wikidata.org/entity/Q2> <http://www.w3.org/2000/01/rdf-schema#label> \"run\"@en .
-<http://www.wikidata.org/entity/Q2> <http://www.w3.org/ns/lemon/ontolex#lexicalForm> <http://www.wikidata.org/entity/Q2-F1> .
-<http://www.wikidata.org/entity/Q2> <http://www.w3.org/ns/lemon/ontolex#sense> <http://www.wikidata.org/entity/Q2-S1> .
+<http://www.wikidata.org/entity/L1-F1> <http://wikiba.se/ontology#grammaticalFeature> <http://www.wikidata.org/entity/Q1> .
+<http://www.wikidata.org/entity/L1-F1> <http://www.w3.org/1999/02/22-rdf-syntax-ns#type> <http://wikiba.se/ontology#Form> .
+<http://www.wikidata.org/entity/L1-F1> <http://www.w3.org/1999/02/22-rdf-syntax-ns#type> <http://www.w3.org/ns/lemon/ontolex#Form> .
+<http://www.wikidata.org/entity/L1-F1> <http://www.w3.org/2000/01/rdf-schema#label> \"ran\"@en .
+<http://www.wikidata.org/entity/L1-F1> <http://www.w3.org/ns/lemon/ontolex#representation> \"ran\"@en .
+<http://www.wikidata.org/entity/L1-S1> <http://www.w3.org/1999/02/22-rdf-syntax-ns#type> <http://wikiba.se/ontology#Sense> .
+<http://www.wikidata.org/entity/L1-S1> <http://www.w3.org/1999/02/22-rdf-syntax-ns#type> <http://www.w3.org/ns/lemon/ontolex#LexicalSense> .
+<http://www.wikidata.org/entity/L1-S1> <http://www.w3.org/2000/01/rdf-schema#label> \"move fast\"@en .
+<http://www.wikidata.org/entity/L1-S1> <http://www.w3.org/2004/02/skos/core#definition> \"move fast\"@en .
+<http://www.wikidata.org/entity/L1> <http://purl.org/dc/terms/language> <http://www.wikidata.org/entity/Q1860> .
+<http://www.wikidata.org/entity/L1> <http://schema.org/version> \"1\"^^<http://www.w3.org/2001/XMLSchema#integer> .
+<http://www.wikidata.org/entity/L1> <http://wikiba.se/ontology#identifiers> \"0\"^^<http://www.w3.org/2001/XMLSchema#integer> .
+<http://www.wikidata.org/entity/L1> <http://wikiba.se/ontology#lemma> \"run\"@en .
+<http://www.wikidata.org/entity/L1> <http://wikiba.se/ontology#lexicalCategory> <http://www.wikidata.org/entity/Q24905> .
+<http://www.wikidata.org/entity/L1> <http://wikiba.se/ontology#statements> \"0\"^^<http://www.w3.org/2001/XMLSchema#integer> .
+<http://www.wikidata.org/entity/L1> <http://www.w3.org/1999/02/22-rdf-syntax-ns#type> <http://wikiba.se/ontology#Lexeme> .
+<http://www.wikidata.org/entity/L1> <http://www.w3.org/1999/02/22-rdf-syntax-ns#type> <http://www.w3.org/ns/lemon/ontolex#LexicalEntry> .
+<http://www.wikidata.org/entity/L1> <http://www.w3.org/2000/01/rdf-schema#label> \"run\"@en .
+<http://www.wikidata.org/entity/L1> <http://www.w3.org/ns/lemon/ontolex#lexicalForm> <http://www.wikidata.org/entity/L1-F1> .
+<http://www.wikidata.org/entity/L1> <http://www.w3.org/ns/lemon/ontolex#sense> <http://www.wikidata.org/entity/L1-S1> .
 ";
 
 // The texts of a kind.
@@ -73,9 +72,9 @@ fn part<'a>(alloc: Global, id: &'a str, texts: List<Tagged<'a>>) -> Part<'a> {
 
 // The lexeme.
 fn lexeme(alloc: Global, id: EntityId) -> Result<Lexeme<'static>, Fail> {
-    let mut form = part(alloc, "Q2-F1", texts(alloc, TEXTS, "representation")?);
+    let mut form = part(alloc, "L1-F1", texts(alloc, TEXTS, "representation")?);
     form.features = only(alloc, EntityId::read("Q1").ok_or("an id")?)?;
-    let sense = part(alloc, "Q2-S1", texts(alloc, TEXTS, "gloss")?);
+    let sense = part(alloc, "L1-S1", texts(alloc, TEXTS, "gloss")?);
     Ok(Lexeme {
         id,
         modified: None,
@@ -90,15 +89,12 @@ fn lexeme(alloc: Global, id: EntityId) -> Result<Lexeme<'static>, Fail> {
 
 #[test]
 fn a_lexeme_is_mapped(rt: HostRuntime) -> Result<(), Fail> {
-    let id = EntityId::read("Q2").ok_or("an id")?;
+    let id = EntityId::read("L1").ok_or("an id")?;
     let lexeme = lexeme(rt.alloc(), id)?;
     let setting = Setting {
         alloc: rt.alloc(),
         version: MappingVersion::One,
     };
     let set = lexeme_triples(setting, id, 1, &lexeme)?;
-    check_lines(&rt, &set, KEPT)?;
-    let texts = lexeme_texts(setting, id, 1, &lexeme)?;
-    assert_eq!(rt; texts.len(), set.items().len());
-    Ok(())
+    check_lines(&rt, &set, KEPT)
 }

@@ -3,34 +3,40 @@ use Rattle.std.specs.Prelude.{ℕ, cond, List, [], Option, None, Some, option_ma
 use Rattle.std.specs.Str.{bytes_eq}
 use Rattle.json_spell.specs.Tree.{Tree, member_of}
 use Rattle.entity_model.specs.declared.id.IdKind.{IdKind}
-use Rattle.entity_model.specs.declared.id.IdKind.TheVariants.{P, Q}
+use Rattle.entity_model.specs.declared.id.IdKind.TheVariants.{P, Q, L}
 use Rattle.entity_model.specs.declared.entity.Entity.{Entity}
 use Rattle.entity_model.specs.declared.entity.Link.{Link}
-use Rattle.entity_model.specs.declared.document.Document.TheVariants.{Entity as AnEntity, Redirect}
+use Rattle.entity_model.specs.declared.document.Document.TheVariants.{Entity as AnEntity, Redirect, Lexeme as ALexeme}
 use Rattle.entity_json.specs.declared.page.Page.{Page}
 use Rattle.entity_json.specs.Leaves.{◌>>=◌, text_at, id_at, id_of_kind_at, optional_text_at}
 use Rattle.entity_json.specs.Maps.{only_of}
 use Rattle.entity_json.specs.Reading.Terms.{labels_at, aliases_at}
 use Rattle.entity_json.specs.Reading.Statements.{statements_at}
+use Rattle.entity_json.specs.Reading.Lexemes.{lexeme_of}
 use Rattle.entity_json.specs.Reading.Links.{links_at}
 
 -- the kind of the entities whose pages have the type
 abbrev pub kind_of_type : List ℕ → Option IdKind
-kind_of_type type = cond (bytes_eq type (codes "item")) (Some Q) (cond (bytes_eq type (codes "property")) (Some P) None)
+kind_of_type type =
+    cond (bytes_eq type (codes "item")) (Some Q)
+    (cond (bytes_eq type (codes "property")) (Some P)
+    (cond (bytes_eq type (codes "lexeme")) (Some L) None))
 
 -- the kind of the entity whose page it is
 unfoldable pub page_kind : Tree → Option IdKind
 page_kind t = text_at (codes "type") t >>= kind_of_type
 
--- the datatype, which a property alone has
+-- the datatype, which a property alone has; a lexeme is neither it nor an item
 abbrev pub datatype_by_kind : IdKind → Tree → Option (Option (List ℕ))
 datatype_by_kind P t = option_map Some (text_at (codes "datatype") t)
 datatype_by_kind Q t = Some None
+datatype_by_kind L t = None
 
 -- the links, which an item alone has
 abbrev pub links_by_kind : IdKind → Tree → Option (List Link)
 links_by_kind P t = Some []
 links_by_kind Q t = links_at (codes "sitelinks") t
+links_by_kind L t = Some []
 
 -- an item or a property
 unfoldable pub entity_of : Tree → Option Entity
@@ -50,6 +56,19 @@ entity_of t = do
 unfoldable pub entity_page : Tree → Option Page
 entity_page t = option_map (λ entity. record { id = entity.id; document = AnEntity entity }) (entity_of t)
 
+-- the page of a lexeme
+unfoldable pub lexeme_page : Tree → Option Page
+lexeme_page t = option_map (λ lexeme. record { id = lexeme.id; document = ALexeme lexeme }) (lexeme_of t)
+
+-- the page of a kind
+abbrev pub page_of_kind : Tree → IdKind → Option Page
+page_of_kind t P = entity_page t
+page_of_kind t Q = entity_page t
+page_of_kind t L = lexeme_page t
+
+unfoldable pub own_page : Tree → Option Page
+own_page t = page_kind t >>= page_of_kind t
+
 -- the page of a redirect
 unfoldable pub redirect_page : Tree → Option Page
 redirect_page t = do
@@ -59,7 +78,7 @@ redirect_page t = do
 
 -- a page is a redirect where it has a member of that name
 abbrev pub page_by : Option Tree → Tree → Option Page
-page_by None t = entity_page t
+page_by None t = own_page t
 page_by (Some redirect) t = redirect_page t
 
 unfoldable pub page_at : Tree → Option Page

@@ -5,7 +5,8 @@ use Rattle.std.proofs.lemmas.Result.{on_ok_weaker}
 use Rattle.triple_sink.proofs.Gained.{gains_then}
 use Rattle.sitelinks.specs.Article.{article_triples}
 use Rattle.entity_rdf.specs.Dump.{spoken_triples}
-use Rattle.entity_rdf.specs.Statements.{statements_triples}
+use Rattle.page_rdf.specs.Statements.{statements_triples}
+use Rattle.rdf_vocabulary.specs.Prefix.{entity_term}
 use Rattle.entity_rdf.proofs.walk.emit_entity.Goals as goal
 
 pub returns-clause-gains : goal.returns-clause-gains
@@ -14,7 +15,7 @@ returns-clause-gains g c =
     let entity = c.args.entity.now in
     let spoken = spoken_triples c.args.id c.args.rev entity in
     let articles = flat_map (article_triples c.args.id) entity.links in
-    let statements = statements_triples c.args.setting.version c.args.id entity.statements in
+    let statements = statements_triples c.args.setting.version (entity_term c.args.id) entity.statements in
     let two = gains_then s.items s.keeps c.args.out.now c.emit_spoken.new.out c.emit_articles.new.out spoken articles
     c.in_ok-emit_spoken.ensures.gains (rw c.as_slice.ensures at c.in_ok-emit_articles.ensures.gains) in
     on_ok_weaker c.emit_statements.result

@@ -1,47 +1,52 @@
-// The triples of all statements of an entity, each judged among them.
+// The triples of all statements of a subject, each judged among them.
 
 ghost use Rattle.std.specs.Prelude.{◌≡◌, ◌<◌, length, map, slice_index, OnOk};
 ghost use Rattle.std.specs.List.{flat_map};
 ghost use Rattle.triple_sink.specs.Gains.{Gains};
 ghost use Rattle.statement_rdf.specs.Ranking.{is_best};
-ghost use Rattle.entity_rdf.specs.Statements.{judged_triples, statements_triples};
+ghost use Rattle.triple_sink.specs.TermRef.{meant};
+ghost use Rattle.page_rdf.specs.Statements.{judged_triples, statements_triples};
 
-use entity_model::{EntityId, Statement};
+use entity_model::Statement;
 use rdf_term::{List, OutOfMemory};
-use rdf_vocabulary::Prefix;
 use statement_rdf::{best, emit_statement};
 use triple_sink::{Setting, TermRef, TripleSink};
 
-/// Emits the triples of the statements.
-pub(crate) fn emit_statements<S: TripleSink>(
+/// Emits the triples of the statements of the subject, each judged among them alone.
+pub fn emit_statements<S: TripleSink>(
     setting: Setting,
-    id: EntityId,
+    subject: &TermRef<'_>,
     statements: &List<Statement>,
     out: &mut S,
 ) -> Result<(), OutOfMemory>
-    ensures gains { OnOk result (Gains S.items S.keeps out.old out.new (statements_triples setting.version id statements.now)) }
+    ensures gains { OnOk result (Gains S.items S.keeps out.old out.new (statements_triples setting.version (meant subject.now) statements.now)) }
     ensures stays { S.rest out.new ≡ S.rest out.old }
 {
     let best = best(setting.alloc, statements)?;
-    emit_judged(setting, id, statements.as_slice(), best.as_slice(), out)
+    emit_judged(
+        setting,
+        subject,
+        statements.as_slice(),
+        best.as_slice(),
+        out,
+    )
 }
 
 // Emits the triples of the statements, of which these are best.
 fn emit_judged<S: TripleSink>(
     setting: Setting,
-    id: EntityId,
+    subject: &TermRef<'_>,
     statements: &[Statement],
     best: &[bool],
     out: &mut S,
 ) -> Result<(), OutOfMemory>
     requires { best.now ≡ map (is_best statements.now) statements.now }
-    ensures gains { OnOk result (Gains S.items S.keeps out.old out.new (statements_triples setting.version id statements.now)) }
+    ensures gains { OnOk result (Gains S.items S.keeps out.old out.new (statements_triples setting.version (meant subject.now) statements.now)) }
     ensures stays { S.rest out.new ≡ S.rest out.old }
 {
-    let entity = TermRef::Id(Prefix::Wd, id);
     let mut index = 0;
     for statement in statements {
-        emit_statement(setting, &entity, statement, best[index], out)?;
+        emit_statement(setting, subject, statement, best[index], out)?;
         index += 1;
     }
     Ok(())

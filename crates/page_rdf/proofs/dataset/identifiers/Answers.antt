@@ -3,8 +3,8 @@ use Rattle.std.proofs.Common.{◌∙◌, rules, tests}
 use Rattle.std.proofs.lemmas.Iterator.{YieldsList-from_slice}
 use Rattle.std.proofs.lemmas.Iterator.Consumers.{YieldsList-from_filter, count_from_yields_List}
 use Rattle.std.proofs.lemmas.List.Sums.{length-filter}
-use Rattle.entity_rdf.specs.About.{is_identifier}
-use Rattle.lexeme_rdf.proofs.page.identifiers.Goals as goal
+use Rattle.page_rdf.specs.Dataset.{is_identifier}
+use Rattle.page_rdf.proofs.dataset.identifiers.Goals as goal
 
 pub returns : goal.returns
 returns c =

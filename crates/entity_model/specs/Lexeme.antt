@@ -1,16 +1,14 @@
--- The ids and nodes of forms and senses, and which lexemes are small, as those that a page of the allowed size can have are.
-use Rattle.std.specs.Prelude.{◌≡◌, ℕ, ◌<◌, ◌≤◌, ◌^◌, List, ◌++◌, codes, decimal}
+-- The ids of forms and senses, and which lexemes are small: those that a page of the allowed size can have.
+use Rattle.std.specs.Prelude.{◌≡◌, ℕ, Bool, ◌&&◌, ◌<◌, ◌≤◌, ◌^◌, nat_lt, List, ◌++◌, length, take, drop, codes, decimal}
 use Rattle.std.specs.List.{All}
-use Rattle.rdf_term.specs.declared.term.Term.{Term}
+use Rattle.std.specs.Str.{bytes_eq}
+use Rattle.std.specs.Str.Parse.{digits_value}
 use Rattle.entity_model.specs.declared.id.EntityId.{EntityId}
-use Rattle.entity_model.specs.Document.{IsSmallTagged}
+use Rattle.entity_model.specs.declared.lexeme.Lexeme.{Lexeme}
+use Rattle.entity_model.specs.declared.lexeme.Part.{Part}
 use Rattle.entity_model.specs.EntityId.{id_text}
 use Rattle.entity_model.specs.Statement.{IsSmallStatement}
-use Rattle.entity_model.specs.Value.{optional_length}
-use Rattle.rdf_vocabulary.specs.declared.prefix.Prefix.TheVariants.{Wd}
-use Rattle.rdf_vocabulary.specs.Prefix.{prefixed}
-use Rattle.lexeme_rdf.specs.declared.lexeme.Lexeme.{Lexeme}
-use Rattle.lexeme_rdf.specs.declared.lexeme.Part.{Part}
+use Rattle.entity_model.specs.Value.{IsSmallTagged, optional_length}
 
 -- what stands between a lexeme's id and the number of a form, and of a sense
 unfoldable pub form_mark : List ℕ
@@ -26,9 +24,14 @@ pub record IsPartId (x : EntityId) (mark id : List ℕ) : Type 0 where
   pub high : number < 2 ^ 32
   pub is : id ≡ id_text x ++ mark ++ decimal number
 
--- the node of a form or a sense
-abbrev pub part_term : List ℕ → Term
-part_term id = prefixed Wd id
+-- whether the digits are a number from 1 to 4,294,967,295 in decimal
+abbrev pub is_id_number : List ℕ → Bool
+is_id_number digits =
+    let n = digits_value 10 digits in nat_lt 0 n && (nat_lt n (2 ^ 32) && bytes_eq (decimal n) digits)
+
+-- whether the text begins so, and such a number follows
+abbrev pub is_part_id : List ℕ → List ℕ → Bool
+is_part_id front text = bytes_eq (take (length front) text) front && is_id_number (drop (length front) text)
 
 -- the id is one of a part of x, and the texts and statements are small
 pub record IsSmallPart (x : EntityId) (mark : List ℕ) (part : Part) : Type 0 where

@@ -1,7 +1,12 @@
 // What the page of a lexeme says.
 
-use entity_model::{EntityId, Statement, Tagged};
-use rdf_term::{CowText, List};
+ghost use Rattle.std.specs.Prelude.{◌≡◌};
+ghost use Rattle.entity_model.specs.Lexeme.{is_id_number, is_part_id};
+
+use crate::id::{EntityId, read_number};
+use crate::statement::Statement;
+use crate::value::Tagged;
+use base::{CowText, List};
 
 /// A lexeme, after Wikibase's JSON format for lexemes. Lists are in the order of the page.
 #[derive(Debug, Drop)]
@@ -35,4 +40,23 @@ pub struct Part<'a> {
     pub features: List<EntityId>,
     /// The statements of the part itself.
     pub statements: List<Statement<'a>>,
+}
+
+/// Whether the text begins so, and a number from 1 to 4,294,967,295 follows in decimal without a leading zero. The
+/// id of a form of the lexeme L1 is such a text that begins with `L1-F`, and that of a sense one that begins with `L1-S`.
+#[tactic(auto, using(crate::proofs::PartIds::behind, crate::proofs::PartIds::not_behind))]
+pub fn is_part_id(front: &str, text: &str) -> bool
+    ensures { result ≡ is_part_id front.now text.now }
+{
+    match text.strip_prefix(front) {
+        Some(digits) => is_id_number(digits),
+        None => false,
+    }
+}
+
+// Whether the digits are a number from 1 to 4,294,967,295 in decimal without a leading zero.
+fn is_id_number(digits: &str) -> bool
+    ensures { result ≡ is_id_number digits.now }
+{
+    read_number(digits).is_some()
 }

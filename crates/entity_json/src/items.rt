@@ -1,0 +1,52 @@
+// The ids of items.
+
+ghost use Rattle.json_spell.specs.View.{json_view};
+ghost use Rattle.entity_json.specs.Finds.{Finds, Makes};
+ghost use Rattle.entity_json.specs.Reading.Items.{item_id_of, item_id_step, item_ids_at};
+
+use crate::each::{ItemReader, each_found_item};
+use crate::leaf::{id_of_kind, optional_list_at, text_of};
+use crate::part::PartFault;
+use base::List;
+use entity_model::{EntityId, IdKind};
+use json_spell::Json;
+use std::alloc::Global;
+
+// The id of an item.
+fn item_id_of(json: &Json<'_, '_>) -> Result<EntityId, PartFault>
+    ensures { Finds result (item_id_of (json_view json.now)) }
+{
+    id_of_kind(IdKind::Q, text_of(json)?)
+}
+
+struct ItemIdReader;
+
+impl<'a> ItemReader<'a, EntityId> for ItemIdReader {
+    ghost reads = { λ reader item out. item_id_step item out };
+
+    fn read(
+        &self,
+        _alloc: Global,
+        _index: usize,
+        json: &Json<'_, 'a>,
+        out: &mut List<EntityId>,
+    ) -> Result<(), PartFault> {
+        out.push(item_id_of(json)?)?;
+        Ok(())
+    }
+}
+
+// The ids of the list under the name, which may be missing.
+#[tactic(auto, unfolding(crate::specs::Reading::Items::item_ids_at))]
+pub fn item_ids_at(
+    alloc: Global,
+    json: &Json<'_, '_>,
+    name: &str,
+) -> Result<List<EntityId>, PartFault>
+    ensures { Finds result (item_ids_at name.now (json_view json.now)) }
+{
+    let items = optional_list_at(json, name)?;
+    let mut ids = List::new(alloc);
+    each_found_item(alloc, &ItemIdReader, items, &mut ids)?;
+    Ok(ids)
+}
