@@ -1,5 +1,9 @@
+pub mod Complete
 pub mod Ended
+pub mod FirstLines
+pub mod KnownBytes
 pub mod Reading
 pub mod Received
 pub mod RecordLines
+pub mod Refusals
 pub mod Taken

@@ -1,96 +1,16 @@
 -- How far the reading of lines has come, and what that says of the input.
-use Rattle.std.proofs.Common.{refl, sym, subst, ◌∙◌, ap, ◌≡◌, ℕ, ◌+◌, ◌-◌, ◌<◌, ◌≤◌, Bool, true, false, List, [], ◌∷◌, ◌++◌, length, Option, None, Some, IfSome, arith, append_assoc, append-nil, length-append}
+use Rattle.std.proofs.Common.{refl, sym, subst, ◌∙◌, ap, ◌≡◌, ◌≢◌, ◌⊎◌, inl, inr, ℕ, ◌+◌, ◌-◌, ◌<◌, ◌≤◌, Bool, true, false, List, [], ◌∷◌, ◌++◌, length, Option, None, Some, IfSome, arith, append_assoc, append-nil, length-append}
 use Rattle.std.proofs.lemmas.Grind.{flat_map-append}
 use Rattle.std.specs.Option.{option_map}
 use Rattle.rising.specs.Rising.{Each}
-use Rattle.wq_io.specs.Streams.{IsAtEnd, before_known}
-use Rattle.wq_io.specs.Lines.{GoesOn, IsLineLong, IsOneLine, IsSound, IsTooLong, Reading, StopsInLine, TakesBytes, before_lines, ended_lines, fresh, input_length, line_feed, lines, input_lines, room, unread, whole_lines}
-use Rattle.wq_io.proofs.LineLists.{whole_lines-ended}
+use Rattle.wq_io.specs.Streams.{IsAtEnd, LastRead, before_known}
+use Rattle.wq_io.specs.Lines.{GoesOn, IsLineLong, IsNeeded, IsOneLine, IsSound, IsTooLong, IsUndecided, ReadsAsNeeded, Reading, StopsInLine, TakesBytes, before_lines, ended_lines, fresh, input_length, line_feed, lines, input_lines, room, unread}
 use Rattle.replica.specs.declared.reader.Begun.{Begun}
 use Rattle.replica.specs.declared.reader.PatchFault.{PatchFault}
 use Rattle.replica.specs.declared.record.PatchRecord.{PatchRecord}
 use Rattle.replica.specs.Reader.{HasCause}
-use Rattle.following.specs.Reading.{AreLinesOf, AreRecords, AreWhole, BeginsWith, HasReadLines, IsBadRecordLine, IsOverLong, RecordsPastLimit, longest_line}
-
-same_lines : (limit : ℕ) (left : Option (List ℕ)) → input_lines left ≡ option_map (λ (ls : List (List ℕ)). [] ++ ls) (input_lines (unread (fresh limit longest_line) left))
-same_lines limit None = refl
-same_lines limit (Some bytes) = refl
-
-same_length : (limit : ℕ) (left : Option (List ℕ)) → input_length (fresh limit longest_line) left ≡ option_map (λ (bytes : List ℕ). length bytes) left
-same_length limit None = refl
-same_length limit (Some bytes) = ap Some (let n : 0 + length bytes ≡ length bytes = omega arith in n)
-
-same_bytes : (limit : ℕ) (left : Option (List ℕ)) → left ≡ before_known [] (unread (fresh limit longest_line) left)
-same_bytes limit None = refl
-same_bytes limit (Some bytes) = refl
-
--- before the first line
-pub nothing_read : (limit : ℕ) (left : Option (List ℕ)) → HasReadLines left (fresh limit longest_line) left []
-nothing_read limit left = record {
-  are = same_lines limit left;
-  counted = refl;
-  total = same_length limit left;
-  read = [];
-  bytes = same_bytes limit left;
-  whole = λ _. refl;
-  are_lines = tt;
-}
-
--- bytes behind others
-before_both : (xs ys : List ℕ) (known : Option (List ℕ)) → before_known xs (before_known ys known) ≡ before_known (xs ++ ys) known
-before_both xs ys None = refl
-before_both xs ys (Some zs) = ap Some (sym (append_assoc xs ys zs))
-
-read_length : (bytes read u : List ℕ) (consumed : ℕ) → bytes ≡ read ++ u → consumed + length u ≡ length bytes → length read ≡ consumed
-read_length bytes read u consumed all total =
-    let both : length bytes ≡ length read + length u = ap length all ∙ length-append read u in
-    omega arith
-
--- where the input is known: what is unread, the lines before it, and the bytes before it
-record Known (bytes : List ℕ) (done : List (List ℕ)) (read : List ℕ) (consumed : ℕ) (known : Option (List ℕ)) : Type 0 where
-  u : List ℕ
-  is : known ≡ Some u
-  are_lines : lines bytes ≡ done ++ lines u
-  total : consumed + length u ≡ length bytes
-  all : bytes ≡ read ++ u
-  read_is : length read ≡ consumed
-
-known_parts : (bytes : List ℕ) (done : List (List ℕ)) (read : List ℕ) (consumed : ℕ) (known : Option (List ℕ)) →
-    Some (lines bytes) ≡ option_map (λ (ls : List (List ℕ)). done ++ ls) (input_lines known) → option_map (λ (u : List ℕ). consumed + length u) known ≡ Some (length bytes) →
-    Some bytes ≡ before_known read known → Known bytes done read consumed known
-known_parts bytes done read consumed None are total all = cc
-known_parts bytes done read consumed (Some u) are total all =
-    let sum : consumed + length u ≡ length bytes = cc in
-    let whole : bytes ≡ read ++ u = cc in
-    record { u = u; is = refl; are_lines = cc; total = sum; all = whole; read_is = read_length bytes read u consumed whole sum }
-
-at_known : (known : Option (List ℕ)) (u : List ℕ) (P : List ℕ → Type 0) → known ≡ Some u → IfSome known P → P u
-at_known None u P is holds = cc
-at_known (Some x) u P is holds = let same : x ≡ u = cc in subst P same holds
-
-same_room : (limit : ℕ) (reader : Reading) (read : List ℕ) → reader.max_bytes ≡ limit → length read ≡ reader.consumed → room reader ≡ limit - length read
-same_room limit reader read max is = ap (λ n. n - reader.consumed) max ∙ ap (λ n. limit - n) (sym is)
-
-too_long : (bytes : List ℕ) (u : List ℕ) (max consumed : ℕ) → IsTooLong (max - consumed) longest_line u → consumed ≤ max → consumed + length u ≡ length bytes → max < length bytes
-too_long bytes u max consumed over within total = omega (arith, over.more)
-
--- one line more behind the others
-lines_grow : (start known next : Option (List (List ℕ))) (done : List (List ℕ)) (line : List ℕ) →
-    start ≡ option_map (λ (ls : List (List ℕ)). done ++ ls) known → known ≡ before_lines line next → start ≡ option_map (λ (ls : List (List ℕ)). (done ++ line ∷ []) ++ ls) next
-lines_grow start known None done line are first = rw (are, first) refl
-lines_grow start known (Some ls) done line are first = rw (are, first) (ap Some (sym (append_assoc done (line ∷ []) ls)))
-
-whole_grows : (done : List (List ℕ)) (line read moved : List ℕ) → read ≡ ended_lines done → moved ≡ line ++ line_feed ∷ [] → read ++ moved ≡ ended_lines (done ++ line ∷ [])
-whole_grows done line read moved is ends =
-    rw (is, ends) (sym (flat_map-append (λ l. l ++ line_feed ∷ []) done (line ∷ []) ∙ ap (λ xs. ended_lines done ++ xs) (append-nil (line ++ line_feed ∷ []))))
-
-not_ended : (before now : Bool) → (before ≡ true → now ≡ true) → now ≡ false → before ≡ false
-not_ended true now still is = sym (still refl) ∙ is
-not_ended false now still is = refl
-
-Each-push : (P : List ℕ → Type 0) (xs : List (List ℕ)) (x : List ℕ) → Each P xs → P x → Each P (xs ++ x ∷ [])
-Each-push P [] x all one = (one, tt)
-Each-push P (y ∷ ys) x all one = (all.0, Each-push P ys x all.1 one)
+use Rattle.following.specs.Reading.{AreFirstLines, AreLinesOf, AreRecords, BeginsWith, EndsInLine, EndsInside, HasReadLines, IsBadRecordLine, IsOverLong, RecordsPastLimit, TakesLinesByNeed, longest_line}
+use Rattle.following.proofs.KnownBytes.{Each-push, Known, at_known, before_both, known_parts, lines_grow, not_ended, same_room, still, too_long, whole_grows}
 
 -- the reader took this line
 pub record IsNextLine (line : List ℕ) (reader next : Reading) (left left_next : Option (List ℕ)) : Type 0 where
@@ -104,27 +24,70 @@ pub record HasLimits (limit : ℕ) (reader : Reading) : Type 0 where
   pub bytes : reader.max_bytes ≡ limit
   pub line : reader.max_line ≡ longest_line
 
-module _ (limit : ℕ) (reader : Reading) (left : Option (List ℕ)) (done : List (List ℕ)) (items : List PatchRecord) (begun : Option Begun) (limits : HasLimits limit reader) (sound : IsSound reader) (are : AreLinesOf done items begun) where
+module _ (limit : ℕ) (reader : Reading) (left : Option (List ℕ)) (done : List (List ℕ)) (limits : HasLimits limit reader) (sound : IsSound reader) where
   known_now : (bytes : List ℕ) (read : HasReadLines (Some bytes) reader left done) → Known bytes done read.read reader.consumed (unread reader left)
   known_now bytes read = known_parts bytes done read.read reader.consumed (unread reader left) read.are read.total read.bytes
 
   -- the lines so far are the first ones
-  first_lines : (bytes : List ℕ) → HasReadLines (Some bytes) reader left done → BeginsWith limit bytes items begun
+  first_lines : (bytes : List ℕ) → HasReadLines (Some bytes) reader left done → BeginsWith limit bytes done
   first_lines bytes read =
       let parts = known_now bytes read in
       record {
-        before = done;
         read_bytes = read.read;
         unread_bytes = parts.u;
         all = parts.all;
         are_lines = parts.are_lines;
         within = omega (arith, limits.bytes, sound.within, parts.read_is);
-        are = are;
       }
 
-  pub begins : (start : Option (List ℕ)) → HasReadLines start reader left done → IfSome start (λ bytes. BeginsWith limit bytes items begun)
-  begins None read = tt
-  begins (Some bytes) read = first_lines bytes read
+  -- what decides nothing by the reader's limit on a line
+  undecided_as : {bytes : List ℕ} → IsUndecided (room reader) reader.max_line bytes → IsUndecided (room reader) longest_line bytes
+  undecided_as {bytes} is = subst (λ n. IsUndecided (room reader) n bytes) limits.line is
+
+  -- a call of the reader took what it needed
+  needed : (items : List PatchRecord) (begun : Option Begun) → AreLinesOf done items begun → (bytes : List ℕ) (next : Reading) (left_next : Option (List ℕ)) (last last_next : Option LastRead) →
+      HasReadLines (Some bytes) reader left done → (reads : ReadsAsNeeded reader next left left_next last last_next) → IsNeeded reader reads.before reads.last last last_next → TakesLinesByNeed limit bytes left_next
+  needed items begun are bytes next left_next last last_next read reads is =
+      let parts = known_now bytes read in
+      let ends : read.read ≡ ended_lines done = read.whole is.going in
+      let size : length (read.read ++ (reader.held ++ reads.before) ++ reads.last) ≡ length read.read + (length reader.held + length (reads.before ++ reads.last)) =
+      omega (
+        arith,
+        length-append (read.read ++ (reader.held ++ reads.before)) reads.last,
+        length-append read.read (reader.held ++ reads.before),
+        length-append reader.held reads.before,
+        length-append reads.before reads.last,
+      ) in
+      let at : left ≡ before_known reads.before (before_known reads.last left_next) = reads.told ∙ sym (before_both reads.before reads.last left_next) in
+      let Fits : List ℕ → Type 0 = λ xs. length (xs ++ (reader.held ++ reads.before) ++ reads.last) ≤ limit + 1 in
+      let fits : length (read.read ++ (reader.held ++ reads.before) ++ reads.last) ≤ limit + 1 = omega (arith, size, parts.read_is, reads.counted, reads.sound.bounded, reads.limit, limits.bytes) in
+      record {
+        done = done;
+        part = reader.held ++ reads.before;
+        last = reads.last;
+        is = read.bytes ∙ ap (λ (o : Option (List ℕ)). before_known read.read (before_known reader.held o)) at
+            ∙ ap (λ (o : Option (List ℕ)). before_known read.read o) (before_both reader.held reads.before (before_known reads.last left_next))
+            ∙ before_both read.read (reader.held ++ reads.before) (before_known reads.last left_next)
+            ∙ before_both (read.read ++ (reader.held ++ reads.before)) reads.last left_next
+            ∙ ap (λ xs. before_known (xs ++ (reader.held ++ reads.before) ++ reads.last) left_next) ends;
+        are_lines = read.are_lines;
+        items = items;
+        begun = begun;
+        are = are;
+        undecided = subst (λ n. IsUndecided n longest_line (reader.held ++ reads.before)) (same_room limit reader read.read limits.bytes parts.read_is ∙ ap (λ xs. limit - length xs) ends) (undecided_as is.undecided);
+        piece = reads.piece;
+        bounded = subst Fits ends fits;
+      }
+
+  -- what was taken, after a call of the reader, whatever it answered
+  pub takes_on : (items : List PatchRecord) (begun : Option Begun) → AreLinesOf done items begun → (start : Option (List ℕ)) (next : Reading) (left_next : Option (List ℕ)) (last last_next : Option LastRead) →
+      HasReadLines start reader left done → ReadsAsNeeded reader next left left_next last last_next → IfSome start (λ bytes. TakesLinesByNeed limit bytes left) → IfSome start (λ bytes. TakesLinesByNeed limit bytes left_next)
+  takes_on items begun are None next left_next last last_next read reads so_far = tt
+  takes_on items begun are (Some bytes) next left_next last last_next read reads so_far = by reads.needed
+    where
+      by : IsNeeded reader reads.before reads.last last last_next ⊎ ((reads.before ++ reads.last ≡ []) × (last_next ≡ last)) → TakesLinesByNeed limit bytes left_next
+      by (inl is) = needed items begun are bytes next left_next last last_next read reads is
+      by (inr none) = subst (λ o. TakesLinesByNeed limit bytes o) (reads.told ∙ ap (λ xs. before_known xs left_next) none.0 ∙ sym (still left_next)) so_far
 
   -- what was read and a part of a line within the limit are within it
   part_within : (start : Option (List ℕ)) (read : HasReadLines start reader left done) (part : List ℕ) → length part ≤ room reader → IfSome start (λ bytes. length (read.read ++ part) ≤ limit)
@@ -133,18 +96,22 @@ module _ (limit : ℕ) (reader : Reading) (left : Option (List ℕ)) (done : Lis
       let parts = known_now bytes read in
       omega (arith, length-append read.read part, parts.read_is, limits.bytes, sound.within, few)
 
-  -- what was read and a part of a line are the bytes that were read
-  pub whole_read : (start left_now : Option (List ℕ)) (read : HasReadLines start reader left done) → StopsInLine reader left left_now → AreWhole limit start left_now items begun
-  whole_read start left_now read stops = record {
-    read = read.read ++ stops.part;
-    within = part_within start read stops.part stops.within;
-    is = read.bytes ∙ ap (λ (o : Option (List ℕ)). before_known read.read o) stops.front ∙ before_both read.read stops.part left_now;
-    are = subst (λ ls. AreLinesOf ls items begun)
-        (sym (ap (λ xs. whole_lines (xs ++ stops.part)) (read.whole stops.going) ∙ whole_lines-ended done stops.part read.are_lines stops.in_line)) are;
-  }
+  -- what was read are the lines so far and a part of a line
+  pub whole_read : (start left_now : Option (List ℕ)) (read : HasReadLines start reader left done) → StopsInLine reader left left_now → EndsInLine limit start left_now done
+  whole_read start left_now read stops =
+      let ends : read.read ≡ ended_lines done = read.whole stops.going in
+      let Fits : List ℕ → Type 0 = λ xs. IfSome start (λ _. length (xs ++ stops.part) ≤ limit) in
+      record {
+        part = stops.part;
+        is = read.bytes ∙ ap (λ (o : Option (List ℕ)). before_known read.read o) stops.front ∙ before_both read.read stops.part left_now ∙ ap (λ xs. before_known (xs ++ stops.part) left_now) ends;
+        are_lines = read.are_lines;
+        in_line = stops.in_line;
+        short = subst (λ n. length stops.part ≤ n) limits.line stops.short;
+        within = subst Fits ends (part_within start read stops.part stops.within);
+      }
 
   -- the input goes past the limit
-  pub past_limit : (start : Option (List ℕ)) → HasReadLines start reader left done → IfSome (unread reader left) (IsTooLong (room reader) reader.max_line) → IfSome start (RecordsPastLimit limit)
+  pub past_limit : (start : Option (List ℕ)) → HasReadLines start reader left done → IfSome (unread reader left) (IsTooLong (room reader) reader.max_line) → IfSome start (λ bytes. RecordsPastLimit limit bytes done)
   unfolding first_lines known_now
   past_limit None read over = tt
   past_limit (Some bytes) read over =
@@ -154,26 +121,20 @@ module _ (limit : ℕ) (reader : Reading) (left : Option (List ℕ)) (done : Lis
       let above : reader.max_bytes < length bytes = too_long bytes parts.u reader.max_bytes reader.consumed here sound.within parts.total in
       record {
         more = omega (arith, limits.bytes);
-        items = items;
-        begun = begun;
         first = first_lines bytes read;
         past = subst (λ n. IsTooLong n longest_line parts.u) (same_room limit reader read.read limits.bytes parts.read_is) here;
       }
 
   -- the next line is over-long
-  pub over_long : (start : Option (List ℕ)) (number : ℕ) → HasReadLines start reader left done → number ≡ reader.given + 1 → IfSome (unread reader left) (IsLineLong (room reader) reader.max_line) →
-      IfSome start (λ bytes. IsOverLong limit bytes number)
+  pub over_long : (start : Option (List ℕ)) → HasReadLines start reader left done → IfSome (unread reader left) (IsLineLong (room reader) reader.max_line) → IfSome start (λ bytes. IsOverLong limit bytes done)
   unfolding first_lines
-  over_long None number read next over = tt
-  over_long (Some bytes) number read next over =
+  over_long None read over = tt
+  over_long (Some bytes) read over =
       let parts = known_now bytes read in
       let here : IsLineLong (room reader) longest_line parts.u =
       subst (λ n. IsLineLong (room reader) n parts.u) limits.line (at_known (unread reader left) parts.u (IsLineLong (room reader) reader.max_line) parts.is over) in
       record {
-        items = items;
-        begun = begun;
         first = first_lines bytes read;
-        counted = next ∙ ap (λ n. n + 1) read.counted;
         over = subst (λ n. IsLineLong n longest_line parts.u) (same_room limit reader read.read limits.bytes parts.read_is) here;
       }
 
@@ -184,21 +145,24 @@ module _ (limit : ℕ) (reader : Reading) (left : Option (List ℕ)) (done : Lis
       let none : parts.u ≡ [] = at_known (unread reader left) parts.u (λ u. u ≡ []) parts.is at_end in
       parts.are_lines ∙ ap (λ u. done ++ lines u) none ∙ append-nil done
 
-  all_records : (bytes : List ℕ) → HasReadLines (Some bytes) reader left done → IsAtEnd (unread reader left) → AreRecords limit bytes items begun
-  all_records bytes read at_end =
+  -- and all is within the limit
+  all_within : (bytes : List ℕ) → HasReadLines (Some bytes) reader left done → IsAtEnd (unread reader left) → length bytes ≤ limit
+  all_within bytes read at_end =
       let parts = known_now bytes read in
       let none : parts.u ≡ [] = at_known (unread reader left) parts.u (λ u. u ≡ []) parts.is at_end in
       let nothing : length parts.u ≡ 0 = ap length none in
-      record { within = omega (arith, parts.total, limits.bytes, sound.within); are = subst (λ ls. AreLinesOf ls items begun) (sym (all_lines bytes read at_end)) are }
+      omega (arith, parts.total, limits.bytes, sound.within)
 
-  pub all_read : (start : Option (List ℕ)) → HasReadLines start reader left done → IsAtEnd (unread reader left) → IfSome start (λ bytes. AreRecords limit bytes items begun)
-  all_read None read at_end = tt
-  all_read (Some bytes) read at_end = all_records bytes read at_end
+  pub all_read : (items : List PatchRecord) (begun : Option Begun) → AreLinesOf done items begun → (start : Option (List ℕ)) → HasReadLines start reader left done → IsAtEnd (unread reader left) →
+      IfSome start (λ bytes. AreRecords limit bytes items begun)
+  all_read items begun are None read at_end = tt
+  all_read items begun are (Some bytes) read at_end =
+      record { within = all_within bytes read at_end; are = subst (λ ls. AreLinesOf ls items begun) (sym (all_lines bytes read at_end)) are }
 
-  -- how many lines the input has then
-  pub all_counted : (start : Option (List ℕ)) (number : ℕ) → HasReadLines start reader left done → IsAtEnd (unread reader left) → number ≡ reader.given + 1 → IfSome start (λ bytes. number ≡ length (lines bytes) + 1)
-  all_counted None number read at_end next = tt
-  all_counted (Some bytes) number read at_end next = next ∙ ap (λ n. n + 1) (read.counted ∙ ap length (sym (all_lines bytes read at_end)))
+  -- the input ends inside a record
+  pub cut_off_inside : (begun : Option Begun) → begun ≢ None → (start : Option (List ℕ)) → HasReadLines start reader left done → IsAtEnd (unread reader left) → IfSome start (λ bytes. EndsInside limit bytes done begun)
+  cut_off_inside begun inside None read at_end = tt
+  cut_off_inside begun inside (Some bytes) read at_end = record { within = all_within bytes read at_end; are = all_lines bytes read at_end; inside = inside }
 
   module _ (line : List ℕ) (next : Reading) (left_next : Option (List ℕ)) (is : IsNextLine line reader next left left_next) where
     bytes_grow : (start : Option (List ℕ)) (read : HasReadLines start reader left done) → start ≡ before_known (read.read ++ is.takes.moved) (unread next left_next)
@@ -220,18 +184,14 @@ module _ (limit : ℕ) (reader : Reading) (left : Option (List ℕ)) (done : Lis
     next_lines u v here there = let same : Some (lines u) ≡ Some (line ∷ lines v) = ap input_lines (sym here) ∙ is.first ∙ ap (λ (o : Option (List ℕ)). before_lines line (input_lines o)) there in cc
 
     -- this line is refused
-    pub bad_line : (start : Option (List ℕ)) (number : ℕ) (fault : PatchFault) → HasReadLines start reader left done → number ≡ reader.given + 1 → HasCause fault begun line →
-        IfSome start (λ bytes. IsBadRecordLine fault limit bytes number)
+    pub bad_line : (begun : Option Begun) (start : Option (List ℕ)) (fault : PatchFault) → HasReadLines start reader left done → HasCause fault begun line → IfSome start (λ bytes. IsBadRecordLine fault limit bytes done begun)
     unfolding first_lines
-    bad_line None number fault read counted refused = tt
-    bad_line (Some bytes) number fault read counted refused =
+    bad_line begun None fault read refused = tt
+    bad_line begun (Some bytes) fault read refused =
         let here = known_now bytes read in
         let there = known_next bytes read in
         record {
-          items = items;
-          begun = begun;
           first = first_lines bytes read;
-          counted = counted ∙ ap (λ n. n + 1) read.counted;
           line = line;
           line_bytes = is.takes.moved;
           others = there.u;
@@ -241,6 +201,24 @@ module _ (limit : ℕ) (reader : Reading) (left : Option (List ℕ)) (done : Lis
           short = short_line;
           refused = refused;
         }
+
+    -- the bytes that went into the lines so far and this one are within the limit
+    line_within : (start : Option (List ℕ)) (read : HasReadLines start reader left done) → IfSome start (λ _. length (read.read ++ is.takes.moved) ≤ limit)
+    line_within None read = tt
+    line_within (Some bytes) read =
+        let there = known_next bytes read in
+        omega (arith, there.read_is, is.goes.sound.within, is.goes.limit, limits.bytes)
+
+    -- the lines so far and this one are the first ones
+    pub first_with : (start : Option (List ℕ)) → HasReadLines start reader left done → AreFirstLines limit start left_next (done ++ line ∷ [])
+    first_with start read = record {
+      read = read.read ++ is.takes.moved;
+      last = next.held;
+      all = bytes_grow start read;
+      are_lines = lines_grow (input_lines start) (input_lines (unread reader left)) (input_lines (unread next left_next)) done line read.are is.first;
+      within = line_within start read;
+      piece = is.goes.sound.buffered;
+    }
 
     -- this line was read too
     pub read_more : (start : Option (List ℕ)) → HasReadLines start reader left done → next.given ≡ reader.given + 1 → HasReadLines start next left_next (done ++ line ∷ [])

@@ -9,28 +9,28 @@ use Rattle.term_pool.specs.declared.fault.PoolFault.TheVariants.{Full, OutOfMemo
 use Rattle.following.specs.Stop.{HeldUp, stop_of_store}
 use Rattle.following.specs.Taking.{HadRoom, HasApplied, HasReceived, IsRecordOverfull}
 
--- ---- a record behind the others
+-- ---- records behind the others
 
 -- a number that is there stands for the record that it stood for
-still_numbered : (n : ℕ) (items : List PatchRecord) (item : PatchRecord) → is_some (numbered n items) ≡ true → numbered n (items ++ item ∷ []) ≡ numbered n items
-still_numbered n [] item there = cc
-still_numbered n (x ∷ xs) item there = by (n == x.number) (still_numbered n xs item) there
+pub still_numbered : (n : ℕ) (items more : List PatchRecord) → is_some (numbered n items) ≡ true → numbered n (items ++ more) ≡ numbered n items
+still_numbered n [] more there = cc
+still_numbered n (x ∷ xs) more there = by (n == x.number) (still_numbered n xs more) there
   where
-    by : (b : Bool) → (is_some (numbered n xs) ≡ true → numbered n (xs ++ item ∷ []) ≡ numbered n xs) → is_some (cond b (Some x) (numbered n xs)) ≡ true → cond b (Some x) (numbered n (xs ++ item ∷ [])) ≡ cond b (Some x) (numbered n xs)
+    by : (b : Bool) → (is_some (numbered n xs) ≡ true → numbered n (xs ++ more) ≡ numbered n xs) → is_some (cond b (Some x) (numbered n xs)) ≡ true → cond b (Some x) (numbered n (xs ++ more)) ≡ cond b (Some x) (numbered n xs)
     by true rest h = refl
     by false rest h = rest h
 
 -- the triples after the records that are there are the same
-still_after : (items : List PatchRecord) (item : PatchRecord) (n : ℕ) → ((k : ℕ) → 0 < k → k ≤ n → IsSome (numbered k items)) → after (items ++ item ∷ []) n ≡ after items n
-still_after items item zero there = refl
-still_after items item (suc n) there =
-    ap (λ ts. patched_if ts (numbered (suc n) (items ++ item ∷ []))) (still_after items item n (λ k low high. there k low (omega arith)))
-    ∙ ap (λ o. patched_if (after items n) o) (still_numbered (suc n) items item (there (suc n) (omega arith) (omega arith)))
+pub still_after : (items more : List PatchRecord) (n : ℕ) → ((k : ℕ) → 0 < k → k ≤ n → IsSome (numbered k items)) → after (items ++ more) n ≡ after items n
+still_after items more zero there = refl
+still_after items more (suc n) there =
+    ap (λ ts. patched_if ts (numbered (suc n) (items ++ more))) (still_after items more n (λ k low high. there k low (omega arith)))
+    ∙ ap (λ o. patched_if (after items n) o) (still_numbered (suc n) items more (there (suc n) (omega arith) (omega arith)))
 
-still_roomed : (room : ℕ) (items : List PatchRecord) (item : PatchRecord) (n : ℕ) → ((k : ℕ) → 0 < k → k ≤ n → IsSome (numbered k items)) → HadRoom room items n → HadRoom room (items ++ item ∷ []) n
-still_roomed room items item n there roomed k below =
-    subst (λ o. IfSome o (λ it. terms_with (after (items ++ item ∷ []) k) it.adds ≤ room)) (sym (still_numbered (k + 1) items item (there (k + 1) (omega arith) (omega arith))))
-    (subst (λ ts. IfSome (numbered (k + 1) items) (λ it. terms_with ts it.adds ≤ room)) (sym (still_after items item k (λ j low high. there j low (omega arith)))) (roomed k below))
+still_roomed : (room : ℕ) (items more : List PatchRecord) (n : ℕ) → ((k : ℕ) → 0 < k → k ≤ n → IsSome (numbered k items)) → HadRoom room items n → HadRoom room (items ++ more) n
+still_roomed room items more n there roomed k below =
+    subst (λ o. IfSome o (λ it. terms_with (after (items ++ more) k) it.adds ≤ room)) (sym (still_numbered (k + 1) items more (there (k + 1) (omega arith) (omega arith))))
+    (subst (λ ts. IfSome (numbered (k + 1) items) (λ it. terms_with ts it.adds ≤ room)) (sym (still_after items more k (λ j low high. there j low (omega arith)))) (roomed k below))
 
 -- a record was received
 pub receives : (items : List PatchRecord) (item : PatchRecord) (old new : ReplicaState) → new ≡ record old { waiting = new.waiting } → Follows (items ++ item ∷ []) new → HasReceived items old → HasReceived (items ++ item ∷ []) new
@@ -38,7 +38,7 @@ receives items item old new others follows received = record {
   follows = follows;
   roomed = subst (λ n. HadRoom n (items ++ item ∷ []) new.applied) (sym (ap (λ (s : ReplicaState). s.limit) others))
       (subst (HadRoom old.limit (items ++ item ∷ [])) (sym (ap (λ (s : ReplicaState). s.applied) others))
-      (still_roomed old.limit items item old.applied received.follows.received received.roomed));
+      (still_roomed old.limit items (item ∷ []) old.applied received.follows.received received.roomed));
 }
 
 -- ---- a record is applied
@@ -81,6 +81,7 @@ pub overfull : (items : List PatchRecord) (state : ReplicaState) → HasReceived
 overfull items state received full = record {
   applied = state.applied;
   received = received.follows.received;
+  roomed = received.roomed;
   item = full.item;
   next = sym (received.follows.waits (state.applied + 1) (omega arith)) ∙ full.waits;
   over = subst (λ ts. state.limit < terms_with ts full.item.adds) received.follows.triples full.over;

@@ -1,15 +1,16 @@
 -- The lines of an input as those of records.
-use Rattle.std.specs.Prelude.{◌≡◌, ℕ, ◌+◌, ◌-◌, ◌<◌, ◌≤◌, false, List, ◌∷◌, ◌++◌, length, flat_map, Option, Some, IfSome}
+use Rattle.std.specs.Prelude.{◌≡◌, ◌≢◌, ℕ, ◌+◌, ◌-◌, ◌<◌, ◌≤◌, false, List, ◌∷◌, ◌++◌, length, flat_map, Option, None, Some, IfSome}
 use Rattle.std.specs.Option.{option_map}
 use Rattle.std.specs.List.{AllByRecursion}
 use Rattle.rising.specs.Rising.{Each}
 use Rattle.wq_io.specs.Streams.{before_known}
-use Rattle.wq_io.specs.Lines.{Reading, IsLineLong, IsOneLine, IsTooLong, ended_lines, input_length, lines, input_lines, unread, whole_lines}
+use Rattle.wq_io.specs.Lines.{Reading, IsLineLong, IsOneLine, IsTooLong, IsUndecided, ended_lines, input_length, lines, input_lines, longest_read, unread}
 use Rattle.replica.specs.declared.reader.Begun.{Begun}
 use Rattle.replica.specs.declared.reader.PatchFault.{PatchFault}
 use Rattle.replica.specs.declared.record.PatchRecord.{PatchRecord}
+use Rattle.replica.specs.Laws.{HasShortNumbers}
 use Rattle.replica.specs.Reader.{HasCause, IsUnfinished, lines_read as lines_begun}
-use Rattle.replica.specs.Record.{IsSound, record_lines}
+use Rattle.replica.specs.Record.{record_lines}
 
 -- the most bytes that a line may have without its line feed: the line of a triple has fewer
 abbrev pub longest_line : ℕ
@@ -18,7 +19,7 @@ longest_line = 134217728
 -- these lines are those of the records, one after the other, and then those that were read of a record that lacks lines
 pub record AreLinesOf (lines : List (List ℕ)) (items : List PatchRecord) (begun : Option Begun) : Type 0 where
   pub are : lines ≡ flat_map record_lines items ++ lines_begun begun
-  pub sound : AllByRecursion IsSound items
+  pub sound : AllByRecursion HasShortNumbers items
   pub unfinished : IfSome begun IsUnfinished
 
 -- these lines were read so far; the bytes that went into them stand before those that are unread
@@ -36,29 +37,52 @@ pub record AreRecords (limit : ℕ) (bytes : List ℕ) (items : List PatchRecord
   pub within : length bytes ≤ limit
   pub are : AreLinesOf (lines bytes) items begun
 
--- the first lines of the input are those of these records, and of one that lacks lines; they end within the limit
-pub record BeginsWith (limit : ℕ) (bytes : List ℕ) (items : List PatchRecord) (begun : Option Begun) : Type 0 where
-  pub before : List (List ℕ)
+-- these are the first lines of the input; they end within the limit
+pub record BeginsWith (limit : ℕ) (bytes : List ℕ) (done : List (List ℕ)) : Type 0 where
   pub read_bytes : List ℕ
   pub unread_bytes : List ℕ
   pub all : bytes ≡ read_bytes ++ unread_bytes
-  pub are_lines : lines bytes ≡ before ++ lines unread_bytes
+  pub are_lines : lines bytes ≡ done ++ lines unread_bytes
   pub within : length read_bytes ≤ limit
-  pub are : AreLinesOf before items begun
 
--- all whole lines of the bytes that were read are those of these records, and of one that lacks lines; what was read is within the limit
-pub record AreWhole (limit : ℕ) (left left_now : Option (List ℕ)) (items : List PatchRecord) (begun : Option Begun) : Type 0 where
+-- these are the first lines of the bytes that were taken, and end within the limit; behind them were taken at most as many bytes as
+-- one read may give, and what is behind those is left
+pub record AreFirstLines (limit : ℕ) (left left_now : Option (List ℕ)) (done : List (List ℕ)) : Type 0 where
   pub read : List ℕ
-  pub is : left ≡ before_known read left_now
+  pub last : List ℕ
+  pub all : left ≡ before_known read (before_known last left_now)
+  pub are_lines : input_lines left ≡ option_map (λ (ls : List (List ℕ)). done ++ ls) (input_lines (before_known last left_now))
   pub within : IfSome left (λ _. length read ≤ limit)
-  pub are : AreLinesOf (whole_lines read) items begun
+  pub piece : length last ≤ longest_read
 
--- the line with this number is refused for this cause behind those before it, and ends within the limit
-pub record IsBadRecordLine (fault : PatchFault) (limit : ℕ) (bytes : List ℕ) (number : ℕ) : Type 0 where
+-- these lines were read, each with its line feed, and then a part of a line that is no more than a line may have; all this is within
+-- the limit, and what is behind it is left
+pub record EndsInLine (limit : ℕ) (left left_now : Option (List ℕ)) (done : List (List ℕ)) : Type 0 where
+  pub part : List ℕ
+  pub is : left ≡ before_known (ended_lines done ++ part) left_now
+  pub are_lines : Each IsOneLine done
+  pub in_line : IsOneLine part
+  pub short : length part ≤ longest_line
+  pub within : IfSome left (λ _. length (ended_lines done ++ part) ≤ limit)
+
+-- what was taken of an input with these bytes: whole lines, those of records and of one that lacks lines, a part of a line that decided
+-- nothing, and `last`, at most as many bytes as one read may give; all of it is at most one byte past the limit
+pub record TakesLinesByNeed (limit : ℕ) (bytes : List ℕ) (left : Option (List ℕ)) : Type 0 where
+  pub done : List (List ℕ)
+  pub part : List ℕ
+  pub last : List ℕ
+  pub is : Some bytes ≡ before_known (ended_lines done ++ part ++ last) left
+  pub are_lines : Each IsOneLine done
   pub items : List PatchRecord
   pub begun : Option Begun
-  pub first : BeginsWith limit bytes items begun
-  pub counted : number ≡ length first.before + 1
+  pub are : AreLinesOf done items begun
+  pub undecided : IsUndecided (limit - length (ended_lines done)) longest_line part
+  pub piece : length last ≤ longest_read
+  pub bounded : length (ended_lines done ++ part ++ last) ≤ limit + 1
+
+-- the line behind these is refused for this cause, where so much of a record was read; it ends within the limit
+pub record IsBadRecordLine (fault : PatchFault) (limit : ℕ) (bytes : List ℕ) (done : List (List ℕ)) (begun : Option Begun) : Type 0 where
+  pub first : BeginsWith limit bytes done
   pub line : List ℕ
   pub line_bytes : List ℕ
   pub others : List ℕ
@@ -68,25 +92,19 @@ pub record IsBadRecordLine (fault : PatchFault) (limit : ℕ) (bytes : List ℕ)
   pub short : length line ≤ longest_line
   pub refused : HasCause fault begun line
 
--- the line with this number is over-long: its first 134,217,729 bytes are there, within the limit
-pub record IsOverLong (limit : ℕ) (bytes : List ℕ) (number : ℕ) : Type 0 where
-  pub items : List PatchRecord
-  pub begun : Option Begun
-  pub first : BeginsWith limit bytes items begun
-  pub counted : number ≡ length first.before + 1
+-- the line behind these is over-long: its first 134,217,729 bytes are there, within the limit
+pub record IsOverLong (limit : ℕ) (bytes : List ℕ) (done : List (List ℕ)) : Type 0 where
+  pub first : BeginsWith limit bytes done
   pub over : IsLineLong (limit - length first.read_bytes) longest_line first.unread_bytes
 
--- the input ends inside a record; the number is one more than that of its last line
-pub record EndsInside (limit : ℕ) (bytes : List ℕ) (number : ℕ) : Type 0 where
-  pub items : List PatchRecord
-  pub begun : Begun
-  pub are : AreRecords limit bytes items (Some begun)
-  pub counted : number ≡ length (lines bytes) + 1
+-- these are all lines of the input, which is within the limit and ends inside a record
+pub record EndsInside (limit : ℕ) (bytes : List ℕ) (done : List (List ℕ)) (begun : Option Begun) : Type 0 where
+  pub within : length bytes ≤ limit
+  pub are : lines bytes ≡ done
+  pub inside : begun ≢ None
 
--- the input has more bytes than the limit; the first of them past it stands in a line that isn't over-long before it
-pub record RecordsPastLimit (limit : ℕ) (bytes : List ℕ) : Type 0 where
+-- the input has more bytes than the limit; the first of them past it stands in the line behind these, which isn't over-long before it
+pub record RecordsPastLimit (limit : ℕ) (bytes : List ℕ) (done : List (List ℕ)) : Type 0 where
   pub more : limit < length bytes
-  pub items : List PatchRecord
-  pub begun : Option Begun
-  pub first : BeginsWith limit bytes items begun
+  pub first : BeginsWith limit bytes done
   pub past : IsTooLong (limit - length first.read_bytes) longest_line first.unread_bytes

@@ -1,5 +1,5 @@
 -- Why a follower stopped, and what its input has then.
-use Rattle.std.specs.Prelude.{◌≡◌, ◌⊎◌, ℕ, List, Option, IfSome, ⊤}
+use Rattle.std.specs.Prelude.{◌≡◌, ◌⊎◌, ℕ, ◌+◌, List, [], ◌∷◌, ◌++◌, length, Option, None, IfSome, ⊤}
 use Rattle.wq_io.specs.Streams.{Rose}
 use Rattle.wq_io.specs.declared.lines.LineFault.{LineFault}
 use Rattle.wq_io.specs.declared.lines.LineFault.TheVariants.{ReadFault as NotRead, TooLong as PastLimit, LineLong as OverLong, OutOfMemory as NoMemory}
@@ -18,8 +18,8 @@ use Rattle.following.specs.declared.stop.RecordCause.TheVariants.{LineLong, Head
 use Rattle.following.specs.declared.stop.FollowStop.{FollowStop}
 use Rattle.following.specs.declared.stop.FollowStop.TheVariants.{BadLine, ReadFault, WriteFault, TooLong, StoreFull, OutOfMemory}
 use Rattle.following.specs.Input.{Input}
-use Rattle.following.specs.Reading.{AreWhole, BeginsWith, EndsInside, IsBadRecordLine, IsOverLong, RecordsPastLimit}
-use Rattle.following.specs.Taking.{IsRecordOverfull, OverfillsByLine}
+use Rattle.following.specs.Reading.{AreFirstLines, AreLinesOf, EndsInLine, EndsInside, IsBadRecordLine, IsOverLong, RecordsPastLimit}
+use Rattle.following.specs.Taking.{IsRecordOverfull, OverfillsByLine, TakenLines}
 
 -- why a follower stopped at a fault of the reader of lines
 abbrev pub stop_of_line : LineFault → FollowStop
@@ -45,35 +45,47 @@ abbrev pub stop_of_unwritten : Unwritten → FollowStop
 stop_of_unwritten NotWritten = WriteFault
 stop_of_unwritten Refused = OutOfMemory
 
--- why the line with this number is refused
-abbrev pub IsRefused : RecordCause → ℕ → List ℕ → ℕ → Type 0
-IsRefused LineLong limit bytes number = IsOverLong limit bytes number
-IsRefused Head limit bytes number = IsBadRecordLine NoHead limit bytes number
-IsRefused Triple limit bytes number = IsBadRecordLine NoTriple limit bytes number
-IsRefused Order limit bytes number = IsBadRecordLine OutOfOrder limit bytes number
-IsRefused Short limit bytes number = EndsInside limit bytes number
+-- why the line behind these is refused, where so much of a record was read
+abbrev pub IsRefused : RecordCause → ℕ → List ℕ → List (List ℕ) → Option Begun → Type 0
+IsRefused LineLong limit bytes done begun = IsOverLong limit bytes done
+IsRefused Head limit bytes done begun = IsBadRecordLine NoHead limit bytes done begun
+IsRefused Triple limit bytes done begun = IsBadRecordLine NoTriple limit bytes done begun
+IsRefused Order limit bytes done begun = IsBadRecordLine OutOfOrder limit bytes done begun
+IsRefused Short limit bytes done begun = EndsInside limit bytes done begun
 
--- a read failed; the whole lines that were read before are those of records
-pub record IsUnread (limit : ℕ) (before now : Input) : Type 0 where
+-- the line behind those that were taken has this number, and is refused
+pub record StandsAtLine (cause : RecordCause) (limit room number : ℕ) (left : Option (List ℕ)) : Type 0 where
+  pub taken : TakenLines room
+  pub counted : number ≡ length taken.done + 1
+  pub refused : IfSome left (λ bytes. IsRefused cause limit bytes taken.done taken.begun)
+
+-- a read failed within the line behind those that were taken
+pub record IsUnread (limit room : ℕ) (before now : Input) : Type 0 where
   pub rose : Rose before.faults now.faults
-  pub items : List PatchRecord
-  pub begun : Option Begun
-  pub whole : AreWhole limit before.left now.left items begun
+  pub taken : TakenLines room
+  pub whole : EndsInLine limit before.left now.left taken.done
 
--- there is no room for a record that is due by the lines that were taken
-pub record HasNoRoomForRecord (limit room : ℕ) (left : Option (List ℕ)) : Type 0 where
-  pub items : List PatchRecord
-  pub begun : Option Begun
-  pub first : IfSome left (λ bytes. BeginsWith limit bytes items begun)
-  pub full : IsRecordOverfull room items
+-- the line behind those that were taken goes past the limit
+pub record PassesLimit (limit room : ℕ) (left : Option (List ℕ)) : Type 0 where
+  pub taken : TakenLines room
+  pub past : IfSome left (λ bytes. RecordsPastLimit limit bytes taken.done)
+
+-- the line behind those that were taken ends a record, and there is no room for it, or for one that waited for it
+pub record HasNoRoomForRecord (limit room : ℕ) (before now : Input) : Type 0 where
+  pub taken : TakenLines room
+  pub line : List ℕ
+  pub item : PatchRecord
+  pub are : AreLinesOf (taken.done ++ line ∷ []) (taken.items ++ item ∷ []) None
+  pub full : IsRecordOverfull room (taken.items ++ item ∷ [])
+  pub first : AreFirstLines limit before.left now.left (taken.done ++ line ∷ [])
 
 -- why the taking of lines stopped, where an input may have so many bytes, and a store so many different terms
 abbrev pub TakingStopped : FollowStop → ℕ → ℕ → Input → Input → Type 0
-TakingStopped (BadLine number cause) limit room before now = IfSome before.left (λ bytes. IsRefused cause limit bytes number)
-TakingStopped ReadFault limit room before now = IsUnread limit before now
+TakingStopped (BadLine number cause) limit room before now = StandsAtLine cause limit room number before.left
+TakingStopped ReadFault limit room before now = IsUnread limit room before now
 TakingStopped WriteFault limit room before now = ⊥
-TakingStopped TooLong limit room before now = IfSome before.left (RecordsPastLimit limit)
-TakingStopped StoreFull limit room before now = HasNoRoomForRecord limit room before.left
+TakingStopped TooLong limit room before now = PassesLimit limit room before.left
+TakingStopped StoreFull limit room before now = HasNoRoomForRecord limit room before now
 TakingStopped OutOfMemory limit room before now = ⊤
 
 -- why records aren't applied: there is no room, as this says, or memory was refused
@@ -81,6 +93,6 @@ abbrev pub HeldUp : FollowStop → Type 0 → Type 0
 HeldUp stop Overfull = ((stop ≡ StoreFull) × Overfull) ⊎ (stop ≡ OutOfMemory)
 
 -- why a line with this number isn't taken: it is refused, or there is no room for what it makes due, or memory was refused
-abbrev pub StopsAtLine : FollowStop → ℕ → List ℕ → Option Begun → Option Begun → ReplicaState → Type 0
-StopsAtLine stop number line old new before =
-    ((fault : PatchFault) × (stop ≡ stop_of_record number fault) × HasCause fault old line) ⊎ HeldUp stop (OverfillsByLine line old new before)
+abbrev pub StopsAtLine : FollowStop → ℕ → List ℕ → Option Begun → ReplicaState → Type 0
+StopsAtLine stop number line old before =
+    ((fault : PatchFault) × (stop ≡ stop_of_record number fault) × HasCause fault old line) ⊎ HeldUp stop (OverfillsByLine line old before)

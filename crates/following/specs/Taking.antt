@@ -12,10 +12,22 @@ use Rattle.following.specs.Reading.{AreLinesOf, AreRecords}
 abbrev pub HadRoom : ℕ → List PatchRecord → ℕ → Type 0
 HadRoom room items n = (k : ℕ) → k < n → IfSome (numbered (k + 1) items) (λ item. terms_with (after items k) item.adds ≤ room)
 
--- the records up to this number were received, and there is no room for the next one, which was received too
+-- these lines were taken: they are those of these records, and of one that lacks lines. The records up to the greatest number such that
+-- all are there were applied, and there was room for them
+pub record TakenLines (room : ℕ) : Type 0 where
+  pub done : List (List ℕ)
+  pub items : List PatchRecord
+  pub begun : Option Begun
+  pub are : AreLinesOf done items begun
+  pub applied : ℕ
+  pub greatest : IsGreatest items applied
+  pub roomed : HadRoom room items applied
+
+-- the records up to this number were received, and had room, and there is none for the next one, which was received too
 pub record IsRecordOverfull (room : ℕ) (items : List PatchRecord) : Type 0 where
   pub applied : ℕ
   pub received : (number : ℕ) → 0 < number → number ≤ applied → IsSome (numbered number items)
+  pub roomed : HadRoom room items applied
   pub item : PatchRecord
   pub next : numbered (applied + 1) items ≡ Some item
   pub over : room < terms_with (after items applied) item.adds
@@ -40,9 +52,9 @@ AppliesLine line old new before now = (items : List PatchRecord) (done : List (L
     (further : List PatchRecord) × AreLinesOf (done ++ line ∷ []) further new × HasApplied further now
 
 -- the line ends a record, and there is no room for it, or for one that waited for it
-abbrev pub OverfillsByLine : List ℕ → Option Begun → Option Begun → ReplicaState → Type 0
-OverfillsByLine line old new before = (items : List PatchRecord) (done : List (List ℕ)) → AreLinesOf done items old → HasApplied items before →
-    (further : List PatchRecord) × AreLinesOf (done ++ line ∷ []) further new × IsRecordOverfull before.limit further
+abbrev pub OverfillsByLine : List ℕ → Option Begun → ReplicaState → Type 0
+OverfillsByLine line old before = (items : List PatchRecord) (done : List (List ℕ)) → AreLinesOf done items old → HasApplied items before →
+    (item : PatchRecord) × AreLinesOf (done ++ line ∷ []) (items ++ item ∷ []) None × IsRecordOverfull before.limit (items ++ item ∷ [])
 
 -- the whole input was read, its lines are those of these records, and the replica applied all that go
 pub record HasTakenRecords (limit : ℕ) (before now : Input) (state : ReplicaState) : Type 0 where

@@ -1,7 +1,9 @@
 // A follower: it takes the records of its input, and prints what it has then.
 
-ghost use Rattle.std.specs.Prelude.{◌≤◌, ◌≡◌, IfErr, OnOk};
+ghost use Rattle.std.specs.Prelude.{◌≤◌, ◌≡◌, IfErr, IfSome, OnOk};
+ghost use Rattle.words.specs.Options.{follow_max_bytes_of};
 ghost use Rattle.following.specs.Following.{Ending, StoppedFollowing, follow_moment};
+ghost use Rattle.following.specs.Reading.{TakesLinesByNeed};
 
 use crate::printing::print_replica;
 use crate::stop::FollowStop;
@@ -22,7 +24,8 @@ const TERMS_LIMIT: u32 = 20_000_000;
 /// Terms are found by hashes under `keys`.
 ///
 /// # Errors
-/// Why it stopped. Before the end of the input nothing is written.
+/// Why it stopped. Before the end of the input nothing is written. However it ends, no more was taken of the input than the lines of
+/// records so far, a part of the next line that decided nothing, and what one read gave, at most one byte past the limit.
 pub fn follow<S: Source, K: Sink>(
     alloc: Global,
     keys: RandomState,
@@ -32,6 +35,7 @@ pub fn follow<S: Source, K: Sink>(
 ) -> Result<(), FollowStop>
     ensures ok { OnOk result (Ending options.now (follow_moment S.Source K.Sink events.old out.old) (follow_moment S.Source K.Sink events.new out.new)) }
     ensures err { IfErr result (λ stop. StoppedFollowing stop options.now (follow_moment S.Source K.Sink events.old out.old) (follow_moment S.Source K.Sink events.new out.new)) }
+    ensures taken { IfSome (S.left events.old) (λ bytes. TakesLinesByNeed (follow_max_bytes_of options.now) bytes (S.left events.new)) }
     ensures later { S.faults events.old ≤ S.faults events.new }
     ensures most { S.most_faults events.new ≡ S.most_faults events.old }
     ensures written { K.faults out.old ≤ K.faults out.new }

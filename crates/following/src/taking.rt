@@ -1,10 +1,11 @@
 // The lines of the input are taken one by one, and each record as soon as its last line was read.
 
-ghost use Rattle.std.specs.Prelude.{◌≡◌, ◌≤◌, ◌^◌, ◌∷◌, ◌++◌, [], IfErr, List, OnOk};
+ghost use Rattle.std.specs.Prelude.{◌≡◌, ◌≤◌, ◌^◌, ◌∷◌, ◌++◌, [], IfErr, IfSome, List, OnOk};
 ghost use Rattle.replica.specs.declared.record.PatchRecord.{PatchRecord as TheRecord};
 ghost use Rattle.replica.specs.Record.{IsSound};
 ghost use Rattle.replica.specs.Replica.{nothing_received};
 ghost use Rattle.following.specs.Input.{input};
+ghost use Rattle.following.specs.Reading.{TakesLinesByNeed};
 ghost use Rattle.following.specs.Stop.{HeldUp, TakingStopped, StopsAtLine};
 ghost use Rattle.following.specs.Taking.{HasApplied, HasReceived, HasTakenRecords, IsRecordOverfull, AppliesLine, TakesRecord};
 
@@ -28,6 +29,7 @@ pub fn take_records<S: Source>(
     requires new { replica.old ≡ nothing_received replica.old.limit }
     ensures ok { OnOk result (HasTakenRecords max_bytes (input S.Source events.old) (input S.Source events.new) replica.new) }
     ensures err { IfErr result (λ stop. TakingStopped stop max_bytes replica.old.limit (input S.Source events.old) (input S.Source events.new)) }
+    ensures taken { IfSome (S.left events.old) (λ bytes. TakesLinesByNeed max_bytes bytes (S.left events.new)) }
     ensures limit { replica.new.limit ≡ replica.old.limit }
     ensures later { S.faults events.old ≤ S.faults events.new }
     ensures most { S.most_faults events.new ≡ S.most_faults events.old }
@@ -54,7 +56,7 @@ fn take_line(
     replica: &mut Replica,
 ) -> Result<(), FollowStop>
     ensures ok { OnOk result (AppliesLine line.now reader.old reader.new replica.old replica.new) }
-    ensures err { IfErr result (λ stop. StopsAtLine stop number line.now reader.old reader.new replica.old) }
+    ensures err { IfErr result (λ stop. StopsAtLine stop number line.now reader.old replica.old) }
     ensures limit { replica.new.limit ≡ replica.old.limit }
 {
     match reader.line(line) {

@@ -1,6 +1,9 @@
 pub mod Applied
+pub mod Determined
 pub mod Following
 pub mod Heads
+pub mod LineFeeds
+pub mod LineLengths
 pub mod Producers
 pub mod ReadLines
 pub mod Records

@@ -1,5 +1,5 @@
 -- A replica has what its producer had.
-use Rattle.std.proofs.Common.{◌≡◌, ℕ, zero, suc, ◌+◌, ◌-◌, ◌<◌, ◌≤◌, ◌==◌, Bool, true, false, not, cond, ◌&&◌, ◌||◌, is_some, List, [], ◌∷◌, ◌++◌, Option, Some, IsSome, refl, sym, ◌∙◌, ap, arith, ⊎_elim, true≢false}
+use Rattle.std.proofs.Common.{◌≡◌, ℕ, zero, suc, ◌+◌, ◌-◌, ◌==◌, Bool, true, false, not, cond, ◌&&◌, ◌||◌, is_some, List, [], ◌∷◌, ◌++◌, Option, Some, refl, sym, ◌∙◌, ap, arith, ⊎_elim, true≢false}
 use Rattle.std.specs.List.{AllByRecursion}
 use Rattle.std.proofs.lemmas.Bool.{cases_lt}
 use Rattle.std.proofs.lemmas.Bool.Decides.{nat_tests}
@@ -10,8 +10,8 @@ use Rattle.rdf_term.specs.declared.triple.Triple.{Triple}
 use Rattle.rdf_term.specs.Order.{triple_cmp, triple_cmp-total}
 use Rattle.rdf_term.proofs.Texts.{triple_cmp-IsAntisymmetric}
 use Rattle.replica.specs.declared.record.PatchRecord.{PatchRecord}
-use Rattle.replica.specs.Laws.{FollowsItsProducer, IsGreatest, IsProducer, IsRecordOf}
-use Rattle.replica.specs.Replica.{Follows, ReplicaState, after, numbered, patched, patched_if}
+use Rattle.replica.specs.Laws.{FollowsItsProducer, IsGreatest, IsRecordOf, LeadsToItsProducer}
+use Rattle.replica.specs.Replica.{numbered, patched, patched_if}
 
 -- what is before and what changed give what is then
 both_ways : (a b : Bool) → ((not (not b && a) && a) || (not a && b)) ≡ b
@@ -56,8 +56,7 @@ found_of P n (x ∷ xs) all there = by (n == x.number) refl (found_of P n xs all
     by false is rest h = rest h
 
 -- the triples after the records 1 to n are the producer's, where all of these were received
-after_is : (producer : ℕ → List Triple) (items : List PatchRecord) → IsProducer producer → AllByRecursion (IsRecordOf producer) items → (n : ℕ) →
-    ((number : ℕ) → 0 < number → number ≤ n → IsSome (numbered number items)) → after items n ≡ producer n
+pub after_is : LeadsToItsProducer
 after_is producer items made of zero received = sym made.starts
 after_is producer items made of (suc n) received =
     let one = found_of (IsRecordOf producer) (suc n) items of (received (suc n) (omega arith) (omega arith)) in
@@ -67,16 +66,17 @@ after_is producer items made of (suc n) received =
     let removes = one.holds.removes ∙ ap (λ k. difference triple_cmp (producer (one.item.number - 1)) (producer k)) (sym one.number) ∙ ap (λ k. difference triple_cmp (producer k) (producer (suc n))) last in
     ap (λ ts. patched_if ts (numbered (suc n) items)) before ∙ ap (patched_if (producer n)) one.is ∙ changed (producer n) (producer (suc n)) one.item (made.rises (suc n)) adds removes
 
-greatest : (items : List PatchRecord) (state : ReplicaState) (n : ℕ) → Follows items state → is_some (numbered (state.applied + 1) items) ≡ false → IsGreatest items n → state.applied ≡ n
-greatest items state n follows none is = ⊎_elim
-    (λ less. absurd (true≢false (sym (is.received (state.applied + 1) (omega arith) (omega arith)) ∙ none)))
-    (λ other. ⊎_elim
-    (λ more. absurd (true≢false (sym (follows.received (n + 1) (omega arith) (omega arith)) ∙ is.missing)))
+-- there is one such number
+pub one_greatest : (items : List PatchRecord) (m n : ℕ) → IsGreatest items m → IsGreatest items n → m ≡ n
+one_greatest items m n one other = ⊎_elim
+    (λ less. absurd (true≢false (sym (other.received (m + 1) (omega arith) (omega arith)) ∙ one.missing)))
+    (λ rest. ⊎_elim
+    (λ more. absurd (true≢false (sym (one.received (n + 1) (omega arith) (omega arith)) ∙ other.missing)))
     (λ same. omega arith)
-    (cases_lt n state.applied))
-    (cases_lt state.applied n)
+    (cases_lt n m))
+    (cases_lt m n)
 
 pub follows_its_producer : FollowsItsProducer
 follows_its_producer producer items state n made of follows none is =
-    let same = greatest items state n follows none is in
+    let same = one_greatest items state.applied n (record { received = follows.received; missing = none }) is in
     follows.triples ∙ after_is producer items made of state.applied follows.received ∙ ap producer same

@@ -4,11 +4,12 @@ use Rattle.std.specs.List.{AllByRecursion}
 use Rattle.rising.specs.Rising.{IsRising, difference}
 use Rattle.rdf_term.specs.declared.triple.Triple.{Triple}
 use Rattle.rdf_term.specs.Order.{triple_cmp}
+use Rattle.wq_io.specs.Lines.{lines}
 use Rattle.replica.specs.declared.reader.Begun.{Begun}
 use Rattle.replica.specs.declared.record.PatchRecord.{PatchRecord}
 use Rattle.replica.specs.Reader.{TakesLine, lines_read}
-use Rattle.replica.specs.Record.{IsSound, record_lines}
-use Rattle.replica.specs.Replica.{Follows, ReplicaState, numbered}
+use Rattle.replica.specs.Record.{IsSound, record_lines, record_text}
+use Rattle.replica.specs.Replica.{Follows, ReplicaState, after, numbered}
 
 -- the triples of a producer after each of its records; after none there are none
 pub record IsProducer (producer : ℕ → List Triple) : Type 0 where
@@ -30,6 +31,11 @@ pub record IsGreatest (items : List PatchRecord) (n : ℕ) : Type 0 where
 abbrev pub FollowsItsProducer : Type 0
 FollowsItsProducer = (producer : ℕ → List Triple) (items : List PatchRecord) (state : ReplicaState) (n : ℕ) → IsProducer producer → AllByRecursion (IsRecordOf producer) items → Follows items state →
     is_some (numbered (state.applied + 1) items) ≡ false → IsGreatest items n → state.triples ≡ producer n
+
+-- where these records are all of a producer, and those from 1 to n are there, the triples after them are the producer's
+abbrev pub LeadsToItsProducer : Type 0
+LeadsToItsProducer = (producer : ℕ → List Triple) (items : List PatchRecord) → IsProducer producer → AllByRecursion (IsRecordOf producer) items → (n : ℕ) →
+    ((number : ℕ) → 0 < number → number ≤ n → IsSome (numbered number items)) → after items n ≡ producer n
 
 -- the lines are taken one after the other, and these records are given
 pub data IsReadAs : Option Begun → List (List ℕ) → List PatchRecord → Option Begun → Type 0 where
@@ -53,3 +59,11 @@ pub record HasShortNumbers (item : PatchRecord) : Type 0 where
 -- the lines of records, one after the other, are taken, and these records are given
 abbrev pub ReadsRecords : Type 0
 ReadsRecords = (items : List PatchRecord) → AllByRecursion HasShortNumbers items → IsReadAs None (flat_map record_lines items) items None
+
+-- lines are read in one way alone
+abbrev pub ReadsOneWay : Type 0
+ReadsOneWay = (lines : List (List ℕ)) (items others : List PatchRecord) (end other : Option Begun) → IsReadAs None lines items end → IsReadAs None lines others other → (items ≡ others) × (end ≡ other)
+
+-- the texts of records, one after the other, have the lines of these records, and no other
+abbrev pub SplitsIntoLines : Type 0
+SplitsIntoLines = (items : List PatchRecord) → AllByRecursion HasShortNumbers items → lines (flat_map record_text items) ≡ flat_map record_lines items

@@ -17,8 +17,9 @@ mod triple_line;
 
 pub use head::Head;
 pub use laws::{
-    a_replica_follows_its_producer, lines_are_read_as_their_records,
-    records_are_read_from_their_lines,
+    a_replica_follows_its_producer, lines_are_read_as_their_records, lines_are_read_in_one_way,
+    records_are_read_from_their_lines, records_lead_to_their_producer,
+    texts_of_records_are_their_lines,
 };
 pub use reader::{PatchFault, PatchReader};
 pub use record::{PatchRecord, write_patch};

@@ -7,6 +7,7 @@ mod Due
 mod Ends
 mod Finding
 mod Fitting
+mod Followed
 mod Needed
 mod Ongoing
 mod Opening

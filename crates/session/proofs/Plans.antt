@@ -1,7 +1,8 @@
 -- What a replay, a drill and a follower leave, by the plan that the words are.
 use Rattle.std.proofs.Common.{◌≡◌, subst, ℕ, Some, IfSome}
 use Rattle.following.specs.Following.{FollowMoment}
-use Rattle.words.specs.Options.{Choices, FollowChoices, max_bytes_of}
+use Rattle.following.specs.Reading.{TakesLinesByNeed}
+use Rattle.words.specs.Options.{Choices, FollowChoices, follow_max_bytes_of, max_bytes_of}
 use Rattle.words.specs.declared.plan.Plan.{Plan}
 use Rattle.words.specs.declared.plan.Plan.TheVariants.{Replay, Drill, Follow}
 use Rattle.session.specs.declared.status.Status.{Status}
@@ -52,8 +53,9 @@ pub follow_no_drill : (P : Type 0) (read : FollowChoices) (size : ℕ) → Some 
 follow_no_drill P read size same = cc
 
 -- a follower that stopped
-pub follow_stopped : (status : Status) (stop : Stop) (choices : FollowChoices) (before now : FollowMoment) → stop_of status ≡ Some stop → FollowStopped stop choices before now → FollowEnding status choices before now
-follow_stopped status stop choices before now is stopped = rw is stopped
+pub follow_stopped : (status : Status) (stop : Stop) (choices : FollowChoices) (before now : FollowMoment) → stop_of status ≡ Some stop → FollowStopped stop choices before now →
+    IfSome before.input.left (λ bytes. TakesLinesByNeed (follow_max_bytes_of choices) bytes now.input.left) → FollowEnding status choices before now
+follow_stopped status stop choices before now is stopped taken = record { outcome = rw is stopped; taken = taken }
 
 -- a replay that stopped
 pub replay_stopped : (status : Status) (stop : Stop) (run : Run) (before now : Moment) → stop_of status ≡ Some stop → Stopped stop run before now →

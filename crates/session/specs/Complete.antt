@@ -1,4 +1,5 @@
--- Words for what follows where nothing goes wrong: a count that stands still, documents that are there, and the triples of an entity.
+-- Words for what follows where nothing goes wrong: a count that stands still, documents that are there, the triples of an entity, and the
+-- steps of a run.
 use Rattle.std.specs.Prelude.{◌≡◌, ℕ, ◌-◌, ◌^◌, ◌<◌, Bool, true, cond, List, [], Option, is_ok}
 use Rattle.entity_model.specs.declared.id.EntityId.{EntityId}
 use Rattle.entity_model.specs.declared.event.Event.{Event}
@@ -8,6 +9,9 @@ use Rattle.replay_model.specs.Records.{Bytes}
 use Rattle.replay_model.specs.Replies.{Judgement, reply_there}
 use Rattle.replay_model.specs.Union.{Meaning}
 use Rattle.told_pages.specs.Told.{keeps_page, triples_there}
+use Rattle.patch_stream.specs.Stream.{Step, steps_to_end}
+use Rattle.session.specs.Headline.{Ending}
+use Rattle.session.specs.Moment.{Moment, Run, horizon_at}
 
 -- a count of 64 bits didn't rise, and says so: it is below its last value
 pub record IsStill (before now : ℕ) : Type 0 where
@@ -25,3 +29,7 @@ FindsDocument unfit contents e = keeps_page e.kind ≡ true → has_document unf
 -- the triples of an entity in a state: those of what is there at its revision where the page is kept, and else none
 abbrev pub triples_in : {Triple : Type 0} → Meaning Triple → (ℕ → Option Bytes) → EntityId → State → List Triple
 triples_in meaning contents x s = cond (is_kept s.mode) (triples_there meaning contents x s.rev) []
+
+-- the steps of a run that ended well: those of its play, with the end of the input. Where changes are reported, the output has their records
+abbrev pub steps_made : (run : Run) (before now : Moment) → Ending run before now → List Step
+steps_made run before now ending = steps_to_end (horizon_at before.stage) ending.replayed.replay.played.replies ending.replayed.deliveries

@@ -1,9 +1,9 @@
 // What follows from the contract of a run where nothing goes wrong. Each law is the contract of a function that does nothing.
 
-ghost use Rattle.std.specs.Prelude.{◌≡◌, ◌≤◌, ◌⊎◌, ℕ, true, false, List, [], Option, Some, IfSome};
+ghost use Rattle.std.specs.Prelude.{◌≡◌, ◌<◌, ◌≤◌, ◌⊎◌, ◌^◌, ℕ, true, false, length, List, [], Option, None, Some, IfSome};
 ghost use Rattle.std.specs.FinMap as map;
 ghost use Rattle.std.specs.List.{flat_map};
-ghost use Rattle.rising.specs.Rising.{has, sorted};
+ghost use Rattle.rising.specs.Rising.{Each, In, has, sorted};
 ghost use Rattle.rdf_term.specs.Order.{triple_cmp};
 ghost use Rattle.delivery.specs.declared.Delivery.{Delivery};
 ghost use Rattle.entity_model.specs.declared.event.Event.{Event};
@@ -13,12 +13,18 @@ ghost use Rattle.entity_state.specs.State.{is_kept};
 ghost use Rattle.replay_model.specs.Acceptance.{accepted, late, version_in_force};
 ghost use Rattle.replay_model.specs.Records.{Bytes, is_settled, record_of};
 ghost use Rattle.world.specs.Meaning.{meaning};
-ghost use Rattle.words.specs.Options.{max_bytes_of};
 ghost use Rattle.triple_store.specs.Room.{distinct};
+ghost use Rattle.wq_io.specs.Streams.{after_known};
+ghost use Rattle.replica.specs.declared.record.PatchRecord.{PatchRecord};
+ghost use Rattle.patch_stream.specs.Laws.{AreOfStream, HasWritableSides};
+ghost use Rattle.patch_stream.specs.Stream.{changes, stream, stream_text};
+ghost use Rattle.words.specs.Options.{FollowChoices, follow_max_bytes_of, max_bytes_of};
+ghost use Rattle.following.specs.Following.{Ending as Followed, FollowMoment, replica_text};
+ghost use Rattle.following.specs.Reading.{AreRecords};
 ghost use Rattle.session.specs.declared.status.Status.{Status};
 ghost use Rattle.session.specs.declared.stop.Stop.{Stop};
 ghost use Rattle.told_pages.specs.Told.{terms_there};
-ghost use Rattle.session.specs.Complete.{FindsDocument, IsStill, has_document, triples_in};
+ghost use Rattle.session.specs.Complete.{FindsDocument, IsStill, has_document, steps_made, triples_in};
 ghost use Rattle.session.specs.Headline.{Ending, Stopped};
 ghost use Rattle.session.specs.Moment.{Moment, Run, horizon_at};
 ghost use Rattle.session.specs.Reading.{AreDeliveries};
@@ -89,4 +95,31 @@ pub fn found_pages_leave_no_entries()
         late (horizon_at before.stage) ending.replayed.deliveries ≡ [] →
         ((e : Event) → has event_cmp e (accepted (horizon_at before.stage) ending.replayed.deliveries) ≡ true → FindsDocument judgement contents e) →
         now.stage.world.played.side ≡ [] }
+{}
+
+/// A follower that ended well over the records of a run's stream, in any order, each of them once or more, printed that all of them were
+/// applied, and, where it is asked for, the triples of all that was held at the end of the run.
+pub fn followers_have_what_was_held()
+    ensures { (run : Run) (start end : Moment) (ended : Ending run start end) (choices : FollowChoices) (before now : FollowMoment) (bytes : List ℕ) (items : List PatchRecord) →
+        Followed choices before now → before.input.left ≡ Some bytes → AreRecords (follow_max_bytes_of choices) bytes items None →
+        AreOfStream (steps_made run start end ended) items →
+        now.output.bytes ≡ after_known before.output.bytes
+        (replica_text choices.export (changes (steps_made run start end ended)) (held_triples end.stage.mapped end.stage.world.played.records)) }
+{}
+
+/// The number of each record of a run's stream fits 64 bits where its input tells its bytes, and may have no more than 4,294,967,295.
+pub fn numbers_of_a_run_fit()
+    ensures { (run : Run) (start end : Moment) (ended : Ending run start end) (bytes : List ℕ) (item : PatchRecord) →
+        start.input.left ≡ Some bytes → max_bytes_of run.choices ≤ 4294967295 → In item (stream (steps_made run start end ended)) → item.number < 2 ^ 64 }
+{}
+
+/// What a run writes of its stream are the records that a follower reads of it, within any limit that the text fits, where the run's input
+/// tells its bytes and may have no more than 4,294,967,295, and what is stored before and after each step has terms of UTF-8, and as many
+/// triples as 64 bits count.
+pub fn written_streams_are_records()
+    ensures { (run : Run) (start end : Moment) (ended : Ending run start end) (bytes : List ℕ) (limit : ℕ) →
+        start.input.left ≡ Some bytes → max_bytes_of run.choices ≤ 4294967295 → Each HasWritableSides (steps_made run start end ended) →
+        length (stream_text (steps_made run start end ended)) ≤ limit →
+        AreRecords limit (stream_text (steps_made run start end ended)) (stream (steps_made run start end ended)) None
+        × AreOfStream (steps_made run start end ended) (stream (steps_made run start end ended)) }
 {}

@@ -1,8 +1,10 @@
 // A follower: the records of the input, and what is printed at their end.
 
-ghost use Rattle.std.specs.Prelude.{◌≡◌, IfErr, OnOk};
+ghost use Rattle.std.specs.Prelude.{◌≡◌, IfErr, IfSome, OnOk};
 ghost use Rattle.replay_model.specs.ReplayState.{nothing_delivered};
+ghost use Rattle.words.specs.Options.{follow_max_bytes_of};
 ghost use Rattle.following.specs.Following.{Ending, follow_moment};
+ghost use Rattle.following.specs.Reading.{TakesLinesByNeed};
 ghost use Rattle.session.specs.Counts.{HaveGoneOn};
 ghost use Rattle.session.specs.Records.{FollowStopped};
 ghost use Rattle.session.specs.Remapping.{HoldsWithin};
@@ -32,6 +34,7 @@ pub fn follow_records<S: Source, R: Revisions, K: Sink>(
     ensures ok { OnOk result (Ending options.now (follow_moment S.Source K.Sink ports.old.events ports.old.out) (follow_moment S.Source K.Sink ports.new.events ports.new.out)) }
     ensures err { IfErr result (λ stop. FollowStopped stop options.now
         (follow_moment S.Source K.Sink ports.old.events ports.old.out) (follow_moment S.Source K.Sink ports.new.events ports.new.out)) }
+    ensures taken { IfSome (S.left ports.old.events) (λ bytes. TakesLinesByNeed (follow_max_bytes_of options.now) bytes (S.left ports.new.events)) }
     ensures others { ports.new ≡ record ports.old { events = ports.new.events; out = ports.new.out } }
     ensures empty { world.new ≡ record world.old { limit = 20000000 } }
     ensures held { HoldsWithin 20000000 world.new }

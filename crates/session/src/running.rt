@@ -75,7 +75,7 @@ pub fn run<S: Source, R: Revisions, K: Sink>(
         (stage R.Revisions K.Sink ports.new.revisions ports.new.out world.new)
         × IsByFirst world.new × (ports.new ≡ record ports.old { out = ports.new.out }) }
 
-    // A follower ends well, or stops for a cause. It fetches nothing, and the world stays empty.
+    // A follower ends well, or stops for a cause, and what it took of its input is bounded. It fetches nothing, and the world stays empty.
     ensures follow { (choices : FollowChoices) → plan_of (map (λ w. string_bytes w) words.now) ≡ Some (Follow choices) →
         FollowEnding result choices
         (follow_moment S.Source K.Sink ports.old.events ports.old.out)

@@ -12,6 +12,7 @@ pub mod Listed
 pub mod Live
 pub mod Marked
 pub mod Matched
+pub mod OneOwner
 pub mod Ordered
 pub mod Owners
 pub mod Patched

@@ -1,13 +1,18 @@
 // The stored triples, or those that agree with a pattern, and the number of the owners of one: the store's calls, each with its steps
 // counted and without.
 
-ghost use Rattle.std.specs.Prelude.{◌≡◌, ◌+◌, ◌<◌, ◌≤◌, length, IfOk};
+ghost use Rattle.std.specs.Prelude.{◌≡◌, ◌+◌, ◌<◌, ◌≤◌, List, length, IfOk};
 ghost use Rattle.std.specs.FinMap as map;
+ghost use Rattle.rising.specs.Rising.{sorted};
 ghost use Rattle.block_index.specs.Steps.{WithinSteps};
+ghost use Rattle.rdf_term.specs.declared.triple.Triple.{Triple as TheTriple};
+ghost use Rattle.rdf_term.specs.Order.{triple_cmp};
 ghost use Rattle.rdf_term.specs.Pattern.{rows};
 ghost use Rattle.triple_store.specs.Counts.{count_of};
-ghost use Rattle.triple_store.specs.StoreState.{counts_in};
+ghost use Rattle.triple_store.specs.StoreState.{AreKeysOf, counts_in};
+ghost use Rattle.triple_store.specs.Updates.{AreStored};
 
+use crate::keys::KeySlices;
 use crate::rows::Rows;
 use crate::store::Store;
 use block_index::Steps;
@@ -75,6 +80,14 @@ impl Store {
     {
         self.matching_counting(pattern, steps)?
             .to_set(self.catalog.alloc)
+    }
+
+    /// The triples of one owner, which its keys tell: three slices each, which are sorted.
+    pub fn rows_of(&self, keys: KeySlices<'_>) -> Result<Rows<'_>, OutOfMemory>
+        requires stored { AreStored self.now keys.rising.now }
+        ensures rows { IfOk result (λ found. (triples : List TheTriple) → AreKeysOf self.now keys.entry.rising.now triples → found ≡ sorted triple_cmp triples) }
+    {
+        self.catalog.rows_of(&self.region, keys.rising)
     }
 
     /// How many entities own the triple, which takes no memory: three look-ups and one search in one index.

@@ -1,5 +1,5 @@
 -- What a step tells is the change of the union.
-use Rattle.std.proofs.Common.{◌≡◌, Bool, true, false, not, ◌&&◌, List, [], ◌∷◌, length, Option, Some, None, refl, sym, ◌∙◌, ap, subst, arith}
+use Rattle.std.proofs.Common.{◌≡◌, ◌↔◌, Bool, true, false, not, ◌&&◌, List, [], ◌∷◌, length, Option, Some, None, refl, sym, ◌∙◌, ap, subst, arith}
 use Rattle.std.specs.FinMap as map
 use Rattle.rising.specs.Rising.{IsRising, difference, has}
 use Rattle.rising.proofs.Bools.{clash}
@@ -73,7 +73,7 @@ not_both false = refl
 
 module _ (before after : List Triple) (change : Change) (is : IsChangeOf before after change) where
   -- where neither side has a line, the stored triples are as they were
-  pub without_lines : IsRising triple_cmp before → IsRising triple_cmp after → change.came.count ≡ 0 → change.gone.count ≡ 0 → after ≡ before
+  without_lines : IsRising triple_cmp before → IsRising triple_cmp after → change.came.count ≡ 0 → change.gone.count ≡ 0 → after ≡ before
   without_lines rises rises_after none_came none_gone =
       let came : difference triple_cmp after before ≡ [] = no_lines _ (sym is.came.count ∙ none_came) in
       let gone : difference triple_cmp before after ≡ [] = no_lines _ (sym is.gone.count ∙ none_gone) in
@@ -82,9 +82,14 @@ module _ (before after : List Triple) (change : Change) (is : IsChangeOf before 
       (sym (has-difference triple_cmp-total t before after) ∙ ap (has triple_cmp t) gone))
 
   -- and the other way round
-  pub as_it_was : after ≡ before → (change.came.count ≡ 0) × (change.gone.count ≡ 0)
+  as_it_was : after ≡ before → (change.came.count ≡ 0) × (change.gone.count ≡ 0)
   as_it_was same =
       let none : difference triple_cmp before before ≡ [] = none_in _ (λ t. has-difference triple_cmp-total t before before ∙ not_both (has triple_cmp t before)) in (
         is.came.count ∙ ap (λ ts. length (difference triple_cmp ts before)) same ∙ ap length none,
         is.gone.count ∙ ap (λ ts. length (difference triple_cmp before ts)) same ∙ ap length none,
       )
+
+-- the lines say whether the stored triples changed
+pub lines_tell : (before after : List Triple) (change : Change) → IsRising triple_cmp before → IsRising triple_cmp after → IsChangeOf before after change
+    → ((change.came.count ≡ 0) × (change.gone.count ≡ 0)) ↔ (after ≡ before)
+lines_tell before after change rises rises_after is = (λ none. without_lines before after change is rises rises_after none.0 none.1, as_it_was before after change is)

@@ -43,7 +43,7 @@ found_fit v x rev bytes (Some document) is = document_fit v x rev document (docu
 pub meaning_fit : (v : MappingVersion) (x : EntityId) (rev : ℕ) (bytes : List ℕ) → AllByRecursion HasFitAndShortTerms (meaning v x rev bytes)
 meaning_fit v x rev bytes = found_fit v x rev bytes (document_of x bytes) refl
 
-held_fit : (by_two : List EntityId) (x : EntityId) (held : Option (Held Bytes)) → AllByRecursion HasFitAndShortTerms (triples_held (meaning_by meaning by_two) x held)
+pub held_fit : (by_two : List EntityId) (x : EntityId) (held : Option (Held Bytes)) → AllByRecursion HasFitAndShortTerms (triples_held (meaning_by meaning by_two) x held)
 held_fit by_two x None = tt
 held_fit by_two x (Some h) = meaning_fit (version_at by_two x) x h.revision h.content
 

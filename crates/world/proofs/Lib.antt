@@ -6,6 +6,7 @@ pub mod Fit
 pub mod Laying
 pub mod Means
 pub mod Moving
+pub mod OneSet
 pub mod OneVersion
 pub mod Owning
 pub mod Pieced

@@ -1,17 +1,20 @@
-// What holds of the meaning of pages, and of the versions by which they are mapped. Each law is the contract of a function that does
-// nothing.
+// What holds of the meaning of pages, of the versions by which they are mapped, and of the changes that are told. Each law is the
+// contract of a function that does nothing.
 
 ghost use Rattle.std.specs.Prelude.{◌≡◌, ◌↔◌, ℕ, List, Option};
-ghost use Rattle.rising.specs.Rising.{In};
+ghost use Rattle.rising.specs.Rising.{In, IsRising};
 ghost use Rattle.rdf_term.specs.declared.triple.Triple.{Triple};
+ghost use Rattle.rdf_term.specs.Order.{triple_cmp};
 ghost use Rattle.entity_model.specs.declared.id.EntityId.{EntityId};
 ghost use Rattle.entity_model.specs.declared.mapping.MappingVersion.{MappingVersion};
 ghost use Rattle.revisions.specs.Revisions.{Contents};
 ghost use Rattle.replay_model.specs.PlayedVersions.{by_two_after_event, by_two_remapped};
 ghost use Rattle.replay_model.specs.Records.{Records, record_of};
 ghost use Rattle.replay_model.specs.Versions.{all_by};
+ghost use Rattle.triple_store.specs.declared.telling.Change.{Change};
 ghost use Rattle.world.specs.declared.applied.Applied.{Applied};
 ghost use Rattle.world.specs.Applying.{Applies};
+ghost use Rattle.world.specs.Changing.{IsChangeOf};
 ghost use Rattle.world.specs.Meaning.{meaning};
 ghost use Rattle.world.specs.Means.{Means};
 ghost use Rattle.world.specs.WorldState.{AreHolders, WorldState, by_two_after};
@@ -37,4 +40,10 @@ pub fn versions_follow_the_play()
         Applies known folder old.replay new.replay applied → new.mapping ≡ old.mapping →
         new.by_two ≡ by_two_after applied.outcome old.mapping applied.event.entity old.by_two →
         old.by_two ≡ all_by old.mapping old.replay.played.records → new.by_two ≡ all_by new.mapping new.replay.played.records }
+{}
+
+/// A change that is told has no line exactly where the stored triples are as they were.
+pub fn changes_have_lines()
+    ensures { (before after : List Triple) (change : Change) → IsRising triple_cmp before → IsRising triple_cmp after → IsChangeOf before after change →
+        ((change.came.count ≡ 0) × (change.gone.count ≡ 0)) ↔ (after ≡ before) }
 {}

@@ -5,8 +5,8 @@
 //! is what the entities hold: their records, and the store of all triples and texts, which `holding` keeps in step, and `remapping`
 //! where a held page is mapped anew. `kept` is what is kept of a page, and `holders` names the entities that hold one, by the version of
 //! the mapping that it is mapped by. `versions` has what they say of each version, and maps the pages of the other one anew. `rows`
-//! gives the triples, with or without a copy of their texts, and `restoring` puts a world back as it was saved. `applied` says what an application led to, and `laws` what holds of the
-//! meaning of pages and of their versions.
+//! gives the triples, with or without a copy of their texts, and `restoring` puts a world back as it was saved. `applied` says what an application led to,
+//! and `laws` what holds of the meaning of pages, of their versions, and of the changes that are told.
 #![tactic(auto)]
 
 mod applied;
@@ -26,6 +26,6 @@ mod views;
 mod world;
 
 pub use applied::{Application, Applied, Outcome, Remapping, WorldFault};
-pub use laws::{meaning_is_by_rules, versions_follow_the_play};
+pub use laws::{changes_have_lines, meaning_is_by_rules, versions_follow_the_play};
 pub use restoring::RestoreFault;
 pub use world::World;

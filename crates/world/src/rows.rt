@@ -1,16 +1,19 @@
-// The triples of all that is held, in their order, and the number of the owners of each.
+// The triples of all that is held, or of what one entity holds, in their order, and the number of the owners of each.
 
 ghost use Rattle.std.specs.Prelude.{◌≡◌, IfOk};
 ghost use Rattle.std.specs.List.{AllByRecursion};
 ghost use Rattle.rdf_term.specs.Fit.{HasFitAndShortTerms};
 ghost use Rattle.rdf_term.specs.Order.{triple_cmp};
 ghost use Rattle.rdf_term.specs.Pattern.{rows};
-ghost use Rattle.replay_model.specs.Union.{owners, union};
+ghost use Rattle.replay_model.specs.Records.{record_of};
+ghost use Rattle.replay_model.specs.Union.{owners, triples_held, union};
 ghost use Rattle.replay_model.specs.Versions.{meaning_by};
 ghost use Rattle.world.specs.Meaning.{meaning};
 
+use crate::holding::keys_of;
 use crate::holdings::Holdings;
 use crate::world::World;
+use entity_model::EntityId;
 use rdf_term::{OutOfMemory, Pattern, Triple, TripleSet};
 use triple_store::Rows;
 
@@ -29,6 +32,16 @@ impl World {
         ensures { IfOk result (λ set. set ≡ rows (union triple_cmp (meaning_by meaning self.now.by_two) self.now.replay.played.records) pattern.now) }
     {
         self.holdings.matches(pattern)
+    }
+
+    /// The triples of what an entity holds, by the version that its page is mapped by; none where it holds nothing. Their terms are fit
+    /// and short.
+    #[tactic(auto, using(crate::proofs::Fit::held_fit))]
+    pub fn set_of(&self, id: EntityId) -> Result<TripleSet, OutOfMemory>
+        ensures value { IfOk result (λ set. set ≡ triples_held (meaning_by meaning self.now.by_two) id (record_of self.now.replay.played.records id).held) }
+        ensures fit { IfOk result (AllByRecursion HasFitAndShortTerms) }
+    {
+        self.holdings.triples_of(id)
     }
 
     /// How many entities hold the triple, which takes no memory.
@@ -59,6 +72,14 @@ impl Holdings {
         ensures { IfOk result (λ set. set ≡ union triple_cmp (meaning_by meaning self.now.by_two) self.now.records) }
     {
         self.store.all()
+    }
+
+    /// The triples of what an entity holds, in memory of their own.
+    pub fn triples_of(&self, id: EntityId) -> Result<TripleSet, OutOfMemory>
+        ensures { IfOk result (λ set. set ≡ triples_held (meaning_by meaning self.now.by_two) id (record_of self.now.records id).held) }
+    {
+        let rows = self.store.rows_of(keys_of(&self.table, id))?;
+        rows.to_set(self.alloc)
     }
 
     /// Those of them that agree with the pattern, in memory of their own.

@@ -4,6 +4,7 @@ use Rattle.std.proofs.lemmas.Result.{err_from_is_err_and}
 use Rattle.replica.specs.Replica.{ReplicaState}
 use Rattle.following.specs.Following.{follow_moment}
 use Rattle.following.proofs.Ended.{broken_off, ended}
+use Rattle.following.proofs.KnownBytes.{nothing_taken_of}
 use Rattle.following.proofs.following.follow.Goals as goal
 
 pub returns-in_err-replica-clause-err : goal.returns-in_err-replica-clause-err
@@ -33,3 +34,15 @@ returns-clause-err g c =
     let taken = rw c.max_bytes.ensures.value at c.in_ok-take_records.ensures.ok in
     rw c.from.ensures (broken_off c.args.options.now (follow_moment g.S.Source g.K.Sink c.args.events.now c.args.out.now) (follow_moment g.S.Source g.K.Sink c.take_records.new.events c.print_replica.new.out) c.take_records.new.replica taken limit c.in-Err.why
     (rw c.export.ensures at c.in-Err.ensures))
+
+pub returns-in_err-replica-clause-taken : goal.returns-in_err-replica-clause-taken
+returns-in_err-replica-clause-taken g c = nothing_taken_of _ _
+
+pub returns-in_err-take_records-clause-taken : goal.returns-in_err-take_records-clause-taken
+returns-in_err-take_records-clause-taken g c = rw c.max_bytes.ensures.value at c.take_records.ensures.taken
+
+pub returns-in-Ok-clause-taken : goal.returns-in-Ok-clause-taken
+returns-in-Ok-clause-taken g c = rw c.max_bytes.ensures.value at c.take_records.ensures.taken
+
+pub returns-clause-taken : goal.returns-clause-taken
+returns-clause-taken g c = rw c.max_bytes.ensures.value at c.take_records.ensures.taken

@@ -102,7 +102,7 @@ pub returns-in-Ok-follow_records-clause-follow : goal.returns-in-Ok-follow_recor
 returns-in-Ok-follow_records-clause-follow g c = λ choices plan.
     for_follow (λ x. FollowEnding Ended x (follow_moment g.S.Source g.K.Sink c.args.ports.now.events c.args.ports.now.out) (follow_moment g.S.Source g.K.Sink c.follow_records.new.ports.events c.follow_records.new.ports.out)
     × (c.follow_records.new.ports ≡ record c.args.ports.now { events = c.follow_records.new.ports.events; out = c.follow_records.new.ports.out }) × (c.follow_records.new.world ≡ record c.args.world.now { limit = 20000000 }))
-    c.in-Some-Follow.options choices (ap Some (sym c.in-Some-Follow.field-0-is) ∙ c.in-Some-Follow.ensures.value ∙ plan) (c.in-Ok-follow_records.ensures.ok, c.follow_records.ensures.others, c.follow_records.ensures.empty)
+    c.in-Some-Follow.options choices (ap Some (sym c.in-Some-Follow.field-0-is) ∙ c.in-Some-Follow.ensures.value ∙ plan) (record { outcome = c.in-Ok-follow_records.ensures.ok; taken = c.follow_records.ensures.taken }, c.follow_records.ensures.others, c.follow_records.ensures.empty)
 
 pub returns-in-Ok-follow_records-clause-limit : goal.returns-in-Ok-follow_records-clause-limit
 returns-in-Ok-follow_records-clause-limit g c = λ the plan.
@@ -121,7 +121,7 @@ pub returns-in-Err-follow_records-clause-follow : goal.returns-in-Err-follow_rec
 returns-in-Err-follow_records-clause-follow g c = λ choices plan.
     for_follow (λ x. FollowEnding c.status-in-Err-follow_records.result x (follow_moment g.S.Source g.K.Sink c.args.ports.now.events c.args.ports.now.out) (follow_moment g.S.Source g.K.Sink c.follow_records.new.ports.events c.follow_records.new.ports.out)
     × (c.follow_records.new.ports ≡ record c.args.ports.now { events = c.follow_records.new.ports.events; out = c.follow_records.new.ports.out }) × (c.follow_records.new.world ≡ record c.args.world.now { limit = 20000000 }))
-    c.in-Some-Follow.options choices (ap Some (sym c.in-Some-Follow.field-0-is) ∙ c.in-Some-Follow.ensures.value ∙ plan) (follow_stopped _ _ _ _ _ c.status-in-Err-follow_records.ensures.stops c.in-Err-follow_records.ensures.err, c.follow_records.ensures.others, c.follow_records.ensures.empty)
+    c.in-Some-Follow.options choices (ap Some (sym c.in-Some-Follow.field-0-is) ∙ c.in-Some-Follow.ensures.value ∙ plan) (follow_stopped _ _ _ _ _ c.status-in-Err-follow_records.ensures.stops c.in-Err-follow_records.ensures.err c.follow_records.ensures.taken, c.follow_records.ensures.others, c.follow_records.ensures.empty)
 
 pub returns-in-Err-follow_records-clause-limit : goal.returns-in-Err-follow_records-clause-limit
 returns-in-Err-follow_records-clause-limit g c = λ the plan.

@@ -1,0 +1,54 @@
+-- How the steps of a replay hang together, and records that are those of its stream.
+use Rattle.std.specs.Prelude.{◌≡◌, ℕ, ◌<◌, ◌≤◌, ◌^◌, List, [], ◌∷◌, length, flat_map, IsSome}
+use Rattle.std.specs.List.{AllByRecursion}
+use Rattle.std.specs.Str.{IsUtf8}
+use Rattle.rising.specs.Rising.{Each, In, IsRising}
+use Rattle.wq_io.specs.Lines.{lines}
+use Rattle.rdf_term.specs.declared.triple.Triple.{Triple}
+use Rattle.rdf_term.specs.Fit.{HasFitAndShortTerms}
+use Rattle.rdf_term.specs.Order.{triple_cmp}
+use Rattle.rdf_term.specs.Text.{term_text}
+use Rattle.replica.specs.declared.record.PatchRecord.{PatchRecord}
+use Rattle.replica.specs.Laws.{HasShortNumbers}
+use Rattle.replica.specs.Record.{record_lines}
+use Rattle.replica.specs.Replica.{numbered}
+use Rattle.patch_stream.specs.Stream.{Step, changes, stream, stream_text}
+
+-- the step begins at these triples; what is stored before it and after it are sets of triples of fit and short terms
+pub record BeginsAt (stored : List Triple) (s : Step) : Type 0 where
+  pub begins : s.before ≡ stored
+  pub rises : IsRising triple_cmp s.before
+  pub rises_after : IsRising triple_cmp s.after
+  pub fit : AllByRecursion HasFitAndShortTerms s.before
+  pub fit_after : AllByRecursion HasFitAndShortTerms s.after
+
+-- each step begins where the one before it ended, the first at the first triples, and the last ends at the last ones
+abbrev pub IsChain : List Triple → List Step → List Triple → Type 0
+IsChain first [] last = first ≡ last
+IsChain first (s ∷ steps) last = BeginsAt first s × IsChain s.after steps last
+
+-- these are records of the stream of the steps, in any order, each of them once or more
+pub record AreOfStream (steps : List Step) (items : List PatchRecord) : Type 0 where
+  pub each : Each (λ item. In item (stream steps)) items
+  pub every : (number : ℕ) → 0 < number → number ≤ changes steps → IsSome (numbered number items)
+
+-- the texts of the triple's terms are UTF-8
+pub record HasUtf8Terms (triple : Triple) : Type 0 where
+  pub subject : IsUtf8 (term_text triple.subject)
+  pub predicate : IsUtf8 (term_text triple.predicate)
+  pub object : IsUtf8 (term_text triple.object)
+
+-- the terms of these triples have texts that are UTF-8, and their number fits 64 bits: what is in memory is so
+pub record AreWritable (triples : List Triple) : Type 0 where
+  pub utf8 : AllByRecursion HasUtf8Terms triples
+  pub few : length triples < 2 ^ 64
+
+-- so is what is stored before and after a step
+pub record HasWritableSides (s : Step) : Type 0 where
+  pub before : AreWritable s.before
+  pub after : AreWritable s.after
+
+-- the texts of the stream's records can be read: they are those of records that a reader gives, and have the lines of these, and no other
+pub record CanBeRead (steps : List Step) : Type 0 where
+  pub sound : AllByRecursion HasShortNumbers (stream steps)
+  pub are_lines : lines (stream_text steps) ≡ flat_map record_lines (stream steps)
