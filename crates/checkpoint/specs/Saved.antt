@@ -10,7 +10,7 @@ use Rattle.checkpoint.specs.declared.numbers.Numbers.{Numbers}
 
 -- what is saved of a world
 abbrev pub saved_of : WorldState → Numbers → Saved
-saved_of w numbers = record { version = w.mapping; asks = numbers.asks; patches = numbers.patches; state = w.replay }
+saved_of w numbers = record { version = w.mapping; asks = numbers.asks; matches = numbers.matches; patches = numbers.patches; state = w.replay }
 
 -- the world that keeps this, with room for so many terms; every page is mapped by the version in force
 abbrev pub world_of : ℕ → Saved → WorldState
@@ -18,7 +18,7 @@ world_of limit s = record { replay = s.state; limit = limit; mapping = s.version
 
 -- the counts that go on
 abbrev pub numbers_of : Saved → Numbers
-numbers_of s = record { asks = s.asks; patches = s.patches }
+numbers_of s = record { asks = s.asks; matches = s.matches; patches = s.patches }
 
 -- the bytes of a line, which a line feed ends
 unfoldable pub ended : Line → List ℕ

@@ -98,6 +98,7 @@ impl Loader {
         set_mark(&mut self.world, head.mark);
         self.stage = Stage::Begun(Numbers {
             asks: head.asks,
+            matches: head.matches,
             patches: head.patches,
         });
     }

@@ -65,6 +65,7 @@ fn head_of(world: &World, numbers: Numbers) -> Head
         horizon: world.horizon(),
         mapping: world.mapping(),
         asks: numbers.asks,
+        matches: numbers.matches,
         patches: numbers.patches,
     }
 }

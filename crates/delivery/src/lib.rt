@@ -2,6 +2,7 @@
 #![tactic(auto)]
 
 use entity_model::{Event, MappingVersion};
+use graph_query::Query;
 use rdf_term::Pattern;
 
 /// What one line of an event file delivers.
@@ -16,4 +17,6 @@ pub enum Delivery {
     Ask(Pattern),
     /// From here on, every page is mapped by this version of the rules, those that are held already too.
     Mapping(MappingVersion),
+    /// A question of several patterns: which bindings does the query have over the triples at this point?
+    Match(Query),
 }

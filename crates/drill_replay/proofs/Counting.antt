@@ -6,7 +6,7 @@ use Rattle.rising.proofs.Rising.{has-sorted}
 use Rattle.entity_model.specs.declared.event.Event.{Event}
 use Rattle.entity_model.specs.Event.{event_cmp, event_cmp_same, event_cmp_total}
 use Rattle.delivery.specs.declared.Delivery.{Delivery}
-use Rattle.delivery.specs.declared.Delivery.TheVariants.{Event as Told, Watermark, Ask, Mapping}
+use Rattle.delivery.specs.declared.Delivery.TheVariants.{Event as Told, Watermark, Ask, Mapping, Match}
 use Rattle.reorder_buffer.specs.declared.taken.Taken.{Taken}
 use Rattle.reorder_buffer.specs.declared.taken.Taken.TheVariants.{New, Repeat, Late}
 use Rattle.reorder_buffer.specs.Watermarks.{reached}
@@ -70,6 +70,7 @@ counted-next replies ds (Told e) c counted =
 counted-next replies ds (Watermark w) c counted = no_event ds (Watermark w) c (events_passing-kept (is_accepted None) ds (Watermark w) refl) (events_passing-kept (is_late None) ds (Watermark w) refl) counted
 counted-next replies ds (Ask p) c counted = no_event ds (Ask p) c (events_passing-kept (is_accepted None) ds (Ask p) refl) (events_passing-kept (is_late None) ds (Ask p) refl) counted
 counted-next replies ds (Mapping v) c counted = no_event ds (Mapping v) c (events_passing-kept (is_accepted None) ds (Mapping v) refl) (events_passing-kept (is_late None) ds (Mapping v) refl) counted
+counted-next replies ds (Match p) c counted = no_event ds (Match p) c (events_passing-kept (is_accepted None) ds (Match p) refl) (events_passing-kept (is_late None) ds (Match p) refl) counted
 
 -- each count rises by one at most
 pub few-next : (answer : Option Taken) (c : DrillCounts) (n : ℕ) → HasFew c n → HasFew (with_answer answer c) (n + 1)

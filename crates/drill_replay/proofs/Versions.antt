@@ -1,5 +1,5 @@
--- A drill brings no version of the mapping, and asks no question.
-use Rattle.std.proofs.Common.{◌≡◌, ◌∙◌, refl, sym, ap, ℕ, ◌-◌, ◌*◌, ◌%◌, ◌==◌, Bool, true, false, if◌then◌else◌, List, [], ◌∷◌, ◌++◌, append-nil, None, filter_map, unwrap_or}
+-- A drill brings no version of the mapping, and has no question.
+use Rattle.std.proofs.Common.{◌≡◌, ◌∙◌, refl, sym, ap, ℕ, ◌-◌, ◌*◌, ◌%◌, ◌==◌, Bool, true, false, if◌then◌else◌, List, [], ◌∷◌, ◌++◌, append-nil, Option, None, filter_map, unwrap_or}
 use Rattle.std.specs.List.{flat_map, last_or, range_with_len}
 use Rattle.std.proofs.lemmas.List.Elements.{filter_map-append}
 use Rattle.rising.proofs.Pushes.{first_empty}
@@ -8,27 +8,39 @@ use Rattle.delivery.specs.declared.Delivery.TheVariants.{Watermark}
 use Rattle.entity_model.specs.declared.event.Kind.TheVariants.{Delete, Edit}
 use Rattle.entity_model.specs.declared.mapping.MappingVersion.TheVariants.{One}
 use Rattle.replay_model.specs.Acceptance.{mapping_of, version_in_force}
-use Rattle.replay_model.specs.Transcript.{pattern_of}
+use Rattle.replay_model.specs.Transcript.{pattern_of, shapes_of}
 use Rattle.drill.specs.Drill.{item_deliveries, drill, edits, event, time_at}
 
-no_version : (fifth tenth : Bool) (i : ℕ) →
-    filter_map mapping_of (edits i ++ (if fifth then event Delete i (2 * i) (2 * i) ∷ [] else []) ++ (if tenth then Watermark (time_at (2 * i)) ∷ event Edit i (2 * i - 1) (2 * i - 3) ∷ [] else [])) ≡ []
+-- the deliveries of an item, by whether it is a fifth and a tenth one
+abbrev of_item : Bool → Bool → ℕ → List Delivery
+of_item fifth tenth i =
+    edits i ++ (if fifth then event Delete i (2 * i) (2 * i) ∷ [] else []) ++ (if tenth then Watermark (time_at (2 * i)) ∷ event Edit i (2 * i - 1) (2 * i - 3) ∷ [] else [])
+
+-- what no item gives, no first part of a drill gives
+module _ {A : Type 0} (f : Delivery → Option A) (none : (fifth tenth : Bool) (i : ℕ) → filter_map f (of_item fifth tenth i) ≡ []) where
+  items_give_none : (items : List ℕ) → filter_map f (flat_map item_deliveries items) ≡ []
+  items_give_none [] = refl
+  items_give_none (i ∷ items) =
+      filter_map-append f (item_deliveries i) (flat_map item_deliveries items)
+      ∙ ap (λ found. found ++ filter_map f (flat_map item_deliveries items)) (none (i % 5 == 0) (i % 10 == 0) i)
+      ∙ items_give_none items
+
+  part_gives_none : (size : ℕ) (before after : List Delivery) → drill size ≡ before ++ after → filter_map f before ≡ []
+  part_gives_none size before after is =
+      first_empty (filter_map f before) (filter_map f after) (sym (filter_map-append f before after) ∙ ap (filter_map f) (sym is) ∙ items_give_none (range_with_len 1 size))
+
+no_version : (fifth tenth : Bool) (i : ℕ) → filter_map mapping_of (of_item fifth tenth i) ≡ []
 no_version true true i = refl
 no_version true false i = refl
 no_version false true i = refl
 no_version false false i = refl
 
 pub no_versions : (items : List ℕ) → filter_map mapping_of (flat_map item_deliveries items) ≡ []
-no_versions [] = refl
-no_versions (i ∷ items) =
-    filter_map-append mapping_of (item_deliveries i) (flat_map item_deliveries items)
-    ∙ ap (λ vs. vs ++ filter_map mapping_of (flat_map item_deliveries items)) (no_version (i % 5 == 0) (i % 10 == 0) i)
-    ∙ no_versions items
+no_versions = items_give_none mapping_of no_version
 
 -- nor does a first part of one
 pub part_brings_none : (size : ℕ) (before after : List Delivery) → drill size ≡ before ++ after → filter_map mapping_of before ≡ []
-part_brings_none size before after is =
-    first_empty (filter_map mapping_of before) (filter_map mapping_of after) (sym (filter_map-append mapping_of before after) ∙ ap (filter_map mapping_of) (sym is) ∙ no_versions (range_with_len 1 size))
+part_brings_none = part_gives_none mapping_of no_version
 
 -- the first version is in force after each first part
 pub part_by_first : (size : ℕ) (before after : List Delivery) → drill size ≡ before ++ after → version_in_force before ≡ One
@@ -40,21 +52,22 @@ drill_by_first size = part_by_first size (drill size) [] (sym (append-nil (drill
 
 -- ---- questions
 
-no_question : (fifth tenth : Bool) (i : ℕ) →
-    filter_map pattern_of (edits i ++ (if fifth then event Delete i (2 * i) (2 * i) ∷ [] else []) ++ (if tenth then Watermark (time_at (2 * i)) ∷ event Edit i (2 * i - 1) (2 * i - 3) ∷ [] else [])) ≡ []
-no_question true true i = refl
-no_question true false i = refl
-no_question false true i = refl
-no_question false false i = refl
+no_ask : (fifth tenth : Bool) (i : ℕ) → filter_map pattern_of (of_item fifth tenth i) ≡ []
+no_ask true true i = refl
+no_ask true false i = refl
+no_ask false true i = refl
+no_ask false false i = refl
 
-no_questions : (items : List ℕ) → filter_map pattern_of (flat_map item_deliveries items) ≡ []
-no_questions [] = refl
-no_questions (i ∷ items) =
-    filter_map-append pattern_of (item_deliveries i) (flat_map item_deliveries items)
-    ∙ ap (λ ps. ps ++ filter_map pattern_of (flat_map item_deliveries items)) (no_question (i % 5 == 0) (i % 10 == 0) i)
-    ∙ no_questions items
+no_match : (fifth tenth : Bool) (i : ℕ) → filter_map shapes_of (of_item fifth tenth i) ≡ []
+no_match true true i = refl
+no_match true false i = refl
+no_match false true i = refl
+no_match false false i = refl
 
 -- a first part of a drill asks nothing
 pub part_asks_none : (size : ℕ) (before after : List Delivery) → drill size ≡ before ++ after → filter_map pattern_of before ≡ []
-part_asks_none size before after is =
-    first_empty (filter_map pattern_of before) (filter_map pattern_of after) (sym (filter_map-append pattern_of before after) ∙ ap (filter_map pattern_of) (sym is) ∙ no_questions (range_with_len 1 size))
+part_asks_none = part_gives_none pattern_of no_ask
+
+-- and has no match
+pub part_matches_none : (size : ℕ) (before after : List Delivery) → drill size ≡ before ++ after → filter_map shapes_of before ≡ []
+part_matches_none = part_gives_none shapes_of no_match

@@ -2,7 +2,7 @@
 use Rattle.std.specs.Prelude.{◌≡◌, ◌⊎◌, ℕ, ◌+◌, ◌≤◌, List, [], ◌∷◌, ◌++◌, Option, None, Some, length}
 use Rattle.entity_model.specs.declared.mapping.MappingVersion.TheVariants.{One}
 use Rattle.delivery.specs.declared.Delivery.{Delivery}
-use Rattle.delivery.specs.declared.Delivery.TheVariants.{Event as Told, Watermark, Ask, Mapping}
+use Rattle.delivery.specs.declared.Delivery.TheVariants.{Event as Told, Watermark, Ask, Mapping, Match}
 use Rattle.reorder_buffer.specs.Buffered.{Buffered, answer_to}
 use Rattle.reorder_buffer.specs.declared.taken.Taken.{Taken}
 use Rattle.reorder_buffer.specs.declared.taken.Taken.TheVariants.{New, Repeat, Late}
@@ -29,6 +29,7 @@ answer_of b (Told e) = Some (answer_to b e)
 answer_of b (Watermark w) = None
 answer_of b (Ask pattern) = None
 answer_of b (Mapping version) = None
+answer_of b (Match query) = None
 
 -- the counts with one delivery more, whose event was this
 abbrev pub with_answer : Option Taken → DrillCounts → DrillCounts

@@ -13,15 +13,16 @@ use Rattle.entity_model.specs.declared.event.Kind.{Kind}
 use Rattle.entity_model.specs.declared.event.Kind.TheVariants.{Edit, Delete, Undelete, ReconcileDeleted, ReconcileKept}
 use Rattle.entity_model.specs.IdOf.{id_of}
 use Rattle.delivery.specs.declared.Delivery.{Delivery}
-use Rattle.delivery.specs.declared.Delivery.TheVariants.{Event as Told, Watermark, Ask, Mapping}
+use Rattle.delivery.specs.declared.Delivery.TheVariants.{Event as Told, Watermark, Ask, Mapping, Match}
 use Rattle.entity_model.specs.declared.mapping.MappingVersion.{MappingVersion}
 use Rattle.entity_model.specs.declared.mapping.MappingVersion.TheVariants.{One, Two}
 use Rattle.event_line.specs.declared.faults.LineCause.{LineCause}
-use Rattle.event_line.specs.declared.faults.LineCause.TheVariants.{NotJson, NoForm, Kind as BadKind, Entity, Rev, Time, Mode, Pattern as BadPattern, Mapping as BadMapping}
+use Rattle.event_line.specs.declared.faults.LineCause.TheVariants.{NotJson, NoForm, Kind as BadKind, Entity, Rev, Time, Mode, Pattern as BadPattern, Mapping as BadMapping, Match as BadMatch}
 use Rattle.event_line.specs.declared.faults.DeliveryFault.{DeliveryFault}
 use Rattle.event_line.specs.declared.faults.DeliveryFault.TheVariants.{Bad, OutOfMemory}
 use Rattle.event_line.specs.declared.line.KindName.{KindName}
 use Rattle.event_line.specs.declared.line.KindName.TheVariants.{Edit as EditName, Delete as DeleteName, Undelete as UndeleteName, Reconcile}
+use Rattle.event_line.specs.Query.{query_in}
 use Rattle.event_line.specs.Time.{time_of}
 
 -- the JSON value of a line, where it is UTF-8 and `serde_json` reads a value
@@ -140,17 +141,23 @@ version_of mapping = option_and_then version_numbered (option_and_then as_u64 (a
 abbrev pub mapping_in : Data → Result Delivery LineCause
 mapping_in mapping = else_cause BadMapping (version_of mapping) (λ version. Ok (Mapping version))
 
--- what an object delivers by the values of its keys `kind`, `watermark`, `ask` and `mapping`, of which it has exactly one
-abbrev pub by_form : Data → Option Data → Option Data → Option Data → Option Data → Result Delivery LineCause
-by_form json (Some kind) None None None = delivered (event_in json)
-by_form json None (Some watermark) None None = watermark_in json
-by_form json None None (Some ask) None = ask_in ask
-by_form json None None None (Some mapping) = mapping_in mapping
-by_form json _ _ _ _ = Err NoForm
+-- the question of several patterns with that value of `match`, or the cause
+abbrev pub match_in : Data → Result Delivery LineCause
+match_in json = else_cause BadMatch (query_in json) (λ shapes. Ok (Match shapes))
+
+-- what an object delivers by the values of its keys `kind`, `watermark`, `ask`, `mapping` and `match`, of which it has exactly one
+abbrev pub by_form : Data → Option Data → Option Data → Option Data → Option Data → Option Data → Result Delivery LineCause
+by_form json (Some kind) None None None None = delivered (event_in json)
+by_form json None (Some watermark) None None None = watermark_in json
+by_form json None None (Some ask) None None = ask_in ask
+by_form json None None None (Some mapping) None = mapping_in mapping
+by_form json None None None None (Some shapes) = match_in shapes
+by_form json _ _ _ _ _ = Err NoForm
 
 -- what a JSON value delivers; only an object has keys
 abbrev pub delivery_in : Data → Result Delivery LineCause
-delivery_in json = by_form json (get (codes "kind") json) (get (codes "watermark") json) (get (codes "ask") json) (get (codes "mapping") json)
+delivery_in json =
+    by_form json (get (codes "kind") json) (get (codes "watermark") json) (get (codes "ask") json) (get (codes "mapping") json) (get (codes "match") json)
 
 -- what a line delivers, or the first cause for which it delivers nothing
 abbrev pub delivery_of : List ℕ → Result Delivery LineCause

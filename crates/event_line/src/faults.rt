@@ -14,7 +14,7 @@ pub enum LineCause {
     /// The line isn't UTF-8, or it isn't one JSON text (RFC 8259) whose arrays and objects are nested at
     /// most 127 deep and whose numbers are finite in double precision.
     NotJson,
-    /// The JSON isn't an object with exactly one of the keys `kind`, `watermark`, `ask` and `mapping`.
+    /// The JSON isn't an object with exactly one of the keys `kind`, `watermark`, `ask`, `mapping` and `match`.
     NoForm,
     /// `kind` isn't `edit`, `delete`, `undelete` or `reconcile`.
     Kind,
@@ -30,6 +30,9 @@ pub enum LineCause {
     Pattern,
     /// `mapping` isn't the whole number 1 or 2, written in digits alone.
     Mapping,
+    /// `match` isn't a list of one to eight lists of exactly three texts, of which each is a variable (`?` and 1 to 16 letters from a to z)
+    /// or a term's by the grammar of N-Triples.
+    Match,
     /// A record of changes has to begin here, and the line is no first line of one. It is no cause of an event file, nor are those below.
     Head,
     /// A triple of a record has to stand here, and the line isn't the canonical text of one.

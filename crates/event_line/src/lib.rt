@@ -1,12 +1,13 @@
 //! The lines of an event file: read one by one.
 //!
 //! `line` reads one line, which is a JSON object (RFC 8259): an event of an entity's page, a watermark, a
-//! question or a change of the mapping's version. `faults` has the causes for which a line is refused, and `time` reads the times of events and
+//! question or a change of the mapping's version. `query` reads a question of several patterns, `faults` has the causes for which a line is refused, and `time` reads the times of events and
 //! watermarks.
 #![tactic(auto)]
 
 mod faults;
 mod line;
+mod query;
 mod time;
 
 pub use faults::{DeliveryFault, LineCause};

@@ -3,11 +3,12 @@
 ghost use Rattle.std.specs.Prelude.{◌≡◌, ◌⊎◌, None, Some, MatchResult, IfOk};
 ghost use Rattle.serde_json.specs.View.{view};
 ghost use Rattle.rdf_term.specs.Reader.{read as term_of};
-ghost use Rattle.event_line.specs.Line.{Answers, AnswersPart, data_of, delivery_in, else_cause, event_in, watermark_in, ask_in, mapping_in, version_of, pattern_of, pattern_with, wanted_in, kind_named, kind_name, entity_of, rev_of, time_at, whole_kind};
+ghost use Rattle.event_line.specs.Line.{Answers, AnswersPart, data_of, delivery_in, else_cause, event_in, watermark_in, ask_in, mapping_in, match_in, version_of, pattern_of, pattern_with, wanted_in, kind_named, kind_name, entity_of, rev_of, time_at, whole_kind};
 ghost use Rattle.event_line.specs.declared.faults.DeliveryFault.TheVariants.{Bad as Refused, OutOfMemory as NoMemory};
 ghost use Rattle.event_line.specs.declared.faults.LineCause.TheVariants.{NotJson as NoJson};
 
 use crate::faults::{DeliveryFault, LineCause};
+use crate::query::query;
 use crate::time;
 use delivery::Delivery;
 use entity_model::{EntityId, Event, Kind, MappingVersion};
@@ -25,14 +26,15 @@ enum KindName {
 }
 
 /// Reads one line, without its line feed: a JSON object with exactly one of the keys `kind`, `watermark`,
-/// `ask` and `mapping`.
+/// `ask`, `mapping` and `match`.
 ///
 /// With `kind` it is an event of the page of `entity`, at `time`, with the revision `rev`; a reconciliation
 /// also has `mode`. With `watermark`, whose value is a time, it is a watermark. With `ask` it is a question:
 /// the value is a list of three texts, for subject, predicate and object, each `?` where any term is wanted
 /// or else the term that is wanted, by the grammar of N-Triples. With `mapping`, whose value is the number 1
-/// or 2, it changes the version of the mapping. Other keys are passed over, and of a key that is repeated the
-/// last value counts.
+/// or 2, it changes the version of the mapping. With `match` it is a question of several patterns: the value is
+/// a list of one to eight lists of three texts, each a variable, which is `?` and 1 to 16 letters from a to z,
+/// or else a term. Other keys are passed over, and of a key that is repeated the last value counts.
 pub fn delivery(alloc: Global, line: &[u8]) -> Result<Delivery, DeliveryFault>
     ensures { Answers line.now result }
 {
@@ -66,11 +68,13 @@ fn delivery_in(alloc: Global, value: &Value) -> Result<Delivery, DeliveryFault>
         value.get("watermark"),
         value.get("ask"),
         value.get("mapping"),
+        value.get("match"),
     ) {
-        (Some(_), None, None, None) => Ok(Delivery::Event(event(value)?)),
-        (None, Some(_), None, None) => Ok(watermark(value)?),
-        (None, None, Some(wanted), None) => ask(alloc, wanted),
-        (None, None, None, Some(number)) => Ok(mapping(number)?),
+        (Some(_), None, None, None, None) => Ok(Delivery::Event(event(value)?)),
+        (None, Some(_), None, None, None) => Ok(watermark(value)?),
+        (None, None, Some(wanted), None, None) => ask(alloc, wanted),
+        (None, None, None, Some(number), None) => Ok(mapping(number)?),
+        (None, None, None, None, Some(shapes)) => matching(alloc, shapes),
         _ => Err(DeliveryFault::Bad(LineCause::NoForm)),
     }
 }
@@ -113,6 +117,13 @@ fn mapping(value: &Value) -> Result<Delivery, LineCause>
 {
     let version = version(value).ok_or(LineCause::Mapping)?;
     Ok(Delivery::Mapping(version))
+}
+
+/// The question with that value of `match`.
+fn matching(alloc: Global, value: &Value) -> Result<Delivery, DeliveryFault>
+    ensures { AnswersPart (match_in (view value.now)) result }
+{
+    Ok(Delivery::Match(query(alloc, value)?))
 }
 
 /// The version whose number a value is, in digits alone.
@@ -166,7 +177,7 @@ fn wanted_term(alloc: Global, value: &Value) -> Result<Option<Term>, DeliveryFau
 
 /// The term that a text writes.
 #[tactic(auto, using(crate::proofs::TermReading::answer_read))]
-fn term(alloc: Global, text: &str) -> Result<Option<Term>, OutOfMemory>
+pub(crate) fn term(alloc: Global, text: &str) -> Result<Option<Term>, OutOfMemory>
     ensures { IfOk result (λ found. found ≡ term_of text.now) }
 {
     read_term(alloc, text)

@@ -9,9 +9,8 @@ use Rattle.entity_model.specs.declared.unfit.Unfit.{Unfit}
 use Rattle.entity_model.specs.Event.{event_cmp, event_cmp_total, event_cmp_same}
 use Rattle.side_output.specs.declared.entry.Cause.{Cause}
 use Rattle.side_output.specs.declared.entry.Cause.TheVariants.{Failed}
-use Rattle.rdf_term.specs.declared.pattern.Pattern.{Pattern}
 use Rattle.delivery.specs.declared.Delivery.{Delivery}
-use Rattle.delivery.specs.declared.Delivery.TheVariants.{Event as Told, Watermark, Ask, Mapping}
+use Rattle.delivery.specs.declared.Delivery.TheVariants.{Event as Told, Watermark, Mapping}
 use Rattle.entity_model.specs.declared.mapping.MappingVersion.{MappingVersion}
 use Rattle.reorder_buffer.specs.Watermarks.{is_due}
 use Rattle.reorder_buffer.specs.Buffered.{answer_to, first_due}
@@ -22,7 +21,8 @@ use Rattle.rising.proofs.FirstPassing.{has-found, IsRising-remove_key}
 use Rattle.replay_model.specs.Records.{Bytes}
 use Rattle.replay_model.specs.Play.{Replies, Fetch, fetches, fetches_to_end}
 use Rattle.replay_model.specs.Replies.{GivesDocument, Judgement, judged, reply_there, source_replies, failed_events}
-use Rattle.replay_model.specs.ReplayState.{ReplayState, nothing_delivered_within, after_event, after_mark, after_end, after_applying, after_due, after_next, following, fetches_for, fetches_due}
+use Rattle.replay_model.specs.ReplayState.{ReplayState, nothing_delivered_within, after_event, after_mark, after_end, after_applying, after_due, after_next, delivered, following, fetches_delivered, fetches_for, fetches_due}
+use Rattle.replay_model.specs.Transcript.{Question, for_triples, for_bindings, asking}
 use Rattle.replay_model.specs.Explained.{is_applied, AgreeOnApplied, revision_wanted, is_fetching, IsHonest, Explained, ExplainedAfter, ExplainedToEnd}
 use Rattle.replay_model.proofs.Applied.{applied-end, applied-event, applied-mark, applied-next, following_rises, waiting_not_applied}
 use Rattle.replay_model.proofs.FetchCounts.{fetches_due-none, fetches_due-some, fetches-delivered, fetches-end}
@@ -53,6 +53,15 @@ source_fits unfit contents failed e r = by (has event_cmp e failed)
 start_fits : (unfit : Judgement) (known : Option (ℕ → Option Bytes)) (e : Event) (r : ℕ) → GivesDocument unfit e.entity (start_replies unfit known e r)
 start_fits unfit None e r = tt
 start_fits unfit (Some contents) e r = source_fits unfit contents [] e r
+
+-- a question changes nothing, and fetches nothing
+asking-delivered : (replies : Replies) (w : ReplayState) (q : Question) → delivered replies w (asking q) ≡ w
+asking-delivered replies w (for_triples pattern) = refl
+asking-delivered replies w (for_bindings shapes) = refl
+
+asking-fetches : (replies : Replies) (w : ReplayState) (q : Question) → fetches_delivered replies w (asking q) ≡ []
+asking-fetches replies w (for_triples pattern) = refl
+asking-fetches replies w (for_bindings shapes) = refl
 
 module _ (unfit : Judgement) (known : Option (ℕ → Option Bytes)) where
   -- before the first delivery
@@ -156,13 +165,14 @@ module _ (unfit : Judgement) (known : Option (ℕ → Option Bytes)) where
     mark_replies m = refl
 
     -- a question is asked, which changes nothing
-    pub Explained-ask : (q : Pattern) → ExplainedAfter hz unfit known (ds ++ Ask q ∷ []) made w
+    pub Explained-ask : (q : Question) → ExplainedAfter hz unfit known (ds ++ asking q ∷ []) made w
     Explained-ask q = record {
       replies = x.replies;
       rises = x.rises;
-      leads = λ others agree. x.leads others agree ∙ sym (following-delivered hz others ds (Ask q));
+      leads = λ others agree. x.leads others agree ∙ sym (following-delivered hz others ds (asking q) ∙ asking-delivered others (following hz others ds) q);
       counts = λ others agree.
-          let all : length (fetches hz others (ds ++ Ask q ∷ [])) ≡ length (fetches hz others ds) = ap length (fetches-delivered hz others ds (Ask q) ∙ append-nil (fetches hz others ds)) in
+          let all : length (fetches hz others (ds ++ asking q ∷ [])) ≡ length (fetches hz others ds) =
+          ap length (fetches-delivered hz others ds (asking q) ∙ ap (λ l. fetches hz others ds ++ l) (asking-fetches others (following hz others ds) q) ∙ append-nil (fetches hz others ds)) in
           omega (arith, x.counts others agree);
       honest = x.honest;
       fit = x.fit;
@@ -170,7 +180,7 @@ module _ (unfit : Judgement) (known : Option (ℕ → Option Bytes)) where
     }
 
     -- the replies stay
-    pub ask_replies : (q : Pattern) → (Explained-ask q).replies ≡ x.replies
+    pub ask_replies : (q : Question) → (Explained-ask q).replies ≡ x.replies
     unfolding Explained-ask
     ask_replies q = refl
 

@@ -2,7 +2,7 @@
 use Rattle.std.proofs.Common.{◌≡◌, ℕ, ◌+◌, List, [], ◌∷◌, ◌++◌, None, Some, refl, ◌∙◌, ap, arith, Option}
 use Rattle.entity_model.specs.declared.event.Event.{Event}
 use Rattle.delivery.specs.declared.Delivery.{Delivery}
-use Rattle.delivery.specs.declared.Delivery.TheVariants.{Event as Told, Watermark, Ask, Mapping}
+use Rattle.delivery.specs.declared.Delivery.TheVariants.{Event as Told, Watermark, Ask, Mapping, Match}
 use Rattle.reorder_buffer.specs.Watermarks.{is_due}
 use Rattle.reorder_buffer.specs.Buffered.{first_due}
 use Rattle.rising.proofs.FirstPassing.{filter-first, filter-none}
@@ -30,6 +30,7 @@ pub fetches-delivered : (hz : Option ℕ) (replies : Replies) (ds : List Deliver
 fetches-delivered hz replies ds (Told e) = fetches-push hz replies ds (Told e)
 fetches-delivered hz replies ds (Ask q) = fetches-push hz replies ds (Ask q)
 fetches-delivered hz replies ds (Mapping v) = fetches-push hz replies ds (Mapping v)
+fetches-delivered hz replies ds (Match q) = fetches-push hz replies ds (Match q)
 fetches-delivered hz replies ds (Watermark w) = fetches-push hz replies ds (Watermark w) ∙ ap (λ es. fetches hz replies ds ++ fetches_of_all replies (play hz replies ds) es) (newly_due-watermark hz ds w)
 
 -- after the end

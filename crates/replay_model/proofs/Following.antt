@@ -6,7 +6,7 @@ use Rattle.entity_model.specs.declared.event.Event.{Event}
 use Rattle.entity_model.specs.Event.{event_cmp, event_cmp_total, event_cmp_same}
 use Rattle.side_output.specs.declared.entry.Entry.TheVariants.{Late as LateEntry}
 use Rattle.delivery.specs.declared.Delivery.{Delivery}
-use Rattle.delivery.specs.declared.Delivery.TheVariants.{Event as Told, Watermark, Ask, Mapping}
+use Rattle.delivery.specs.declared.Delivery.TheVariants.{Event as Told, Watermark, Ask, Mapping, Match}
 use Rattle.reorder_buffer.specs.declared.taken.Taken.{Taken}
 use Rattle.reorder_buffer.specs.declared.taken.Taken.TheVariants.{New, Repeat, Late}
 use Rattle.reorder_buffer.specs.Watermarks.{greater, reached, is_due, floor}
@@ -151,6 +151,12 @@ following-delivered hz replies ds (Mapping v) =
     (λ i. in_order (filter (waits (mark-kept ds (Mapping v) refl i)) (events_passing-kept (is_accepted hz) ds (Mapping v) refl i)))
     (mark-kept ds (Mapping v) refl)
     (play-push hz replies ds (Mapping v))
+following-delivered hz replies ds (Match q) =
+    same_parts hz false
+    (λ i. unforgotten (floor hz (mark-kept ds (Match q) refl i)) (in_order (events-kept ds (Match q) refl i)))
+    (λ i. in_order (filter (waits (mark-kept ds (Match q) refl i)) (events_passing-kept (is_accepted hz) ds (Match q) refl i)))
+    (mark-kept ds (Match q) refl)
+    (play-push hz replies ds (Match q))
 
 -- ---- one due event after the other
 

@@ -5,7 +5,7 @@ use Rattle.entity_model.specs.declared.event.Event.{Event}
 use Rattle.side_output.specs.declared.entry.Entry.{Entry}
 use Rattle.side_output.specs.declared.entry.Entry.TheVariants.{Late}
 use Rattle.delivery.specs.declared.Delivery.{Delivery}
-use Rattle.delivery.specs.declared.Delivery.TheVariants.{Event as Told, Watermark, Ask, Mapping}
+use Rattle.delivery.specs.declared.Delivery.TheVariants.{Event as Told, Watermark, Ask, Mapping, Match}
 use Rattle.reorder_buffer.specs.Watermarks.{is_due}
 use Rattle.rising.proofs.Pushes.{by_pushes}
 use Rattle.replay_model.specs.Acceptance.{mark, is_late}
@@ -56,6 +56,7 @@ others-happens : (hz : Option ℕ) (replies : Replies) (ds : List Delivery) (d :
 others-happens hz replies ds (Told e) p p' records same = others-late p.side e (is_late hz ds e) ∙ same ∙ sym (others-late p'.side e (is_late None ds e))
 others-happens hz replies ds (Ask q) p p' records same = same
 others-happens hz replies ds (Mapping v) p p' records same = same
+others-happens hz replies ds (Match q) p p' records same = same
 others-happens hz replies ds (Watermark w) p p' records same =
     ap (λ es. others (apply_all replies p es).side) (newly_due-alike hz ds false (ds ++ Watermark w ∷ []))
     ∙ others-apply_all replies (newly_due None ds false (ds ++ Watermark w ∷ [])) p p' records same
@@ -84,6 +85,7 @@ fetches_at-alike : (hz : Option ℕ) (replies : Replies) (ds : List Delivery) (d
 fetches_at-alike hz replies ds (Told e) = refl
 fetches_at-alike hz replies ds (Ask q) = refl
 fetches_at-alike hz replies ds (Mapping v) = refl
+fetches_at-alike hz replies ds (Match q) = refl
 fetches_at-alike hz replies ds (Watermark w) = fetches-newly_due hz replies ds false (ds ++ Watermark w ∷ [])
 
 pub fetches-alike : (hz : Option ℕ) (replies : Replies) (ds : List Delivery) → fetches hz replies ds ≡ fetches None replies ds

@@ -14,7 +14,7 @@ use Rattle.entity_model.specs.Event.{event_cmp, event_cmp_total, event_cmp_same}
 use Rattle.entity_state.specs.declared.state.State.{State}
 use Rattle.entity_state.specs.State.{state_after, after_kind, unknown}
 use Rattle.delivery.specs.declared.Delivery.{Delivery}
-use Rattle.delivery.specs.declared.Delivery.TheVariants.{Event as Told, Watermark, Ask, Mapping}
+use Rattle.delivery.specs.declared.Delivery.TheVariants.{Event as Told, Watermark, Ask, Mapping, Match}
 use Rattle.reorder_buffer.specs.Watermarks.{reached, is_due}
 use Rattle.rising.specs.Rising.{has}
 use Rattle.rising.proofs.Bools.{clash, equal, or_none, or_true, or_false_left, or_false_right}
@@ -149,6 +149,11 @@ has-events hz q = by_pushes (λ ds. has event_cmp q (events ds) ≡ (has event_c
         ∙ before
         ∙ sym (ap (λ b. b || has event_cmp q (accepted hz (ds ++ Mapping v ∷ []))) (ap (has event_cmp q) (events_passing-kept (is_late hz) ds (Mapping v) refl))
         ∙ ap (λ b. has event_cmp q (late hz ds) || b) (ap (has event_cmp q) (events_passing-kept (is_accepted hz) ds (Mapping v) refl)))
+    step ds (Match a) before =
+        ap (has event_cmp q) (events-kept ds (Match a) refl)
+        ∙ before
+        ∙ sym (ap (λ b. b || has event_cmp q (accepted hz (ds ++ Match a ∷ []))) (ap (has event_cmp q) (events_passing-kept (is_late hz) ds (Match a) refl))
+        ∙ ap (λ b. has event_cmp q (late hz ds) || b) (ap (has event_cmp q) (events_passing-kept (is_accepted hz) ds (Match a) refl)))
 
 -- the mark has reached each late event
 late_reached : (hz : Option ℕ) (q : Event) (ds : List Delivery) → has event_cmp q (late hz ds) ≡ true → reached (mark ds) q.time ≡ true
@@ -178,6 +183,9 @@ late_reached hz q = by_pushes (λ ds. has event_cmp q (late hz ds) ≡ true → 
     step ds (Mapping v) before h =
         ap (λ m. reached m q.time) (mark-kept ds (Mapping v) refl)
         ∙ before (sym (ap (has event_cmp q) (events_passing-kept (is_late hz) ds (Mapping v) refl)) ∙ h)
+    step ds (Match a) before h =
+        ap (λ m. reached m q.time) (mark-kept ds (Match a) refl)
+        ∙ before (sym (ap (has event_cmp q) (events_passing-kept (is_late hz) ds (Match a) refl)) ∙ h)
 
 distributed : (p a b : Bool) → (a ≡ true → p ≡ true) → (p && (a || b)) ≡ (a || (p && b))
 distributed true a b h = refl

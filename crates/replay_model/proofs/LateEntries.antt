@@ -9,7 +9,7 @@ use Rattle.side_output.specs.declared.entry.Cause.{Cause}
 use Rattle.side_output.specs.declared.entry.Entry.{Entry}
 use Rattle.side_output.specs.declared.entry.Entry.TheVariants.{Late}
 use Rattle.delivery.specs.declared.Delivery.{Delivery}
-use Rattle.delivery.specs.declared.Delivery.TheVariants.{Event as Told, Watermark, Ask, Mapping}
+use Rattle.delivery.specs.declared.Delivery.TheVariants.{Event as Told, Watermark, Ask, Mapping, Match}
 use Rattle.rising.proofs.Pushes.{by_pushes}
 use Rattle.replay_model.specs.Acceptance.{is_late, late}
 use Rattle.replay_model.specs.Records.{Bytes, record_of}
@@ -51,6 +51,7 @@ late-happens hz replies ds (Told e) p before =
     one false = refl
 late-happens hz replies ds (Ask q) p before = before ∙ sym (events_passing-kept (is_late hz) ds (Ask q) refl)
 late-happens hz replies ds (Mapping v) p before = before ∙ sym (events_passing-kept (is_late hz) ds (Mapping v) refl)
+late-happens hz replies ds (Match q) p before = before ∙ sym (events_passing-kept (is_late hz) ds (Match q) refl)
 late-happens hz replies ds (Watermark w) p before = late-apply_all replies p (newly_due hz ds false (ds ++ Watermark w ∷ [])) ∙ before ∙ sym (events_passing-kept (is_late hz) ds (Watermark w) refl)
 
 late-play : (hz : Option ℕ) (replies : Replies) (ds : List Delivery) → late_events (play hz replies ds).side ≡ late hz ds

@@ -4,7 +4,7 @@ use Rattle.std.specs.FinMap as map
 use Rattle.std.proofs.lemmas.List.Sums.{fold-append}
 use Rattle.entity_model.specs.declared.event.Event.{Event}
 use Rattle.delivery.specs.declared.Delivery.{Delivery}
-use Rattle.delivery.specs.declared.Delivery.TheVariants.{Event as Told, Watermark, Ask, Mapping}
+use Rattle.delivery.specs.declared.Delivery.TheVariants.{Event as Told, Watermark, Ask, Mapping, Match}
 use Rattle.rising.proofs.Pushes.{by_pushes}
 use Rattle.replay_model.specs.Acceptance.{due}
 use Rattle.replay_model.specs.Fate.{in_order}
@@ -33,6 +33,7 @@ records-delivery : (hz : Option ℕ) (replies : Replies) (ds : List Delivery) (d
 records-delivery hz replies ds (Told e) before = before ∙ ap (λ l. records_of replies (in_order l)) (sym (due-told hz ds e))
 records-delivery hz replies ds (Ask q) before = before ∙ ap (λ l. records_of replies (in_order l)) (sym (due-kept hz false ds (Ask q) refl refl))
 records-delivery hz replies ds (Mapping v) before = before ∙ ap (λ l. records_of replies (in_order l)) (sym (due-kept hz false ds (Mapping v) refl refl))
+records-delivery hz replies ds (Match q) before = before ∙ ap (λ l. records_of replies (in_order l)) (sym (due-kept hz false ds (Match q) refl refl))
 records-delivery hz replies ds (Watermark w) before = records-more replies (play hz replies ds) (in_order (due hz false ds)) (newly_due hz ds false (ds ++ Watermark w ∷ [])) _ before (due-watermark hz ds w)
 
 records-play : (hz : Option ℕ) (replies : Replies) (ds : List Delivery) → (play hz replies ds).records ≡ records_of replies (in_order (due hz false ds))

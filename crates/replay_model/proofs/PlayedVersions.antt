@@ -12,7 +12,7 @@ use Rattle.rising.proofs.Rising.{IsRising-insert_key, has-insert_key, same_risin
 use Rattle.entity_model.specs.declared.id.EntityId.{EntityId}
 use Rattle.entity_model.specs.declared.event.Event.{Event}
 use Rattle.delivery.specs.declared.Delivery.{Delivery}
-use Rattle.delivery.specs.declared.Delivery.TheVariants.{Event as Told, Watermark, Ask, Mapping}
+use Rattle.delivery.specs.declared.Delivery.TheVariants.{Event as Told, Watermark, Ask, Mapping, Match}
 use Rattle.entity_model.specs.declared.mapping.MappingVersion.{MappingVersion}
 use Rattle.entity_model.specs.declared.mapping.MappingVersion.TheVariants.{One, Two}
 use Rattle.entity_model.specs.EntityId.{entity_cmp, entity_cmp_same, entity_cmp_total}
@@ -157,6 +157,7 @@ module _ (hz : Option ℕ) (replies : Replies) where
           by_two-remapped v (play hz replies ds).records (all_by (version_in_force ds) (play hz replies ds).records)
           (all-rise (version_in_force ds) (play hz replies ds).records) (all-hold (version_in_force ds) (play hz replies ds).records)
           ∙ ap (λ u. all_by u (play hz replies ds).records) (sym (version-mapping ds v))
+      by (Match q) = ap (λ v. all_by v (play hz replies ds).records) (sym (version-kept ds (Match q) refl))
 
   by_two-play : (ds : List Delivery) → by_two_of_play hz replies ds ≡ all_by (version_in_force ds) (play hz replies ds).records
   by_two-play = by_pushes (λ ds. by_two_of_play hz replies ds ≡ all_by (version_in_force ds) (play hz replies ds).records) refl

@@ -18,7 +18,7 @@ use Rattle.side_output.specs.declared.entry.Cause.{Cause}
 use Rattle.side_output.specs.declared.entry.Entry.{Entry}
 use Rattle.side_output.specs.declared.entry.Entry.TheVariants.{Late, Revision}
 use Rattle.delivery.specs.declared.Delivery.{Delivery}
-use Rattle.delivery.specs.declared.Delivery.TheVariants.{Event as Told, Watermark, Ask, Mapping}
+use Rattle.delivery.specs.declared.Delivery.TheVariants.{Event as Told, Watermark, Ask, Mapping, Match}
 use Rattle.rising.proofs.Bools.{clash, or_true, and_right, and_left, and_none, and_all}
 use Rattle.rising.proofs.Finding.{list_any_weaker, list_any_never}
 use Rattle.rising.proofs.Pushes.{by_pushes}
@@ -103,6 +103,7 @@ Tells-happens : (hz : Option ℕ) (replies : Replies) (ds : List Delivery) (d : 
 Tells-happens hz replies ds (Told e) p all x = Tells-more p.side (cond (is_late hz ds e) (Late e ∷ []) []) x (record_of p.records x) (all x)
 Tells-happens hz replies ds (Ask q) p all x = all x
 Tells-happens hz replies ds (Mapping v) p all x = all x
+Tells-happens hz replies ds (Match q) p all x = all x
 Tells-happens hz replies ds (Watermark w) p all x = Tells-apply_all replies p (newly_due hz ds false (ds ++ Watermark w ∷ [])) all x
 
 Tells-nothing : TellsAll nothing_played

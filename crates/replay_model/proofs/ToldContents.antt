@@ -14,7 +14,7 @@ use Rattle.side_output.specs.declared.entry.Cause.TheVariants.{Failed, Unfit as 
 use Rattle.side_output.specs.declared.entry.Entry.{Entry}
 use Rattle.side_output.specs.declared.entry.Entry.TheVariants.{Late}
 use Rattle.delivery.specs.declared.Delivery.{Delivery}
-use Rattle.delivery.specs.declared.Delivery.TheVariants.{Event as Told, Watermark, Ask, Mapping}
+use Rattle.delivery.specs.declared.Delivery.TheVariants.{Event as Told, Watermark, Ask, Mapping, Match}
 use Rattle.rising.specs.Rising.{has, Each}
 use Rattle.rising.proofs.Pushes.{by_pushes}
 use Rattle.replay_model.specs.Acceptance.{is_late, due}
@@ -106,6 +106,7 @@ module _ (unfit : Judgement) (contents : ℕ → Option Bytes) (failed : List Ev
   told-happens hz ds (Told e) p before = Each-append (TellsWhatIsThere unfit contents failed) p.side (cond (is_late hz ds e) (Late e ∷ []) []) before (elim (is_late hz ds e) as (λ b. AllTold (cond b (Late e ∷ []) [])) [ true ↦ (tt, tt) | false ↦ tt ])
   told-happens hz ds (Ask q) p before = before
   told-happens hz ds (Mapping v) p before = before
+  told-happens hz ds (Match q) p before = before
   told-happens hz ds (Watermark w) p before = told-apply_all p (newly_due hz ds false (ds ++ Watermark w ∷ [])) before
 
   told-play : (hz : Option ℕ) (ds : List Delivery) → AllTold (play hz (source_replies unfit contents failed) ds).side

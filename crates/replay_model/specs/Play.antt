@@ -13,7 +13,7 @@ use Rattle.side_output.specs.declared.entry.Cause.{Cause}
 use Rattle.side_output.specs.declared.entry.Entry.{Entry}
 use Rattle.side_output.specs.declared.entry.Entry.TheVariants.{Late, Revision}
 use Rattle.delivery.specs.declared.Delivery.{Delivery}
-use Rattle.delivery.specs.declared.Delivery.TheVariants.{Event as Told, Watermark, Ask, Mapping}
+use Rattle.delivery.specs.declared.Delivery.TheVariants.{Event as Told, Watermark, Ask, Mapping, Match}
 use Rattle.reorder_buffer.specs.Watermarks.{is_due}
 use Rattle.replay_model.specs.Acceptance.{Arrival, arrivals, mark, is_late, due}
 use Rattle.replay_model.specs.Fate.{in_order}
@@ -86,6 +86,7 @@ happens h replies before (Told e) p = record { records = p.records; side = p.sid
 happens h replies before (Watermark w) p = apply_all replies p (newly_due h before false (before ++ Watermark w ∷ []))
 happens h replies before (Ask q) p = p
 happens h replies before (Mapping v) p = p
+happens h replies before (Match q) p = p
 
 -- the replay of the deliveries
 abbrev pub play : Option ℕ → Replies → List Delivery → Played

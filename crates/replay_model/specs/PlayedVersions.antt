@@ -4,7 +4,7 @@ use Rattle.std.specs.Prelude.{ℕ, Bool, false, true, cond, ◌&&◌, List, [], 
 use Rattle.entity_model.specs.declared.id.EntityId.{EntityId}
 use Rattle.entity_model.specs.declared.event.Event.{Event}
 use Rattle.delivery.specs.declared.Delivery.{Delivery}
-use Rattle.delivery.specs.declared.Delivery.TheVariants.{Event as Told, Watermark, Ask, Mapping}
+use Rattle.delivery.specs.declared.Delivery.TheVariants.{Event as Told, Watermark, Ask, Mapping, Match}
 use Rattle.entity_model.specs.declared.mapping.MappingVersion.{MappingVersion}
 use Rattle.entity_model.specs.declared.mapping.MappingVersion.TheVariants.{One}
 use Rattle.entity_state.specs.declared.record.Record.{Record}
@@ -43,6 +43,7 @@ by_two_at h replies before (Watermark w) by_two =
     by_two_after_events (version_in_force before) replies (play h replies before) (newly_due h before false (before ++ Watermark w ∷ [])) by_two
 by_two_at h replies before (Ask q) by_two = by_two
 by_two_at h replies before (Mapping v) by_two = by_two_remapped v (play h replies before).records by_two
+by_two_at h replies before (Match q) by_two = by_two
 
 -- after the deliveries
 abbrev pub by_two_of_play : Option ℕ → Replies → List Delivery → List EntityId

@@ -6,7 +6,7 @@ use Rattle.entity_model.specs.Event.{event_cmp}
 use Rattle.side_output.specs.declared.entry.Entry.{Entry}
 use Rattle.side_output.specs.declared.entry.Entry.TheVariants.{Late as LateEntry}
 use Rattle.delivery.specs.declared.Delivery.{Delivery}
-use Rattle.delivery.specs.declared.Delivery.TheVariants.{Event as Told, Watermark, Ask, Mapping}
+use Rattle.delivery.specs.declared.Delivery.TheVariants.{Event as Told, Watermark, Ask, Mapping, Match}
 use Rattle.reorder_buffer.specs.declared.taken.Taken.{Taken}
 use Rattle.reorder_buffer.specs.declared.taken.Taken.TheVariants.{New, Repeat, Late}
 use Rattle.reorder_buffer.specs.Watermarks.{is_due, floor, is_below}
@@ -82,6 +82,7 @@ entered w (Told e) = after_event w e
 entered w (Watermark m) = after_mark w m
 entered w (Ask q) = w
 entered w (Mapping v) = w
+entered w (Match q) = w
 
 -- after a delivery: an event is taken, and after a watermark what is due is applied
 abbrev pub delivered : Replies → ReplayState → Delivery → ReplayState
@@ -89,6 +90,7 @@ delivered replies w (Told e) = after_event w e
 delivered replies w (Watermark m) = after_due replies (after_mark w m)
 delivered replies w (Ask q) = w
 delivered replies w (Mapping v) = w
+delivered replies w (Match q) = w
 
 -- after the end of the input, which makes every event due
 abbrev pub ended : Replies → ReplayState → ReplayState
@@ -133,6 +135,7 @@ fetches_delivered replies w (Told e) = []
 fetches_delivered replies w (Watermark m) = fetches_due replies (after_mark w m)
 fetches_delivered replies w (Ask q) = []
 fetches_delivered replies w (Mapping v) = []
+fetches_delivered replies w (Match q) = []
 
 -- a buffer that has taken these deliveries with this horizon, whatever was dropped, closed or not
 pub record HasTakenIn (h : Option ℕ) (ds : List Delivery) (b : Buffered) : Type 0 where

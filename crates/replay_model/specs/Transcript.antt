@@ -1,19 +1,22 @@
--- What a replay, with a horizon or none, prints: an answer at each delivery that asks, and the closing sections. What is held then
+-- What a replay, with a horizon or none, prints: an answer at each delivery that is a question, and the closing sections. What is held then
 -- means what it means by the version of the mapping in force.
 use Rattle.std.specs.Prelude.{ℕ, ◌+◌, Bool, true, false, cond, List, [], ◌++◌, Option, None, Some, filter_map, flat_map, length, decimal, codes}
 use Rattle.std.specs.FinMap as map
 use Rattle.std.specs.Fmt.{signed_decimal}
 use Rattle.rdf_term.specs.declared.pattern.Pattern.{Pattern}
+use Rattle.rdf_term.specs.declared.term.Term.{Term}
 use Rattle.rdf_term.specs.declared.triple.Triple.{Triple}
 use Rattle.rdf_term.specs.Order.{triple_cmp}
-use Rattle.rdf_term.specs.Text.{triple_text}
+use Rattle.rdf_term.specs.Text.{term_text, triple_text}
 use Rattle.rdf_term.specs.Pattern.{rows}
+use Rattle.graph_query.specs.declared.query.Shape.{Shape}
+use Rattle.graph_query.specs.Bindings.{bindings}
 use Rattle.entity_model.specs.declared.id.EntityId.{EntityId}
 use Rattle.entity_model.specs.declared.event.Event.{Event}
 use Rattle.entity_model.specs.declared.event.Kind.{Kind}
 use Rattle.entity_model.specs.declared.event.Kind.TheVariants.{Edit, Delete, Undelete, ReconcileDeleted, ReconcileKept}
 use Rattle.entity_model.specs.declared.unfit.Unfit.{Unfit}
-use Rattle.entity_model.specs.declared.unfit.Unfit.TheVariants.{Large, Deep, NotJson, Shape, Foreign}
+use Rattle.entity_model.specs.declared.unfit.Unfit.TheVariants.{Large, Deep, NotJson, Shape as BadShape, Foreign}
 use Rattle.entity_model.specs.EntityId.{id_text}
 use Rattle.entity_state.specs.declared.state.Mode.{Mode}
 use Rattle.entity_state.specs.declared.state.Mode.TheVariants.{Unknown, Kept, Deleted}
@@ -23,7 +26,7 @@ use Rattle.side_output.specs.declared.entry.Cause.TheVariants.{Missing, Failed, 
 use Rattle.side_output.specs.declared.entry.Entry.{Entry}
 use Rattle.side_output.specs.declared.entry.Entry.TheVariants.{Late, Revision}
 use Rattle.delivery.specs.declared.Delivery.{Delivery}
-use Rattle.delivery.specs.declared.Delivery.TheVariants.{Ask}
+use Rattle.delivery.specs.declared.Delivery.TheVariants.{Ask, Match}
 use Rattle.entity_model.specs.declared.mapping.MappingVersion.{MappingVersion}
 use Rattle.replay_model.specs.Acceptance.{Arrival, arrivals, version_in_force}
 use Rattle.replay_model.specs.Entries.{is_open_in}
@@ -54,14 +57,60 @@ ask_head n count = codes "# ask " ++ decimal n ++ codes ": " ++ decimal count ++
 abbrev pub ask_section : ℕ → List Triple → List ℕ
 ask_section n triples = ask_head n (length triples) ++ flat_map triple_text triples
 
+-- the line `# match <n>: <count> rows`
+unfoldable pub match_head : ℕ → ℕ → List ℕ
+match_head n count = codes "# match " ++ decimal n ++ codes ": " ++ decimal count ++ codes " rows\n"
+
+-- a term behind a space
+abbrev pub spaced_term : Term → List ℕ
+spaced_term term = codes " " ++ term_text term
+
+-- the line of a binding: `# row`, and each of its terms behind a space
+unfoldable pub binding_text : List Term → List ℕ
+binding_text terms = codes "# row" ++ flat_map spaced_term terms ++ codes "\n"
+
+-- the answer to the n-th match: its head, and the line of each binding
+abbrev pub match_section : ℕ → List (List Term) → List ℕ
+match_section n found = match_head n (length found) ++ flat_map binding_text found
+
+-- a question: for the triples that agree with a pattern, or for the bindings of a query
+pub data Question : Type 0 where
+  for_triples : Pattern → Question
+  for_bindings : List Shape → Question
+
+-- the delivery that a question is
+abbrev pub asking : Question → Delivery
+asking (for_triples pattern) = Ask pattern
+asking (for_bindings shapes) = Match shapes
+
+-- the question that a delivery is, if it is one
+abbrev pub question_of : Delivery → Option Question
+question_of (Ask pattern) = Some (for_triples pattern)
+question_of (Match shapes) = Some (for_bindings shapes)
+question_of _ = None
+
 -- the pattern that a delivery asks for
 abbrev pub pattern_of : Delivery → Option Pattern
 pattern_of (Ask pattern) = Some pattern
 pattern_of _ = None
 
+-- the shapes of the query that a delivery has
+abbrev pub shapes_of : Delivery → Option (List Shape)
+shapes_of (Match shapes) = Some shapes
+shapes_of _ = None
+
 -- how many asks were delivered
 abbrev pub asks : List Delivery → ℕ
 asks ds = length (filter_map pattern_of ds)
+
+-- how many matches were delivered, which are counted by themselves
+abbrev pub matches : List Delivery → ℕ
+matches ds = length (filter_map shapes_of ds)
+
+-- the answer to a question over these triples, where so many asks and so many matches were answered before it
+abbrev pub answer_section : ℕ → ℕ → List Triple → Question → List ℕ
+answer_section asked matched triples (for_triples pattern) = ask_section (asked + 1) (rows triples pattern)
+answer_section asked matched triples (for_bindings shapes) = match_section (matched + 1) (bindings triples shapes)
 
 -- the line `# state <id> <word> <revision>`
 unfoldable pub stated_line : EntityId → List ℕ → ℕ → List ℕ
@@ -99,7 +148,7 @@ unfoldable pub unfit_word : Unfit → List ℕ
 unfit_word Large = codes "unfit-large"
 unfit_word Deep = codes "unfit-deep"
 unfit_word NotJson = codes "unfit-notjson"
-unfit_word Shape = codes "unfit-shape"
+unfit_word BadShape = codes "unfit-shape"
 unfit_word Foreign = codes "unfit-foreign"
 
 -- the word for why a revision isn't held
@@ -135,16 +184,16 @@ abbrev pub side_section : Records → List Entry → List ℕ
 side_section records side = flat_map (λ entry. entry_line (is_open_in records entry) entry) side
 
 module _ (meaning : MappingVersion → Meaning Triple) where
-  -- the answer to an ask, after the deliveries before it
-  abbrev pub answer_said : Option ℕ → Replies → List Delivery → Option Pattern → List ℕ
+  -- the answer to a question, after the deliveries before it
+  abbrev pub answer_said : Option ℕ → Replies → List Delivery → Option Question → List ℕ
   answer_said h replies before None = []
-  answer_said h replies before (Some pattern) =
-      ask_section (asks before + 1)
-      (rows (union triple_cmp (meaning (version_in_force before)) (play h replies before).records) pattern)
+  answer_said h replies before (Some question) =
+      answer_section (asks before) (matches before)
+      (union triple_cmp (meaning (version_in_force before)) (play h replies before).records) question
 
-  -- what is printed at a delivery: the answer, if it asks
+  -- what is printed at a delivery: the answer, if it is a question
   abbrev pub said_at : Option ℕ → Replies → Arrival → List ℕ
-  said_at h replies a = answer_said h replies a.before (pattern_of a.delivery)
+  said_at h replies a = answer_said h replies a.before (question_of a.delivery)
 
   -- what is printed at the deliveries
   abbrev pub said : Option ℕ → Replies → List Delivery → List ℕ

@@ -5,7 +5,6 @@ ghost use Rattle.rising.specs.Rising.{Each};
 ghost use Rattle.entity_model.specs.declared.event.Event.{Event};
 ghost use Rattle.entity_model.specs.declared.id.EntityId.{EntityId};
 ghost use Rattle.side_output.specs.declared.entry.Cause.{Cause};
-ghost use Rattle.rdf_term.specs.declared.pattern.Pattern.{Pattern};
 ghost use Rattle.delivery.specs.declared.Delivery.{Delivery};
 ghost use Rattle.entity_model.specs.declared.mapping.MappingVersion.{MappingVersion};
 ghost use Rattle.reorder_buffer.specs.Buffered.{first_due};
@@ -13,6 +12,7 @@ ghost use Rattle.replay_model.specs.Records.{Bytes, record_of};
 ghost use Rattle.replay_model.specs.Play.{Replies, Fetch, played};
 ghost use Rattle.replay_model.specs.Replies.{GivesDocument, Judgement, source_replies, failed_events, HoldsWhatIsThere, TellsWhatIsThere};
 ghost use Rattle.replay_model.specs.ReplayState.{ReplayState, nothing_delivered_within, after_event, after_mark, after_end, after_applying, following, following_to_end};
+ghost use Rattle.replay_model.specs.Transcript.{Question, asking};
 ghost use Rattle.replay_model.specs.Explained.{Explained, ExplainedAfter, ExplainedToEnd, IsHonest, is_fetching, revision_wanted};
 
 /// Over a source with told contents, an entity holds what the source has, which is a document of it, and each entry
@@ -48,7 +48,7 @@ pub fn replay_over_source_is_a_play()
         (m : ℤ) → ExplainedAfter h unfit known (ds ++ Delivery.Watermark m ∷ []) made (after_mark w m) }
     ensures ask { (unfit : Judgement) (known : Option (ℕ → Option Bytes)) (h : Option ℕ) (ds : List Delivery) (made : ℕ) (w : ReplayState) →
         ExplainedAfter h unfit known ds made w → first_due w.buffer ≡ None →
-        (q : Pattern) → ExplainedAfter h unfit known (ds ++ Delivery.Ask q ∷ []) made w }
+        (q : Question) → ExplainedAfter h unfit known (ds ++ asking q ∷ []) made w }
     ensures mapping { (unfit : Judgement) (known : Option (ℕ → Option Bytes)) (h : Option ℕ) (ds : List Delivery) (made : ℕ) (w : ReplayState) →
         ExplainedAfter h unfit known ds made w → first_due w.buffer ≡ None →
         (v : MappingVersion) → ExplainedAfter h unfit known (ds ++ Delivery.Mapping v ∷ []) made w }

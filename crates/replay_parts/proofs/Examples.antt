@@ -4,19 +4,20 @@ use Rattle.std.specs.Prelude.{map as mapped}
 use Rattle.std.specs.Ordering.{nat_cmp}
 use Rattle.rdf_term.specs.declared.pattern.Pattern.{Pattern}
 use Rattle.rdf_term.specs.declared.triple.Triple.{Triple}
+use Rattle.graph_query.specs.Bindings.{bindings}
 use Rattle.entity_model.specs.declared.id.EntityId.{EntityId}
 use Rattle.entity_model.specs.declared.id.IdKind.TheVariants.{Q}
 use Rattle.entity_model.specs.declared.event.Event.{Event}
 use Rattle.entity_model.specs.declared.event.Kind.TheVariants.{Edit}
 use Rattle.delivery.specs.declared.Delivery.{Delivery}
-use Rattle.delivery.specs.declared.Delivery.TheVariants.{Event as Told, Watermark, Ask, Mapping}
+use Rattle.delivery.specs.declared.Delivery.TheVariants.{Event as Told, Watermark, Ask, Mapping, Match}
 use Rattle.entity_model.specs.declared.mapping.MappingVersion.{MappingVersion}
 use Rattle.entity_model.specs.declared.mapping.MappingVersion.TheVariants.{One, Two}
 use Rattle.side_output.specs.declared.entry.Cause.TheVariants.{Missing}
 use Rattle.side_output.specs.declared.entry.Entry.TheVariants.{Late, Revision}
 use Rattle.replay_model.specs.Acceptance.{mark, version_in_force, late, due}
 use Rattle.replay_model.specs.Play.{Replies}
-use Rattle.replay_model.specs.Transcript.{asks, ask_section, export_section}
+use Rattle.replay_model.specs.Transcript.{asks, ask_section, export_section, match_section, matches}
 use Rattle.replay_model.specs.Union.{Meaning}
 use Rattle.replay_parts.specs.Checkpoint.{checkpoint, checkpoint_at_start, advanced, advanced_by, fetches_from, replies_of_runs, version_after}
 use Rattle.replay_parts.specs.Parts.{Part, closing_together, is_in_part, merged, numbered_parts, part_of_fetches, part_of_side, part_of_state, parts_modulo, replies_of_parts, routed, said_together}
@@ -121,6 +122,10 @@ nothing v x r bytes = []
 said-nothing : said_together nothing None [] (Ask all ∷ Watermark (pos 5) ∷ Ask all ∷ []) ≡ ask_section 1 [] ++ (ask_section 2 [] ++ [])
 said-nothing = refl
 
+-- matches are counted by themselves
+said-matches : said_together nothing None [] (Match [] ∷ Ask all ∷ Match [] ∷ []) ≡ match_section 1 (bindings [] []) ++ (ask_section 1 [] ++ (match_section 2 (bindings [] []) ++ []))
+said-matches = refl
+
 closing-nothing : closing_together nothing None (record { export = true; state = false; side = true }) [] [] ≡ export_section [] ++ [] ++ []
 closing-nothing = refl
 
@@ -135,7 +140,7 @@ version-left = refl
 
 -- two questions are behind it, version Two is in force, and the state knows nothing of either
 stopped : advanced_by there (checkpoint_at_start None) (Mapping Two ∷ Ask all ∷ Watermark (pos 5) ∷ Told (edit 2 6 6) ∷ Told (edit 1 4 4) ∷ Ask all ∷ [])
-    ≡ record { state = (checkpoint None there (Watermark (pos 5) ∷ Told (edit 1 4 4) ∷ Told (edit 2 6 6) ∷ [])).state; version = Two; asked = 2 }
+    ≡ record { state = (checkpoint None there (Watermark (pos 5) ∷ Told (edit 1 4 4) ∷ Told (edit 2 6 6) ∷ [])).state; version = Two; asked = 2; matched = 0 }
 stopped = refl
 
 -- the late event is kept and doesn't wait
@@ -148,6 +153,16 @@ stopped-kept = refl
 -- the next question is the third
 asked-next : (advanced there (record (checkpoint_at_start None) { asked = 2 }) (Ask all)).asked ≡ 3
 asked-next = refl
+
+-- and a match leaves its number, and is counted
+asked-match : (advanced there (record (checkpoint_at_start None) { asked = 2 }) (Match [])).asked ≡ 2
+asked-match = refl
+
+matched-next : (advanced there (record (checkpoint_at_start None) { matched = 2 }) (Match [])).matched ≡ 3
+matched-next = refl
+
+matched-part : matches (routed is_first (Match [] ∷ mixed)) ≡ 1
+matched-part = refl
 
 -- only a watermark fetches
 fetches-none : fetches_from there (checkpoint_at_start None).state (Told (edit 2 6 6) ∷ Ask all ∷ Mapping Two ∷ []) ≡ []

@@ -2,14 +2,13 @@
 use Rattle.std.proofs.Common.{◌≡◌, ℕ, ◌+◌, List, [], ◌∷◌, ◌++◌, Option, None, Some, fold, filter_map, length, refl, sym, ◌∙◌, ap, append_assoc, append-nil, length-append}
 use Rattle.std.proofs.lemmas.List.Elements.{filter_map-append}
 use Rattle.rdf_term.specs.declared.triple.Triple.{Triple}
-use Rattle.rdf_term.specs.declared.pattern.Pattern.{Pattern}
 use Rattle.delivery.specs.declared.Delivery.{Delivery}
-use Rattle.delivery.specs.declared.Delivery.TheVariants.{Event as Told, Watermark, Ask, Mapping}
+use Rattle.delivery.specs.declared.Delivery.TheVariants.{Event as Told, Watermark, Ask, Mapping, Match}
 use Rattle.entity_model.specs.declared.mapping.MappingVersion.{MappingVersion}
 use Rattle.replay_model.specs.Acceptance.{version_in_force}
 use Rattle.replay_model.specs.Play.{Replies, fetches, fetches_to_end}
 use Rattle.replay_model.specs.ReplayState.{after_end, delivered, ended, fetches_delivered, fetches_due, following, following_to_end}
-use Rattle.replay_model.specs.Transcript.{Sections, asks, pattern_of, answer_said, said, closing_text, transcript}
+use Rattle.replay_model.specs.Transcript.{Question, Sections, asks, matches, pattern_of, question_of, shapes_of, answer_said, said, closing_text, transcript}
 use Rattle.replay_model.specs.Union.{Meaning}
 use Rattle.replay_model.proofs.FetchCounts.{fetches-delivered, fetches-end}
 use Rattle.replay_model.proofs.Following.{following-delivered, following-end}
@@ -38,14 +37,18 @@ version-advanced ds (Told e) = version-kept ds (Told e) refl
 version-advanced ds (Watermark w) = version-kept ds (Watermark w) refl
 version-advanced ds (Ask q) = version-kept ds (Ask q) refl
 version-advanced ds (Mapping v) = version-mapping ds v
+version-advanced ds (Match q) = version-kept ds (Match q) refl
 
 -- the questions
 asks-advanced : (ds : List Delivery) (d : Delivery) → asks (ds ++ d ∷ []) ≡ asks ds + asks (d ∷ [])
 asks-advanced ds d = ap length (filter_map-append pattern_of ds (d ∷ [])) ∙ length-append (filter_map pattern_of ds) (filter_map pattern_of (d ∷ []))
 
--- all three
+matches-advanced : (ds : List Delivery) (d : Delivery) → matches (ds ++ d ∷ []) ≡ matches ds + matches (d ∷ [])
+matches-advanced ds d = ap length (filter_map-append shapes_of ds (d ∷ [])) ∙ length-append (filter_map shapes_of ds) (filter_map shapes_of (d ∷ []))
+
+-- all four
 pub checkpoint-advanced : (hz : Option ℕ) (replies : Replies) (ds : List Delivery) (d : Delivery) → checkpoint hz replies (ds ++ d ∷ []) ≡ advanced replies (checkpoint hz replies ds) d
-checkpoint-advanced hz replies ds d = λ i. record { state = following-delivered hz replies ds d i; version = version-advanced ds d i; asked = asks-advanced ds d i }
+checkpoint-advanced hz replies ds d = λ i. record { state = following-delivered hz replies ds d i; version = version-advanced ds d i; asked = asks-advanced ds d i; matched = matches-advanced ds d i }
 
 pub checkpoint-append : (hz : Option ℕ) (replies : Replies) (a b : List Delivery) → checkpoint hz replies (a ++ b) ≡ advanced_by replies (checkpoint hz replies a) b
 checkpoint-append hz replies = folds_on (checkpoint hz replies) (advanced replies) (checkpoint-advanced hz replies)
@@ -76,15 +79,15 @@ fetches_to_end-append hz replies a b =
     ∙ append_assoc (fetches hz replies a) (fetches_from replies (following hz replies a) b) (fetches_due replies (after_end (fold (delivered replies) (following hz replies a) b)))
 
 module _ (meaning : MappingVersion → Meaning Triple) where
-  pub answer_at-said : (hz : Option ℕ) (replies : Replies) (ds : List Delivery) (asking : Option Pattern) → answer_said meaning hz replies ds asking ≡ answer_at meaning (checkpoint hz replies ds) asking
+  pub answer_at-said : (hz : Option ℕ) (replies : Replies) (ds : List Delivery) (question : Option Question) → answer_said meaning hz replies ds question ≡ answer_at meaning (checkpoint hz replies ds) question
   answer_at-said hz replies ds None = refl
-  answer_at-said hz replies ds (Some pattern) = refl
+  answer_at-said hz replies ds (Some q) = refl
 
   pub said-append : (hz : Option ℕ) (replies : Replies) (a b : List Delivery) → said meaning hz replies (a ++ b) ≡ said meaning hz replies a ++ said_from meaning replies (checkpoint hz replies a) b
   said-append hz replies =
-      grows_on (said meaning hz replies) (checkpoint hz replies) (λ c d. answer_at meaning c (pattern_of d)) (advanced replies) (said_from meaning replies)
+      grows_on (said meaning hz replies) (checkpoint hz replies) (λ c d. answer_at meaning c (question_of d)) (advanced replies) (said_from meaning replies)
       (λ s. refl) (λ s d ds. refl)
-      (λ ds d. said-push hz meaning replies ds d ∙ ap (λ l. said meaning hz replies ds ++ l) (answer_at-said hz replies ds (pattern_of d)))
+      (λ ds d. said-push hz meaning replies ds d ∙ ap (λ l. said meaning hz replies ds ++ l) (answer_at-said hz replies ds (question_of d)))
       (checkpoint-advanced hz replies)
 
   pub transcript-append : (hz : Option ℕ) (sections : Sections) (replies : Replies) (a b : List Delivery) → transcript meaning hz sections replies (a ++ b) ≡ said meaning hz replies a ++ transcript_from meaning sections replies (checkpoint hz replies a) b

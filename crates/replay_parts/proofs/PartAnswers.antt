@@ -5,7 +5,7 @@ use Rattle.rdf_term.specs.declared.triple.Triple.{Triple}
 use Rattle.rising.proofs.Pushes.{by_pushes}
 use Rattle.entity_model.specs.declared.id.EntityId.{EntityId}
 use Rattle.delivery.specs.declared.Delivery.{Delivery}
-use Rattle.delivery.specs.declared.Delivery.TheVariants.{Event as Told, Watermark, Ask, Mapping}
+use Rattle.delivery.specs.declared.Delivery.TheVariants.{Event as Told, Watermark, Ask, Mapping, Match}
 use Rattle.entity_model.specs.declared.mapping.MappingVersion.{MappingVersion}
 use Rattle.replay_model.specs.Acceptance.{Arrival, arrivals}
 use Rattle.replay_model.specs.Play.{Replies}
@@ -36,6 +36,7 @@ module _ (meaning : MappingVersion → Meaning Triple) (contains : EntityId → 
   says-step ds (Watermark w) before = said-push hz meaning own (routed contains ds) (Watermark w) ∙ ap (λ l. l ++ []) before
   says-step ds (Ask q) before = said-push hz meaning own (routed contains ds) (Ask q) ∙ ap (λ l. l ++ part_says (record { before = ds; delivery = Ask q })) before
   says-step ds (Mapping v) before = said-push hz meaning own (routed contains ds) (Mapping v) ∙ ap (λ l. l ++ []) before
+  says-step ds (Match q) before = said-push hz meaning own (routed contains ds) (Match q) ∙ ap (λ l. l ++ part_says (record { before = ds; delivery = Match q })) before
 
   -- a part says its answers at the questions of the whole
   pub said-routed : (ds : List Delivery) → said meaning hz own (routed contains ds) ≡ flat_map part_says (arrivals ds)

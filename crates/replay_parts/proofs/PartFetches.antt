@@ -5,7 +5,7 @@ use Rattle.rising.proofs.Pushes.{by_pushes}
 use Rattle.entity_model.specs.declared.id.EntityId.{EntityId}
 use Rattle.entity_model.specs.declared.event.Event.{Event}
 use Rattle.delivery.specs.declared.Delivery.{Delivery}
-use Rattle.delivery.specs.declared.Delivery.TheVariants.{Event as Told, Watermark, Ask, Mapping}
+use Rattle.delivery.specs.declared.Delivery.TheVariants.{Event as Told, Watermark, Ask, Mapping, Match}
 use Rattle.entity_state.specs.declared.record.Record.{Record}
 use Rattle.entity_state.specs.Record.{held_revision, wants}
 use Rattle.entity_state.specs.State.{state_after}
@@ -60,6 +60,7 @@ module _ (contains : EntityId → Bool) (own replies : Replies) (agree : AgreeOn
       ∙ ap (λ l. part_of_fetches contains (fetches hz replies ds) ++ l) (fetches-newly_due hz ds false (ds ++ Watermark w ∷ []))
   fetches-step hz ds (Ask q) before = fetches-push hz own (routed contains ds) (Ask q) ∙ ap (λ l. l ++ []) before
   fetches-step hz ds (Mapping v) before = fetches-push hz own (routed contains ds) (Mapping v) ∙ ap (λ l. l ++ []) before
+  fetches-step hz ds (Match q) before = fetches-push hz own (routed contains ds) (Match q) ∙ ap (λ l. l ++ []) before
 
   -- a part makes the fetches of its entities
   pub fetches-routed : (hz : Option ℕ) (ds : List Delivery) → fetches hz own (routed contains ds) ≡ part_of_fetches contains (fetches hz replies ds)

@@ -7,7 +7,7 @@ use Rattle.entity_model.specs.declared.id.EntityId.{EntityId}
 use Rattle.entity_model.specs.EntityId.{entity_cmp, entity_cmp_total, entity_cmp_same}
 use Rattle.entity_model.specs.declared.event.Event.{Event}
 use Rattle.delivery.specs.declared.Delivery.{Delivery}
-use Rattle.delivery.specs.declared.Delivery.TheVariants.{Event as Told, Watermark, Ask, Mapping}
+use Rattle.delivery.specs.declared.Delivery.TheVariants.{Event as Told, Watermark, Ask, Mapping, Match}
 use Rattle.entity_state.specs.declared.record.Record.{Record}
 use Rattle.entity_state.specs.Record.{blank, held_revision, wants}
 use Rattle.entity_state.specs.State.{state_after}
@@ -183,6 +183,7 @@ module _ (contains : EntityId → Bool) where
         ∙ apply_all-part (newly_due hz ds false (ds ++ Watermark w ∷ [])) (play hz replies ds)
     play-step hz ds (Ask q) before = ap (play hz own) (routed-push contains ds (Ask q)) ∙ play-push hz own (routed contains ds) (Ask q) ∙ before
     play-step hz ds (Mapping v) before = ap (play hz own) (routed-push contains ds (Mapping v)) ∙ play-push hz own (routed contains ds) (Mapping v) ∙ before
+    play-step hz ds (Match q) before = ap (play hz own) (routed-push contains ds (Match q)) ∙ play-push hz own (routed contains ds) (Match q) ∙ before
 
     pub play-routed : (hz : Option ℕ) (ds : List Delivery) → play hz own (routed contains ds) ≡ part_of_played contains (play hz replies ds)
     play-routed hz = by_pushes (λ ds. play hz own (routed contains ds) ≡ part_of_played contains (play hz replies ds)) nothing

@@ -6,7 +6,7 @@ use Rattle.entity_model.specs.declared.id.EntityId.{EntityId}
 use Rattle.entity_model.specs.declared.event.Event.{Event}
 use Rattle.entity_model.specs.Event.{event_cmp, event_cmp_total, event_cmp_same}
 use Rattle.delivery.specs.declared.Delivery.{Delivery}
-use Rattle.delivery.specs.declared.Delivery.TheVariants.{Event as Told, Watermark, Ask, Mapping}
+use Rattle.delivery.specs.declared.Delivery.TheVariants.{Event as Told, Watermark, Ask, Mapping, Match}
 use Rattle.entity_model.specs.declared.mapping.MappingVersion.TheVariants.{One}
 use Rattle.reorder_buffer.specs.Watermarks.{greater, reached, is_due, floor, is_below}
 use Rattle.reorder_buffer.specs.Buffered.{unforgotten}
@@ -16,7 +16,7 @@ use Rattle.rising.proofs.Filtering.{has-filter, filter_swap, sorted-filter}
 use Rattle.replay_model.specs.Acceptance.{event_of, watermark_of, mapping_of, events, mark, version_in_force, events_passing, is_repeat, is_late, is_accepted, accepted, due}
 use Rattle.replay_model.specs.Fate.{in_order}
 use Rattle.replay_model.specs.Play.{newly_due}
-use Rattle.replay_model.specs.Transcript.{pattern_of, asks}
+use Rattle.replay_model.specs.Transcript.{pattern_of, shapes_of, asks, matches}
 use Rattle.replay_model.proofs.Deliveries.{events_passing-kept, events_passing-told}
 use Rattle.replay_parts.specs.Parts.{is_routed, routed, part_of_events}
 
@@ -40,18 +40,28 @@ module _ (contains : EntityId → Bool) where
   no_watermark (Watermark w) out = absurd (true≢false out)
   no_watermark (Ask q) out = refl
   no_watermark (Mapping v) out = refl
+  no_watermark (Match q) out = refl
 
   no_mapping : (d : Delivery) → is_routed contains d ≡ false → mapping_of d ≡ None
   no_mapping (Told e) out = refl
   no_mapping (Watermark w) out = refl
   no_mapping (Ask q) out = refl
   no_mapping (Mapping v) out = absurd (true≢false out)
+  no_mapping (Match q) out = refl
 
   no_question : (d : Delivery) → is_routed contains d ≡ false → pattern_of d ≡ None
   no_question (Told e) out = refl
   no_question (Watermark w) out = refl
   no_question (Ask q) out = absurd (true≢false out)
   no_question (Mapping v) out = refl
+  no_question (Match q) out = absurd (true≢false out)
+
+  no_match : (d : Delivery) → is_routed contains d ≡ false → shapes_of d ≡ None
+  no_match (Told e) out = refl
+  no_match (Watermark w) out = refl
+  no_match (Ask q) out = refl
+  no_match (Mapping v) out = refl
+  no_match (Match q) out = absurd (true≢false out)
 
   pub mark-routed : (ds : List Delivery) → mark (routed contains ds) ≡ mark ds
   mark-routed ds = ap (fold greater None) (filter_map-filter watermark_of (is_routed contains) no_watermark ds)
@@ -61,6 +71,9 @@ module _ (contains : EntityId → Bool) where
 
   pub asks-routed : (ds : List Delivery) → asks (routed contains ds) ≡ asks ds
   asks-routed ds = ap length (filter_map-filter pattern_of (is_routed contains) no_question ds)
+
+  pub matches-routed : (ds : List Delivery) → matches (routed contains ds) ≡ matches ds
+  matches-routed ds = ap length (filter_map-filter shapes_of (is_routed contains) no_match ds)
 
   pub events-routed : (ds : List Delivery) → events (routed contains ds) ≡ part_of_events contains (events ds)
   events-routed [] = refl
@@ -72,6 +85,7 @@ module _ (contains : EntityId → Bool) where
   events-routed (Watermark w ∷ ds) = events-routed ds
   events-routed (Ask q ∷ ds) = events-routed ds
   events-routed (Mapping v ∷ ds) = events-routed ds
+  events-routed (Match q ∷ ds) = events-routed ds
 
   -- one delivery more
   pub routed-push : (ds : List Delivery) (d : Delivery) → routed contains (ds ++ d ∷ []) ≡ routed contains ds ++ cond (is_routed contains d) (d ∷ []) []
@@ -111,6 +125,7 @@ module _ (contains : EntityId → Bool) where
       step ds (Watermark w) before = kept ds (Watermark w) refl refl before
       step ds (Ask q) before = kept ds (Ask q) refl refl before
       step ds (Mapping v) before = kept ds (Mapping v) refl refl before
+      step ds (Match q) before = kept ds (Match q) refl refl before
 
   pub repeat-routed : (hz : Option ℕ) (ds : List Delivery) (e : Event) → contains e.entity ≡ true → is_repeat hz (routed contains ds) e ≡ is_repeat hz ds e
   repeat-routed hz ds e is =

@@ -6,6 +6,7 @@ use Rattle.rdf_term.specs.declared.pattern.Pattern.{Pattern}
 use Rattle.rdf_term.specs.declared.triple.Triple.{Triple}
 use Rattle.rdf_term.specs.Order.{triple_cmp, triple_cmp-total}
 use Rattle.rdf_term.specs.Pattern.{agrees, rows}
+use Rattle.graph_query.specs.Bindings.{bindings}
 use Rattle.rdf_term.proofs.Texts.{triple_cmp-IsAntisymmetric}
 use Rattle.rising.specs.Rising.{Each, has, sorted}
 use Rattle.rising.proofs.Filtering.{sorted-filter}
@@ -14,7 +15,7 @@ use Rattle.entity_model.specs.declared.mapping.MappingVersion.{MappingVersion}
 use Rattle.replay_model.specs.Acceptance.{Arrival, arrivals, version_in_force}
 use Rattle.replay_model.specs.Play.{Replies, played}
 use Rattle.replay_model.specs.Union.{Meaning, union}
-use Rattle.replay_model.specs.Transcript.{Sections, asks, ask_section, export_section, pattern_of, answer_said, said, side_section, state_section, transcript}
+use Rattle.replay_model.specs.Transcript.{Question, for_triples, for_bindings, Sections, asks, ask_section, export_section, match_section, matches, question_of, answer_said, said, side_section, state_section, transcript}
 use Rattle.replay_parts.specs.Parts.{routed, part_of_records, AgreeOnPart, Part, IsPartition, merged, answered_together, closing_together, rows_played, rows_together, said_together, union_played, union_together}
 use Rattle.replay_parts.proofs.PlayedParts.{played-routed}
 use Rattle.replay_parts.proofs.Routed.{version-routed}
@@ -59,13 +60,14 @@ module _ (meaning : MappingVersion → Meaning Triple) (replies : Replies) (part
       ap (has triple_cmp t) (rows-together before pattern)
       ∙ has-merged triple_cmp-total (λ (part : Part). rows_played meaning hz part.replies (routed part.contains before) pattern) t parts
 
-  answered-together : (before : List Delivery) (asking : Option Pattern) → answer_said meaning hz replies before asking ≡ answered_together meaning hz parts before asking
+  answered-together : (before : List Delivery) (question : Option Question) → answer_said meaning hz replies before question ≡ answered_together meaning hz parts before question
   answered-together before None = refl
-  answered-together before (Some pattern) = ap (ask_section (asks before + 1)) (rows-together before pattern)
+  answered-together before (Some (for_triples pattern)) = ap (ask_section (asks before + 1)) (rows-together before pattern)
+  answered-together before (Some (for_bindings shapes)) = ap (λ triples. match_section (matches before + 1) (bindings triples shapes)) (union-together false before)
 
   -- the answers to all questions
   pub said-together : (ds : List Delivery) → said meaning hz replies ds ≡ said_together meaning hz parts ds
-  said-together ds = λ i. flat_map (λ (a : Arrival). answered-together a.before (pattern_of a.delivery) i) (arrivals ds)
+  said-together ds = λ i. flat_map (λ (a : Arrival). answered-together a.before (question_of a.delivery) i) (arrivals ds)
 
   -- all that is printed, where the side output isn't
   pub transcript-together : (sections : Sections) (ds : List Delivery) → sections.side ≡ false → transcript meaning hz sections replies ds ≡ said_together meaning hz parts ds ++ closing_together meaning hz sections parts ds

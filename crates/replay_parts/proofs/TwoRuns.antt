@@ -5,7 +5,7 @@ use Rattle.rdf_term.specs.declared.triple.Triple.{Triple}
 use Rattle.entity_model.specs.declared.event.Event.{Event}
 use Rattle.entity_model.specs.Event.{event_cmp_total, event_cmp_same}
 use Rattle.delivery.specs.declared.Delivery.{Delivery}
-use Rattle.delivery.specs.declared.Delivery.TheVariants.{Event as Told, Watermark, Ask, Mapping}
+use Rattle.delivery.specs.declared.Delivery.TheVariants.{Event as Told, Watermark, Ask, Mapping, Match}
 use Rattle.entity_model.specs.declared.mapping.MappingVersion.{MappingVersion}
 use Rattle.entity_state.specs.State.{state_after}
 use Rattle.rising.proofs.Bools.{clash}
@@ -17,7 +17,7 @@ use Rattle.replay_model.specs.Fate.{in_order}
 use Rattle.replay_model.specs.Play.{Replies, Played, apply, apply_all, play, play_to_end}
 use Rattle.replay_model.specs.Records.{record_of}
 use Rattle.replay_model.specs.ReplayState.{after_mark, after_end, after_due, delivered, ended, following, following_to_end}
-use Rattle.replay_model.specs.Transcript.{Sections, pattern_of, said, closing_text, transcript}
+use Rattle.replay_model.specs.Transcript.{Sections, question_of, said, closing_text, transcript}
 use Rattle.replay_model.specs.Union.{Meaning}
 use Rattle.replay_model.proofs.Deliveries.{mark-kept, mark-watermark}
 use Rattle.replay_model.proofs.Following.{waits, following-delivered, following-end}
@@ -51,6 +51,7 @@ reached-push ds (Told q) e h = ap (λ m. reached m e.time) (mark-kept ds (Told q
 reached-push ds (Watermark w) e h = ap (λ m. reached m e.time) (mark-watermark ds w) ∙ reached-greater (mark ds) w e.time h
 reached-push ds (Ask q) e h = ap (λ m. reached m e.time) (mark-kept ds (Ask q) refl) ∙ h
 reached-push ds (Mapping v) e h = ap (λ m. reached m e.time) (mark-kept ds (Mapping v) refl) ∙ h
+reached-push ds (Match q) e h = ap (λ m. reached m e.time) (mark-kept ds (Match q) refl) ∙ h
 
 abbrev AgreeReached : List Delivery → Replies → Replies → Type 0
 AgreeReached ds others replies = AgreeWhere (λ e. reached (mark ds) e.time) others replies
@@ -60,6 +61,7 @@ module _ (hz : Option ℕ) (others replies : Replies) where
   delivered-reached ds (Told e) agree = refl
   delivered-reached ds (Ask q) agree = refl
   delivered-reached ds (Mapping v) agree = refl
+  delivered-reached ds (Match q) agree = refl
   delivered-reached ds (Watermark w) agree =
       let before = after_mark (following hz replies ds) w in
       let same = apply_all-alike others replies (is_due false (greater (mark ds) w)) (λ e r due. agree e r (ap (λ m. reached m e.time) (mark-watermark ds w) ∙ due)) before.buffer.waiting before.played in
@@ -79,7 +81,7 @@ module _ (hz : Option ℕ) (others replies : Replies) where
         (λ ds d before agree.
         let earlier : AgreeReached ds others replies = λ e r h. agree e r (reached-push ds d e h) in
         said-push hz meaning others ds d
-        ∙ (λ i. before earlier i ++ (answer_at-said meaning hz others ds (pattern_of d) ∙ ap (λ w. answer_at meaning (record (checkpoint hz replies ds) { state = w }) (pattern_of d)) (following-reached ds earlier) ∙ sym (answer_at-said meaning hz replies ds (pattern_of d))) i)
+        ∙ (λ i. before earlier i ++ (answer_at-said meaning hz others ds (question_of d) ∙ ap (λ w. answer_at meaning (record (checkpoint hz replies ds) { state = w }) (question_of d)) (following-reached ds earlier) ∙ sym (answer_at-said meaning hz replies ds (question_of d))) i)
         ∙ sym (said-push hz meaning replies ds d))
 
   -- ---- after a mark
@@ -98,6 +100,7 @@ module _ (hz : Option ℕ) (others replies : Replies) where
   delivered-waiting ds (Told e) agree = refl
   delivered-waiting ds (Ask q) agree = refl
   delivered-waiting ds (Mapping v) agree = refl
+  delivered-waiting ds (Match q) agree = refl
   delivered-waiting ds (Watermark w) agree = λ i. record { buffer = (after_due replies (after_mark (following hz others ds) w)).buffer; played = due-waiting ds agree false (greater (mark ds) w) i }
 
   ended-waiting : (ds : List Delivery) → AgreeWhere (waits (mark ds)) others replies → ended others (following hz others ds) ≡ ended replies (following hz others ds)
@@ -126,11 +129,11 @@ module _ (hz : Option ℕ) (others replies : Replies) where
       ∙ sym (fold_push (advanced replies) (checkpoint hz others a) b d))
 
   module _ (meaning : MappingVersion → Meaning Triple) where
-    said_from-push : (c : Checkpoint) (b : List Delivery) (d : Delivery) → said_from meaning replies c (b ++ d ∷ []) ≡ said_from meaning replies c b ++ answer_at meaning (advanced_by replies c b) (pattern_of d)
-    said_from-push c [] d = append-nil (answer_at meaning c (pattern_of d))
+    said_from-push : (c : Checkpoint) (b : List Delivery) (d : Delivery) → said_from meaning replies c (b ++ d ∷ []) ≡ said_from meaning replies c b ++ answer_at meaning (advanced_by replies c b) (question_of d)
+    said_from-push c [] d = append-nil (answer_at meaning c (question_of d))
     said_from-push c (q ∷ b) d =
-        ap (λ l. answer_at meaning c (pattern_of q) ++ l) (said_from-push (advanced replies c q) b d)
-        ∙ sym (append_assoc (answer_at meaning c (pattern_of q)) (said_from meaning replies (advanced replies c q) b) (answer_at meaning (advanced_by replies (advanced replies c q) b) (pattern_of d)))
+        ap (λ l. answer_at meaning c (question_of q) ++ l) (said_from-push (advanced replies c q) b d)
+        ∙ sym (append_assoc (answer_at meaning c (question_of q)) (said_from meaning replies (advanced replies c q) b) (answer_at meaning (advanced_by replies (advanced replies c q) b) (question_of d)))
 
     said-waiting : (a : List Delivery) → AgreeWhere (waits (mark a)) others replies → (b : List Delivery) → said meaning hz others (a ++ b) ≡ said meaning hz others a ++ said_from meaning replies (checkpoint hz others a) b
     said-waiting a agree = by_pushes (λ b. said meaning hz others (a ++ b) ≡ said meaning hz others a ++ said_from meaning replies (checkpoint hz others a) b)
@@ -138,8 +141,8 @@ module _ (hz : Option ℕ) (others replies : Replies) where
         (λ b d before.
         ap (said meaning hz others) (sym (append_assoc a b (d ∷ [])))
         ∙ said-push hz meaning others (a ++ b) d
-        ∙ (λ i. before i ++ (answer_at-said meaning hz others (a ++ b) (pattern_of d) ∙ ap (λ c. answer_at meaning c (pattern_of d)) (checkpoint-waiting a agree b)) i)
-        ∙ append_assoc (said meaning hz others a) (said_from meaning replies (checkpoint hz others a) b) (answer_at meaning (advanced_by replies (checkpoint hz others a) b) (pattern_of d))
+        ∙ (λ i. before i ++ (answer_at-said meaning hz others (a ++ b) (question_of d) ∙ ap (λ c. answer_at meaning c (question_of d)) (checkpoint-waiting a agree b)) i)
+        ∙ append_assoc (said meaning hz others a) (said_from meaning replies (checkpoint hz others a) b) (answer_at meaning (advanced_by replies (checkpoint hz others a) b) (question_of d))
         ∙ ap (λ l. said meaning hz others a ++ l) (sym (said_from-push (checkpoint hz others a) b d)))
 
 -- ---- both

@@ -1,9 +1,7 @@
 -- What a replay has to know between two deliveries, and how it goes on from there.
 use Rattle.std.specs.Prelude.{ℕ, ◌+◌, ℤ, cond, List, [], ◌∷◌, ◌++◌, Option, None, Some, fold, unwrap_or}
-use Rattle.rdf_term.specs.declared.pattern.Pattern.{Pattern}
 use Rattle.rdf_term.specs.declared.triple.Triple.{Triple}
 use Rattle.rdf_term.specs.Order.{triple_cmp}
-use Rattle.rdf_term.specs.Pattern.{rows}
 use Rattle.delivery.specs.declared.Delivery.{Delivery}
 use Rattle.entity_model.specs.declared.mapping.MappingVersion.{MappingVersion}
 use Rattle.entity_model.specs.declared.mapping.MappingVersion.TheVariants.{One}
@@ -11,22 +9,23 @@ use Rattle.reorder_buffer.specs.Watermarks.{reached}
 use Rattle.replay_model.specs.Acceptance.{mapping_of, version_in_force}
 use Rattle.replay_model.specs.Play.{Replies, Fetch}
 use Rattle.replay_model.specs.ReplayState.{ReplayState, nothing_delivered_within, after_end, delivered, ended, fetches_delivered, fetches_due, following}
-use Rattle.replay_model.specs.Transcript.{Sections, ask_section, asks, closing_text, pattern_of}
+use Rattle.replay_model.specs.Transcript.{Question, Sections, answer_section, asks, closing_text, matches, question_of}
 use Rattle.replay_model.specs.Union.{Meaning, union}
 
--- where a replay stands: its state, the version of the mapping in force, and how many questions were asked
+-- where a replay stands: its state, the version of the mapping in force, and how many asks and how many matches were delivered
 pub record Checkpoint : Type 0 where
   pub state : ReplayState
   pub version : MappingVersion
   pub asked : ℕ
+  pub matched : ℕ
 
 -- before the first delivery
 abbrev pub checkpoint_at_start : Option ℕ → Checkpoint
-checkpoint_at_start h = record { state = nothing_delivered_within h; version = One; asked = 0 }
+checkpoint_at_start h = record { state = nothing_delivered_within h; version = One; asked = 0; matched = 0 }
 
 -- where the replay of these deliveries stands
 abbrev pub checkpoint : Option ℕ → Replies → List Delivery → Checkpoint
-checkpoint h replies ds = record { state = following h replies ds; version = version_in_force ds; asked = asks ds }
+checkpoint h replies ds = record { state = following h replies ds; version = version_in_force ds; asked = asks ds; matched = matches ds }
 
 -- the version in force after one more delivery
 abbrev pub version_after : MappingVersion → Delivery → MappingVersion
@@ -34,7 +33,7 @@ version_after version d = unwrap_or (mapping_of d) version
 
 -- a checkpoint after one more delivery
 abbrev pub advanced : Replies → Checkpoint → Delivery → Checkpoint
-advanced replies c d = record { state = delivered replies c.state d; version = version_after c.version d; asked = c.asked + asks (d ∷ []) }
+advanced replies c d = record { state = delivered replies c.state d; version = version_after c.version d; asked = c.asked + asks (d ∷ []); matched = c.matched + matches (d ∷ []) }
 
 -- a checkpoint after more deliveries, one after the other
 abbrev pub advanced_by : Replies → Checkpoint → List Delivery → Checkpoint
@@ -51,14 +50,14 @@ fetches_to_end_from replies w ds = fetches_from replies w ds ++ fetches_due repl
 
 module _ (meaning : MappingVersion → Meaning Triple) where
   -- the answer to a question that is asked at a checkpoint, if one is
-  abbrev pub answer_at : Checkpoint → Option Pattern → List ℕ
+  abbrev pub answer_at : Checkpoint → Option Question → List ℕ
   answer_at c None = []
-  answer_at c (Some pattern) = ask_section (c.asked + 1) (rows (union triple_cmp (meaning c.version) c.state.played.records) pattern)
+  answer_at c (Some question) = answer_section c.asked c.matched (union triple_cmp (meaning c.version) c.state.played.records) question
 
   -- what is printed at more deliveries
   abbrev pub said_from : Replies → Checkpoint → List Delivery → List ℕ
   said_from replies c [] = []
-  said_from replies c (d ∷ ds) = answer_at c (pattern_of d) ++ said_from replies (advanced replies c d) ds
+  said_from replies c (d ∷ ds) = answer_at c (question_of d) ++ said_from replies (advanced replies c d) ds
 
   -- what is printed where the input ends at a checkpoint
   abbrev pub closing_at : Sections → Replies → Checkpoint → List ℕ

@@ -8,10 +8,11 @@ use Rattle.rdf_term.specs.declared.pattern.Pattern.{Pattern}
 use Rattle.rdf_term.specs.declared.triple.Triple.{Triple}
 use Rattle.rdf_term.specs.Order.{triple_cmp}
 use Rattle.rdf_term.specs.Pattern.{rows}
+use Rattle.graph_query.specs.Bindings.{bindings}
 use Rattle.entity_model.specs.declared.id.EntityId.{EntityId}
 use Rattle.entity_model.specs.declared.event.Event.{Event}
 use Rattle.delivery.specs.declared.Delivery.{Delivery}
-use Rattle.delivery.specs.declared.Delivery.TheVariants.{Event as Told, Watermark, Ask, Mapping}
+use Rattle.delivery.specs.declared.Delivery.TheVariants.{Event as Told, Watermark, Ask, Mapping, Match}
 use Rattle.entity_model.specs.declared.mapping.MappingVersion.{MappingVersion}
 use Rattle.side_output.specs.declared.entry.Entry.{Entry}
 use Rattle.side_output.specs.Entry.{entity_of}
@@ -19,7 +20,7 @@ use Rattle.replay_model.specs.Acceptance.{Arrival, arrivals, version_in_force}
 use Rattle.replay_model.specs.Play.{Replies, Played, Fetch, played}
 use Rattle.replay_model.specs.Records.{Records}
 use Rattle.replay_model.specs.ReplayState.{ReplayState}
-use Rattle.replay_model.specs.Transcript.{Sections, ask_section, asks, export_section, pattern_of, side_section, state_section}
+use Rattle.replay_model.specs.Transcript.{Question, for_triples, for_bindings, Sections, ask_section, asks, export_section, match_section, matches, question_of, side_section, state_section}
 use Rattle.replay_model.specs.Union.{Meaning, union}
 
 -- whether a delivery goes to the part that contains these entities: an event goes to the part of its entity, and all else to every part
@@ -28,6 +29,7 @@ is_routed contains (Told e) = contains e.entity
 is_routed contains (Watermark w) = true
 is_routed contains (Ask q) = true
 is_routed contains (Mapping v) = true
+is_routed contains (Match q) = true
 
 -- the deliveries that go to the part, in their order
 abbrev pub routed : (EntityId → Bool) → List Delivery → List Delivery
@@ -115,14 +117,16 @@ module _ (meaning : MappingVersion → Meaning Triple) where
   abbrev pub rows_together : Option ℕ → List Part → List Delivery → Pattern → List Triple
   rows_together h parts ds pattern = merged triple_cmp (λ (part : Part). rows_played h part.replies (routed part.contains ds) pattern) parts
 
-  -- the answer to a question that is made of the parts' rows: they are merged and counted anew
-  abbrev pub answered_together : Option ℕ → List Part → List Delivery → Option Pattern → List ℕ
+  -- the answer to an ask that is made of the parts' rows: they are merged and counted anew. The answer to a match is made of the parts'
+  -- triples, and not of their answers: the shapes of a binding may be triples of different parts
+  abbrev pub answered_together : Option ℕ → List Part → List Delivery → Option Question → List ℕ
   answered_together h parts before None = []
-  answered_together h parts before (Some pattern) = ask_section (asks before + 1) (rows_together h parts before pattern)
+  answered_together h parts before (Some (for_triples pattern)) = ask_section (asks before + 1) (rows_together h parts before pattern)
+  answered_together h parts before (Some (for_bindings shapes)) = match_section (matches before + 1) (bindings (union_together h false parts before) shapes)
 
   -- the answers to all questions
   abbrev pub said_together : Option ℕ → List Part → List Delivery → List ℕ
-  said_together h parts ds = flat_map (λ (a : Arrival). answered_together h parts a.before (pattern_of a.delivery)) (arrivals ds)
+  said_together h parts ds = flat_map (λ (a : Arrival). answered_together h parts a.before (question_of a.delivery)) (arrivals ds)
 
   -- the sections after the end that are made of the parts': the triples merged and counted anew, the states in the order of the ids,
   -- and the entries of one part after those of the other

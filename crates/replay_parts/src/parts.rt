@@ -20,13 +20,13 @@ ghost use Rattle.replay_model.specs.Entries.{is_open_in};
 ghost use Rattle.replay_model.specs.Play.{Fetch, Replies, fetches, fetches_to_end, played};
 ghost use Rattle.replay_model.specs.Records.{Records, record_of};
 ghost use Rattle.replay_model.specs.ReplayState.{following, following_to_end};
-ghost use Rattle.replay_model.specs.Transcript.{Sections, asks, said, said_at, transcript};
+ghost use Rattle.replay_model.specs.Transcript.{Sections, asks, matches, said, said_at, transcript};
 ghost use Rattle.replay_model.specs.Union.{Meaning, owners, union};
 ghost use Rattle.replay_parts.specs.Parts.{AgreeOnPart, IsPartition, Part, closing_together, is_in_part, merged, numbered_parts, part_of_fetches, part_of_played, part_of_records, part_of_side, part_of_state, parts_modulo, records_together, replies_of_parts, routed, rows_played, rows_together, said_together, union_played, union_together};
 
 /// A replay of the deliveries that go to a part is the part of the replay of all deliveries: of the events that are kept or wait, of the
 /// records, of the side output and of the fetches it has those of its entities, in their order, and its entries are open where the
-/// whole's are. The mark, the version in force and the number of questions are those of the whole. A part may be replied to by another
+/// whole's are. The mark, the version in force and the numbers of questions are those of the whole. A part may be replied to by another
 /// source, as long as this one replies alike to the events of its entities.
 pub fn replay_of_a_part_is_the_part_of_a_replay()
     ensures state { (contains : EntityId → Bool) (own replies : Replies) → AgreeOnPart contains own replies → (h : Option ℕ) (ds : List Delivery) →
@@ -51,6 +51,7 @@ pub fn replay_of_a_part_is_the_part_of_a_replay()
     ensures mark { (contains : EntityId → Bool) (ds : List Delivery) → mark (routed contains ds) ≡ mark ds }
     ensures version { (contains : EntityId → Bool) (ds : List Delivery) → version_in_force (routed contains ds) ≡ version_in_force ds }
     ensures asked { (contains : EntityId → Bool) (ds : List Delivery) → asks (routed contains ds) ≡ asks ds }
+    ensures matched { (contains : EntityId → Bool) (ds : List Delivery) → matches (routed contains ds) ≡ matches ds }
 {}
 
 /// A part answers at the questions of the whole, with their numbers, from the deliveries that went to it before; at the other deliveries it
@@ -82,8 +83,8 @@ pub fn union_is_made_of_the_parts<Triple>()
         ↔ ((k : ℕ) × (has order t (union order meaning (part_of_records (is_in_part number k) records)) ≡ true)) }
 {}
 
-/// The parts of a partition together print what one replay of all deliveries prints: the rows of each question, merged and counted
-/// anew, are its answer, and the triples and records after the end are its export and its states. So what all print together is what it
+/// The parts of a partition together print what one replay of all deliveries prints: the rows of each ask, merged and counted
+/// anew, are its answer, the bindings over the parts' triples together are the answer to a match, and the triples and records after the end are its export and its states. So what all print together is what it
 /// prints, where the side output isn't asked for: that one comes in the order of the parts.
 pub fn parts_together_print_what_the_whole_prints()
     ensures rows { (meaning : MappingVersion → Meaning Triple) (replies : Replies) (parts : List Part) → IsPartition replies parts →

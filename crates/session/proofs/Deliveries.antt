@@ -1,14 +1,13 @@
 -- What a delivery, and the end of the input, make of a world at rest.
-use Rattle.std.proofs.Common.{refl, inl, inr, sym, subst, ap, ◌∙◌, ◌≡◌, ℕ, ◌+◌, ◌≤◌, ℤ, false, List, [], ◌∷◌, ◌++◌, length, length-append, append-nil, None, Some, Ok, Err, arith}
+use Rattle.std.proofs.Common.{refl, inl, inr, sym, subst, ap, ◌∙◌, ◌≡◌, ℕ, ◌+◌, ◌≤◌, ℤ, false, List, [], ◌∷◌, ◌++◌, length, length-append, append-nil, Option, None, Some, Ok, Err, arith}
 use Rattle.std.specs.List.{filter_map}
 use Rattle.std.proofs.lemmas.List.Elements.{filter_map-append}
-use Rattle.rdf_term.specs.declared.pattern.Pattern.{Pattern}
 use Rattle.rdf_term.specs.declared.triple.Triple.{Triple}
 use Rattle.rdf_term.specs.Order.{triple_cmp}
 use Rattle.wq_io.specs.Streams.{after_known}
 use Rattle.entity_model.specs.declared.event.Event.{Event}
 use Rattle.delivery.specs.declared.Delivery.{Delivery}
-use Rattle.delivery.specs.declared.Delivery.TheVariants.{Event as Told, Watermark, Ask, Mapping}
+use Rattle.delivery.specs.declared.Delivery.TheVariants.{Event as Told, Watermark, Mapping}
 use Rattle.entity_model.specs.declared.id.EntityId.{EntityId}
 use Rattle.entity_model.specs.declared.mapping.MappingVersion.{MappingVersion}
 use Rattle.side_output.specs.declared.entry.Entry.{Entry}
@@ -21,8 +20,7 @@ use Rattle.replay_model.specs.Records.{Records}
 use Rattle.replay_model.specs.Versions.{all_by}
 use Rattle.replay_model.specs.Play.{Replies}
 use Rattle.replay_model.specs.ReplayState.{ReplayState, after_end, after_event, after_mark, entered, following, taken_entries}
-use Rattle.replay_model.specs.Transcript.{ask_section, asks, pattern_of, said, said_at}
-use Rattle.rdf_term.specs.Pattern.{rows}
+use Rattle.replay_model.specs.Transcript.{Question, for_triples, for_bindings, answer_said, answer_section, asking, asks, matches, pattern_of, question_of, said, said_at, shapes_of}
 use Rattle.replay_model.specs.Union.{union}
 use Rattle.replay_model.proofs.Applied.{applied-end, applied-event, applied-mark}
 use Rattle.replay_model.proofs.Explaining.{Explained-ask, Explained-end, Explained-event, Explained-event_rests, Explained-is, Explained-mapping, Explained-mark, Explained-rests, ask_replies, end_replies, event_replies, mapping_replies, mark_replies}
@@ -45,7 +43,7 @@ use Rattle.session.specs.Course.{Course, course_after, course_begun, course_rema
 use Rattle.session.specs.Moment.{Environment, Stage, with_mapped, with_output, with_world, horizon_at}
 use Rattle.session.specs.Needed.{HaveRoom, HaveRoomBefore, needed_anew, needed_at, needed_by_due, needed_in, needed_to_end}
 use Rattle.session.specs.Remapping.{KeepsVersion, Mapped, held_triples, mapped_by}
-use Rattle.session.specs.Report.{AnswersAsk, HasAnswered, HasReported, TellsBy}
+use Rattle.session.specs.Report.{AnswersQuestion, HasAnswered, HasReported, TellsBy}
 use Rattle.session.specs.Stop.{stop_of_halt, stop_of_unwritten}
 use Rattle.session.specs.Taking.{AppliesDue, AtEnd, AtRest, CutsOff, IsHeldUp, IsWithin, Leads, RemapsPages, StaysWithin, judgement, turn}
 use Rattle.session.proofs.Due.{no_call, within}
@@ -56,6 +54,27 @@ use Rattle.session.proofs.Versions.{all_held_by}
 -- one delivery more: how many questions were asked
 pub asks-push : (ds : List Delivery) (d : Delivery) → asks (ds ++ d ∷ []) ≡ asks ds + asks (d ∷ [])
 asks-push ds d = ap length (filter_map-append pattern_of ds (d ∷ [])) ∙ length-append (filter_map pattern_of ds) (filter_map pattern_of (d ∷ []))
+
+-- and how many matches were delivered
+pub matches-push : (ds : List Delivery) (d : Delivery) → matches (ds ++ d ∷ []) ≡ matches ds + matches (d ∷ [])
+matches-push ds d = ap length (filter_map-append shapes_of ds (d ∷ [])) ∙ length-append (filter_map shapes_of ds) (filter_map shapes_of (d ∷ []))
+
+-- a question is the delivery that asks it, makes no step, needs no room and brings no version of the mapping
+pub question-asked : (q : Question) → question_of (asking q) ≡ Some q
+question-asked (for_triples pattern) = refl
+question-asked (for_bindings shapes) = refl
+
+asking-steps : (h : Option ℕ) (replies : Replies) (ds : List Delivery) (q : Question) → steps_at h replies (record { before = ds; delivery = asking q }) ≡ []
+asking-steps h replies ds (for_triples pattern) = refl
+asking-steps h replies ds (for_bindings shapes) = refl
+
+asking-needs : (h : Option ℕ) (replies : Replies) (ds : List Delivery) (q : Question) → needed_at h replies (record { before = ds; delivery = asking q }) ≡ []
+asking-needs h replies ds (for_triples pattern) = refl
+asking-needs h replies ds (for_bindings shapes) = refl
+
+asking-mapping : (q : Question) → mapping_of (asking q) ≡ None
+asking-mapping (for_triples pattern) = refl
+asking-mapping (for_bindings shapes) = refl
 
 -- a delivery that doesn't ask is no answer
 answered_still : (report : Report) (reported : ℕ) (ds : List Delivery) (d : Delivery) → asks (d ∷ []) ≡ 0 → HasAnswered report reported ds → HasAnswered report reported (ds ++ d ∷ [])
@@ -291,64 +310,66 @@ module _ (environment : Environment) (ds : List Delivery) (start : Stage) where
       })
 
   -- the answer of a world at rest is that of its play
-  answer_is : (now : Stage) (q : Pattern) (reported : ℕ) (at_rest : AtRest environment ds reported start now) (others : Replies) → AgreeOnApplied now.world at_rest.leads.explained.replies others → reported ≡ asks ds →
-      ask_section (reported + 1) (rows (held_triples now.mapped now.world.played.records) q) ≡ said_at meaning (horizon_at start) others (record { before = ds; delivery = Ask q })
-  answer_is now q reported at_rest others agree counts_it =
-      ap (λ n. ask_section (n + 1) (rows (held_triples now.mapped now.world.played.records) q)) counts_it
-      ∙ ap (λ triples. ask_section (asks ds + 1) (rows triples q)) (all_held_by (version_in_force ds) now.mapped now.world.played.records at_rest.mapped)
-      ∙ ap (λ (w : ReplayState). ask_section (asks ds + 1) (rows (union triple_cmp (meaning (version_in_force ds)) w.played.records) q)) (rest_is now reported at_rest others agree)
+  answer_is : (now : Stage) (q : Question) (reported matched : ℕ) (at_rest : AtRest environment ds reported start now) (others : Replies) → AgreeOnApplied now.world at_rest.leads.explained.replies others → reported ≡ asks ds → matched ≡ matches ds →
+      answer_section reported matched (held_triples now.mapped now.world.played.records) q ≡ said_at meaning (horizon_at start) others (record { before = ds; delivery = asking q })
+  answer_is now q reported matched at_rest others agree asked counted =
+      ap (λ n. answer_section n matched (held_triples now.mapped now.world.played.records) q) asked
+      ∙ ap (λ n. answer_section (asks ds) n (held_triples now.mapped now.world.played.records) q) counted
+      ∙ ap (λ triples. answer_section (asks ds) (matches ds) triples q) (all_held_by (version_in_force ds) now.mapped now.world.played.records at_rest.mapped)
+      ∙ ap (λ (w : ReplayState). answer_section (asks ds) (matches ds) (union triple_cmp (meaning (version_in_force ds)) w.played.records) q) (rest_is now reported at_rest others agree)
+      ∙ ap (answer_said meaning (horizon_at start) others ds) (sym (question-asked q))
 
   -- a question is answered where questions are, and passed over where changes are reported
-  ask_reported : (report : Report) (now : Stage) (q : Pattern) (reported reported_now : ℕ) (out : Output) (others : Replies) → report ≡ environment.report → first_due now.world.buffer ≡ None →
-      AnswersAsk report reported (rows (held_triples now.mapped now.world.played.records) q) now.output out (Ok reported_now) →
-      (report ≡ Answers → ask_section (reported + 1) (rows (held_triples now.mapped now.world.played.records) q) ≡ said_at meaning (horizon_at start) others (record { before = ds; delivery = Ask q })) →
-      HasReported report (course_after ds start) reported start now others → HasReported report (course_after (ds ++ Ask q ∷ []) start) reported_now start (with_output now out) others
-  ask_reported Answers now q reported reported_now out others is rests answers said_there x =
-      let answer : List ℕ = ask_section (reported + 1) (rows (held_triples now.mapped now.world.played.records) q) in
+  ask_reported : (report : Report) (now : Stage) (q : Question) (reported matched reported_now : ℕ) (out : Output) (others : Replies) → report ≡ environment.report → first_due now.world.buffer ≡ None →
+      AnswersQuestion report reported matched q (held_triples now.mapped now.world.played.records) now.output out (Ok reported_now) →
+      (report ≡ Answers → answer_section reported matched (held_triples now.mapped now.world.played.records) q ≡ said_at meaning (horizon_at start) others (record { before = ds; delivery = asking q })) →
+      HasReported report (course_after ds start) reported start now others → HasReported report (course_after (ds ++ asking q ∷ []) start) reported_now start (with_output now out) others
+  ask_reported Answers now q reported matched reported_now out others is rests answers said_there x =
+      let answer : List ℕ = answer_section reported matched (held_triples now.mapped now.world.played.records) q in
       answers.1.outcome
       ∙ ap (λ b. after_known b answer) x
       ∙ after_twice start.output.bytes (said meaning (horizon_at start) others ds) answer
       ∙ ap (λ l. after_known start.output.bytes (said meaning (horizon_at start) others ds ++ l)) (said_there refl)
-      ∙ ap (after_known start.output.bytes) (sym (said-push (horizon_at start) meaning others ds (Ask q)))
-  ask_reported Changes now q reported reported_now out others is rests answers said_there x =
-      let passed : HasReported Changes (course_after (ds ++ Ask q ∷ []) start) reported start (with_output now out) others = record {
+      ∙ ap (after_known start.output.bytes) (sym (said-push (horizon_at start) meaning others ds (asking q)))
+  ask_reported Changes now q reported matched reported_now out others is rests answers said_there x =
+      let passed : HasReported Changes (course_after (ds ++ asking q ∷ []) start) reported start (with_output now out) others = record {
         steps = x.steps;
-        are = ap (λ l. x.steps ++ l) (steps-none (version_in_force (ds ++ Ask q ∷ [])) others now.world rests) ∙ append-nil x.steps
-            ∙ all_steps now others x.steps rests x.are ∙ sym (steps-still (horizon_at start) others ds (Ask q) refl);
+        are = ap (λ l. x.steps ++ l) (steps-none (version_in_force (ds ++ asking q ∷ [])) others now.world rests) ∙ append-nil x.steps
+            ∙ all_steps now others x.steps rests x.are ∙ sym (steps-still (horizon_at start) others ds (asking q) (asking-steps (horizon_at start) others ds q));
         counted = x.counted;
         bytes = ap (λ (o : Output). o.bytes) answers.1 ∙ x.bytes;
       } in
-      subst (λ n. HasReported Changes (course_after (ds ++ Ask q ∷ []) start) n start (with_output now out) others) (sym answers.0) passed
+      subst (λ n. HasReported Changes (course_after (ds ++ asking q ∷ []) start) n start (with_output now out) others) (sym answers.0) passed
 
-  ask_answered : (report : Report) (q : Pattern) (reported reported_now : ℕ) (triples : List Triple) (old out : Output) → AnswersAsk report reported triples old out (Ok reported_now) → HasAnswered report reported ds → HasAnswered report reported_now (ds ++ Ask q ∷ [])
-  ask_answered Answers q reported reported_now triples old out answers is = omega (arith, answers.0, is, asks-push ds (Ask q))
-  ask_answered Changes q reported reported_now triples old out answers is = tt
+  ask_answered : (report : Report) (q : Question) (reported matched reported_now : ℕ) (triples : List Triple) (old out : Output) → AnswersQuestion report reported matched q triples old out (Ok reported_now) → HasAnswered report reported ds → HasAnswered report reported_now (ds ++ asking q ∷ [])
+  ask_answered Answers q reported matched reported_now triples old out answers is = omega (arith, answers.0, is, asks-push ds (asking q))
+  ask_answered Changes q reported matched reported_now triples old out answers is = tt
 
-  ask_later : (report : Report) (reported reported_now : ℕ) (triples : List Triple) (old out : Output) → AnswersAsk report reported triples old out (Ok reported_now) → old.faults ≤ out.faults
-  ask_later Answers reported reported_now triples old out answers = answers.1.later
-  ask_later Changes reported reported_now triples old out answers = rw answers.1 (omega arith)
+  ask_later : (report : Report) (q : Question) (reported matched reported_now : ℕ) (triples : List Triple) (old out : Output) → AnswersQuestion report reported matched q triples old out (Ok reported_now) → old.faults ≤ out.faults
+  ask_later Answers q reported matched reported_now triples old out answers = answers.1.later
+  ask_later Changes q reported matched reported_now triples old out answers = rw answers.1 (omega arith)
 
-  pub ask_taken : (now : Stage) (q : Pattern) (reported reported_now : ℕ) (out : Output) → AnswersAsk environment.report reported (rows (held_triples now.mapped now.world.played.records) q) now.output out (Ok reported_now) →
-      AtRest environment ds reported start now → AtRest environment (ds ++ Ask q ∷ []) reported_now start (with_output now out)
-  ask_taken now q reported reported_now out answers at_rest = record {
+  pub ask_taken : (now : Stage) (q : Question) (reported matched reported_now : ℕ) (out : Output) → AnswersQuestion environment.report reported matched q (held_triples now.mapped now.world.played.records) now.output out (Ok reported_now) →
+      matched ≡ matches ds → AtRest environment ds reported start now → AtRest environment (ds ++ asking q ∷ []) reported_now start (with_output now out)
+  ask_taken now q reported matched reported_now out answers counted at_rest = record {
     leads = record {
       made = at_rest.leads.made;
       explained = Explained-ask judgement environment.known (horizon_at start) ds at_rest.leads.made now.world at_rest.leads.explained at_rest.rests q;
-      roomed = λ others agree. still_room (Ask q) others now.world at_rest.rests refl (rest_room now reported at_rest others
+      roomed = λ others agree. still_room (asking q) others now.world at_rest.rests (asking-needs (horizon_at start) others ds q) (rest_room now reported at_rest others
           (λ e r h. agree e r h ∙ ap (λ (replies : Replies). replies e r) (ask_replies judgement environment.known (horizon_at start) ds at_rest.leads.made now.world at_rest.leads.explained at_rest.rests q)));
       counted = at_rest.leads.counted;
       documents = at_rest.leads.documents;
       says = λ others agree.
           let before : AgreeOnApplied now.world at_rest.leads.explained.replies others =
           λ e r h. agree e r h ∙ ap (λ (replies : Replies). replies e r) (ask_replies judgement environment.known (horizon_at start) ds at_rest.leads.made now.world at_rest.leads.explained at_rest.rests q) in
-          ask_reported environment.report now q reported reported_now out others refl at_rest.rests answers
-          (λ asked. answer_is now q reported at_rest others before (is_answer ds environment.report reported at_rest.answered asked))
+          ask_reported environment.report now q reported matched reported_now out others refl at_rest.rests answers
+          (λ asked. answer_is now q reported matched at_rest others before (is_answer ds environment.report reported at_rest.answered asked) counted)
           (at_rest.leads.says others before);
     };
-    answered = ask_answered environment.report q reported reported_now _ now.output out answers at_rest.answered;
+    answered = ask_answered environment.report q reported matched reported_now _ now.output out answers at_rest.answered;
     rests = at_rest.rests;
-    mapped = still_mapped now.world.played.records now.world.played.records (Ask q) refl now.mapped now.mapped (λ version is. is) at_rest.mapped;
-    later = omega (arith, at_rest.later, ask_later environment.report reported reported_now _ now.output out answers);
+    mapped = still_mapped now.world.played.records now.world.played.records (asking q) (asking-mapping q) now.mapped now.mapped (λ version is. is) at_rest.mapped;
+    later = omega (arith, at_rest.later, ask_later environment.report q reported matched reported_now _ now.output out answers);
   }
 
   -- another version of the mapping comes into force, by which every page is mapped: there was room for this too
@@ -446,8 +467,8 @@ module _ (environment : Environment) (ds : List Delivery) (start : Stage) where
       remapping_many environment.report now reported reported_now pages out at_rest.leads.explained.replies at_rest.rests tells (at_rest.leads.says at_rest.leads.explained.replies (λ q r h. refl)) told
 
 -- an event wasn't taken
-pub event_cut_off : (environment : Environment) (e : Event) (reported : ℕ) (now : Stage) → CutsOff OutOfMemory environment (turn reported (Told e)) now now
-event_cut_off environment e reported now = inr (inl (
+pub event_cut_off : (environment : Environment) (e : Event) (reported matched : ℕ) (now : Stage) → CutsOff OutOfMemory environment (turn reported matched (Told e)) now now
+event_cut_off environment e reported matched now = inr (inl (
   NotApplied Starved,
   refl,
   record {
@@ -458,20 +479,20 @@ event_cut_off environment e reported now = inr (inl (
 ))
 
 -- a watermark was taken, and some of what was due was applied
-pub mark_cut_off : (halt : Halt) (environment : Environment) (m : ℤ) (reported : ℕ) (now then : Stage) → IsHeldUp halt environment now.output then →
+pub mark_cut_off : (halt : Halt) (environment : Environment) (m : ℤ) (reported matched : ℕ) (now then : Stage) → IsHeldUp halt environment now.output then →
     KeepsVersion now.mapped then.mapped now.world.played.records then.world.played.records → StaysWithin halt environment reported (with_world now (after_mark now.world m)) then →
-    CutsOff (stop_of_halt halt) environment (turn reported (Watermark m)) now then
-mark_cut_off halt environment m reported now then held_up keeps stays =
+    CutsOff (stop_of_halt halt) environment (turn reported matched (Watermark m)) now then
+mark_cut_off halt environment m reported matched now then held_up keeps stays =
     inr (inl (halt, refl, record { held_up = held_up; mapped = keeps; world = λ ds start at_rest. inr (mark_begun environment ds start halt now then reported m stays at_rest) }))
 
 -- a question was answered in part
-pub ask_cut_off : (report : Report) (why : Unwritten) (environment : Environment) (q : Pattern) (reported : ℕ) (now : Stage) (out : Output) → environment.report ≡ report →
-    AnswersAsk report reported (rows (held_triples now.mapped now.world.played.records) q) now.output out (Err why) → CutsOff (stop_of_unwritten why) environment (turn reported (Ask q)) now (with_output now out)
-ask_cut_off Answers why environment q reported now out is prints = inl (why, refl, record { answers = is; pattern = q; is = refl; world = refl; mapped = refl; counts = refl; cut_short = prints.outcome })
-ask_cut_off Changes why environment q reported now out is never = absurd never
+pub ask_cut_off : (report : Report) (why : Unwritten) (environment : Environment) (q : Question) (reported matched : ℕ) (now : Stage) (out : Output) → environment.report ≡ report →
+    AnswersQuestion report reported matched q (held_triples now.mapped now.world.played.records) now.output out (Err why) → CutsOff (stop_of_unwritten why) environment (turn reported matched (asking q)) now (with_output now out)
+ask_cut_off Answers why environment q reported matched now out is prints = inl (why, refl, record { answers = is; question = q; is = refl; world = refl; mapped = refl; counts = refl; cut_short = prints.outcome })
+ask_cut_off Changes why environment q reported matched now out is never = absurd never
 
 -- another version of the mapping came into force, and some of what is held was mapped anew
-pub mapping_cut_off : (halt : Halt) (environment : Environment) (v : MappingVersion) (reported : ℕ) (now : Stage) (mapped : Mapped) (out : Output) →
+pub mapping_cut_off : (halt : Halt) (environment : Environment) (v : MappingVersion) (reported matched : ℕ) (now : Stage) (mapped : Mapped) (out : Output) →
     RemapsPages halt environment.report environment.limit reported v now.world.played.records now.mapped mapped now.output out →
-    CutsOff (stop_of_halt halt) environment (turn reported (Mapping v)) now (with_mapped (with_output now out) mapped)
-mapping_cut_off halt environment v reported now mapped out remaps = inr (inr (halt, refl, record { version = v; is = refl; counts = refl; world = refl; remaps = remaps }))
+    CutsOff (stop_of_halt halt) environment (turn reported matched (Mapping v)) now (with_mapped (with_output now out) mapped)
+mapping_cut_off halt environment v reported matched now mapped out remaps = inr (inr (halt, refl, record { version = v; is = refl; counts = refl; world = refl; remaps = remaps }))

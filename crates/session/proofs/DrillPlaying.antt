@@ -2,11 +2,10 @@
 use Rattle.std.proofs.Common.{◌≡◌, ◌∙◌, refl, sym, ap, subst, inl, inr, ⊎_elim, ◌⊎◌, ℕ, ◌-◌, ◌^◌, ◌<◌, ◌≤◌, ◌+◌, arith, List, [], ◌∷◌, ◌++◌, append_assoc, append-nil, length, length-append, filter_map, Option, None, Some}
 use Rattle.std.proofs.lemmas.List.Elements.{filter_map-append}
 use Rattle.delivery.specs.declared.Delivery.{Delivery}
-use Rattle.delivery.specs.declared.Delivery.TheVariants.{Ask, Mapping}
+use Rattle.delivery.specs.declared.Delivery.TheVariants.{Event as Told, Watermark, Ask, Mapping, Match}
 use Rattle.entity_model.specs.declared.event.Event.{Event}
 use Rattle.entity_model.specs.declared.mapping.MappingVersion.{MappingVersion}
 use Rattle.entity_model.specs.declared.mapping.MappingVersion.TheVariants.{One}
-use Rattle.rdf_term.specs.declared.pattern.Pattern.{Pattern}
 use Rattle.reorder_buffer.specs.Buffered.{first_due}
 use Rattle.reorder_buffer.specs.declared.taken.Taken.{Taken}
 use Rattle.replay_model.specs.Acceptance.{mapping_of, version_in_force}
@@ -14,7 +13,7 @@ use Rattle.replay_model.specs.Explained.{revision_wanted}
 use Rattle.replay_model.specs.Play.{Replies}
 use Rattle.replay_model.specs.Replies.{failed_events, source_replies}
 use Rattle.replay_model.specs.ReplayState.{ReplayState, after_end, after_some, entered, following, following_to_end, nothing_delivered}
-use Rattle.replay_model.specs.Transcript.{asks}
+use Rattle.replay_model.specs.Transcript.{Question, for_triples, for_bindings, asking, asks, matches, question_of}
 use Rattle.world.specs.WorldState.{WorldState}
 use Rattle.transcript.specs.Printing.{Output}
 use Rattle.drill.specs.Drill.{IsSize, contents_of, drill}
@@ -24,7 +23,7 @@ use Rattle.drill_replay.specs.Playing.{Counted, HasBegun, HasFew, IsByFirst, IsP
 use Rattle.drill_replay.specs.Summary.{drilled, replies_of}
 use Rattle.drill_replay.proofs.Counting.{counted-next}
 use Rattle.drill_replay.proofs.NeverFull.{never_over}
-use Rattle.drill_replay.proofs.Versions.{drill_by_first, part_asks_none, part_brings_none, part_by_first}
+use Rattle.drill_replay.proofs.Versions.{drill_by_first, part_asks_none, part_brings_none, part_by_first, part_matches_none}
 use Rattle.session.specs.declared.drill_playing.DrillRun.{DrillRun}
 use Rattle.session.specs.declared.stop.Stop.{Stop}
 use Rattle.session.specs.declared.stop.Stop.TheVariants.{OutOfMemory as Refused}
@@ -39,7 +38,7 @@ use Rattle.session.specs.Moment.{Stage, environment, with_world}
 use Rattle.session.specs.Remapping.{HasNoRoom, HoldsWithin, KeepsVersion, Mapped, mapped_by, mapped_in}
 use Rattle.session.specs.Stop.{stop_of_halt}
 use Rattle.session.specs.Taking.{AppliesDue, AtEnd, AtRest, CutsOff, IsFull, IsHeldUp, IsUntaken, IsWithin, Leads, StaysWithin, TakesDelivery, TakesInPart, judgement, replies_there, turn}
-use Rattle.session.proofs.Deliveries.{asks-push, end_begun, end_taken}
+use Rattle.session.proofs.Deliveries.{asks-push, end_begun, end_taken, matches-push}
 use Rattle.session.proofs.Ends.{is_played}
 use Rattle.session.proofs.Progress.{nothing_taken}
 use Rattle.std.specs.FinMap.{len-empty}
@@ -101,6 +100,18 @@ pub record IsDrillHalted (size : ℕ) (ds : List Delivery) (d : Delivery) (stop 
 pub by_first : (world : WorldState) → mapped_in world ≡ mapped_by One world.replay.played.records → IsByFirst world
 by_first world is = (ap (λ (m : Mapped). m.version) is, ap (λ (m : Mapped). m.by_two) is)
 
+-- what neither asks nor matches is no question
+no_question_in : (d : Delivery) → asks (d ∷ []) ≡ 0 → matches (d ∷ []) ≡ 0 → question_of d ≡ None
+no_question_in (Told e) no_ask no_match = refl
+no_question_in (Watermark w) no_ask no_match = refl
+no_question_in (Ask q) no_ask no_match = cc
+no_question_in (Mapping v) no_ask no_match = refl
+no_question_in (Match q) no_ask no_match = cc
+
+asks_something : (q : Question) → question_of (asking q) ≡ None → ⊥
+asks_something (for_triples pattern) none = cc
+asks_something (for_bindings shapes) none = cc
+
 module _ (run : DrillRun) (ds after : List Delivery) (d : Delivery) (all : drill run.size ≡ ds ++ d ∷ after) where
   with_it : drill run.size ≡ (ds ++ d ∷ []) ++ after
   with_it = all ∙ sym (append_assoc ds (d ∷ []) after)
@@ -108,14 +119,18 @@ module _ (run : DrillRun) (ds after : List Delivery) (d : Delivery) (all : drill
   asks_none : 0 ≡ asks (ds ++ d ∷ [])
   asks_none = sym (ap length (part_asks_none run.size (ds ++ d ∷ []) after with_it))
 
-  -- it asks nothing
-  pub silent : asks (d ∷ []) ≡ 0
-  silent = omega (arith, asks_none, asks-push ds d)
+  matches_none : 0 ≡ matches (ds ++ d ∷ [])
+  matches_none = sym (ap length (part_matches_none run.size (ds ++ d ∷ []) after with_it))
 
-  no_question : (q : Pattern) → d ≡ Ask q → ⊥
-  no_question q is =
-      let one : asks (Ask q ∷ []) ≡ 0 = subst (λ x. asks (x ∷ []) ≡ 0) is silent in
-      cc
+  none_before : 0 ≡ matches ds
+  none_before = omega (arith, matches_none, matches-push ds d)
+
+  -- it is no question
+  pub silent : question_of d ≡ None
+  silent = no_question_in d (omega (arith, asks_none, asks-push ds d)) (omega (arith, matches_none, matches-push ds d))
+
+  no_question : (q : Question) → d ≡ asking q → ⊥
+  no_question q is = asks_something q (subst (λ x. question_of x ≡ None) is silent)
 
   no_mapping : (v : MappingVersion) → d ≡ Mapping v → ⊥
   no_mapping v is =
@@ -138,13 +153,13 @@ module _ (run : DrillRun) (ds after : List Delivery) (d : Delivery) (all : drill
 
     -- it is taken and counted
     pub next_taken : (pages_now : Source) (counts_now : DrillCounts) (answer : Option Taken) (reported_now : ℕ) (out_now : Output) (world_now : WorldState) → told_of pages_now.size ≡ told_of run.pages.size →
-        TakesDelivery (environment Answers (told_of run.pages.size) folder world.limit) (turn 0 d) reported_now before (drill_stage pages_now out_now world_now) → answer ≡ answer_of world.replay.buffer d → counts_now ≡ with_answer answer run.counts →
+        TakesDelivery (environment Answers (told_of run.pages.size) folder world.limit) (turn 0 0 d) reported_now before (drill_stage pages_now out_now world_now) → answer ≡ answer_of world.replay.buffer d → counts_now ≡ with_answer answer run.counts →
         world_now.limit ≡ world.limit → (HoldsWithin world.limit world → HoldsWithin world.limit world_now) → HasTakenFirst (record run { pages = pages_now; counts = counts_now }) (ds ++ d ∷ []) out_now world_now
     next_taken pages_now counts_now answer reported_now out_now world_now told takes answered counted limit held = record {
       start = taken.start;
       nothing = taken.nothing;
       told = told ∙ taken.told;
-      at_rest = still_none (subst (λ s. TakesDelivery s (turn 0 d) reported_now before (drill_stage pages_now out_now world_now)) environment_is takes ds taken.start taken.at_rest);
+      at_rest = still_none (subst (λ s. TakesDelivery s (turn 0 0 d) reported_now before (drill_stage pages_now out_now world_now)) environment_is takes ds taken.start none_before taken.at_rest);
       counted = subst (λ c. Counted (ds ++ d ∷ []) c)
           (sym (counted ∙ ap (λ (a : Option Taken). with_answer a run.counts) (answered ∙ ap (λ (w : ReplayState). answer_of w.buffer d) stands)))
           (counted-next (replies_of run.size) ds d run.counts taken.counted);
@@ -177,7 +192,7 @@ module _ (run : DrillRun) (ds after : List Delivery) (d : Delivery) (all : drill
           (λ some. inr (record { before = ds; last = d; after = after; all = all; steps = some.0; is = some.1 }))
           at)
 
-      starves : IsSize run.size → (stop : Stop) (halt : Halt) → stop ≡ stop_of_halt halt → TakesInPart halt (drill_environment run.size) (turn 0 d) before now → IsDrillHalted run.size ds d stop world_now
+      starves : IsSize run.size → (stop : Stop) (halt : Halt) → stop ≡ stop_of_halt halt → TakesInPart halt (drill_environment run.size) (turn 0 0 d) before now → IsDrillHalted run.size ds d stop world_now
       starves is_size stop halt is x = record {
         refused = is ∙ by halt x.held_up (x.world ds taken.start taken.at_rest);
         at = at;
@@ -197,13 +212,13 @@ module _ (run : DrillRun) (ds after : List Delivery) (d : Delivery) (all : drill
           by (Untold why) held_up part = absurd (⊎_elim (λ never. never) (λ within. within.says) part)
 
       -- it isn't taken wholly
-      pub cut_off : IsSize run.size → (stop : Stop) → CutsOff stop (environment Answers (told_of run.pages.size) folder world.limit) (turn 0 d) before now → IsDrillHalted run.size ds d stop world_now
+      pub cut_off : IsSize run.size → (stop : Stop) → CutsOff stop (environment Answers (told_of run.pages.size) folder world.limit) (turn 0 0 d) before now → IsDrillHalted run.size ds d stop world_now
       cut_off is_size stop cuts = ⊎_elim
-          (λ printing. absurd (no_question printing.2.pattern printing.2.is))
+          (λ printing. absurd (no_question printing.2.question printing.2.is))
           (⊎_elim
           (λ starving. starves is_size stop starving.0 starving.1 starving.2)
           (λ remapping. absurd (no_mapping remapping.2.version remapping.2.is)))
-          (subst (λ s. CutsOff stop s (turn 0 d) before now) environment_is cuts)
+          (subst (λ s. CutsOff stop s (turn 0 0 d) before now) environment_is cuts)
 
 -- a drill that halted has come to a part of any deliveries of which those are the first
 pub halted_in : (size : ℕ) (ds rest whole : List Delivery) (d : Delivery) (stop : Stop) (world : WorldState) → whole ≡ ds ++ d ∷ rest → IsDrillHalted size ds d stop world → IsPartOf size whole world.replay

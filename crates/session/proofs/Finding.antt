@@ -5,7 +5,7 @@ use Rattle.entity_model.specs.declared.id.EntityId.{EntityId}
 use Rattle.entity_model.specs.declared.event.Event.{Event}
 use Rattle.entity_model.specs.Event.{event_cmp, event_cmp_total, event_cmp_same}
 use Rattle.delivery.specs.declared.Delivery.{Delivery}
-use Rattle.delivery.specs.declared.Delivery.TheVariants.{Event as Told, Watermark, Ask, Mapping}
+use Rattle.delivery.specs.declared.Delivery.TheVariants.{Event as Told, Watermark, Ask, Mapping, Match}
 use Rattle.entity_state.specs.State.{is_kept, state_after}
 use Rattle.entity_state.specs.Record.{held_revision, wants}
 use Rattle.entity_state.specs.declared.record.Record.{Record}
@@ -97,6 +97,7 @@ module _ (unfit : Judgement) (contents : ℕ → Option Bytes) where
   found-happens hz ds (Watermark w) p none find all = found-apply_all p (newly_due hz ds false (ds ++ Watermark w ∷ [])) (find-due hz ds false (ds ++ Watermark w ∷ []) find) all
   found-happens hz ds (Ask q) p none find all = all
   found-happens hz ds (Mapping v) p none find all = all
+  found-happens hz ds (Match q) p none find all = all
 
   found-nothing : AllFound nothing_played
   found-nothing = record {

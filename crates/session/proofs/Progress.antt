@@ -1,5 +1,5 @@
 -- How far the taking of lines has come, and what follows where it goes on, stops or ends.
-use Rattle.std.proofs.Common.{refl, sym, subst, ◌∙◌, ap, inl, ⊎_elim, ◌≡◌, ◌⊎◌, ℕ, ◌+◌, ◌^◌, ◌≤◌, true, false, List, [], ◌∷◌, ◌++◌, length, filter, Option, None, Some, IfSome, Ok, Err, arith, append-nil}
+use Rattle.std.proofs.Common.{refl, sym, subst, ◌∙◌, ap, inl, ⊎_elim, ◌≡◌, ◌⊎◌, ℕ, ◌+◌, ◌^◌, ◌<◌, ◌≤◌, true, false, List, [], ◌∷◌, ◌++◌, length, filter, Option, None, Some, IfSome, Ok, Err, arith, append-nil}
 use Rattle.wq_io.specs.Streams.{IsAtEnd, LastRead}
 use Rattle.wq_io.specs.Lines.{HasCause, IsSound, Leaves, ReadsAsNeeded, Reading, fresh, longest_line, unread}
 use Rattle.wq_io.specs.declared.lines.LineFault.{LineFault}
@@ -12,7 +12,7 @@ use Rattle.entity_model.specs.declared.mapping.MappingVersion.TheVariants.{One}
 use Rattle.replay_model.specs.Acceptance.{version_in_force}
 use Rattle.replay_model.specs.Versions.{all_by}
 use Rattle.delivery.specs.declared.Delivery.{Delivery}
-use Rattle.delivery.specs.declared.Delivery.TheVariants.{Event as Told, Watermark, Ask, Mapping}
+use Rattle.delivery.specs.declared.Delivery.TheVariants.{Event as Told, Watermark, Ask, Mapping, Match}
 use Rattle.event_line.specs.declared.faults.LineCause.{LineCause}
 use Rattle.event_line.specs.Line.{delivery_of}
 use Rattle.entity_state.specs.declared.record.Record.{Record}
@@ -20,9 +20,8 @@ use Rattle.replay_model.specs.Play.{Replies}
 use Rattle.replay_model.specs.Records.{Bytes, Records}
 use Rattle.replay_model.specs.Replies.{HoldsDocument}
 use Rattle.replay_model.specs.ReplayState.{ReplayState, following, nothing_delivered_within}
-use Rattle.replay_model.specs.Transcript.{ask_section, asks}
+use Rattle.replay_model.specs.Transcript.{answer_section, asking, asks, matches}
 use Rattle.replay_model.specs.Union.{union}
-use Rattle.rdf_term.specs.Pattern.{rows}
 use Rattle.world.specs.Meaning.{meaning}
 use Rattle.replay_model.proofs.Explaining.{Explained-start}
 use Rattle.replay_model.proofs.FetchCounts.{risen_by-none}
@@ -53,7 +52,7 @@ use Rattle.session.specs.Stop.{stop_of_fault, stop_of_halt}
 use Rattle.session.specs.Stops.{HasTaken, StopsWithin}
 use Rattle.session.specs.Taking.{AnswersInPart, AtRest, CutsOff, IsUntaken, IsWithin, RemapsInPart, RemapsPages, TakesDelivery, TakesInPart, judgement, turn}
 use Rattle.words.specs.Options.{max_bytes_of}
-use Rattle.session.proofs.Deliveries.{asks-push, is_answer, remapping_counted, remapping_leads, rest_within}
+use Rattle.session.proofs.Deliveries.{asks-push, matches-push, is_answer, remapping_counted, remapping_leads, rest_within}
 use Rattle.session.proofs.Due.{within_mapped}
 use Rattle.session.proofs.Ends.{halted, interrupted, is_played, left_stale, page_untold, rose_since}
 use Rattle.session.proofs.Versions.{all_held_by}
@@ -64,14 +63,16 @@ abbrev pub FewAnswers : Report → ℕ → ℕ → Type 0
 FewAnswers Answers reported given = reported ≤ given
 FewAnswers Changes reported given = Unit {0}
 
--- the lines so far were read, the world has taken them, and so many answers or records are written
-pub record Progress (run : Run) (before now : Moment) (reader : Reading) (reported : ℕ) : Type 0 where
+-- the lines so far were read, the world has taken them, so many asks were answered or records written, and so many of the lines are matches
+pub record Progress (run : Run) (before now : Moment) (reader : Reading) (reported matched : ℕ) : Type 0 where
   pub deliveries : List Delivery
   pub read : HasRead before.input.left reader now.input.left deliveries
   pub taken : IfSome before.input.left (λ bytes. TakesByNeed (max_bytes_of run.choices) bytes now.input.left)
   pub at_rest : AtRest run.environment deliveries reported before.stage now.stage
   pub earlier : before.input.faults ≤ now.input.faults
   pub few : FewAnswers run.environment.report reported reader.given
+  pub counted : matched ≡ matches deliveries
+  pub few_matched : matched ≤ reader.given
   pub max : HasLimits (max_bytes_of run.choices) reader
   pub sound : IsSound reader
   pub going : reader.failed ≡ false
@@ -96,9 +97,22 @@ no_answers Answers given = omega arith
 no_answers Changes given = tt
 
 -- and there is a number for one more
-pub numbers_left : (report : Report) (reported : ℕ) (reader : Reading) {limit : ℕ} → FewAnswers report reported reader.given → IsSound reader → HasLimits limit reader → limit ≤ 2 ^ 40 → HasNumberLeft report reported
-numbers_left Answers reported reader few sound limits bounded = omega (arith, few, sound.counted, sound.bounded, sound.within, limits.bytes, bounded)
-numbers_left Changes reported reader few sound limits bounded = tt
+pub numbers_left : (report : Report) (reported matched : ℕ) (reader : Reading) {limit : ℕ} → FewAnswers report reported reader.given → matched ≤ reader.given → IsSound reader → HasLimits limit reader → limit ≤ 2 ^ 40 → HasNumberLeft report reported matched
+numbers_left Answers reported matched reader few few_matched sound limits bounded =
+    (omega (arith, few, sound.counted, sound.bounded, sound.within, limits.bytes, bounded), omega (arith, few_matched, sound.counted, sound.bounded, sound.within, limits.bytes, bounded))
+numbers_left Changes reported matched reader few few_matched sound limits bounded = tt
+
+-- a delivery is one match at most
+pub one_match : (d : Delivery) → matches (d ∷ []) ≤ 1
+one_match (Told e) = omega arith
+one_match (Watermark w) = omega arith
+one_match (Ask q) = omega arith
+one_match (Mapping v) = omega arith
+one_match (Match q) = omega arith
+
+-- the count of matches goes on
+pub match_counted : (matched : ℕ) (d : Delivery) (reader : Reading) {limit : ℕ} → matched ≤ reader.given → IsSound reader → HasLimits limit reader → limit ≤ 2 ^ 40 → matched + matches (d ∷ []) < 2 ^ 64
+match_counted matched d reader few sound limits bounded = omega (arith, few, one_match d, sound.counted, sound.bounded, sound.within, limits.bytes, bounded)
 
 -- before the first delivery a world is at rest
 pub nothing_taken : (environment : Environment) (h : Option ℕ) (output : Output) (counts : SourceCounts) → let s : Stage = record { output = output; counts = counts; world = nothing_delivered_within h; mapped = record { version = One; by_two = [] } } in AtRest environment [] 0 s s
@@ -122,7 +136,7 @@ abbrev pub at_start : Option ℕ → Input → Output → SourceCounts → Momen
 at_start h input output counts = record { input = input; stage = record { output = output; counts = counts; world = nothing_delivered_within h; mapped = record { version = One; by_two = [] } } }
 
 -- before the first line
-pub nothing_begun : (run : Run) (h : Option ℕ) (input : Input) (output : Output) (counts : SourceCounts) → Progress run (at_start h input output counts) (at_start h input output counts) (fresh (max_bytes_of run.choices) longest_line) 0
+pub nothing_begun : (run : Run) (h : Option ℕ) (input : Input) (output : Output) (counts : SourceCounts) → Progress run (at_start h input output counts) (at_start h input output counts) (fresh (max_bytes_of run.choices) longest_line) 0 0
 nothing_begun run h input output counts = record {
   deliveries = [];
   read = nothing_read (max_bytes_of run.choices) input.left;
@@ -130,13 +144,15 @@ nothing_begun run h input output counts = record {
   at_rest = nothing_taken run.environment h output counts;
   earlier = omega arith;
   few = no_answers run.environment.report 0;
+  counted = refl;
+  few_matched = omega arith;
   max = record { bytes = refl; line = refl };
   sound = record { within = omega arith; counted = omega arith; bounded = omega arith; buffered = omega arith };
   going = refl;
   ended = λ never. cc;
 }
 
-module _ (run : Run) (before now : Moment) (reader : Reading) (reported : ℕ) (so_far : Progress run before now reader reported) where
+module _ (run : Run) (before now : Moment) (reader : Reading) (reported matched : ℕ) (so_far : Progress run before now reader reported matched) where
   played : IsPlayedAfter run.environment so_far.deliveries before.stage now.stage
   played = is_played run.environment (course_after so_far.deliveries before.stage) reported before.stage now.stage so_far.at_rest.leads so_far.at_rest.rests so_far.at_rest.mapped
 
@@ -217,25 +233,26 @@ module _ (run : Run) (before now : Moment) (reader : Reading) (reported : ℕ) (
           (subst (λ c. IsPlayedAfter run.environment so_far.deliveries before.stage (onward now.stage c now.stage.world)) (sym counts) played))
 
       -- a question that isn't answered wholly stops the taking
-      at_question : (why : Unwritten) → AnswersInPart why run.environment (turn reported d) now.stage after.stage → StandsAtQuestion why run before after
+      at_question : (why : Unwritten) → AnswersInPart why run.environment (turn reported matched d) now.stage after.stage → StandsAtQuestion why run before after
       at_question why in_part =
-          let CutShort : ℕ → List Triple → Type 0 = λ n triples. IsCutShort why (ask_section n (rows triples in_part.pattern)) now.stage.output after.stage.output in
+          let CutShort : ℕ → ℕ → List Triple → Type 0 = λ asked counted triples. IsCutShort why (answer_section asked counted triples in_part.question) now.stage.output after.stage.output in
           record {
             answers = in_part.answers;
             deliveries = so_far.deliveries;
-            pattern = in_part.pattern;
+            question = in_part.question;
             between = now.stage.output;
             played = played_still in_part.world in_part.counts after.stage.mapped in_part.mapped;
-            cut_short = subst (CutShort (asks so_far.deliveries + 1))
+            cut_short = subst (CutShort (asks so_far.deliveries) (matches so_far.deliveries))
                 (all_held_by (version_in_force so_far.deliveries) now.stage.mapped now.stage.world.played.records so_far.at_rest.mapped
                 ∙ ap (λ (w : ReplayState). union triple_cmp (meaning (version_in_force so_far.deliveries)) w.played.records) (sym in_part.world))
-                (subst (λ n. CutShort (n + 1) (held_triples now.stage.mapped now.stage.world.played.records))
-                (is_answer so_far.deliveries run.environment.report reported so_far.at_rest.answered in_part.answers) in_part.cut_short);
+                (subst (λ n. CutShort (asks so_far.deliveries) n (held_triples now.stage.mapped now.stage.world.played.records)) so_far.counted
+                (subst (λ n. CutShort n matched (held_triples now.stage.mapped now.stage.world.played.records))
+                (is_answer so_far.deliveries run.environment.report reported so_far.at_rest.answered in_part.answers) in_part.cut_short));
             first = subst (λ q. AreFirst (max_bytes_of run.choices) before.input.left after.input.left (so_far.deliveries ++ q ∷ [])) in_part.is first;
           }
 
       -- a delivery wasn't taken wholly
-      starves : (halt : Halt) → TakesInPart halt run.environment (turn reported d) now.stage after.stage → StopsWithin halt run before after
+      starves : (halt : Halt) → TakesInPart halt run.environment (turn reported matched d) now.stage after.stage → StopsWithin halt run before after
       starves halt in_part =
           let mapped = in_part.mapped (version_in_force so_far.deliveries) so_far.at_rest.mapped in
           ⊎_elim
@@ -265,7 +282,7 @@ module _ (run : Run) (before now : Moment) (reader : Reading) (reported : ℕ) (
           untaken (Untold why) mapped never = absurd never
 
       -- not all that is held was mapped anew, or told
-      remaps : (halt : Halt) → RemapsInPart halt run.environment (turn reported d) now.stage after.stage → Stopped (stop_of_halt halt) run before after
+      remaps : (halt : Halt) → RemapsInPart halt run.environment (turn reported matched d) now.stage after.stage → Stopped (stop_of_halt halt) run before after
       remaps halt in_part = by halt in_part.remaps
         where
           v : MappingVersion
@@ -358,7 +375,7 @@ module _ (run : Run) (before now : Moment) (reader : Reading) (reported : ℕ) (
           by (Untold why) x = page_untold why run before after run.environment.limit now.stage.world.played.records now.stage.output so_far.at_rest.later x.left (untold run.environment.report refl why x.pages x.told.0 x.told.1 x.told.2 x.told.3 x x.are)
 
       -- a delivery that isn't taken wholly stops the taking
-      pub delivery_stops : (stop : Stop) → CutsOff stop run.environment (turn reported d) now.stage after.stage → Stopped stop run before after
+      pub delivery_stops : (stop : Stop) → CutsOff stop run.environment (turn reported matched d) now.stage after.stage → Stopped stop run before after
       delivery_stops stop cut = ⊎_elim
           (λ printing. subst (λ s. Stopped s run before after) (sym printing.1)
           (interrupted printing.0 run before after now.stage.output so_far.at_rest.later (λ fault. (printing.2.cut_short.failed fault).1) (inl (inl (at_question printing.0 printing.2)))))
@@ -369,9 +386,9 @@ module _ (run : Run) (before now : Moment) (reader : Reading) (reported : ℕ) (
 
       -- a line that is taken
       pub line_taken : (reported_now : ℕ) → now.input.faults ≤ after.input.faults → next.given ≡ reader.given + 1 → (next.ended ≡ true → IsAtEnd after.input.left) →
-          TakesDelivery run.environment (turn reported d) reported_now now.stage after.stage → Progress run before after next reported_now
+          TakesDelivery run.environment (turn reported matched d) reported_now now.stage after.stage → Progress run before after next reported_now (matched + matches (d ∷ []))
       line_taken reported_now later given ended takes =
-          let at_rest = takes so_far.deliveries before.stage so_far.at_rest in
+          let at_rest = takes so_far.deliveries before.stage so_far.counted so_far.at_rest in
           record {
             deliveries = so_far.deliveries ++ d ∷ [];
             taken = taken_on next after.input.left last last_next is.reads;
@@ -379,6 +396,8 @@ module _ (run : Run) (before now : Moment) (reader : Reading) (reported : ℕ) (
             at_rest = at_rest;
             earlier = omega (arith, so_far.earlier, later);
             few = few_more run.environment.report so_far.at_rest.answered at_rest.answered so_far.few;
+            counted = omega (arith, so_far.counted, matches-push so_far.deliveries d);
+            few_matched = omega (arith, so_far.few_matched, given, one_match d);
             max = record { bytes = is.goes.limit ∙ so_far.max.bytes; line = is.goes.longest ∙ so_far.max.line };
             sound = is.goes.sound;
             going = is.goes.going;
@@ -390,6 +409,7 @@ module _ (run : Run) (before now : Moment) (reader : Reading) (reported : ℕ) (
           one (Watermark w) = omega arith
           one (Ask q) = omega arith
           one (Mapping v) = omega arith
+          one (Match q) = omega arith
 
           few_more : (report : Report) → HasAnswered report reported so_far.deliveries → HasAnswered report reported_now (so_far.deliveries ++ d ∷ []) → FewAnswers report reported reader.given → FewAnswers report reported_now next.given
           few_more Answers was is few = omega (arith, was, is, few, given, asks-push so_far.deliveries d, one d)

@@ -3,13 +3,12 @@ use Rattle.std.specs.Prelude.{◌≡◌, ◌⊎◌, ℕ, ◌-◌, ◌^◌, ◌+�
 use Rattle.std.specs.List.{list_any}
 use Rattle.rising.specs.Rising.{Each}
 use Rattle.wq_io.specs.Streams.{IsAtEnd, Rose}
-use Rattle.rdf_term.specs.declared.pattern.Pattern.{Pattern}
 use Rattle.rdf_term.specs.Order.{triple_cmp}
 use Rattle.entity_model.specs.declared.id.EntityId.{EntityId}
 use Rattle.entity_model.specs.declared.event.Event.{Event}
 use Rattle.entity_state.specs.State.{is_kept}
 use Rattle.delivery.specs.declared.Delivery.{Delivery}
-use Rattle.delivery.specs.declared.Delivery.TheVariants.{Ask, Mapping}
+use Rattle.delivery.specs.declared.Delivery.TheVariants.{Mapping}
 use Rattle.entity_model.specs.declared.mapping.MappingVersion.{MappingVersion}
 use Rattle.event_line.specs.declared.faults.LineCause.{LineCause}
 use Rattle.replay_model.specs.Acceptance.{due, known, late, version_in_force}
@@ -19,10 +18,9 @@ use Rattle.replay_model.specs.Records.{Bytes, is_settled, record_of}
 use Rattle.replay_model.specs.Play.{Replies}
 use Rattle.replay_model.specs.Replies.{GivesDocument, HoldsWhatIsThere, TellsWhatIsThere, failed_events, source_replies}
 use Rattle.replay_model.specs.ReplayState.{ReplayState, following_to_end}
-use Rattle.replay_model.specs.Transcript.{Sections, ask_section, asks, closing_text}
+use Rattle.replay_model.specs.Transcript.{Question, Sections, answer_section, asking, asks, closing_text, matches}
 use Rattle.replay_model.specs.Union.{union}
 use Rattle.replay_model.specs.Versions.{all_by}
-use Rattle.rdf_term.specs.Pattern.{rows}
 use Rattle.world.specs.Meaning.{meaning}
 use Rattle.transcript.specs.declared.write.Unwritten.{Unwritten}
 use Rattle.transcript.specs.declared.write.Unwritten.TheVariants.{WriteFault as NotWritten, OutOfMemory as Refused}
@@ -154,11 +152,11 @@ pub record StandsBeforeLine (number : ℕ) (cause : LineCause) (run : Run) (befo
 pub record StandsAtQuestion (why : Unwritten) (run : Run) (before now : Moment) : Type 0 where
   pub answers : run.environment.report ≡ Answers
   pub deliveries : List Delivery
-  pub pattern : Pattern
+  pub question : Question
   pub between : Output
   pub played : IsPlayedAfter run.environment deliveries before.stage (with_output now.stage between)
-  pub cut_short : IsCutShort why (ask_section (asks deliveries + 1) (rows (union triple_cmp (meaning (version_in_force deliveries)) now.stage.world.played.records) pattern)) between now.stage.output
-  pub first : AreFirst (max_bytes_of run.choices) before.input.left now.input.left (deliveries ++ Ask pattern ∷ [])
+  pub cut_short : IsCutShort why (answer_section (asks deliveries) (matches deliveries) (union triple_cmp (meaning (version_in_force deliveries)) now.stage.world.played.records) question) between now.stage.output
+  pub first : AreFirst (max_bytes_of run.choices) before.input.left now.input.left (deliveries ++ asking question ∷ [])
 
 -- the world has taken the deliveries before a line that changes the mapping, every page being mapped by the version that was in force
 -- there; this line's version is in force, and the pages of some entities, the least first, are mapped by it, and had room; what is reported

@@ -3,7 +3,7 @@ use Rattle.std.specs.Prelude.{◌≡◌, ⊤, true, ℕ, ◌+◌, ◌-◌, ◌^�
 use Rattle.wq_io.specs.Streams.{after_known}
 use Rattle.triple_store.specs.declared.telling.Telling.{Telling}
 use Rattle.triple_store.specs.declared.telling.Telling.TheVariants.{Nothing, Change}
-use Rattle.replay_model.specs.Transcript.{ask_section, asks}
+use Rattle.replay_model.specs.Transcript.{Question, answer_section, asking, asks}
 use Rattle.replay_model.specs.Play.{Replies}
 use Rattle.rdf_term.specs.declared.triple.Triple.{Triple}
 use Rattle.replica.specs.Record.{record_text}
@@ -23,12 +23,12 @@ abbrev pub telling_of : Report → Telling
 telling_of Answers = Nothing
 telling_of Changes = Change
 
--- where questions are answered, there is a number for one more answer
-abbrev pub HasNumberLeft : Report → ℕ → Type 0
-HasNumberLeft Answers reported = reported < 2 ^ 64 - 1
-HasNumberLeft Changes reported = ⊤
+-- where questions are answered, there is a number for one more answer to an ask, and for one more to a match
+abbrev pub HasNumberLeft : Report → ℕ → ℕ → Type 0
+HasNumberLeft Answers reported matched = (reported < 2 ^ 64 - 1) × (matched < 2 ^ 64 - 1)
+HasNumberLeft Changes reported matched = ⊤
 
--- where questions are answered, so many answers were given
+-- where questions are answered, so many asks were
 abbrev pub HasAnswered : Report → ℕ → List Delivery → Type 0
 HasAnswered Answers reported ds = reported ≡ asks ds
 HasAnswered Changes reported ds = ⊤
@@ -71,12 +71,14 @@ HasReportedAt (Untold why) Changes course start now replies = HasBrokenOff why c
 
 -- ---- answers
 
--- a question is answered behind so many answers, where questions are answered, and how many were given then is said
-abbrev pub AnswersAsk : Report → ℕ → List Triple → Output → Output → Result ℕ Unwritten → Type 0
-AnswersAsk Answers reported triples old new (Ok now) = (now ≡ reported + 1) × Prints (ask_section (reported + 1) triples) old new (Ok tt)
-AnswersAsk Answers reported triples old new (Err why) = Prints (ask_section (reported + 1) triples) old new (Err why)
-AnswersAsk Changes reported triples old new (Ok now) = (now ≡ reported) × (new ≡ old)
-AnswersAsk Changes reported triples old new (Err why) = ⊥
+-- a question is answered over these triples behind so many asks and so many matches, where questions are answered, and how many asks were
+-- answered then is said
+abbrev pub AnswersQuestion : Report → ℕ → ℕ → Question → List Triple → Output → Output → Result ℕ Unwritten → Type 0
+AnswersQuestion Answers reported matched question triples old new (Ok now) =
+    (now ≡ reported + asks (asking question ∷ [])) × Prints (answer_section reported matched triples question) old new (Ok tt)
+AnswersQuestion Answers reported matched question triples old new (Err why) = Prints (answer_section reported matched triples question) old new (Err why)
+AnswersQuestion Changes reported matched question triples old new (Ok now) = (now ≡ reported) × (new ≡ old)
+AnswersQuestion Changes reported matched question triples old new (Err why) = ⊥
 
 -- ---- steps that are told
 

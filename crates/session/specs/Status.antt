@@ -1,7 +1,7 @@
 -- The text and the number of each status.
 use Rattle.std.specs.Prelude.{ℕ, List, [], ◌++◌, decimal, codes}
 use Rattle.event_line.specs.declared.faults.LineCause.{LineCause}
-use Rattle.event_line.specs.declared.faults.LineCause.TheVariants.{LineLong, NotJson, NoForm, Kind, Entity, Rev, Time, Mode, Pattern, Mapping, Head, Triple, Order, Short}
+use Rattle.event_line.specs.declared.faults.LineCause.TheVariants.{LineLong, NotJson, NoForm, Kind, Entity, Rev, Time, Mode, Pattern, Mapping, Match, Head, Triple, Order, Short}
 use Rattle.session.specs.declared.status.Status.{Status}
 use Rattle.session.specs.declared.status.Status.TheVariants.{Ok as Ended, BadWords, BadLine, ReadFault, WriteFault, TooLong, StoreFull, OutOfMemory}
 
@@ -17,6 +17,7 @@ cause_name Time = codes "Time"
 cause_name Mode = codes "Mode"
 cause_name Pattern = codes "Pattern"
 cause_name Mapping = codes "Mapping"
+cause_name Match = codes "Match"
 cause_name Head = codes "Head"
 cause_name Triple = codes "Triple"
 cause_name Order = codes "Order"

@@ -1,12 +1,11 @@
 -- How far a world has come in a play while deliveries are taken, and what the taking of one delivery leaves.
 use Rattle.std.specs.Prelude.{◌≡◌, true, ◌⊎◌, ⊤, ℕ, ◌≤◌, ◌+◌, List, [], ◌∷◌, ◌++◌, length, Option, None, Some}
 use Rattle.wq_io.specs.Streams.{Rose}
-use Rattle.rdf_term.specs.declared.pattern.Pattern.{Pattern}
 use Rattle.entity_model.specs.declared.id.EntityId.{EntityId}
 use Rattle.entity_json.specs.Document.{unfit_of}
 use Rattle.entity_model.specs.declared.event.Event.{Event}
 use Rattle.delivery.specs.declared.Delivery.{Delivery}
-use Rattle.delivery.specs.declared.Delivery.TheVariants.{Ask, Mapping}
+use Rattle.delivery.specs.declared.Delivery.TheVariants.{Mapping}
 use Rattle.entity_model.specs.declared.mapping.MappingVersion.{MappingVersion}
 use Rattle.reorder_buffer.specs.Buffered.{first_due}
 use Rattle.replay_model.specs.Acceptance.{version_in_force}
@@ -15,8 +14,7 @@ use Rattle.replay_model.specs.Play.{Replies}
 use Rattle.replay_model.specs.Replies.{GivesDocument, HoldsDocument, Judgement, failed_events, source_replies}
 use Rattle.replay_model.specs.ReplayState.{ReplayState, after_some, entered, fetches_due, following}
 use Rattle.replay_model.specs.Explained.{AgreeOnApplied, Explained, is_fetching, revision_wanted}
-use Rattle.replay_model.specs.Transcript.{ask_section}
-use Rattle.rdf_term.specs.Pattern.{rows}
+use Rattle.replay_model.specs.Transcript.{Question, answer_section, asking, matches}
 use Rattle.transcript.specs.declared.write.Unwritten.{Unwritten}
 use Rattle.transcript.specs.declared.write.Unwritten.TheVariants.{WriteFault, OutOfMemory as NoMemory}
 use Rattle.transcript.specs.Printing.{IsCutShort, Output}
@@ -141,29 +139,30 @@ StaysWithin halt environment reported before now =
     (course : Course) (begun : Replies → ReplayState) (start : Stage) → before.mapped ≡ mapped_by course.version before.world.played.records →
     IsUnderWay environment course begun reported start before → IsWithin halt environment course begun start now
 
--- a delivery, and how many answers or records were written before it
+-- a delivery, how many asks were answered or records written before it, and how many matches were delivered
 pub record Turn : Type 0 where
   pub reported : ℕ
+  pub matched : ℕ
   pub delivery : Delivery
 
--- this delivery, behind so many answers or records
-abbrev pub turn : ℕ → Delivery → Turn
-turn reported delivery = record { reported = reported; delivery = delivery }
+-- this delivery, behind so many asks or records, and so many matches
+abbrev pub turn : ℕ → ℕ → Delivery → Turn
+turn reported matched delivery = record { reported = reported; matched = matched; delivery = delivery }
 
 -- a world that was at rest is at rest with one delivery more, from whichever stage it began; so many answers or records are written then
 abbrev pub TakesDelivery : Environment → Turn → ℕ → Stage → Stage → Type 0
 TakesDelivery environment t reported_now before now =
-    (ds : List Delivery) (start : Stage) → AtRest environment ds t.reported start before → AtRest environment (ds ++ t.delivery ∷ []) reported_now start now
+    (ds : List Delivery) (start : Stage) → t.matched ≡ matches ds → AtRest environment ds t.reported start before → AtRest environment (ds ++ t.delivery ∷ []) reported_now start now
 
 -- a question was answered, but not all was written: the world and the counts are as they were
 pub record AnswersInPart (why : Unwritten) (environment : Environment) (t : Turn) (before now : Stage) : Type 0 where
   pub answers : environment.report ≡ Answers
-  pub pattern : Pattern
-  pub is : t.delivery ≡ Ask pattern
+  pub question : Question
+  pub is : t.delivery ≡ asking question
   pub world : now.world ≡ before.world
   pub mapped : now.mapped ≡ before.mapped
   pub counts : now.counts ≡ before.counts
-  pub cut_short : IsCutShort why (ask_section (t.reported + 1) (rows (held_triples before.mapped before.world.played.records) pattern)) before.output now.output
+  pub cut_short : IsCutShort why (answer_section t.reported t.matched (held_triples before.mapped before.world.played.records) question) before.output now.output
 
 -- nothing of a delivery was taken, as may be where memory was refused
 abbrev pub IsUntaken : Halt → Stage → Stage → Type 0

@@ -1,10 +1,10 @@
 // One delivery of a line is taken, or the end: what is due is applied, a question is answered, and a change of the mapping handed on.
 
-ghost use Rattle.std.specs.Prelude.{◌≡◌, ◌≤◌, ◌∷◌, [], false, IfErr, IfOk, OnErr, OnOk};
+ghost use Rattle.std.specs.Prelude.{◌≡◌, ◌≤◌, false, IfErr, IfOk, None, OnErr, OnOk};
 ghost use Rattle.drill_replay.specs.Playing.{answer_of};
 ghost use Rattle.reorder_buffer.specs.Buffered.{answer_to};
 ghost use Rattle.replay_model.specs.ReplayState.{after_end, after_event, after_mark};
-ghost use Rattle.replay_model.specs.Transcript.{asks};
+ghost use Rattle.replay_model.specs.Transcript.{question_of};
 ghost use Rattle.transcript.specs.Printing.{output};
 ghost use Rattle.session.specs.declared.report.Report.TheVariants.{Answers};
 ghost use Rattle.session.specs.Counts.{HasGoneOn, HasWrittenOn};
@@ -32,7 +32,7 @@ pub struct Delivered {
     pub reported: u64,
 }
 
-// Takes one delivery: all that it makes due is applied, it is answered if it asks, and what is held is mapped anew if it changes the
+// Takes one delivery: all that it makes due is applied, it is answered if it is a question, and what is held is mapped anew if it changes the
 // mapping; what is to be reported of that is written. Says what its event was, if it is one.
 pub fn deliver<R: Revisions, K: Sink>(
     context: &Context<'_>,
@@ -42,13 +42,13 @@ pub fn deliver<R: Revisions, K: Sink>(
     world: &mut World,
 ) -> Result<Delivered, Stop>
     requires open { world.old.replay.buffer.closed ≡ false }
-    requires number { HasNumberLeft context.now.report context.now.reported }
-    ensures ok { IfOk result (λ done. TakesDelivery (environment context.now.report (R.contents revisions.old) context.now.folder.now world.old.limit) (turn context.now.reported delivery.now) done.reported
+    requires number { HasNumberLeft context.now.report context.now.reported context.now.matched }
+    ensures ok { IfOk result (λ done. TakesDelivery (environment context.now.report (R.contents revisions.old) context.now.folder.now world.old.limit) (turn context.now.reported context.now.matched delivery.now) done.reported
         (stage R.Revisions K.Sink revisions.old out.old world.old) (stage R.Revisions K.Sink revisions.new out.new world.new)) }
     ensures answer { IfOk result (λ done. done.answer ≡ answer_of world.old.replay.buffer delivery.now) }
-    ensures err { IfErr result (λ stop. CutsOff stop (environment context.now.report (R.contents revisions.old) context.now.folder.now world.old.limit) (turn context.now.reported delivery.now)
+    ensures err { IfErr result (λ stop. CutsOff stop (environment context.now.report (R.contents revisions.old) context.now.folder.now world.old.limit) (turn context.now.reported context.now.matched delivery.now)
         (stage R.Revisions K.Sink revisions.old out.old world.old) (stage R.Revisions K.Sink revisions.new out.new world.new)) }
-    ensures silent { context.now.report ≡ Answers → asks (delivery.now ∷ []) ≡ 0 → output K.Sink out.new ≡ output K.Sink out.old }
+    ensures silent { context.now.report ≡ Answers → question_of delivery.now ≡ None → output K.Sink out.new ≡ output K.Sink out.old }
     ensures limit { world.new.limit ≡ world.old.limit }
     ensures held { HoldsWithin world.old.limit world.old → HoldsWithin world.old.limit world.new }
     ensures source { HasGoneOn R.Revisions revisions.old revisions.new }
@@ -78,6 +78,13 @@ pub fn deliver<R: Revisions, K: Sink>(
         }
         Delivery::Mapping(version) => {
             let reported = take_mapping(context, *version, out, world)?;
+            Ok(Delivered {
+                answer: None,
+                reported,
+            })
+        }
+        Delivery::Match(query) => {
+            let reported = context.answer_match(query, world, out)?;
             Ok(Delivered {
                 answer: None,
                 reported,

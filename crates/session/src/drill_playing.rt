@@ -90,6 +90,7 @@ impl DrillRun {
             folder: FOLDER,
             report: Report::Answers,
             reported: 0,
+            matched: 0,
         };
         let list = deliveries(self.alloc, done + 1)?;
         for delivery in list.as_slice() {
@@ -116,6 +117,7 @@ impl DrillRun {
             folder: FOLDER,
             report: Report::Answers,
             reported: 0,
+            matched: 0,
         };
         match take_end(&context, &mut self.pages, out, world) {
             Ok(_) => Ok(()),

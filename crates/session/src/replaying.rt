@@ -134,6 +134,7 @@ fn take_all<S: Source, R: Revisions, K: Sink>(
         folder: plan.folder(),
         report,
         reported,
+        matched: 0, // none is delivered any more
     };
     take_end(&context, &mut ports.revisions, &mut ports.out, world)?;
     Ok(())

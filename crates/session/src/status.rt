@@ -85,6 +85,7 @@ fn cause_name(cause: LineCause) -> &'static str
         LineCause::Mode => "Mode",
         LineCause::Pattern => "Pattern",
         LineCause::Mapping => "Mapping",
+        LineCause::Match => "Match",
         LineCause::Head => "Head",
         LineCause::Triple => "Triple",
         LineCause::Order => "Order",

@@ -1,8 +1,9 @@
 // The lines of the input are taken one by one.
 
-ghost use Rattle.std.specs.Prelude.{◌≡◌, ◌⊎◌, Ok, Err, IfErr, IfOk, IfSome};
+ghost use Rattle.std.specs.Prelude.{◌≡◌, ◌⊎◌, ◌∷◌, [], Ok, Err, IfErr, IfOk, IfSome};
 ghost use Rattle.drill_replay.specs.Playing.{IsByFirst};
 ghost use Rattle.replay_model.specs.ReplayState.{nothing_delivered_within};
+ghost use Rattle.replay_model.specs.Transcript.{matches};
 ghost use Rattle.event_line.specs.declared.faults.LineCause.{LineCause};
 ghost use Rattle.event_line.specs.Line.{delivery_of};
 ghost use Rattle.session.specs.declared.stop.Stop.TheVariants.{BadLine, OutOfMemory as Refused};
@@ -56,6 +57,7 @@ pub fn take_lines<S: Source, R: Revisions, K: Sink>(
     let mut lines = Lines::new(plan.max_bytes());
     let mut line = Vec::new(alloc);
     let mut reported = 0;
+    let mut matched = 0;
     while let Some(number) = lines.next(&mut ports.events, &mut line)? {
         let delivery = read_delivery(alloc, line.as_slice(), number)?;
         let context = Context {
@@ -63,6 +65,7 @@ pub fn take_lines<S: Source, R: Revisions, K: Sink>(
             folder,
             report,
             reported,
+            matched,
         };
         let done = deliver(
             &context,
@@ -72,9 +75,20 @@ pub fn take_lines<S: Source, R: Revisions, K: Sink>(
             world,
         )?;
         reported = done.reported;
+        matched += matches_in(&delivery);
         drop(delivery); // its memory is free before the next line is read
     }
     Ok(reported)
+}
+
+// How many matches a delivery is: one, or none.
+fn matches_in(delivery: &Delivery) -> u64
+    ensures { result ≡ matches (delivery.now ∷ []) }
+{
+    match delivery {
+        Delivery::Match(_) => 1,
+        _ => 0,
+    }
 }
 
 // Reads one line.

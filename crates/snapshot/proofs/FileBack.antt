@@ -70,7 +70,7 @@ entries_fit (e ∷ es) fit = (fit.0, entries_fit es fit.1)
 pub lines_fit : (s : Saved) → IsFitSaved s → Each IsFitLine (snapshot_lines s)
 lines_fit s fit =
     each_both (lines_before_end s) (End (length (lines_before_end s)) ∷ []) (
-      record { mark = fit.mark; horizon = fit.horizon; asks = fit.asks; patches = fit.patches },
+      record { mark = fit.mark; horizon = fit.horizon; asks = fit.asks; matches = fit.matches; patches = fit.patches },
       each_both (map Remembered s.state.buffer.kept) (map Side s.state.played.side ++ map entity_line (finite.entries s.state.played.records))
           (events_fit s.state.buffer.kept fit.kept)
           (each_both (map Side s.state.played.side) (map entity_line (finite.entries s.state.played.records))

@@ -45,22 +45,22 @@ held_some (Some h) fits = ((refl, tt), (tt, (tt, (fits, tt))))
 
 pub line_writable : (line : Line) → IsFitLine line → IsWritable (line_data line)
 line_writable (Begins h) fit = (
-  (refl, (refl, (refl, (refl, (refl, tt))))),
+  (refl, (refl, (refl, (refl, (refl, (refl, tt)))))),
   (
     fit.asks,
     (
-      (refl, (refl, (refl, (refl, tt)))),
+      (refl, (refl, (refl, (refl, (refl, tt))))),
       (
         nat_some h.horizon fit.horizon,
         (
-          (refl, (refl, (refl, tt))),
+          (refl, (refl, (refl, (refl, tt)))),
           (
             version_writable h.mapping,
             (
-              (refl, (refl, tt)),
+              (refl, (refl, (refl, tt))),
               (
                 int_some h.mark fit.mark,
-                ((refl, tt), (fit.patches, (tt, (omega arith, tt)))),
+                ((refl, (refl, tt)), (fit.matches, ((refl, tt), (fit.patches, (tt, (omega arith, tt)))))),
               ),
             ),
           ),

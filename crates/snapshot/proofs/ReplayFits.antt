@@ -15,7 +15,7 @@ use Rattle.entity_model.specs.declared.event.Event.{Event}
 use Rattle.entity_model.specs.declared.event.Kind.{Kind}
 use Rattle.entity_model.specs.declared.event.Kind.TheVariants.{Edit, Delete, Undelete, ReconcileDeleted, ReconcileKept}
 use Rattle.delivery.specs.declared.Delivery.{Delivery}
-use Rattle.delivery.specs.declared.Delivery.TheVariants.{Event as Told, Watermark, Ask, Mapping}
+use Rattle.delivery.specs.declared.Delivery.TheVariants.{Event as Told, Watermark, Ask, Mapping, Match}
 use Rattle.entity_model.specs.EntityId.{IsId, entity_cmp, entity_cmp_total}
 use Rattle.entity_model.specs.Event.{event_cmp}
 use Rattle.entity_state.specs.declared.record.Held.{Held}
@@ -84,6 +84,7 @@ events_fit (Told e ∷ ds) fit = (fit.0, events_fit ds fit.1)
 events_fit (Watermark w ∷ ds) fit = events_fit ds fit.1
 events_fit (Ask q ∷ ds) fit = events_fit ds fit.1
 events_fit (Mapping v ∷ ds) fit = events_fit ds fit.1
+events_fit (Match q ∷ ds) fit = events_fit ds fit.1
 
 passing_fit_after : (test : List Delivery → Event → Bool) (ds before : List Delivery) → Each IsFitDelivery ds → Each IsFitEvent (filter_map (event_passing test) (arrivals_after before ds))
 passing_fit_after test [] before fit = tt
@@ -95,6 +96,7 @@ passing_fit_after test (Told e ∷ ds) before fit = by (test before e) (passing_
 passing_fit_after test (Watermark w ∷ ds) before fit = passing_fit_after test ds (before ++ Watermark w ∷ []) fit.1
 passing_fit_after test (Ask q ∷ ds) before fit = passing_fit_after test ds (before ++ Ask q ∷ []) fit.1
 passing_fit_after test (Mapping v ∷ ds) before fit = passing_fit_after test ds (before ++ Mapping v ∷ []) fit.1
+passing_fit_after test (Match q ∷ ds) before fit = passing_fit_after test ds (before ++ Match q ∷ []) fit.1
 
 passing_fit : (test : List Delivery → Event → Bool) (ds : List Delivery) → Each IsFitDelivery ds → Each IsFitEvent (events_passing test ds)
 passing_fit test ds fit = passing_fit_after test ds [] fit
@@ -121,6 +123,7 @@ mark_fits_from (Watermark w ∷ ds) m here fit = mark_fits_from ds (greater m w)
     next (Some x) here = chosen (int_lt x w) x here
 mark_fits_from (Ask q ∷ ds) m here fit = mark_fits_from ds m here fit.1
 mark_fits_from (Mapping v ∷ ds) m here fit = mark_fits_from ds m here fit.1
+mark_fits_from (Match q ∷ ds) m here fit = mark_fits_from ds m here fit.1
 
 -- ---- a record after an event
 
@@ -231,6 +234,7 @@ happens_fits h replies ds (Told e) p before fit = record {
 happens_fits h replies ds (Watermark w) p before fit = apply_all_fits replies (newly_due h ds false (ds ++ Watermark w ∷ [])) p before (newly_due_fit h ds false (ds ++ Watermark w ∷ []) fit)
 happens_fits h replies ds (Ask q) p before fit = before
 happens_fits h replies ds (Mapping v) p before fit = before
+happens_fits h replies ds (Match q) p before fit = before
 
 none_fit : (es : List (EntityId × Record Bytes)) → length es ≡ 0 → Each IsFitIn es
 none_fit [] is = tt
@@ -250,14 +254,15 @@ play_fits h replies = by_pushes (λ ds. Each IsFitDelivery ds → IsFitPlayed (p
         subst IsFitPlayed (sym (play-push h replies ds d)) (happens_fits h replies ds d (play h replies ds) (before (each_front IsFitDelivery ds (d ∷ []) fit)) fit)
 
 -- a snapshot whose state is that after deliveries that fit does, where its lines can be counted
-pub following_fits : (s : Saved) (h : Option ℕ) (replies : Replies) (ds : List Delivery) → s.state ≡ following h replies ds → s.asks < 2 ^ 64 → s.patches < 2 ^ 64 →
+pub following_fits : (s : Saved) (h : Option ℕ) (replies : Replies) (ds : List Delivery) → s.state ≡ following h replies ds → s.asks < 2 ^ 64 → s.matches < 2 ^ 64 → s.patches < 2 ^ 64 →
     IfSome h (λ n. n < 2 ^ 64) → Each IsFitDelivery ds → length (lines_before_end s) < 2 ^ 64 → IsFitSaved s
-following_fits s h replies ds is asks patches horizon fit count =
+following_fits s h replies ds is asks matches patches horizon fit count =
     let played = play_fits h replies ds fit in
     record {
       mark = subst (λ w. IfSome w.buffer.mark (FitsSigned w64)) (sym is) (mark_fits_from ds None tt fit);
       horizon = subst (λ w. IfSome w.buffer.horizon (λ n. n < 2 ^ 64)) (sym is) horizon;
       asks = asks;
+      matches = matches;
       patches = patches;
       kept = subst (λ w. Each IsFitEvent w.buffer.kept) (sym is)
           (each_filtered IsFitEvent (λ e. not (is_below (floor h (mark ds)) e.time)) (in_order (events ds)) (each_sorted IsFitEvent (events ds) (events_fit ds fit)));

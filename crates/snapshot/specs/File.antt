@@ -38,6 +38,7 @@ pub record IsFitSaved (s : Saved) : Type 0 where
   pub mark : IfSome s.state.buffer.mark (FitsSigned w64)
   pub horizon : IfSome s.state.buffer.horizon (λ n. n < 2 ^ 64)
   pub asks : s.asks < 2 ^ 64
+  pub matches : s.matches < 2 ^ 64
   pub patches : s.patches < 2 ^ 64
   pub kept : Each IsFitEvent s.state.buffer.kept
   pub records : Each (λ entry. IsId entry.0 × IsFitRecord entry.1) (finite.entries s.state.played.records)

@@ -21,6 +21,7 @@ pub record IsFitHead (h : Head) : Type 0 where
   pub mark : IfSome h.mark (FitsSigned w64)
   pub horizon : IfSome h.horizon (λ n. n < 2 ^ 64)
   pub asks : h.asks < 2 ^ 64
+  pub matches : h.matches < 2 ^ 64
   pub patches : h.patches < 2 ^ 64
 
 pub record IsFitRecord (r : Record Bytes) : Type 0 where

@@ -47,8 +47,9 @@ head_data h = object (
     (member (codes "horizon") (if_some nat_data h.horizon)
     (member (codes "mapping") (nat_data (version_number h.mapping))
     (member (codes "mark") (if_some int_data h.mark)
+    (member (codes "matches") (nat_data h.matches)
     (member (codes "patches") (nat_data h.patches)
-    (member (codes "snapshot") (nat_data 1) no_members))))))
+    (member (codes "snapshot") (nat_data 1) no_members)))))))
 
 abbrev pub record_data : EntityId → Record Bytes → Data
 record_data x r = object (

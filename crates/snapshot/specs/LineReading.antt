@@ -61,8 +61,10 @@ head_in d format =
     option_and_then (λ horizon.
     option_and_then (λ mapping.
     option_and_then (λ asks.
-    option_map (λ patches. record { mark = mark; horizon = horizon; mapping = mapping; asks = asks; patches = patches })
+    option_and_then (λ matches.
+    option_map (λ patches. record { mark = mark; horizon = horizon; mapping = mapping; asks = asks; matches = matches; patches = patches })
     (at_key nat_in (codes "patches") d))
+    (at_key nat_in (codes "matches") d))
     (at_key nat_in (codes "asks") d))
     (option_and_then version_numbered (at_key nat_in (codes "mapping") d)))
     (at_key (if_there nat_in) (codes "horizon") d))

@@ -15,11 +15,12 @@ use Rattle.snapshot.specs.declared.line.Head.{Head}
 use Rattle.snapshot.specs.declared.line.Line.{Line}
 use Rattle.snapshot.specs.declared.line.Line.TheVariants.{Head as Begins, Remembered, Entity, Side, End}
 
--- what a snapshot keeps: the state of a replay, the version of the mapping in force, how many questions were answered, and the number
--- of the last patch record
+-- what a snapshot keeps: the state of a replay, the version of the mapping in force, how many asks and how many matches were answered, and
+-- the number of the last patch record
 pub record Saved : Type 0 where
   pub version : MappingVersion
   pub asks : ℕ
+  pub matches : ℕ
   pub patches : ℕ
   pub state : ReplayState
 
@@ -31,6 +32,7 @@ head_of s = record {
   horizon = s.state.buffer.horizon;
   mapping = s.version;
   asks = s.asks;
+  matches = s.matches;
   patches = s.patches;
 }
 
@@ -62,6 +64,7 @@ abbrev pub beginning : Head → Saved
 beginning h = record {
   version = h.mapping;
   asks = h.asks;
+  matches = h.matches;
   patches = h.patches;
   state = record { buffer = at_mark h.horizon h.mark []; played = nothing_played };
 }

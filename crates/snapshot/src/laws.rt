@@ -41,7 +41,7 @@ pub fn snapshots_read_back()
 /// The state after any deliveries can be saved; and of the events that it remembers those wait that the mark hasn't reached, so that
 /// taking them again makes its buffer.
 pub fn replays_can_be_saved()
-    ensures fits { (s : Saved) (h : Option ℕ) (replies : Replies) (ds : List Delivery) → s.state ≡ following h replies ds → s.asks < 2 ^ 64 → s.patches < 2 ^ 64 →
+    ensures fits { (s : Saved) (h : Option ℕ) (replies : Replies) (ds : List Delivery) → s.state ≡ following h replies ds → s.asks < 2 ^ 64 → s.matches < 2 ^ 64 → s.patches < 2 ^ 64 →
         IfSome h (λ n. n < 2 ^ 64) → Each IsFitDelivery ds → length (lines_before_end s) < 2 ^ 64 → IsFitSaved s }
     ensures waiting { (h : Option ℕ) (replies : Replies) (ds : List Delivery) →
         (following h replies ds).buffer.waiting ≡ filter (not_reached (mark ds)) (following h replies ds).buffer.kept }

@@ -3,7 +3,7 @@
 //! The lines come in this order: the head, each event that is remembered, each entry of the side output, the record of each entity with the
 //! page that it holds, and the number of the lines before the last.
 //!
-//! `{"asks":0,"horizon":null,"mapping":1,"mark":null,"patches":0,"snapshot":1}`
+//! `{"asks":0,"horizon":null,"mapping":1,"mark":null,"matches":0,"patches":0,"snapshot":1}`
 //! `{"entity":"Q1","kind":"edit","micros":0,"rev":5}`
 //! `{"entry":"late","event":{..}}`
 //! `{"entity":"Q1","held":{"page":"..","rev":5},"reconciled":null,"rev":5,"state":"kept"}`

@@ -14,8 +14,10 @@ pub struct Head {
     pub horizon: Option<u64>,
     /// The version of the mapping in force, by which each held page is mapped.
     pub mapping: MappingVersion,
-    /// How many questions were answered, so that the next one has the number after it.
+    /// How many asks were answered, so that the next one has the number after it.
     pub asks: u64,
+    /// How many matches were answered, which are counted by themselves.
+    pub matches: u64,
     /// The number of the last patch record, 0 where there was none.
     pub patches: u64,
 }

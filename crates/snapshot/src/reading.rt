@@ -45,12 +45,14 @@ fn head(object: &Value, format: &Value) -> Option<Head>
     let horizon = nat_or_null(object.get("horizon")?)?;
     let mapping = version_numbered(object.get("mapping")?.as_u64()?)?;
     let asks = object.get("asks")?.as_u64()?;
+    let matches = object.get("matches")?.as_u64()?;
     let patches = object.get("patches")?.as_u64()?;
     Some(Head {
         mark,
         horizon,
         mapping,
         asks,
+        matches,
         patches,
     })
 }

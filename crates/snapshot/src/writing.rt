@@ -42,6 +42,7 @@ fn head_value(alloc: Global, head: &Head) -> Result<Value, OutOfMemory>
     serde_json::put(&mut map, alloc, "horizon", horizon)?;
     serde_json::put(&mut map, alloc, "mapping", Value::from(mapping))?;
     serde_json::put(&mut map, alloc, "mark", mark)?;
+    serde_json::put(&mut map, alloc, "matches", Value::from(head.matches))?;
     serde_json::put(&mut map, alloc, "patches", Value::from(head.patches))?;
     serde_json::put(&mut map, alloc, "snapshot", Value::from(1u64))?;
     Ok(Value::Object(map))

@@ -8,7 +8,7 @@ use Rattle.entity_model.specs.declared.event.Kind.{Kind}
 use Rattle.entity_model.specs.declared.event.Kind.TheVariants.{Edit, Delete, Undelete, ReconcileDeleted, ReconcileKept}
 use Rattle.entity_model.specs.declared.unfit.Unfit.{Unfit}
 use Rattle.delivery.specs.declared.Delivery.{Delivery}
-use Rattle.delivery.specs.declared.Delivery.TheVariants.{Event as Told, Watermark, Ask, Mapping}
+use Rattle.delivery.specs.declared.Delivery.TheVariants.{Event as Told, Watermark, Ask, Mapping, Match}
 use Rattle.entity_model.specs.Event.{event_cmp, event_cmp_total, event_cmp_same}
 use Rattle.entity_state.specs.declared.state.State.{State}
 use Rattle.entity_state.specs.declared.record.Held.{Held}
@@ -189,12 +189,14 @@ module _ (contents : ℕ → Option Bytes) where
       entered_named w (Watermark m) there all = record { waits = all.waits; pages = all.pages }
       entered_named w (Ask q) there all = all
       entered_named w (Mapping v) there all = all
+      entered_named w (Match q) there all = all
 
       delivered_named : (w : ReplayState) (d : Delivery) → ((e : Event) → event_of d ≡ Some e → has event_cmp e es ≡ true) → WorldNamed w → WorldNamed (delivered replies w d)
       delivered_named w (Told e) there all = event_named w e (there e refl) all
       delivered_named w (Watermark m) there all = due_named (after_mark w m) (record { waits = all.waits; pages = all.pages })
       delivered_named w (Ask q) there all = all
       delivered_named w (Mapping v) there all = all
+      delivered_named w (Match q) there all = all
 
       start_named : (h : Option ℕ) → WorldNamed (nothing_delivered_within h)
       start_named h = record {

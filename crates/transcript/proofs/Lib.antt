@@ -1,2 +1,3 @@
 pub mod Parts
 mod ByIds
+mod BindingLines

@@ -1,7 +1,7 @@
 // The lines of the transcript, but for those of the triples.
 
 ghost use Rattle.std.specs.Prelude.{◌≡◌, IfOk, string_bytes};
-ghost use Rattle.replay_model.specs.Transcript.{ask_head, cause_word, entry_line, entry_word, entry_words, event_words, export_head, kind_word, mode_line, open_word, side_line, state_line, stated_line, unfit_word};
+ghost use Rattle.replay_model.specs.Transcript.{ask_head, cause_word, entry_line, entry_word, entry_words, event_words, export_head, kind_word, match_head, mode_line, open_word, side_line, state_line, stated_line, unfit_word};
 
 use entity_model::{EntityId, Event, Kind, Unfit};
 use entity_state::{Mode, State};
@@ -23,6 +23,14 @@ pub(crate) fn answer_line(alloc: Global, number: u64, count: usize) -> Result<St
     ensures { IfOk result (λ line. string_bytes line ≡ ask_head number count) }
 {
     Ok(format!(in alloc; "# ask {number}: {count} triples\n")?)
+}
+
+// The first line of the answer to the match with this number.
+#[tactic(auto, unfolding(replay_model::specs::Transcript::match_head))]
+pub(crate) fn match_line(alloc: Global, number: u64, count: usize) -> Result<String, OutOfMemory>
+    ensures { IfOk result (λ line. string_bytes line ≡ match_head number count) }
+{
+    Ok(format!(in alloc; "# match {number}: {count} rows\n")?)
 }
 
 // The line of an entity's state with its line feed; empty where no event says which it is.

@@ -25,7 +25,7 @@ fn summary(delivery: &Delivery, id: EntityId) -> Option<(Option<Kind>, u64, i64)
             Some((Some(event.kind), event.rev, event.time))
         }
         Delivery::Watermark(time) => Some((None, 0, *time)),
-        Delivery::Event(_) | Delivery::Ask(_) | Delivery::Mapping(_) => None,
+        Delivery::Event(_) | Delivery::Ask(_) | Delivery::Mapping(_) | Delivery::Match(_) => None,
     }
 }
 

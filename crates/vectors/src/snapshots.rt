@@ -5,8 +5,8 @@ use std::test::Fail;
 
 // One line of each kind, with the greatest and the least numbers, a word for each cause and mode, and a page with a line feed.
 const LINES: &str =
-    r#"{"asks":0,"horizon":null,"mapping":1,"mark":null,"patches":18446744073709551615,"snapshot":1}
-{"asks":3,"horizon":18446744073709551615,"mapping":2,"mark":-9223372036854775808,"patches":7,"snapshot":1}
+    r#"{"asks":0,"horizon":null,"mapping":1,"mark":null,"matches":0,"patches":18446744073709551615,"snapshot":1}
+{"asks":3,"horizon":18446744073709551615,"mapping":2,"mark":-9223372036854775808,"matches":5,"patches":7,"snapshot":1}
 {"entity":"Q42","kind":"edit","micros":9223372036854775807,"rev":18446744073709551615}
 {"entity":"P1","kind":"delete","micros":-5,"rev":1}
 {"entity":"P1","kind":"undelete","micros":0,"rev":1}
@@ -28,9 +28,9 @@ const LINES: &str =
 const OTHERS: &str = r#"{"end":4.0}
 {"end":4,"kind":null}
 {"end":4
-{"asks":0,"horizon":null,"mapping":1,"mark":null,"patches":0,"snapshot":2}
-{"asks":0,"horizon":null,"mapping":3,"mark":null,"patches":0,"snapshot":1}
-{"horizon":null,"mapping":1,"mark":null,"patches":0,"snapshot":1}
+{"asks":0,"horizon":null,"mapping":1,"mark":null,"matches":0,"patches":0,"snapshot":2}
+{"asks":0,"horizon":null,"mapping":3,"mark":null,"matches":0,"patches":0,"snapshot":1}
+{"horizon":null,"mapping":1,"mark":null,"matches":0,"patches":0,"snapshot":1}
 {"entity":"Q042","kind":"edit","micros":5,"rev":1}
 {"entity":"Q42","kind":"edit","micros":5,"rev":-1}
 {"entity":"Q42","reconciled":null,"rev":7,"state":"kept"}

@@ -4,7 +4,7 @@ use Rattle.std.specs.FinMap as map
 use Rattle.replay_model.specs.Entries.{is_open_in}
 use Rattle.replay_model.specs.Play.{Played, played}
 use Rattle.replay_model.specs.Records.{record_of}
-use Rattle.replay_parts.proofs.Routed.{mark-routed, version-routed, asks-routed}
+use Rattle.replay_parts.proofs.Routed.{mark-routed, version-routed, asks-routed, matches-routed}
 use Rattle.replay_parts.proofs.PlayedParts.{following-routed, following_to_end-routed, played-routed, record_of-part, get-part, is_open-own}
 use Rattle.replay_parts.proofs.PartFetches.{fetches-routed, fetches_to_end-routed}
 use Rattle.replay_parts.proofs.parts.replay_of_a_part_is_the_part_of_a_replay.Goals as goal
@@ -41,6 +41,9 @@ returns-clause-version c = version-routed
 
 pub returns-clause-asked : goal.returns-clause-asked
 returns-clause-asked c = asks-routed
+
+pub returns-clause-matched : goal.returns-clause-matched
+returns-clause-matched c = matches-routed
 
 pub returns-clause-fetches : goal.returns-clause-fetches
 returns-clause-fetches c contains own replies agree = fetches-routed contains own replies agree

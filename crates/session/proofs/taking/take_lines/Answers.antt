@@ -20,7 +20,7 @@ loop-line-init g c =
 pub returns-in_err-number-clause-err : goal.returns-in_err-number-clause-err
 returns-in_err-number-clause-err g c =
     let p = err_from_is_err_and c.from_residual.result c.from_residual.ensures.1 in
-    rw (p.1, p.2) (fault_stops _ _ _ _ _ c.loop-line.invariant.0 _ c.next.new.self _ _ _ c.in_err-number.ensures.cause c.in_err-number.ensures.leaves c.next.ensures.reads)
+    rw (p.1, p.2) (fault_stops _ _ _ _ _ _ c.loop-line.invariant.0 _ c.next.new.self _ _ _ c.in_err-number.ensures.cause c.in_err-number.ensures.leaves c.next.ensures.reads)
 
 pub returns-in_err-delivery-clause-err : goal.returns-in_err-delivery-clause-err
 returns-in_err-delivery-clause-err g c =
@@ -29,7 +29,7 @@ returns-in_err-delivery-clause-err g c =
     let number = rw c.in-Some.is at c.in_ok-number.ensures.number in
     let bytes = rw c.in-Some.is at c.in_ok-number.ensures.bytes in
     let refused = rw c.as_slice.ensures.value at c.in_err-delivery.ensures.err in
-    rw (p.1, p.2) (line_stops _ _ _ _ _ c.loop-line.invariant.0 c.next.new.line.items c.next.new.self _ _ _ _ c.in-Some.number
+    rw (p.1, p.2) (line_stops _ _ _ _ _ _ c.loop-line.invariant.0 c.next.new.line.items c.next.new.self _ _ _ _ c.in-Some.number
     (record { first = line; total = c.in_ok-number.ensures.length; takes = bytes; goes = c.in_ok-number.ensures.goes_on; reads = c.next.ensures.reads }) number.0 refused)
 
 pub deliver-requires-clause-open : goal.deliver-requires-clause-open
@@ -42,7 +42,7 @@ returns-in_err-done-clause-err g c =
     let bytes = rw c.in-Some.is at c.in_ok-number.ensures.bytes in
     let delivered = rw c.as_slice.ensures.value at c.in_ok-delivery.ensures.ok in
     let cuts = rw (c.loop-line.invariant.1.revisions.known, c.folder-folder.ensures, c.loop-line.invariant.2 ∙ c.requires.limit) at c.in_err-done.ensures.err in
-    rw (p.1, p.2) (delivery_stops _ _ _ _ _ c.loop-line.invariant.0 c.next.new.line.items c.next.new.self _ _
+    rw (p.1, p.2) (delivery_stops _ _ _ _ _ _ c.loop-line.invariant.0 c.next.new.line.items c.next.new.self _ _
     (moment g.S.Source g.R.Revisions g.K.Sink (record { events = c.next.new.source; revisions = c.deliver.new.revisions; out = c.deliver.new.out }) c.deliver.new.world) c.in_ok-delivery.delivery
     (record { first = line; total = c.in_ok-number.ensures.length; takes = bytes; goes = c.in_ok-number.ensures.goes_on; reads = c.next.ensures.reads }) delivered _ cuts)
 
@@ -53,34 +53,34 @@ loop-line-preserved g c =
     let bytes = rw c.in-Some.is at c.in_ok-number.ensures.bytes in
     let delivered = rw c.as_slice.ensures.value at c.in_ok-delivery.ensures.ok in
     let takes = rw (c.loop-line.invariant.1.revisions.known, c.folder-folder.ensures, c.loop-line.invariant.2 ∙ c.requires.limit) at c.in_ok-done.ensures.ok in (
-      line_taken _ _ _ _ _ c.loop-line.invariant.0 c.next.new.line.items c.next.new.self _ _
+      rw c.matches_in-matched.ensures (line_taken _ _ _ _ _ _ c.loop-line.invariant.0 c.next.new.line.items c.next.new.self _ _
           (moment g.S.Source g.R.Revisions g.K.Sink (record { events = c.next.new.source; revisions = c.deliver.new.revisions; out = c.deliver.new.out }) c.deliver.new.world) c.in_ok-delivery.delivery
           (record { first = line; total = c.in_ok-number.ensures.length; takes = bytes; goes = c.in_ok-number.ensures.goes_on; reads = c.next.ensures.reads }) delivered _
-          c.in_ok-number.ensures.later (sym number.1 ∙ number.0) c.in_ok-number.ensures.ended takes,
+          c.in_ok-number.ensures.later (sym number.1 ∙ number.0) c.in_ok-number.ensures.ended takes),
       delivered_on g.S.Source g.R.Revisions g.K.Sink _ c.loop-line.ports _ _ _ c.loop-line.invariant.1 c.next.ensures.later c.next.ensures.most c.deliver.ensures.source c.deliver.ensures.written,
       c.deliver.ensures.limit ∙ c.loop-line.invariant.2,
       (rw c.loop-line.invariant.2 at c.deliver.ensures.held) c.loop-line.invariant.3,
     )
 
 pub deliver-requires-clause-number : goal.deliver-requires-clause-number
-deliver-requires-clause-number g c = numbers_left c.args.report c.loop-line.reported c.loop-line.lines c.loop-line.invariant.0.few c.loop-line.invariant.0.sound c.loop-line.invariant.0.max (rw c.max_bytes.ensures.value at c.max_bytes.ensures.bounded)
+deliver-requires-clause-number g c = numbers_left c.args.report c.loop-line.reported c.loop-line.matched c.loop-line.lines c.loop-line.invariant.0.few c.loop-line.invariant.0.few_matched c.loop-line.invariant.0.sound c.loop-line.invariant.0.max (rw c.max_bytes.ensures.value at c.max_bytes.ensures.bounded)
 
 pub returns-clause-ok : goal.returns-clause-ok
 returns-clause-ok g c =
     let line = rw c.in_default.is at c.in_ok-number.ensures.line in
-    end_reached _ _ _ _ _ c.loop-line.invariant.0 _ (nothing_left c.next.new.self.held _ (rw line.1 line.0)) line.0
+    end_reached _ _ _ _ _ _ c.loop-line.invariant.0 _ (nothing_left c.next.new.self.held _ (rw line.1 line.0)) line.0
 
 pub returns-clause-taken : goal.returns-clause-taken
-returns-clause-taken g c = taken_on _ _ _ _ _ c.loop-line.invariant.0 c.next.new.self _ _ _ c.next.ensures.reads
+returns-clause-taken g c = taken_on _ _ _ _ _ _ c.loop-line.invariant.0 c.next.new.self _ _ _ c.next.ensures.reads
 
 pub returns-in_err-number-clause-taken : goal.returns-in_err-number-clause-taken
-returns-in_err-number-clause-taken g c = taken_on _ _ _ _ _ c.loop-line.invariant.0 c.next.new.self _ _ _ c.next.ensures.reads
+returns-in_err-number-clause-taken g c = taken_on _ _ _ _ _ _ c.loop-line.invariant.0 c.next.new.self _ _ _ c.next.ensures.reads
 
 pub returns-in_err-delivery-clause-taken : goal.returns-in_err-delivery-clause-taken
-returns-in_err-delivery-clause-taken g c = taken_on _ _ _ _ _ c.loop-line.invariant.0 c.next.new.self _ _ _ c.next.ensures.reads
+returns-in_err-delivery-clause-taken g c = taken_on _ _ _ _ _ _ c.loop-line.invariant.0 c.next.new.self _ _ _ c.next.ensures.reads
 
 pub returns-in_err-done-clause-taken : goal.returns-in_err-done-clause-taken
-returns-in_err-done-clause-taken g c = taken_on _ _ _ _ _ c.loop-line.invariant.0 c.next.new.self _ _ _ c.next.ensures.reads
+returns-in_err-done-clause-taken g c = taken_on _ _ _ _ _ _ c.loop-line.invariant.0 c.next.new.self _ _ _ c.next.ensures.reads
 
 pub returns-clause-further : goal.returns-clause-further
 returns-clause-further g c = read_on g.S.Source g.R.Revisions g.K.Sink _ c.loop-line.ports _ c.loop-line.invariant.1 c.next.ensures.later c.next.ensures.most

@@ -10,7 +10,7 @@ abbrev pub invariant-loop-line : goal.invariant-loop-line
 invariant-loop-line g l =
     Progress (run_of l.report (g.R.Revisions.contents l.fn.ports.revisions) l.plan)
     (moment g.S.Source g.R.Revisions g.K.Sink l.fn.ports l.fn.world)
-    (moment g.S.Source g.R.Revisions g.K.Sink l.ports l.world) l.lines l.reported
+    (moment g.S.Source g.R.Revisions g.K.Sink l.ports l.world) l.lines l.reported l.matched
     × HaveGoneOn g.S.Source g.R.Revisions g.K.Sink l.fn.ports l.ports
     × (l.world.limit ≡ l.fn.world.limit)
     × HoldsWithin l.fn.world.limit l.world
