@@ -1,5 +1,6 @@
 """What wdq takes as a line of an event file, and why it refuses any other line. The rules are those of docs/EVENT_LINES.md."""
 
+import argparse
 import datetime
 import difflib
 import json
@@ -210,6 +211,13 @@ def refusal_of(line):
     except Refusal as refusal:
         return refusal
     return None
+
+
+def moment(text):
+    """A time, as a word of a command."""
+    if refusal := refusal_of(json.dumps({"watermark": text}).encode()):
+        raise argparse.ArgumentTypeError(str(refusal))
+    return text
 
 
 def lines_of(file):

@@ -23,7 +23,7 @@ import re
 import sys
 import zlib
 
-from event_lines import refusal_of
+from event_lines import moment, refusal_of
 from progress import Progress
 
 HEAD = re.compile(rb'\{"type":"(item|property|lexeme)","id":"([A-Z])([0-9]+)"')
@@ -99,12 +99,6 @@ def shard(text):
     if not match or int(match.group(1)) >= int(match.group(2)):
         raise argparse.ArgumentTypeError("is K/N, with K from 0 to N - 1")
     return int(match.group(1)), int(match.group(2))
-
-
-def moment(text):
-    if refusal := refusal_of(json.dumps({"watermark": text}).encode()):
-        raise argparse.ArgumentTypeError(str(refusal))
-    return text
 
 
 def main():
