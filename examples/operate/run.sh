@@ -192,10 +192,10 @@ in_doubt() {
 home=$work/home url=
 mkdir "$home" && cp -r "$work/batches" "$home/batches" && rm -f "$home"/batches/*-now.jsonl || exit 2
 ./load_dump.py --into "$home/pages" --began "$began" "$work/wiki/dump.json.gz" > "$home/batches/000000.jsonl" 2>/dev/null
-if "$wdq" patches --save "$work/probe" < /dev/null > /dev/null 2>&1; then
+if ./can_save.sh "$wdq"; then
   echo "steps go on from snapshots"
 else
-  echo "the program has no --save yet, so each step replays all batches"
+  echo "the program has no --resume yet, so each step replays all batches"
 fi
 if /usr/bin/python3 -c 'import rdflib' 2>/dev/null; then
   ../sparql/rdflib_store.py > "$work/url" &
@@ -241,7 +241,7 @@ if [ -n "$url" ]; then
 fi
 if [ -d "$home/snapshots" ]; then
   add_quiet_batch && step "$@" --keep 3 && tail -n 1 "$home/metrics.jsonl" | jq -e '.adds == 0 and .removes == 0' > "$work/said.txt" &&
-    [ "$(find "$home/batches" "$home/records" -name '*[0-9].*' | wc -l)" -eq 8 ]
-  told "a step forgets files of old batches, and $(find "$home/pages" -name '*.json' | wc -l) pages are left" $?
+    [ "$(find "$home/batches" -name '*[0-9].jsonl' | wc -l)" -eq 4 ]
+  told "a step forgets old batches, and $(find "$home/pages" -name '*.json' | wc -l) pages are left" $?
 fi
 exit $failed

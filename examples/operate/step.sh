@@ -14,11 +14,11 @@
 #   --graph IRI      the graph of the triples; without it, the default graph
 #   --counts         count the values, for stores that spell them their own way (docs/QUERY_SERVICE.md)
 #   --textfile FILE  the last line of metrics.jsonl for node_exporter
-#   --keep N         remove pages, batches and records that are more than N batches old
+#   --keep N         remove pages and batches that are more than N batches old; records stay, so that a store can be made anew
 #   --horizon N, --max-terms N       for wdq
 #   --site URL, --tries N, --pause S for fetch_pages.py and reconcile.py
 #
-# WDQ names the program; without it, it is this repository's wdq. Where the program has no --save, each step replays all batches.
+# WDQ names the program; without it, it is this repository's wdq. Where the program has no --resume, each step replays all batches.
 # Status 0: the batch is taken, or there is none; 1: run the step again; 2: words or programs are wrong; 4: look at what it says.
 here=$(cd "$(dirname "$0")" && pwd) || exit 2
 LC_ALL=C PYTHONDONTWRITEBYTECODE=1
@@ -88,10 +88,7 @@ is_saving() {
     [ -e "$home/exports/$before.txt" ] || fail "neither snapshots/$before nor exports/$before.txt is there" 4
     return 1
   fi
-  "$wdq" patches --save "$home/probe" < /dev/null > /dev/null 2>&1
-  is_saved=$?
-  rm -f "$home/probe"
-  return $is_saved
+  "$here/can_save.sh" "$wdq"
 }
 
 # The reconciliations that go in front of the batch: BATCH-now.jsonl.
@@ -188,7 +185,7 @@ send_records() {
   esac
 }
 
-# Removes what no later step reads, and with --keep what is older than so many batches.
+# Removes what no later step reads, and with --keep the pages and events of older batches: what a snapshot knows isn't fetched again.
 forget() {
   for folder in snapshots exports sides; do
     for file in "$home/$folder"/[0-9]*; do
@@ -200,7 +197,7 @@ forget() {
     old=${file##*/}
     old=${old%.jsonl}
     [ "${old%-now}" -lt $((${number:-0} + 1 - keep)) ] || break
-    jq -r 'select(.rev) | "\(.rev).json"' "$file" | (cd "$home/pages" && xargs rm -f) && rm -f "$home/records/$old.txt" "$file"
+    jq -r 'select(.rev) | "\(.rev).json"' "$file" | (cd "$home/pages" && xargs rm -f) && rm -f "$file"
   done
 }
 
