@@ -99,7 +99,8 @@ def line_of(home, arguments, former):
     """What there is to say of the batch; `former` is the line before it."""
     before = count_entries(home / "sides" / f"{name_of(arguments.before)}.txt") if arguments.before is not None else {}
     now = count_entries(home / "sides" / f"{name_of(arguments.batch)}.txt")
-    entries = {cause: now[cause] - before.get(cause, 0) for cause in ("late", "missing", "failed", "unfit")}
+    # A whole replay finds pages that were missing before.
+    entries = {cause: max(now[cause] - before.get(cause, 0), 0) for cause in ("late", "missing", "failed", "unfit")}
     changes = count_changes(home / "records" / f"{name_of(arguments.batch)}.txt")
     changes["record"] = changes["record"] or former.get("record", 0)
     line = {"batch": arguments.batch, **count_events(home, arguments.batch), **entries, "open": now["open"], **changes}
