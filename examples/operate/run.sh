@@ -240,6 +240,9 @@ if [ -n "$url" ]; then
   told "and so does rdflib, after record $(stored)" $?
 fi
 if [ -d "$home/snapshots" ]; then
+  last=$(done_so_far)
+  "$wdq" replay --resume "$home/snapshots/$last" --save "$work/look" --state --side < /dev/null | cmp -s - "$home/sides/$last.txt"
+  told "show_snapshot.py shows the $(grep -c '^# s' "$home/sides/$last.txt") states and entries that wdq shows" $?
   add_quiet_batch && step "$@" --keep 3 && tail -n 1 "$home/metrics.jsonl" | jq -e '.adds == 0 and .removes == 0' > "$work/said.txt" &&
     [ "$(find "$home/batches" -name '*[0-9].jsonl' | wc -l)" -eq 4 ]
   told "a step forgets old batches, and $(find "$home/pages" -name '*.json' | wc -l) pages are left" $?

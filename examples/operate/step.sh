@@ -136,11 +136,7 @@ step_by_snapshot() {
     sync "$home/records/$batch.txt" && mv "$home/snapshots/$batch.new" "$home/snapshots/$batch" || exit 1
     rm -f "$home/events.part"
   fi
-  [ -e "$home/sides/$batch.txt" ] && return
-  # shellcheck disable=SC2086 # words are split
-  "$wdq" replay $limits --resume "$home/snapshots/$batch" --save "$home/snapshots/look" --state --side < /dev/null > "$home/side.part" ||
-    fail "wdq doesn't show the side output"
-  mv "$home/side.part" "$home/sides/$batch.txt" && rm -f "$home/snapshots/look" || exit 1
+  "$here/show_snapshot.py" "$home/snapshots/$batch" > "$home/side.part" && mv "$home/side.part" "$home/sides/$batch.txt" || exit 1
 }
 
 # All batches up to this one, in their order.
