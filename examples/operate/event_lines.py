@@ -50,18 +50,20 @@ def check_entity(json_object):
     if "entity" not in json_object:
         raise missing("Entity", "entity", json_object)
     entity = json_object["entity"]
-    if type(entity) is str and re.fullmatch("[PQ][1-9][0-9]{0,9}", entity) and int(entity[1:]) <= GREATEST_NUMBER:
+    if type(entity) is str and re.fullmatch("[LPQ][1-9][0-9]{0,9}", entity) and int(entity[1:]) <= GREATEST_NUMBER:
         return
-    mend = "an id is P or Q and a number"
+    mend = "an id is P, Q or L and a number"
     if type(entity) is str:
-        bare = entity.strip().upper().removeprefix("PROPERTY:").removeprefix("ITEM:")
-        if re.fullmatch("[LEM][0-9]+(-[FS][0-9]+)?|LEXEME:.*|ENTITYSCHEMA:.*", bare):
-            mend = "wdq takes items and properties alone: leave the line out"
-        elif re.fullmatch("[PQ]0+[1-9][0-9]*|[PQ][1-9][0-9]*", bare) and int(bare[1:]) <= GREATEST_NUMBER:
+        bare = entity.strip().upper().removeprefix("PROPERTY:").removeprefix("ITEM:").removeprefix("LEXEME:")
+        if re.fullmatch("[EM][0-9]+|ENTITYSCHEMA:.*", bare):
+            mend = "wdq takes items, properties and lexemes alone: leave the line out"
+        elif re.fullmatch("L[0-9]+-[FS][0-9]+", bare):
+            mend = f'forms and senses come with their lexeme: did you mean "{bare.partition("-")[0]}"?'
+        elif re.fullmatch("[LPQ]0*[1-9][0-9]*", bare) and int(bare[1:]) <= GREATEST_NUMBER:
             mend = f'did you mean "{bare[0]}{int(bare[1:])}"?'
-        elif re.fullmatch("[PQ][1-9][0-9]*", bare):
+        elif re.fullmatch("[LPQ][1-9][0-9]*", bare):
             mend = "the number is at most 4294967295"
-    raise Refusal("Entity", f"{shown(entity)} is no id of an item or a property", mend)
+    raise Refusal("Entity", f"{shown(entity)} is no id of an item, a property or a lexeme", mend)
 
 
 def check_revision(json_object):

@@ -3,8 +3,8 @@
 
     ./made_up_wiki.py FOLDER [ENTITIES]
 
-It writes into FOLDER, serves until it is ended, and prints its address when it is ready. Its dump has so many items and properties and
-some more (200 without a number), and about as many changes come after it. Of the wiki's answers it has the stream of page changes, pages by revision, and the
+It writes into FOLDER, serves until it is ended, and prints its address when it is ready. Its dump has so many items and some more (200
+without a number), with some properties and lexemes, and about as many changes come after it. Of the wiki's answers it has the stream of page changes, pages by revision, and the
 API's `info` and `revisions`. It is as awkward as the real one may be: changes come out of order, late and again, connections are cut, and
 it is busy at times, once for each user agent. In FOLDER are
 
@@ -28,6 +28,7 @@ import urllib.parse
 
 CUT_EVERY, CUTS = 60, 4
 LATE_DELETIONS = 100
+TYPES = {"Q": "item", "P": "property", "L": "lexeme"}
 
 
 def time_of(index):
@@ -49,7 +50,8 @@ class History:
 
     def __init__(self, size, chance):
         self.items = size + size // 10
-        self.entities = [f"Q{number}" for number in range(1, self.items + 1)] + [f"P{number}" for number in range(1, 2 + size // 40)]
+        self.entities = [f"Q{number}" for number in range(1, self.items + 1)]
+        self.entities += [f"{letter}{number}" for letter in "PL" for number in range(1, 2 + size // 40)]
         chance.shuffle(self.entities)
         self.changes, self.pages, self.newest, self.state = [], {}, {}, {}
         # Most entities are there before the dump, which takes a while: each goes into it at a moment of its own.
@@ -86,21 +88,23 @@ class History:
         self.changes.append((kind, entity, revision, time_of(index)))
 
     def page(self, entity, revision, index):
-        page = {"type": "item" if entity.startswith("Q") else "property", "id": entity}
-        page["labels"] = {"en": {"language": "en", "value": f"{entity} at {revision}"}}
+        page = {"type": TYPES[entity[0]], "id": entity}
+        page["lemmas" if entity.startswith("L") else "labels"] = {"en": {"language": "en", "value": f"{entity} at {revision}"}}
         page["claims"] = claims(entity, revision)
+        if entity.startswith("L"):
+            page |= {"lexicalCategory": "Q1", "language": "Q2", "forms": [], "senses": []}
         if entity.startswith("P"):
             page["datatype"] = "quantity"
         return {**page, "lastrevid": revision, "modified": time_of(index)}
 
 
 def title(entity):
-    return entity if entity.startswith("Q") else f"Property:{entity}"
+    return {"Q": "", "P": "Property:", "L": "Lexeme:"}[entity[0]] + entity
 
 
 def message(kind, page_title, revision, moment, wiki="wikidatawiki", domain="www.wikidata.org"):
     """A change as the stream tells it."""
-    namespace = {"P": 120, "L": 146}.get(page_title[0], 0)
+    namespace = {"P": 120, "L": 146, "E": 640}.get(page_title[0], 0)
     page = {"page_title": page_title, "namespace_id": namespace, "is_redirect": False}
     head = {"$schema": "/mediawiki/page/change/1.2.0", "meta": {"domain": domain}, "wiki_id": wiki}
     return {**head, "page_change_kind": kind, "dt": moment, "page": page, "revision": {"rev_id": revision}}
@@ -119,7 +123,7 @@ def stream_of(history, chance):
             arrivals.append((index + lag + 5, told))
         if index % 11 == 0:
             arrivals.append((index, message("edit", "Berlin", revision, moment, "dewiki", "de.wikipedia.org")))
-            arrivals.append((index, message("edit", "Lexeme:L1", revision, moment)))
+            arrivals.append((index, message("edit", "EntitySchema:E1", revision, moment)))
             arrivals.append((index, message("move", title(entity), revision, moment)))
             arrivals.append((index, message("edit", title(entity), 1, moment, domain="canary")))
     arrivals.sort(key=lambda arrival: arrival[0])
@@ -135,9 +139,9 @@ def sse(index, told):
 def write_folder(folder, history, stream):
     """Writes the files that the scripts' results are compared with."""
     rows = [json.dumps(history.pages[revision][1]) for revision in history.taken.values()]
-    lexeme = '{"type":"lexeme","id":"L1","lastrevid":9,"modified":"2024-05-01T10:00:00Z"}'
+    media = '{"type":"mediainfo","id":"M1","lastrevid":9,"modified":"2024-05-01T10:00:00Z"}'
     with gzip.open(folder / "dump.json.gz", "wt") as file:
-        file.write("[\n" + ",\n".join([lexeme, *rows]) + "\n]\n")
+        file.write("[\n" + ",\n".join([media, *rows]) + "\n]\n")
     began = time_of(history.dump_at)
     (folder / "began").write_text(began)
     first = first_since(stream, began)
@@ -219,7 +223,7 @@ class Answers(http.server.BaseHTTPRequestHandler):
             return {"pages": [{"title": title(entity), "revisions": [{"slots": {"main": {"content": json.dumps(page)}}}]}]}
         pages = []
         for name in words["titles"].split("|")[:50]:
-            entity = name.removeprefix("Property:")
+            entity = name.rpartition(":")[2]
             is_kept = history.state.get(entity) == "kept"
             pages.append({"title": name, "lastrevid": history.newest[entity]} if is_kept else {"title": name, "missing": True})
         return {"pages": pages}
