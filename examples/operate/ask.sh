@@ -25,13 +25,13 @@ mkfifo "$work/lines" "$work/answers" || exit 2
 "$wdq" replay --from "$pages" --max-bytes 1099511627776 < "$work/lines" > "$work/answers" &
 child=$!
 exec 3> "$work/lines" 4< "$work/answers"
-{ grep -hv '"ask"' "$@" && echo '{"watermark":"9999-12-31T23:59:59Z"}'; } >&3
+{ grep -hEv '"(ask|match)"' "$@" && echo '{"watermark":"9999-12-31T23:59:59Z"}'; } >&3
 while IFS= read -r line && printf '%s\n' "$line" >&3; do
-  case $line in *'"ask"'*) ;; *) continue ;; esac
+  case $line in *'"ask"'* | *'"match"'*) ;; *) continue ;; esac
   IFS= read -r head <&4 || break
   printf '%s\n' "$head"
   rows=${head#*: }
-  rows=${rows% triples}
+  rows=${rows%% *}
   while [ "$rows" -gt 0 ] && IFS= read -r row <&4; do
     printf '%s\n' "$row"
     rows=$((rows - 1))

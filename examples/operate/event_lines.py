@@ -9,7 +9,9 @@ import re
 from json_value import Number, Refusal, read_json, shown
 
 LONGEST_LINE, GREATEST_REVISION, GREATEST_NUMBER = 65_536, 2**64 - 1, 2**32 - 1
-FORMS = ["kind", "watermark", "ask", "mapping"]
+FORMS = ["kind", "watermark", "ask", "mapping", "match"]
+MOST_PATTERNS = 8
+VARIABLE = re.compile(r"\?[a-z]{1,16}")
 KINDS = ["edit", "delete", "undelete", "reconcile"]
 # What other programs and the wiki call the same thing.
 ALIASES = {
@@ -172,6 +174,26 @@ def check_question(question):
             raise Refusal("Pattern", f"the {name} {shown(text)} is neither ? nor a term", explain_term(text))
 
 
+def explain_place(text):
+    """What would mend a text that is neither a variable nor a term."""
+    if text.startswith("?"):
+        return "a variable is ? and 1 to 16 letters from a to z" + (": give it a name" if text == "?" else "")
+    return explain_term(text)
+
+
+def check_match(patterns):
+    if not isinstance(patterns, list) or not 1 <= len(patterns) <= MOST_PATTERNS:
+        raise Refusal("Match", f"the value of `match` is no list of 1 to {MOST_PATTERNS} patterns", 'write [["?x","?y","?z"]]')
+    for pattern in patterns:
+        if not isinstance(pattern, list) or len(pattern) != 3:
+            raise Refusal("Match", f"the pattern {shown(pattern)} is no list of three", 'write it as ["?x","?y","?z"]')
+        for text in pattern:
+            if type(text) is not str:
+                raise Refusal("Match", f"{shown(text)} is no text", "write a variable or a term, in quotes")
+            if not VARIABLE.fullmatch(text) and not is_term(text):
+                raise Refusal("Match", f"{shown(text)} is neither a variable nor a term", explain_place(text))
+
+
 def check_mapping(version):
     if not isinstance(version, Number) or version.spelling not in ("1", "2"):
         raise Refusal("Mapping", f"{shown(version)} is no version of the mapping", "write 1 or 2")
@@ -196,6 +218,8 @@ def check_line(line):
         check_question(value["ask"])
     elif forms == ["mapping"]:
         check_mapping(value["mapping"])
+    elif forms == ["match"]:
+        check_match(value["match"])
     elif forms:
         raise Refusal("NoForm", "it has " + " and ".join(f"`{key}`" for key in forms), "make a line of each")
     elif "page_change_kind" in value:

@@ -4,9 +4,9 @@
     ./made_up_wiki.py FOLDER [ENTITIES]
 
 It writes into FOLDER, serves until it is ended, and prints its address when it is ready. Its dump has so many items and some more (200
-without a number), with some properties and lexemes, and about as many changes come after it. Of the wiki's answers it has the stream of page changes, pages by revision, and the
-API's `info` and `revisions`. It is as awkward as the real one may be: changes come out of order, late and again, connections are cut, and
-it is busy at times, once for each user agent. In FOLDER are
+without a number), with some properties and lexemes, and about as many changes come after it. Of the wiki's answers it has the stream of
+page changes, pages by revision, and the API's `info` and `revisions`. It is as awkward as the real one may be: changes come out of order,
+late and again, connections are cut, and it is busy at times, once for each user agent. In FOLDER are
 
     dump.json.gz   a dump, begun in the middle of the history and taken while it went on
     began          when that was
