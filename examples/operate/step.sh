@@ -14,7 +14,7 @@
 #   --graph IRI      the graph of the triples; without it, the default graph
 #   --counts         count the values, for stores that spell them their own way (docs/QUERY_SERVICE.md)
 #   --textfile FILE  the last line of metrics.jsonl for node_exporter
-#   --keep N         remove pages and batches that are more than N batches old; records stay, so that a store can be made anew
+#   --keep N         with snapshots: remove pages and batches that are more than N batches old; records stay, to make a store anew
 #   --horizon N, --max-terms N       for wdq
 #   --site URL, --tries N, --pause S for fetch_pages.py and reconcile.py
 #
