@@ -1,5 +1,6 @@
 """What wdq takes as a line of an event file, and why it refuses any other line. The rules are those of docs/EVENT_LINES.md."""
 
+import argparse
 import datetime
 import difflib
 import json
@@ -8,7 +9,9 @@ import re
 from json_value import Number, Refusal, read_json, shown
 
 LONGEST_LINE, GREATEST_REVISION, GREATEST_NUMBER = 65_536, 2**64 - 1, 2**32 - 1
-FORMS = ["kind", "watermark", "ask", "mapping"]
+FORMS = ["kind", "watermark", "ask", "mapping", "match"]
+MOST_PATTERNS = 8
+VARIABLE = re.compile(r"\?[a-z]{1,16}")
 KINDS = ["edit", "delete", "undelete", "reconcile"]
 # What other programs and the wiki call the same thing.
 ALIASES = {
@@ -49,18 +52,20 @@ def check_entity(json_object):
     if "entity" not in json_object:
         raise missing("Entity", "entity", json_object)
     entity = json_object["entity"]
-    if type(entity) is str and re.fullmatch("[PQ][1-9][0-9]{0,9}", entity) and int(entity[1:]) <= GREATEST_NUMBER:
+    if type(entity) is str and re.fullmatch("[LPQ][1-9][0-9]{0,9}", entity) and int(entity[1:]) <= GREATEST_NUMBER:
         return
-    mend = "an id is P or Q and a number"
+    mend = "an id is P, Q or L and a number"
     if type(entity) is str:
-        bare = entity.strip().upper().removeprefix("PROPERTY:").removeprefix("ITEM:")
-        if re.fullmatch("[LEM][0-9]+(-[FS][0-9]+)?|LEXEME:.*|ENTITYSCHEMA:.*", bare):
-            mend = "wdq takes items and properties alone: leave the line out"
-        elif re.fullmatch("[PQ]0+[1-9][0-9]*|[PQ][1-9][0-9]*", bare) and int(bare[1:]) <= GREATEST_NUMBER:
+        bare = entity.strip().upper().removeprefix("PROPERTY:").removeprefix("ITEM:").removeprefix("LEXEME:")
+        if re.fullmatch("[EM][0-9]+|ENTITYSCHEMA:.*", bare):
+            mend = "wdq takes items, properties and lexemes alone: leave the line out"
+        elif re.fullmatch("L[0-9]+-[FS][0-9]+", bare):
+            mend = f'forms and senses come with their lexeme: did you mean "{bare.partition("-")[0]}"?'
+        elif re.fullmatch("[LPQ]0*[1-9][0-9]*", bare) and int(bare[1:]) <= GREATEST_NUMBER:
             mend = f'did you mean "{bare[0]}{int(bare[1:])}"?'
-        elif re.fullmatch("[PQ][1-9][0-9]*", bare):
+        elif re.fullmatch("[LPQ][1-9][0-9]*", bare):
             mend = "the number is at most 4294967295"
-    raise Refusal("Entity", f"{shown(entity)} is no id of an item or a property", mend)
+    raise Refusal("Entity", f"{shown(entity)} is no id of an item, a property or a lexeme", mend)
 
 
 def check_revision(json_object):
@@ -169,6 +174,26 @@ def check_question(question):
             raise Refusal("Pattern", f"the {name} {shown(text)} is neither ? nor a term", explain_term(text))
 
 
+def explain_place(text):
+    """What would mend a text that is neither a variable nor a term."""
+    if text.startswith("?"):
+        return "a variable is ? and 1 to 16 letters from a to z" + (": give it a name" if text == "?" else "")
+    return explain_term(text)
+
+
+def check_match(patterns):
+    if not isinstance(patterns, list) or not 1 <= len(patterns) <= MOST_PATTERNS:
+        raise Refusal("Match", f"the value of `match` is no list of 1 to {MOST_PATTERNS} patterns", 'write [["?x","?y","?z"]]')
+    for pattern in patterns:
+        if not isinstance(pattern, list) or len(pattern) != 3:
+            raise Refusal("Match", f"the pattern {shown(pattern)} is no list of three", 'write it as ["?x","?y","?z"]')
+        for text in pattern:
+            if type(text) is not str:
+                raise Refusal("Match", f"{shown(text)} is no text", "write a variable or a term, in quotes")
+            if not VARIABLE.fullmatch(text) and not is_term(text):
+                raise Refusal("Match", f"{shown(text)} is neither a variable nor a term", explain_place(text))
+
+
 def check_mapping(version):
     if not isinstance(version, Number) or version.spelling not in ("1", "2"):
         raise Refusal("Mapping", f"{shown(version)} is no version of the mapping", "write 1 or 2")
@@ -193,6 +218,8 @@ def check_line(line):
         check_question(value["ask"])
     elif forms == ["mapping"]:
         check_mapping(value["mapping"])
+    elif forms == ["match"]:
+        check_match(value["match"])
     elif forms:
         raise Refusal("NoForm", "it has " + " and ".join(f"`{key}`" for key in forms), "make a line of each")
     elif "page_change_kind" in value:
@@ -210,6 +237,13 @@ def refusal_of(line):
     except Refusal as refusal:
         return refusal
     return None
+
+
+def moment(text):
+    """A time, as a word of a command."""
+    if refusal := refusal_of(json.dumps({"watermark": text}).encode()):
+        raise argparse.ArgumentTypeError(str(refusal))
+    return text
 
 
 def lines_of(file):

@@ -7,8 +7,8 @@ The files are 000001.jsonl, 000002.jsonl and so on; one after the other they are
 `place` beside them has the id of the last event that they hold: run again, the script goes on behind it. Where it was killed between the
 two, some events come again, which wdq counts once. Where the connection breaks it connects again, after growing pauses.
 
-Items and properties of Wikidata alone are taken, as examples/feed/events.jq takes them. A watermark follows the greatest time so far by
---delay seconds.
+Items, properties and lexemes of Wikidata alone are taken, as examples/feed/events.jq takes them. A watermark follows the greatest time so
+far by --delay seconds.
 """
 
 import argparse
@@ -32,6 +32,8 @@ from fetch_pages import save
 from progress import Progress
 
 STREAM = "https://stream.wikimedia.org/v2/stream/mediawiki.page_change.v1"
+# The namespaces of items, properties and lexemes.
+NAMESPACES = (0, 120, 146)
 KINDS = {"create": "edit", "edit": "edit", "delete": "delete", "undelete": "undelete"}
 SECONDS_OF_SILENCE = 60
 
@@ -54,15 +56,16 @@ def messages(lines):
 
 
 def event_of(message):
-    """The event of a message, or None where it is no change of an item or a property."""
+    """The event of a message, or None where it is no change of an entity's page."""
     change = json.loads(message)
-    if change.get("meta", {}).get("domain") == "canary" or change.get("wiki_id") != "wikidatawiki" or change["page"]["namespace_id"] not in (0, 120):
+    if change.get("meta", {}).get("domain") == "canary" or change.get("wiki_id") != "wikidatawiki":
         return None
     kind = KINDS.get(change["page_change_kind"])
-    if kind is None:
+    if kind is None or change["page"]["namespace_id"] not in NAMESPACES:
         return None
     moment = re.sub(r"(\.[0-9]{6})[0-9]+Z$", r"\1Z", change["dt"])
-    return {"kind": kind, "entity": change["page"]["page_title"].removeprefix("Property:"), "rev": change["revision"]["rev_id"], "time": moment}
+    entity = change["page"]["page_title"].rpartition(":")[2]
+    return {"kind": kind, "entity": entity, "rev": change["revision"]["rev_id"], "time": moment}
 
 
 def line_of(message):

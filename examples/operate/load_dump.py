@@ -5,8 +5,8 @@
 
 Each entity's bytes are written as they stand, as the page of its `lastrevid`: a filter that read and printed them would respell numbers,
 and so change the names of nodes. Its line is an edit at the time `modified`. Behind all lines stands a watermark at --began, the time at
-which the dump was begun: follow the stream from there, so that nothing that changed meanwhile is late. Lexemes and other entities, which
-wdq doesn't read, are counted and left out. A dump has no redirects.
+which the dump was begun: follow the stream from there, so that nothing that changed meanwhile is late. Other entities than items,
+properties and lexemes are counted and left out. A dump has no redirects.
 
 The file may be packed by gzip or bzip2; - is standard input, unpacked. Status 0: each line was taken or is of another kind of entity;
 1: some lines are no entities, and are named.
@@ -23,7 +23,7 @@ import re
 import sys
 import zlib
 
-from event_lines import refusal_of
+from event_lines import moment, refusal_of
 from progress import Progress
 
 HEAD = re.compile(rb'\{"type":"(item|property|lexeme)","id":"([A-Z])([0-9]+)"')
@@ -50,7 +50,7 @@ def read_entity(line):
     value = json.loads(line)
     if not isinstance(value, dict) or not isinstance(value.get("id"), str):
         raise ValueError("no entity")
-    if value.get("type") not in ("item", "property"):
+    if value.get("type") not in ("item", "property", "lexeme"):
         return value.get("type"), 0, None
     edit = {"kind": "edit", "entity": value["id"], "rev": value.get("lastrevid"), "time": value.get("modified")}
     if refusal := refusal_of(json.dumps(edit).encode()):
@@ -99,12 +99,6 @@ def shard(text):
     if not match or int(match.group(1)) >= int(match.group(2)):
         raise argparse.ArgumentTypeError("is K/N, with K from 0 to N - 1")
     return int(match.group(1)), int(match.group(2))
-
-
-def moment(text):
-    if refusal := refusal_of(json.dumps({"watermark": text}).encode()):
-        raise argparse.ArgumentTypeError(str(refusal))
-    return text
 
 
 def main():

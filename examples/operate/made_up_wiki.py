@@ -1,11 +1,12 @@
 #!/usr/bin/env python3
 """A made-up Wikidata on the loopback address, to try the scripts of this folder without the network.
 
-    ./made_up_wiki.py FOLDER
+    ./made_up_wiki.py FOLDER [ENTITIES]
 
-It writes into FOLDER, serves until it is ended, and prints its address when it is ready. Of the wiki's answers it has the stream of page
-changes, pages by revision, and the API's `info` and `revisions`. It is as awkward as the real one may be: changes come out of order, late
-and again, connections are cut, and it is busy at times. In FOLDER are
+It writes into FOLDER, serves until it is ended, and prints its address when it is ready. Its dump has so many items and some more (200
+without a number), with some properties and lexemes, and about as many changes come after it. Of the wiki's answers it has the stream of
+page changes, pages by revision, and the API's `info` and `revisions`. It is as awkward as the real one may be: changes come out of order,
+late and again, connections are cut, and it is busy at times, once for each user agent. In FOLDER are
 
     dump.json.gz   a dump, begun in the middle of the history and taken while it went on
     began          when that was
@@ -25,8 +26,9 @@ import threading
 import time
 import urllib.parse
 
-ITEMS, PROPERTIES, CHANGES, DUMP_AT, DUMP_TAKES = 60, 5, 500, 200, 20
 CUT_EVERY, CUTS = 60, 4
+LATE_DELETIONS = 100
+TYPES = {"Q": "item", "P": "property", "L": "lexeme"}
 
 
 def time_of(index):
@@ -46,30 +48,39 @@ def claims(entity, revision):
 class History:
     """What happened: the changes, the page of each revision, and what stands at the end."""
 
-    def __init__(self, chance):
-        self.entities = [f"Q{number}" for number in range(1, ITEMS + 1)] + [f"P{number}" for number in range(1, PROPERTIES + 1)]
+    def __init__(self, size, chance):
+        self.items = size + size // 10
+        self.entities = [f"Q{number}" for number in range(1, self.items + 1)]
+        self.entities += [f"{letter}{number}" for letter in "PL" for number in range(1, 2 + size // 40)]
+        chance.shuffle(self.entities)
         self.changes, self.pages, self.newest, self.state = [], {}, {}, {}
-        self.taken = {}
-        for index in range(CHANGES):
-            self.change(index, chance)
-            if index < DUMP_AT + DUMP_TAKES:
-                # Each entity goes into the dump at a moment of its own.
-                for entity, revision in self.newest.items():
-                    if index <= DUMP_AT + hash_of(entity) % DUMP_TAKES:
-                        self.taken[entity] = revision if self.state[entity] == "kept" else None
+        # Most entities are there before the dump, which takes a while: each goes into it at a moment of its own.
+        first = self.entities[: size + size // 20]
+        self.taken, dump_at, takes = {}, len(first) + size // 4, 10 + size // 20
+        self.dump_at, self.dump_ends = dump_at, dump_at + takes
+        moments = collections.defaultdict(list)
+        for entity in self.entities:
+            moments[dump_at + chance.randrange(takes)].append(entity)
+        for index in range(dump_at + size):
+            self.change(index, first[index] if index < len(first) else self.choose(chance), chance)
+            self.taken |= {entity: self.newest[entity] for entity in moments[index] if self.state.get(entity) == "kept"}
 
-    def change(self, index, chance):
+    def choose(self, chance):
+        """An entity, and seldom one that was deleted."""
         entity = chance.choice(self.entities)
         while self.state.get(entity) == "deleted" and chance.random() < 0.8:
             entity = chance.choice(self.entities)
+        return entity
+
+    def change(self, index, entity, chance):
         revision = 1000 + index
         state = self.state.get(entity, "none")
-        may_merge = index > DUMP_AT + DUMP_TAKES and entity.startswith("Q") and int(entity[1:]) > ITEMS // 2
+        may_merge = index > self.dump_ends and entity.startswith("Q") and int(entity[1:]) > self.items // 2
         kind = {"none": "create", "deleted": "undelete"}.get(state) or ("delete" if chance.random() < 0.08 else "edit")
         if kind == "delete":
             revision = self.newest[entity]
         elif kind == "edit" and may_merge and chance.random() < 0.2:
-            self.pages[revision] = (entity, {"entity": entity, "redirect": f"Q{chance.randint(1, ITEMS // 2)}"})
+            self.pages[revision] = (entity, {"entity": entity, "redirect": f"Q{chance.randint(1, self.items // 2)}"})
         else:
             self.pages[revision] = (entity, self.page(entity, revision, index))
         self.newest[entity] = revision
@@ -77,25 +88,23 @@ class History:
         self.changes.append((kind, entity, revision, time_of(index)))
 
     def page(self, entity, revision, index):
-        page = {"type": "item" if entity.startswith("Q") else "property", "id": entity}
-        page["labels"] = {"en": {"language": "en", "value": f"{entity} at {revision}"}}
+        page = {"type": TYPES[entity[0]], "id": entity}
+        page["lemmas" if entity.startswith("L") else "labels"] = {"en": {"language": "en", "value": f"{entity} at {revision}"}}
         page["claims"] = claims(entity, revision)
+        if entity.startswith("L"):
+            page |= {"lexicalCategory": "Q1", "language": "Q2", "forms": [], "senses": []}
         if entity.startswith("P"):
             page["datatype"] = "quantity"
         return {**page, "lastrevid": revision, "modified": time_of(index)}
 
 
-def hash_of(entity):
-    return sum(entity.encode()) * 7
-
-
 def title(entity):
-    return entity if entity.startswith("Q") else f"Property:{entity}"
+    return {"Q": "", "P": "Property:", "L": "Lexeme:"}[entity[0]] + entity
 
 
 def message(kind, page_title, revision, moment, wiki="wikidatawiki", domain="www.wikidata.org"):
     """A change as the stream tells it."""
-    namespace = {"P": 120, "L": 146}.get(page_title[0], 0)
+    namespace = {"P": 120, "L": 146, "E": 640}.get(page_title[0], 0)
     page = {"page_title": page_title, "namespace_id": namespace, "is_redirect": False}
     head = {"$schema": "/mediawiki/page/change/1.2.0", "meta": {"domain": domain}, "wiki_id": wiki}
     return {**head, "page_change_kind": kind, "dt": moment, "page": page, "revision": {"rev_id": revision}}
@@ -107,14 +116,14 @@ def stream_of(history, chance):
     for index, (kind, entity, revision, moment) in enumerate(history.changes):
         moment = moment.replace("Z", ".123456789Z") if index % 5 == 0 else moment
         told = message(kind, title(entity), revision, moment)
-        is_late = index % 29 == 3 or (kind == "delete" and index > CHANGES - 100)
+        is_late = index % 29 == 3 or (kind == "delete" and index > len(history.changes) - LATE_DELETIONS)
         lag = 40 if is_late else chance.randint(0, 3)
         arrivals.append((index + lag, told))
         if index % 17 == 0:
             arrivals.append((index + lag + 5, told))
         if index % 11 == 0:
             arrivals.append((index, message("edit", "Berlin", revision, moment, "dewiki", "de.wikipedia.org")))
-            arrivals.append((index, message("edit", "Lexeme:L1", revision, moment)))
+            arrivals.append((index, message("edit", "EntitySchema:E1", revision, moment)))
             arrivals.append((index, message("move", title(entity), revision, moment)))
             arrivals.append((index, message("edit", title(entity), 1, moment, domain="canary")))
     arrivals.sort(key=lambda arrival: arrival[0])
@@ -129,11 +138,11 @@ def sse(index, told):
 
 def write_folder(folder, history, stream):
     """Writes the files that the scripts' results are compared with."""
-    rows = [json.dumps(history.pages[revision][1]) for revision in history.taken.values() if revision]
-    lexeme = '{"type":"lexeme","id":"L1","lastrevid":9,"modified":"2024-05-01T10:00:00Z"}'
+    rows = [json.dumps(history.pages[revision][1]) for revision in history.taken.values()]
+    media = '{"type":"mediainfo","id":"M1","lastrevid":9,"modified":"2024-05-01T10:00:00Z"}'
     with gzip.open(folder / "dump.json.gz", "wt") as file:
-        file.write("[\n" + ",\n".join([lexeme, *rows]) + "\n]\n")
-    began = time_of(DUMP_AT)
+        file.write("[\n" + ",\n".join([media, *rows]) + "\n]\n")
+    began = time_of(history.dump_at)
     (folder / "began").write_text(began)
     first = first_since(stream, began)
     (folder / "stream.txt").write_bytes(b"".join(sse(index, told) for index, told in enumerate(stream) if index >= first))
@@ -151,7 +160,7 @@ def first_since(stream, moment):
 
 
 class Wiki(http.server.ThreadingHTTPServer):
-    """The server, and what it remembers: how often each address was asked for, and how many connections it has cut."""
+    """The server, and what it remembers: how often each agent asked for each address, and how many connections were cut."""
 
     def __init__(self, history, stream):
         super().__init__(("127.0.0.1", 0), Answers)
@@ -167,8 +176,9 @@ class Answers(http.server.BaseHTTPRequestHandler):
         url = urllib.parse.urlsplit(self.path)
         words = {key: values[0] for key, values in urllib.parse.parse_qs(url.query).items()}
         with self.server.lock:
-            self.server.asked[self.path] += 1
-            times = self.server.asked[self.path]
+            request = self.headers.get("User-Agent"), self.path
+            self.server.asked[request] += 1
+            times = self.server.asked[request]
         if "@" not in self.headers.get("User-Agent", ""):
             self.send_error(403, "name yourself")
         elif url.path == "/stream":
@@ -213,7 +223,7 @@ class Answers(http.server.BaseHTTPRequestHandler):
             return {"pages": [{"title": title(entity), "revisions": [{"slots": {"main": {"content": json.dumps(page)}}}]}]}
         pages = []
         for name in words["titles"].split("|")[:50]:
-            entity = name.removeprefix("Property:")
+            entity = name.rpartition(":")[2]
             is_kept = history.state.get(entity) == "kept"
             pages.append({"title": name, "lastrevid": history.newest[entity]} if is_kept else {"title": name, "missing": True})
         return {"pages": pages}
@@ -247,11 +257,12 @@ class Answers(http.server.BaseHTTPRequestHandler):
 
 
 def main():
-    if len(sys.argv) != 2 or sys.argv[1] in ("-h", "--help"):
+    size = sys.argv[2] if len(sys.argv) == 3 else "200"
+    if not 2 <= len(sys.argv) <= 3 or sys.argv[1] in ("-h", "--help") or not size.isdecimal() or int(size) < 40:
         print(__doc__)
         return 0 if sys.argv[1:2] in (["-h"], ["--help"]) else 2
     chance = random.Random(1)
-    history = History(chance)
+    history = History(int(size), chance)
     stream = stream_of(history, chance)
     folder = pathlib.Path(sys.argv[1])
     folder.mkdir(parents=True, exist_ok=True)

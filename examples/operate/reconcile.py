@@ -1,51 +1,71 @@
 #!/usr/bin/env python3
 """Asks the wiki for the present state of each entity that a run of wdq leaves in doubt, and prints a reconciliation for each.
 
-    ./reconcile.py --agent "mirror/1.0 (jane@example.org)" output.txt >> events.jsonl
+    ./reconcile.py --agent "mirror/1.0 (jane@example.org)" --after 2024-05-01T10:00:08Z output.txt >> events.jsonl
 
 The input is what `wdq replay --side` printed, with --state too where there are deleted pages: the wiki tells no revision of these, so the
-greatest one that the output names is taken. Fifty entities go into a request. Status 1: the wiki didn't answer, and nothing is printed.
+greatest one that the output names is taken. Fifty entities go into a request. --after is the greatest watermark so far: a reconciliation
+is as early as it may be, just later. So every event that the wiki's answer may lack, as its clock is ahead or a copy of its database late,
+comes later and is applied. With --batch, an entity whose page was fetched in vain again is asked for after growing pauses.
+
+Status 1: the wiki didn't answer, and nothing is printed.
 """
 
 import argparse
+import collections
 import datetime
 import json
 import re
 import sys
 
 import wiki
+from event_lines import moment
 
 AT_ONCE = 50
-SIDE = re.compile(r"# side \S+ (open|closed) ([PQ]\d+) (?:[a-z-]+ )?(\d+)")
-STATE = re.compile(r"# state ([PQ]\d+) \S+ (\d+)")
+MOST_PAUSES = 12
+SIDE = re.compile(r"# side (\S+) (open|closed) ([LPQ]\d+) (?:[a-z-]+ )?(\d+)")
+STATE = re.compile(r"# state ([LPQ]\d+) \S+ (\d+)")
+NAMESPACES = {"Q": "", "P": "Property:", "L": "Lexeme:"}
 
 
 def read_output(lines):
-    """The entities in doubt, and the greatest revision that the output names of each entity."""
-    doubtful, last = {}, {}
+    """How often the page of each entity in doubt was asked for in vain, and the greatest revision that the output names of each entity."""
+    vain, last = collections.Counter(), {}
     for line in lines:
         if match := SIDE.match(line):
-            is_open, entity, revision = match.groups()
+            cause, is_open, entity, revision = match.groups()
             if is_open == "open":
-                doubtful[entity] = True
+                vain[entity] += cause != "late"
         elif match := STATE.match(line):
             entity, revision = match.groups()
         else:
             continue
         last[entity] = max(last.get(entity, 1), int(revision))
-    return list(doubtful), last
+    return vain, last
+
+
+def is_due(vain, batch):
+    """Whether an entity is asked for at this batch: after one fetch in vain at each, after two at each second, after three at each fourth."""
+    return batch is None or batch % 2 ** min(max(vain - 1, 0), MOST_PAUSES) == 0
 
 
 def title(entity):
     """The title of an entity's page."""
-    return entity if entity.startswith("Q") else f"Property:{entity}"
+    return NAMESPACES[entity[0]] + entity
+
+
+def just_after(time):
+    """The next microsecond."""
+    seconds, _, rest = time.removesuffix("Z").partition(".")
+    return (datetime.datetime.fromisoformat(f"{seconds}.{rest:0<6}") + datetime.timedelta(microseconds=1)).isoformat() + "Z"
 
 
 def reconciliations(entities, last, arguments):
     """A reconciliation for each of at most fifty entities."""
-    time = datetime.datetime.now(datetime.timezone.utc).strftime("%Y-%m-%dT%H:%M:%SZ")
+    now = datetime.datetime.now(datetime.timezone.utc).strftime("%Y-%m-%dT%H:%M:%SZ")
+    time = just_after(arguments.after) if arguments.after else now
     pages = wiki.ask(arguments, prop="info", titles="|".join(map(title, entities)))["pages"]
-    found = {page["title"].removeprefix("Property:"): page for page in pages}
+    found = {page["title"].rpartition(":")[2]: page for page in pages}
     for entity in entities:
         page = found.get(entity)
         if page is None:
@@ -58,9 +78,12 @@ def reconciliations(entities, last, arguments):
 def main():
     parser = argparse.ArgumentParser(description=__doc__, formatter_class=argparse.RawDescriptionHelpFormatter)
     wiki.add_arguments(parser)
+    parser.add_argument("--after", type=moment, metavar="TIME", help="the greatest watermark so far; without it, reconciliations are of now")
+    parser.add_argument("--batch", type=int, metavar="N", help="the number of the batch; without it, all that are in doubt are asked for")
     parser.add_argument("output", type=argparse.FileType("r", encoding="utf-8"), metavar="OUTPUT", help="what wdq printed; - is standard input")
     arguments = parser.parse_args()
-    entities, last = read_output(arguments.output)
+    vain, last = read_output(arguments.output)
+    entities = [entity for entity, times in vain.items() if is_due(times, arguments.batch)]
     try:
         told = [line for start in range(0, len(entities), AT_ONCE) for line in reconciliations(entities[start : start + AT_ONCE], last, arguments)]
     except wiki.Unanswered as reason:

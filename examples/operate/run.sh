@@ -1,23 +1,25 @@
 #!/bin/sh
-# Tries the scripts of this folder over a made-up Wikidata on the loopback address (made_up_wiki.py): a dump becomes pages and events, the
-# stream is followed from there and killed once, pages are fetched, what is in doubt is reconciled, and at the end the store holds what the
-# wiki has, and so does one of rdflib (Debian's python3-rdflib), batch by batch. It says each step, and what is missing; needs jq and Python
+# Tries the scripts of this folder over a made-up Wikidata on the loopback address (made_up_wiki.py). A dump of 2,000 entities, or as many as
+# the argument says, becomes pages and events; the stream is followed from there and killed once; pages are fetched, and what is in doubt is
+# reconciled. Then step.sh takes the batches one by one, with one step killed, into a store of rdflib (Debian's python3-rdflib). In the end
+# the stores have what the wiki has, and what one replay over all gives. It says each step, and what is missing; needs jq, flock and Python
 # 3.9 or newer. WDQ names the program; without it, it is this repository's wdq.
-#   ./run.sh
-case ${1-} in -h | --help) sed -n '2,6s/^# *//p' "$0"; exit 0 ;; esac
+#   ./run.sh [ENTITIES]
+case ${1-} in -h | --help) sed -n '2,8s/^# *//p' "$0"; exit 0 ;; esac
 cd "$(dirname "$0")" || exit 2
-for needed in python3 jq; do
+for needed in python3 jq flock; do
   command -v $needed >/dev/null || { echo "passed over: $needed is missing"; exit 0; }
 done
 python3 -c 'import sys; sys.exit(sys.version_info < (3, 9))' || { echo "passed over: Python is older than 3.9"; exit 0; }
 # Run once, ./wdq builds the program where needed; the program itself starts faster.
 [ -n "$WDQ" ] || ../../wdq drill --size 1 >/dev/null || exit 2
 wdq=$(readlink -f "${WDQ:-../../crates/wdq/out/wdq}")
+WDQ=$wdq
+export WDQ
+entities=${1:-2000}
 work=$(mktemp -d) || exit 2
-server=
-follower=
-store=
-trap 'kill $server $follower $store 2>/dev/null; rm -rf "$work"' EXIT
+server='' follower='' store='' killed=
+trap 'kill $server $follower $store $killed 2>/dev/null; rm -rf "$work"' EXIT
 trap 'exit 130' INT TERM
 LC_ALL=C PYTHONDONTWRITEBYTECODE=1
 export LC_ALL PYTHONDONTWRITEBYTECODE
@@ -33,6 +35,13 @@ export_over() {
   "$wdq" replay --from "$1" --export | grep -v '^#'
 }
 
+# Waits until a command succeeds, at most so many tenths of a second.
+wait_for() {
+  rest=$1
+  shift
+  until "$@" 2>/dev/null || [ "$rest" -eq 0 ]; do sleep 0.1; rest=$((rest - 1)); done
+}
+
 # --- What a line lacks ---
 
 ./check_lines.py "$wdq" ../../crates/cases/data/*.case > "$work/said.txt"
@@ -45,12 +54,12 @@ told "clean.jq names what it leaves out, and explain.py finds nothing more" $?
 # --- From a dump to a store ---
 
 mkdir "$work/batches"
-./made_up_wiki.py "$work/wiki" > "$work/address" &
+./made_up_wiki.py "$work/wiki" "$entities" > "$work/address" &
 server=$!
-waits=0
-while [ ! -s "$work/address" ] && [ $waits -lt 300 ]; do sleep 0.1; waits=$((waits + 1)); done
+wait_for 300 test -s "$work/address"
 site=$(cat "$work/address")
 began=$(cat "$work/wiki/began")
+events=$((entities / 20))
 set -- --agent "try/1.0 (nobody@example.org)" --pause 0.05
 
 ./load_dump.py --into "$work/pages" --began "$began" "$work/wiki/dump.json.gz" > "$work/dump.jsonl" 2> "$work/said.txt"
@@ -66,14 +75,13 @@ told "its three parts are the whole, and each page has the bytes of the dump" $?
 
 # --- The stream, killed once ---
 
-./follow_stream.py "$@" --stream "$site/stream" --into "$work/batches" --since "$began" --events 20 --idle 5 2> "$work/said.txt" &
+./follow_stream.py "$@" --stream "$site/stream" --into "$work/batches" --since "$began" --events $events --idle 5 2> "$work/said.txt" &
 follower=$!
-waits=0
-while [ ! -e "$work/batches/000003.jsonl" ] && [ $waits -lt 600 ]; do sleep 0.05; waits=$((waits + 1)); done
+wait_for 300 test -e "$work/batches/000003.jsonl"
 kill -9 $follower 2>/dev/null
 wait $follower 2>/dev/null
 first=$(find "$work/batches" -name '*.jsonl' | wc -l)
-./follow_stream.py "$@" --stream "$site/stream" --into "$work/batches" --since "$began" --events 20 --idle 5 2>> "$work/said.txt"
+./follow_stream.py "$@" --stream "$site/stream" --into "$work/batches" --since "$began" --events $events --idle 5 2>> "$work/said.txt"
 told "follow_stream.py is killed after $first batches and goes on: $(tail -1 "$work/said.txt")" $?
 
 jq -R -c -f ../feed/events.jq < "$work/wiki/stream.txt" | sort -u > "$work/changes.jsonl"
@@ -118,29 +126,125 @@ told "the store's $(wc -l < "$work/export.txt") triples are those of the pages t
 { grep '"kind"' "$work/dump.jsonl"; cat "$work/changes.jsonl"; } | export_over "$work/pages" | cmp -s - "$work/export.txt"
 told "one replay over all, without watermarks and reconciliations, gives the same" $?
 
-# --- Batch by batch into a SPARQL store ---
+# --- Questions over a named pipe ---
 
-# Does a step for each batch, as docs/QUERY_SERVICE.md says, with pages that are fetched batch by batch.
-try_steps() {
-  ./load_dump.py --into "$work/live" --began "$began" "$work/wiki/dump.json.gz" > "$work/grown.jsonl" 2>/dev/null || return
-  echo '{"watermark":"9999-12-31T23:59:59Z"}' > "$work/end.jsonl"
-  for batch in "$work"/batches/0*.jsonl "$work/end.jsonl"; do
-    ./fetch_pages.py "$@" --site "$site" --into "$work/live" "$batch" 2>/dev/null
-    cat "$batch" >> "$work/grown.jsonl"
-    jq -c -n -f ../sparql/settled.jq "$work/grown.jsonl" | "$wdq" patches --from "$work/live" |
-      ../sparql/updates.py --post "$url" --batch 20 || return
-  done
-  python3 -c 'import sys, urllib.request as r; sys.stdout.buffer.write(r.urlopen(sys.argv[1]).read())' "$url" | cmp -s - "$work/export.txt"
+{
+  echo '{"ask":["<http://www.wikidata.org/entity/Q1>","<http://www.w3.org/2000/01/rdf-schema#label>","?"]}'
+  echo '{"ask":["?","?","?"]}'
+} | ./ask.sh "$work/pages" "$work/events.jsonl" > "$work/answers.txt"
+grep -q "^# ask 2: $(wc -l < "$work/export.txt") triples" "$work/answers.txt" && grep -v '^#' "$work/answers.txt" | tail -n +2 | cmp -s - "$work/export.txt"
+told "ask.sh answers at once: $(head -n 1 "$work/answers.txt")" $?
+
+# --- Step by step into a SPARQL store ---
+
+# The number of the last batch that is done.
+done_so_far() {
+  cat "$home/done" 2>/dev/null || echo none
 }
 
+# The name of the batch after one.
+next_of() {
+  printf '%06d' $(($(echo "$1" | sed 's/^0*//') + 1))
+}
+
+# The number of the last record that the store has.
+stored() {
+  if [ -n "$url" ]; then ../sparql/updates.py --post "$url" --number; fi
+}
+
+step() {
+  ./step.sh "$@" >> "$work/steps.txt" 2>> "$work/said.txt"
+}
+
+# Whether the step of a batch has made its records, and the store has more than so many.
+# shellcheck disable=SC2317 # called by name
+is_sending() {
+  [ -e "$home/records/$1.txt" ] && { [ -z "$url" ] || [ "$(stored)" -gt "$2" ]; }
+}
+
+# Kills a step in the middle of its updates, with all that it runs; takes the next one where it was done before that.
+kill_step() {
+  for _ in 1 2 3 4 5; do
+    former=$(done_so_far)
+    number=$(stored)
+    setsid ./step.sh "$@" >> "$work/steps.txt" 2>> "$work/said.txt" &
+    killed=$!
+    wait_for 600 is_sending "$(next_of "$former")" "$number"
+    kill -s KILL -- "-$killed" 2>/dev/null
+    wait $killed 2>/dev/null
+    killed=
+    [ "$(done_so_far)" != "$former" ] || return 0
+  done
+  return 1
+}
+
+# A batch without events, whose watermark is a minute later than the one before it, so that what waits becomes due.
+add_quiet_batch() {
+  last=$(find "$home/batches" -name '*[0-9].jsonl' | sort | tail -n 1)
+  tail -n 1 "$last" | jq -c '{watermark: (.watermark | fromdateiso8601 + 60 | todateiso8601)}' > "$work/quiet.jsonl" &&
+    mv "$work/quiet.jsonl" "$home/batches/$(next_of "$(basename "$last" .jsonl)").jsonl"
+}
+
+in_doubt() {
+  tail -n 1 "$home/metrics.jsonl" | jq .open
+}
+
+home=$work/home url=
+mkdir "$home" && cp -r "$work/batches" "$home/batches" && rm -f "$home"/batches/*-now.jsonl || exit 2
+./load_dump.py --into "$home/pages" --began "$began" "$work/wiki/dump.json.gz" > "$home/batches/000000.jsonl" 2>/dev/null
+if ./can_save.sh "$wdq"; then
+  echo "steps go on from snapshots"
+else
+  echo "the program has no --resume yet, so each step replays all batches"
+fi
 if /usr/bin/python3 -c 'import rdflib' 2>/dev/null; then
   ../sparql/rdflib_store.py > "$work/url" &
   store=$!
-  until [ -s "$work/url" ]; do kill -0 $store || exit 2; sleep 0.1; done
+  wait_for 300 test -s "$work/url"
   url=$(cat "$work/url")
-  try_steps "$@"
-  told "batch by batch, rdflib holds the same after record $(../sparql/updates.py --post "$url" --number)" $?
 else
   echo "passed over: the store rdflib, python3-rdflib is missing"
+fi
+set -- --home "$home" --agent "step/1.0 (nobody@example.org)" --site "$site" --pause 0.05 ${url:+--post "$url"} --textfile "$work/wdq.prom"
+
+step "$@"
+told "the first step brings $(jq .triples "$home/metrics.jsonl") triples of the dump" $?
+for _ in 1 2 3 4 5 6 7; do step "$@" || break; done
+[ "$(done_so_far)" = 000007 ]
+told "seven steps take seven batches" $?
+step "$@" --post http://127.0.0.1:9/
+[ $? -eq 1 ] && [ "$(done_so_far)" = 000007 ]
+told "a step whose store can't be reached ends with status 1" $?
+kill_step "$@" && former=$(done_so_far) && step "$@" && [ "$(done_so_far)" = "$(next_of "$former")" ]
+told "the step after batch $former is killed, and run again" $?
+step --all "$@"
+told "step.sh --all takes the rest" $?
+quiet=0
+while add_quiet_batch && step "$@" && [ "$(in_doubt)" -gt 0 ] && [ $quiet -lt 30 ]; do quiet=$((quiet + 1)); done
+[ "$(in_doubt)" -eq 0 ]
+told "no entity is in doubt after batch $(done_so_far)" $?
+
+jq -s -r '"\(length) steps, \(map(.events) | add) events, \(map(.late) | add) late, \(map(.reconciliations) | add) reconciliations, "
+  + "\(map(.missing) | add) pages missing, \(map(.adds) | add) triples in, \(map(.removes) | add) out"' "$home/metrics.jsonl" > "$work/summary.txt"
+jq -s -e 'map(.batch) == [range(length)] and length > 20 and (map(.late) | add) > 0 and (map(.missing) | add) > 0' "$home/metrics.jsonl" > "$work/said.txt"
+told "each batch has one line of figures: $(cat "$work/summary.txt")" $?
+grep -q '^wdq_open 0$' "$work/wdq.prom" && grep -q "^wdq_triples $(wc -l < "$work/export.txt")$" "$work/wdq.prom"
+told "node_exporter finds the last ones" $?
+
+cat "$home"/batches/0*.jsonl | export_over "$home/pages" | cmp -s - "$work/export.txt"
+told "one replay over all batches gives what the wiki has now" $?
+cat "$home"/records/0*.txt | "$wdq" follow --export | grep -v '^#' | cmp -s - "$work/export.txt"
+told "so do the records of all steps" $?
+if [ -n "$url" ]; then
+  python3 -c 'import sys, urllib.request as r; sys.stdout.buffer.write(r.urlopen(sys.argv[1]).read())' "$url" | cmp -s - "$work/export.txt"
+  told "and so does rdflib, after record $(stored)" $?
+fi
+if [ -d "$home/snapshots" ]; then
+  last=$(done_so_far)
+  "$wdq" replay --resume "$home/snapshots/$last" --save "$work/look" --state --side < /dev/null | cmp -s - "$home/sides/$last.txt"
+  told "show_snapshot.py shows the $(grep -c '^# s' "$home/sides/$last.txt") states and entries that wdq shows" $?
+  add_quiet_batch && step "$@" --keep 3 && tail -n 1 "$home/metrics.jsonl" | jq -e '.adds == 0 and .removes == 0' > "$work/said.txt" &&
+    [ "$(find "$home/batches" -name '*[0-9].jsonl' | wc -l)" -eq 4 ]
+  told "a step forgets old batches, and $(find "$home/pages" -name '*.json' | wc -l) pages are left" $?
 fi
 exit $failed

@@ -1,0 +1,92 @@
+#!/usr/bin/env python3
+"""Prints the states and the side output that a snapshot of wdq has, without reading its pages.
+
+    ./show_snapshot.py home/snapshots/000012
+
+The lines are those of `wdq replay --resume home/snapshots/000012 --save scratch --state --side < /dev/null`, which maps all pages anew
+and so takes much longer. The format is that of `crates/snapshot/specs/LineData.antt`. Status 1: the file is no whole snapshot.
+"""
+
+import argparse
+import json
+import re
+import sys
+
+KINDS = ["edit", "delete", "undelete", "reconcile-deleted", "reconcile-kept"]
+# A record's line, but for its page. In the page's text each quote has a backslash, so it can't look like the end of a line.
+FRONT = re.compile(rb'\{"entity":"([A-Z][0-9]+)","held":')
+BACK = re.compile(
+    rb'(?:"held":null|","rev":([0-9]+)\}),"reconciled":'
+    rb'(?:null|\{"entity":"[A-Z][0-9]+","kind":"([a-z-]+)","micros":(-?[0-9]+),"rev":([0-9]+)\}),"rev":([0-9]+),"state":"([a-z]+)"\}$'
+)
+LONGEST_BACK = 400
+
+
+def key(event):
+    """What events of one entity are ordered by."""
+    return event["micros"], event["rev"], KINDS.index(event["kind"])
+
+
+def read_record(line):
+    """A record: its entity, its state and revision, the revision that is held, and the key of its last reconciliation."""
+    front, back = FRONT.match(line), BACK.search(line, max(0, len(line) - LONGEST_BACK))
+    if not front or not back:
+        value = json.loads(line)
+        held, reconciled = value["held"], value["reconciled"]
+        return value["entity"], value["state"], value["rev"], held and held["rev"], reconciled and key(reconciled)
+    held, kind, micros, rev, revision, state = back.groups()
+    reconciled = (int(micros), int(rev), KINDS.index(kind.decode())) if kind else None
+    return front.group(1).decode(), state.decode(), int(revision), held and int(held), reconciled
+
+
+def read_snapshot(file):
+    """The entries and the records of a snapshot; raises ValueError where it isn't whole."""
+    entries, records, count = [], {}, 0
+    for line in file:
+        line = line.rstrip(b"\n")
+        if line.startswith(b'{"end":'):
+            if json.loads(line)["end"] != count:
+                break
+            return entries, records
+        count += 1
+        if line.startswith(b'{"entry":'):
+            entries.append(json.loads(line))
+        elif FRONT.match(line):
+            entity, *record = read_record(line)
+            records[entity] = record
+    raise ValueError("no whole snapshot")
+
+
+def entry_line(entry, records):
+    """An entry of the side output, as wdq prints it."""
+    event, word = entry["event"], entry["entry"]
+    state, revision, held, reconciled = records.get(event["entity"], ("unknown", 0, None, None))
+    if word == "late":
+        is_open = reconciled is None or key(event) >= reconciled
+        told = f"{event['kind']} {event['rev']} {event['micros']}"
+    else:
+        is_open = state == "kept" and revision == entry["rev"] != held
+        told = entry["rev"]
+    return f"# side {word} {'open' if is_open else 'closed'} {event['entity']} {told}"
+
+
+def main():
+    parser = argparse.ArgumentParser(description=__doc__, formatter_class=argparse.RawDescriptionHelpFormatter)
+    parser.add_argument("snapshot", metavar="SNAPSHOT", help="the file that --save wrote")
+    arguments = parser.parse_args()
+    try:
+        with open(arguments.snapshot, "rb") as file:
+            entries, records = read_snapshot(file)
+    except (OSError, ValueError, KeyError, TypeError) as error:
+        print(f"show_snapshot.py: {arguments.snapshot}: {error}", file=sys.stderr)
+        return 1
+    for entity, (state, revision, _, _) in records.items():
+        if state != "unknown":
+            print(f"# state {entity} {state} {revision}")
+    for entry in entries:
+        print(entry_line(entry, records))
+    return 0
+
+
+if __name__ == "__main__":
+    sys.exit(main())

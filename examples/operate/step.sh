@@ -1,0 +1,215 @@
+#!/bin/sh
+# Takes the next batch of events as a whole: asks the wiki for what earlier batches left in doubt, fetches the pages, makes records of what
+# changes in the stored triples, sends them to a SPARQL store, and says how it went as a line of JSON.
+#
+#   ./step.sh --home FOLDER --agent "mirror/1.0 (jane@example.org)" --post http://127.0.0.1:8890/sparql
+#
+# FOLDER has pages and batches, as load_dump.py (batches/000000.jsonl) and follow_stream.py write them, and gets records, snapshots, sides
+# (the states and the side output after a batch), metrics.jsonl and `done`, the number of the last batch. Where a step fails or is killed,
+# run it again: it goes on where it was, and leaves the same. Two steps never run at once.
+#
+#   --all            take batches until none is left
+#   --post URL       where the store takes updates; without it, records are only written
+#   --query URL      where the store takes queries; without it, as --post
+#   --graph IRI      the graph of the triples; without it, the default graph
+#   --counts         count the values, for stores that spell them their own way (docs/QUERY_SERVICE.md)
+#   --textfile FILE  the last line of metrics.jsonl for node_exporter
+#   --keep N         with snapshots: remove pages and batches that are more than N batches old; records stay, to make a store anew
+#   --horizon N, --max-terms N       for wdq
+#   --site URL, --tries N, --pause S for fetch_pages.py and reconcile.py
+#
+# WDQ names the program; without it, it is this repository's wdq. Where the program has no --resume, each step replays all batches.
+# Status 0: the batch is taken, or there is none; 1: run the step again; 2: words or programs are wrong; 4: look at what it says.
+here=$(cd "$(dirname "$0")" && pwd) || exit 2
+LC_ALL=C PYTHONDONTWRITEBYTECODE=1
+export LC_ALL PYTHONDONTWRITEBYTECODE
+home='' agent='' post='' query='' graph='' counts='' textfile='' keep='' limits='' wiki='' is_all=no batch=
+
+# Ends the step with a status, 1 where none is given.
+fail() {
+  echo "step.sh: ${batch:+batch $batch: }$1" >&2
+  exit "${2:-1}"
+}
+
+while [ $# -gt 0 ]; do
+  case $1 in
+    -h | --help) sed -n '2,24s/^# \{0,1\}//p' "$0"; exit 0 ;;
+    --all) is_all=yes; shift; continue ;;
+    --counts) counts=yes; shift; continue ;;
+  esac
+  [ $# -gt 1 ] || fail "$1 is no option, or lacks its value; -h shows them" 2
+  case $1 in
+    --home) home=$2 ;;
+    --agent) agent=$2 ;;
+    --post) post=$2 ;;
+    --query) query=$2 ;;
+    --graph) graph=$2 ;;
+    --textfile) textfile=$2 ;;
+    --keep) keep=$2 ;;
+    --horizon | --max-terms) limits="$limits $1 $2" ;;
+    --site | --tries | --pause) wiki="$wiki $1 $2" ;;
+    *) fail "$1 is no option; -h shows them" 2 ;;
+  esac
+  shift 2
+done
+[ -n "$home" ] || fail "--home is needed; -h shows all options" 2
+[ -n "$agent" ] || fail "--agent is needed; -h shows all options" 2
+[ -d "$home/batches" ] || fail "$home has no folder batches: load_dump.py and follow_stream.py write there" 2
+case $keep in *[!0-9]* | 0*) fail "--keep takes a number from 1 on" 2 ;; esac
+for needed in python3 jq flock; do
+  command -v $needed >/dev/null || fail "$needed is missing" 2
+done
+wdq=${WDQ:-$here/../../wdq}
+"$wdq" replay < /dev/null > /dev/null || fail "$wdq doesn't run" 2
+mkdir -p "$home/pages" "$home/records" "$home/sides" || exit 1
+
+# --- What a step does; each part ends with a file that is whole or not there, and does nothing where it is there ---
+
+# Sets `before` to the last batch, nothing at first, and `batch` to the next one; fails where there is none.
+find_batch() {
+  before='' batch=
+  if [ -e "$home/done" ]; then
+    before=$(cat "$home/done")
+    number=${before#"${before%%[!0]*}"}
+    batch=$(printf '%06d' $((${number:-0} + 1)))
+  else
+    for file in "$home"/batches/[0-9]*[0-9].jsonl; do
+      batch=$(basename "$file" .jsonl)
+      break
+    done
+  fi
+  [ -e "$home/batches/$batch.jsonl" ]
+}
+
+# Whether the program keeps what it knows in a file from one batch to the next.
+is_saving() {
+  if [ -n "$before" ]; then
+    [ -e "$home/snapshots/$before" ] && return
+    [ -e "$home/exports/$before.txt" ] || fail "neither snapshots/$before nor exports/$before.txt is there" 4
+    return 1
+  fi
+  "$here/can_save.sh" "$wdq"
+}
+
+# The reconciliations that go in front of the batch: BATCH-now.jsonl.
+ask_the_wiki() {
+  now=$home/batches/$batch-now.jsonl
+  [ ! -e "$now" ] && [ -n "$before" ] && grep -q '^# side [a-z-]* open' "$home/sides/$before.txt" || return 0
+  mark=$(tail -n 1 "$home/batches/$before.jsonl" | jq -r .watermark)
+  # shellcheck disable=SC2086 # words are split
+  "$here/reconcile.py" --agent "$agent" $wiki --after "$mark" --batch "${number:-0}" "$home/sides/$before.txt" > "$home/now.part" ||
+    fail "the wiki doesn't say what is so now of what is in doubt"
+  mv "$home/now.part" "$now" || fail "$now can't be written"
+}
+
+# A page that isn't there, or that the wiki doesn't give, is one more entry of the side output, and the next batches ask again.
+get_pages() {
+  [ "$batch" != 000000 ] || return 0
+  set -- "$home/batches/$batch.jsonl"
+  [ ! -e "$now" ] || set -- "$now" "$@"
+  # shellcheck disable=SC2086 # words are split
+  "$here/fetch_pages.py" --agent "$agent" $wiki --into "$home/pages" "$@"
+  [ $? -le 1 ] || fail "pages can't be written"
+}
+
+# Runs wdq, and ends the step where it fails: by what passes, or by what needs a hand.
+run_wdq() {
+  "$here/measure.py" "$home/measured.json" "$wdq" "$@"
+  status=$?
+  case $status in
+    0) ;;
+    2 | 5 | 6 | 8) fail "wdq ended with status $status" 4 ;;
+    *) fail "wdq ended with status $status" ;;
+  esac
+}
+
+# Records and snapshot by those of the batch before.
+step_by_snapshot() {
+  mkdir -p "$home/snapshots" || exit 1
+  if [ ! -e "$home/snapshots/$batch" ]; then
+    set -- "$home/batches/$batch.jsonl"
+    [ ! -e "$now" ] || set -- "$now" "$@"
+    cat "$@" > "$home/events.part" || exit 1
+    # shellcheck disable=SC2086 # words are split
+    run_wdq patches --from "$home/pages" --max-bytes 4294967295 $limits ${before:+--resume "$home/snapshots/$before"} \
+      --save "$home/snapshots/$batch.new" < "$home/events.part" > "$home/records/$batch.txt"
+    sync "$home/records/$batch.txt" && mv "$home/snapshots/$batch.new" "$home/snapshots/$batch" || exit 1
+    rm -f "$home/events.part"
+  fi
+  "$here/show_snapshot.py" "$home/snapshots/$batch" > "$home/side.part" && mv "$home/side.part" "$home/sides/$batch.txt" || exit 1
+}
+
+# All batches up to this one, in their order.
+all_batches() {
+  for file in "$home"/batches/[0-9]*.jsonl; do
+    cat "$file"
+    [ "$file" != "$home/batches/$batch.jsonl" ] || return
+  done
+}
+
+# One record of what differs from the export of the batch before, by a replay of all batches. What waits at their end is left out.
+step_by_replay() {
+  mkdir -p "$home/exports" || exit 1
+  [ ! -e "$home/exports/$batch.txt" ] || return 0
+  all_batches | jq -c -n -f "$here/../sparql/settled.jq" > "$home/events.part" || fail "jq refuses a line; see explain.py" 4
+  # shellcheck disable=SC2086 # words are split
+  run_wdq replay --from "$home/pages" --max-bytes 4294967295 $limits --export --state --side < "$home/events.part" > "$home/output.part"
+  grep '^# s' "$home/output.part" > "$home/sides/$batch.txt"
+  grep -v '^#' "$home/output.part" > "$home/export.part"
+  former=${before:+$home/exports/$before.txt}
+  record=0
+  [ -z "$before" ] || record=$(sed -n '1s/^# patch \([0-9]*\) .*/\1/p' "$home/records/$before.txt")
+  comm -13 "${former:-/dev/null}" "$home/export.part" > "$home/adds.part"
+  comm -23 "${former:-/dev/null}" "$home/export.part" > "$home/removes.part"
+  {
+    echo "# patch $((record + 1)) +$(wc -l < "$home/adds.part") -$(wc -l < "$home/removes.part")"
+    cat "$home/adds.part" "$home/removes.part"
+  } > "$home/records/$batch.txt" || exit 1
+  sync "$home/records/$batch.txt" "$home/sides/$batch.txt" && mv "$home/export.part" "$home/exports/$batch.txt" || exit 1
+  rm -f "$home/events.part" "$home/output.part" "$home/adds.part" "$home/removes.part"
+}
+
+# The store itself knows up to which record it is.
+send_records() {
+  [ -n "$post" ] || return 0
+  "$here/../sparql/updates.py" --post "$post" ${query:+--query "$query"} ${graph:+--graph "$graph"} ${counts:+--counts "$home/counts.db"} \
+    --batch 50 < "$home/records/$batch.txt"
+  case $? in
+    0) ;;
+    3) fail "the store doesn't take the records" ;;
+    *) fail "the records aren't those that the store waits for (docs/OPERATING.md)" 4 ;;
+  esac
+}
+
+# Removes what no later step reads, and with --keep the pages and events of older batches: what a snapshot knows isn't fetched again.
+forget() {
+  for folder in snapshots exports sides; do
+    for file in "$home/$folder"/[0-9]*; do
+      case ${file##*/} in "$batch"* | "$before"* | '[0-9]*') ;; *) rm -f "$file" ;; esac
+    done
+  done
+  [ -n "$keep" ] && [ -d "$home/snapshots" ] || return 0
+  for file in "$home"/batches/[0-9]*.jsonl; do
+    old=${file##*/}
+    old=${old%.jsonl}
+    [ "${old%-now}" -lt $((${number:-0} + 1 - keep)) ] || break
+    jq -r 'select(.rev) | "\(.rev).json"' "$file" | (cd "$home/pages" && xargs rm -f) && rm -f "$file"
+  done
+}
+
+# --- The steps ---
+
+exec 9> "$home/lock" && flock 9 || exit 1
+while find_batch; do
+  begun=$(date +%s)
+  ask_the_wiki
+  get_pages
+  if is_saving; then step_by_snapshot; else step_by_replay; fi
+  send_records
+  "$here/metrics.py" --home "$home" --batch "$batch" ${before:+--before "$before"} --seconds "$(($(date +%s) - begun))" \
+    ${textfile:+--textfile "$textfile"} || exit 1
+  echo "$batch" > "$home/done.part" && mv "$home/done.part" "$home/done" || exit 1
+  forget
+  [ $is_all = yes ] || break
+done
+exit 0
