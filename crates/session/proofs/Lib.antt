@@ -12,6 +12,7 @@ mod Ongoing
 mod Opening
 mod Pages
 mod Plans
+mod Printed
 mod Progress
 mod Reading
 mod Reports

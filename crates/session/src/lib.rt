@@ -25,8 +25,9 @@ mod stop;
 mod taking;
 
 pub use laws::{
-    fitting_input_is_replayed, found_pages_leave_no_entries, good_input_is_replayed,
-    settled_pages_are_the_union, told_pages_have_room, unsettled_pages_have_no_document,
+    a_saved_replay_is_read_back, fitting_input_is_replayed, found_pages_leave_no_entries,
+    good_input_is_replayed, settled_pages_are_the_union, told_pages_have_room,
+    unsettled_pages_have_no_document,
 };
 pub use ports::Ports;
 pub use running::run;
