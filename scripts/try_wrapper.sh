@@ -220,6 +220,11 @@ replay --from --export|--from lacks its value, a folder
 replay --from=|--from lacks its value, a folder
 replay --from ''|--from lacks its value, a folder
 replay --from -x|a value doesn't begin with '-': write './-x'
+replay --save|--save lacks its value, a file
+patches --save=|--save lacks its value, a file
+replay --save -x|a value doesn't begin with '-': write './-x'
+replay --sav a|'--sav' is no option of replay; did you mean --save?
+follow --save a|--save is an option of replay and patches
 replay --max-terms|--max-terms lacks its value, a number from 1 to 4294967295
 replay --max-terms 0|--max-terms takes a number from 1 to 4294967295, in digits without a leading zero, and not '0'
 replay --max-terms 4294967296|--max-terms takes a number from 1 to 4294967295
@@ -270,6 +275,8 @@ in_terminal "STAND_IN_STATUS=0 '$checkout/wdq' drill --size 1 < /dev/null"
 wants 'a drill reads no input' '' "$shown"
 in_terminal "'$checkout/wdq' replay < events.jsonl"
 wants 'neither section nor question' $'{"kind":"edit"}\nwdq: neither a section (--export, --state, --side) nor a question was asked for, so nothing is printed' "$shown"
+in_terminal "'$checkout/wdq' replay --save kept < events.jsonl"
+wants 'a snapshot alone' '{"kind":"edit"}' "$shown"
 in_terminal "'$checkout/wdq' replay < asks.jsonl"
 wants 'a question' '{"ask":["?","?","?"]}' "$shown"
 in_terminal "cat asks.jsonl | '$checkout/wdq' replay"
@@ -365,7 +372,7 @@ done
 words=$top/crates/words/specs/Table.antt
 table=$(grep -oE '^[a-z]+_table =|entry \(codes "--[a-z-]+"\) (Flag|Text|\(Number [0-9]+ [0-9]+)' "$words" | awk '
   sub(/_table =$/, "") { command = $0; next }
-  { gsub(/entry \(codes "|"\)|\(Number /, ""); sub(/ /, " " command " "); sub(/Flag$/, "nothing"); sub(/Text$/, "folder"); print }')
+  { gsub(/entry \(codes "|"\)|\(Number /, ""); sub(/ /, " " command " "); sub(/Flag$/, "nothing"); if (/^--from /) sub(/Text$/, "folder"); sub(/Text$/, "file"); print }')
 wants 'the options of the script are those of the crate words' \
   "$(sort <<<"$table")" \
   "$(sed -n '/^options=(/,/^)/p' "$top/wdq" | sed -n "s/^  '\(.*\)'$/\1/p" | sort)"

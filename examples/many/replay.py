@@ -4,7 +4,7 @@
 Each event goes to the part that its entity's number gives modulo the number of parts, and each watermark, question and version of the
 mapping goes to every part (route.jq). Dask runs the parts as tasks: on this machine, or on the workers of a scheduler. Then the answers
 to each question and the exports are merged, each triple once, and counted anew; the states are merged in the order of the ids; the side
-output is that of part 0, then that of part 1, and so on.
+output is that of part 0, then that of part 1, and so on. A match can't be answered so, since its triples may lie in different parts.
 
 Where a process is killed, or its worker is lost, Dask runs the part again. Where wdq ends with a status other than 0, the whole ends with
 that status, names the part, and prints nothing.
@@ -14,6 +14,7 @@ With --scheduler the folder of the pages, the program and --work are at the same
 
 import argparse
 import dataclasses
+import heapq
 import os
 import pathlib
 import re
@@ -74,7 +75,9 @@ def route(events, parts, work):
             files[int(part)].write(line)
     for file in files:
         file.close()
-    if router.wait() != 0:
+    if router.wait() == 5:
+        raise Ended(USAGE, f"{events} has a match, which needs one process")
+    if router.returncode != 0:
         raise Ended(LOST, f"jq ended with status {router.returncode}")
     return paths
 
@@ -130,10 +133,24 @@ def run_part(job):
         return Outcome(status, message.read().decode(errors="replace").strip(), str(target), usage.ru_utime + usage.ru_stime, memory)
 
 
-def merge(folders, name, merged, *order):
-    """Merges one section of all parts into a file; the words of `sort` say in which order the lines of each part are."""
+def merge(folders, name, merged):
+    """Merges one section of all parts into a file, each line once; the lines of each part are in the order of their bytes."""
     files = [str(folder / name) for folder in folders if (folder / name).exists()]
-    subprocess.run(["sort", "-m", *order, "-o", str(merged), *files], env=BYTE_ORDER, check=True)
+    subprocess.run(["sort", "-m", "-u", "-o", str(merged), *files], env=BYTE_ORDER, check=True)
+
+
+def place(state):
+    """Where the line of a state stands: properties, then items, then lexemes, each by number."""
+    entity = state.split()[2]
+    return b"PQL".index(entity[:1]), int(entity[1:])
+
+
+def merge_states(folders):
+    """The states of all parts, in their order."""
+    files = [open(folder / "state", "rb") for folder in folders if (folder / "state").exists()]
+    yield from heapq.merge(*files, key=place)
+    for file in files:
+        file.close()
 
 
 def copy_file(path, out):
@@ -147,15 +164,13 @@ def print_together(folders, merged, out):
     names = {path.name for folder in folders for path in folder.iterdir()}
     answers = sorted((name for name in names if name.startswith("ask-")), key=lambda name: int(name[4:]))
     for name in answers + [name for name in ["export"] if name in names]:
-        merge(folders, name, merged, "-u")
+        merge(folders, name, merged)
         with open(merged, "rb") as rows:
             count = sum(1 for _ in rows)
         out.write(f"# {name.replace('-', ' ')}: {count} triples\n".encode())
         copy_file(merged, out)
     if "state" in names:
-        # Properties before items, and each by number.
-        merge(folders, "state", merged, "-t", " ", "-k3.1,3.1", "-k3.2,3n")
-        copy_file(merged, out)
+        out.writelines(merge_states(folders))
     for folder in folders:
         if (folder / "side").exists():
             copy_file(folder / "side", out)

@@ -8,15 +8,17 @@ use anyhow::{Context, Result, bail};
 const PAGES: &[&str] = &["page", "pages to"];
 
 // The names of the other sections that have lines of their own.
-const WITH_LINES: &[&str] = &["in", "out", "records", "side", "owners", "rows"];
+const WITH_LINES: &[&str] = &["in", "out", "saved", "records", "side", "owners", "rows"];
 
 // The names of those that are one line each.
 const ONE_LINE: &[&str] = &[
     "words",
     "bytes a read",
     "bytes a write",
+    "bytes a save",
     "failing reads",
     "failing writes",
+    "failing saves",
     "failing fetches",
     "cut page",
     "status",

@@ -14,6 +14,7 @@ pub struct Given {
     pub pages: Vec<Page>,
     pub reads: Calls,
     pub writes: Calls,
+    pub saves: Calls,
     pub failing_fetches: Vec<u64>,
 }
 
@@ -37,6 +38,7 @@ pub struct Calls {
 pub struct Expected {
     pub status: String,
     pub out: Vec<u8>,
+    pub saved: Option<Vec<u8>>,
     pub records: Option<Vec<u8>>,
     pub side: Option<Vec<u8>>,
     pub owners: Option<Vec<u8>>,
@@ -53,6 +55,8 @@ pub enum Turns {
     EachRead,
     // a run for each write, which fails
     EachWrite,
+    // a run for each write of the snapshot, which fails
+    EachSave,
     // a run for each front of the page of a revision
     EachFront(u64),
 }
@@ -64,6 +68,7 @@ pub fn given_of(alloc: Global, case: &Case) -> Result<Given> {
     let pages = pages(alloc, case)?;
     let reads = calls_of(alloc, case, "bytes a read", "failing reads")?;
     let writes = calls_of(alloc, case, "bytes a write", "failing writes")?;
+    let saves = calls_of(alloc, case, "bytes a save", "failing saves")?;
     let failing_fetches = numbers(alloc, text(case, "failing fetches").unwrap_or(""))?;
     Ok(Given {
         words,
@@ -71,6 +76,7 @@ pub fn given_of(alloc: Global, case: &Case) -> Result<Given> {
         pages,
         reads,
         writes,
+        saves,
         failing_fetches,
     })
 }
@@ -182,12 +188,14 @@ pub fn expected_of(alloc: Global, case: &Case) -> Result<Expected> {
     let waiting = number(case, "waiting")?.map(|n| n as u64);
     let status = String::from_str(alloc, text(case, "status").unwrap_or("0"))?;
     let out = bytes_of(alloc, lines(case, "out").unwrap_or(""))?;
+    let saved = bytes_where_told(alloc, case, "saved")?;
     let records = bytes_where_told(alloc, case, "records")?;
     let side = bytes_where_told(alloc, case, "side")?;
     let owners = bytes_where_told(alloc, case, "owners")?;
     Ok(Expected {
         status,
         out,
+        saved,
         records,
         side,
         owners,
@@ -208,12 +216,14 @@ fn bytes_where_told(alloc: Global, case: &Case, name: &str) -> Result<Option<Vec
 pub fn turns_of(case: &Case) -> Result<Turns> {
     let each_read = text(case, "failing reads") == Some("each");
     let each_write = text(case, "failing writes") == Some("each");
-    match (each_read, each_write, text(case, "cut page")) {
-        (false, false, None) => Ok(Turns::Once),
-        (true, false, None) => Ok(Turns::EachRead),
-        (false, true, None) => Ok(Turns::EachWrite),
-        (false, false, Some(rev)) => front_of(rev),
-        _ => bail!("reads, writes and fronts of a page are tried one at a time"),
+    let each_save = text(case, "failing saves") == Some("each");
+    match (each_read, each_write, each_save, text(case, "cut page")) {
+        (false, false, false, None) => Ok(Turns::Once),
+        (true, false, false, None) => Ok(Turns::EachRead),
+        (false, true, false, None) => Ok(Turns::EachWrite),
+        (false, false, true, None) => Ok(Turns::EachSave),
+        (false, false, false, Some(rev)) => front_of(rev),
+        _ => bail!("reads, writes, saves and fronts of a page are tried one at a time"),
     }
 }
 

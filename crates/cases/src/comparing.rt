@@ -22,6 +22,10 @@ pub fn difference(alloc: Global, expected: &Expected, left: &Left) -> Result<Opt
     if of_output.is_some() {
         return Ok(of_output);
     }
+    let of_saved = differing_where_told(alloc, "saved", &expected.saved, left.saved.bytes())?;
+    if of_saved.is_some() {
+        return Ok(of_saved);
+    }
     let of_world = world_difference(alloc, expected, left)?;
     if of_world.is_some() {
         return Ok(of_world);

@@ -1,7 +1,7 @@
 // One run over memory.
 
 use anyhow::Result;
-use case_file::{Given, Page};
+use case_file::{Calls, Given, Page};
 use rdf_term::{List, Text};
 use revisions::{MemoryRevisions, RevisionBytes};
 use session::{Ports, Status, run};
@@ -15,6 +15,7 @@ use wq_io::{MemorySink, MemorySource};
 pub struct Left {
     pub status: Status,
     pub out: MemorySink,
+    pub saved: MemorySink,
     pub world: World,
     pub fetches: u64,
 }
@@ -23,11 +24,13 @@ pub struct Left {
 pub fn run_over(alloc: Global, keys: RandomState, given: &Given) -> Result<Left> {
     let events = source(alloc, given)?;
     let revisions = revisions(alloc, given)?;
-    let out = sink(alloc, given)?;
+    let out = sink(alloc, &given.writes)?;
+    let snapshot = sink(alloc, &given.saves)?;
     let mut ports = Ports {
         events,
         revisions,
         out,
+        snapshot,
     };
     let mut world = World::new(alloc, keys)?;
     let words = given.words.as_slice();
@@ -36,6 +39,7 @@ pub fn run_over(alloc: Global, keys: RandomState, given: &Given) -> Result<Left>
     Ok(Left {
         status,
         out: ports.out,
+        saved: ports.snapshot,
         world,
         fetches,
     })
@@ -55,10 +59,10 @@ fn revisions(alloc: Global, given: &Given) -> Result<MemoryRevisions> {
     Ok(MemoryRevisions::new(entries, failing))
 }
 
-// Where the output goes.
-fn sink(alloc: Global, given: &Given) -> Result<MemorySink> {
-    let failing = list(alloc, given.writes.failing.as_slice())?;
-    Ok(MemorySink::new(alloc, given.writes.bytes.max(1), failing))
+// Where the output goes, or the snapshot.
+fn sink(alloc: Global, writes: &Calls) -> Result<MemorySink> {
+    let failing = list(alloc, writes.failing.as_slice())?;
+    Ok(MemorySink::new(alloc, writes.bytes.max(1), failing))
 }
 
 // The numbers of calls that fail.

@@ -67,6 +67,7 @@ fn tried_alone(alloc: Global, keys: RandomState, case: &Case) -> Result<Trial> {
         }
         Turns::EachRead => tried_with_reads(alloc, keys, given, expected),
         Turns::EachWrite => tried_with_writes(alloc, keys, given, expected),
+        Turns::EachSave => tried_with_saves(alloc, keys, given, expected),
         Turns::EachFront(rev) => tried_with_fronts(alloc, keys, given, &expected, rev),
     }
 }
@@ -139,6 +140,36 @@ fn tried_with_writes(
     })
 }
 
+// Tries each write of the snapshot failing in turn, and then none: all else was printed, and what the writes before it took stands.
+fn tried_with_saves(
+    alloc: Global,
+    keys: RandomState,
+    mut given: Given,
+    expected: Expected,
+) -> Result<Trial> {
+    let saved = expected.saved.as_ref().context("what is saved")?;
+    let pieces = pieces_of_writes(alloc, saved.as_slice(), given.saves.bytes.max(1))?;
+    let mut taken = Vec::new(alloc);
+    let mut call = 1u64;
+    for piece in &pieces {
+        given.saves.failing = vec![in alloc; call]?;
+        let out = Vec::from_slice(alloc, expected.out.as_slice())?;
+        let mut before = stopped(alloc, "4 wdq: write fault", out)?;
+        before.saved = Some(Vec::from_slice(alloc, taken.as_slice())?);
+        if let Some(difference) = tried_once(alloc, keys, &given, &before)? {
+            return at_call(alloc, "save", call, call, difference.as_str());
+        }
+        taken.extend_from_slice(piece.as_slice())?;
+        call = call.saturating_add(1);
+    }
+    given.saves.failing = vec![in alloc; call]?;
+    let difference = tried_once(alloc, keys, &given, &expected)?;
+    Ok(Trial {
+        runs: call,
+        difference,
+    })
+}
+
 // Tries each front of a page, from no byte to all but the last: each must show the same.
 fn tried_with_fronts(
     alloc: Global,
@@ -175,6 +206,7 @@ fn stopped(alloc: Global, status: &str, out: Vec<u8>) -> Result<Expected> {
     Ok(Expected {
         status,
         out,
+        saved: None,
         records: None,
         side: None,
         owners: None,

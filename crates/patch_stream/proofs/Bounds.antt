@@ -9,7 +9,7 @@ use Rattle.rising.specs.Rising.{In}
 use Rattle.rising.proofs.Pushes.{by_pushes}
 use Rattle.triple_store.proofs.Stocked.{length-sorted}
 use Rattle.delivery.specs.declared.Delivery.{Delivery}
-use Rattle.delivery.specs.declared.Delivery.TheVariants.{Event as Told, Watermark, Ask, Mapping}
+use Rattle.delivery.specs.declared.Delivery.TheVariants.{Event as Told, Watermark, Ask, Mapping, Match}
 use Rattle.entity_model.specs.declared.id.EntityId.{EntityId}
 use Rattle.entity_model.specs.declared.event.Event.{Event}
 use Rattle.entity_model.specs.declared.mapping.MappingVersion.{MappingVersion}
@@ -25,7 +25,7 @@ use Rattle.replay_model.proofs.DueParts.{due-end, due-watermark}
 use Rattle.replay_model.proofs.PlayedRecords.{records-played, records_of}
 use Rattle.world.specs.WorldState.{differ, stale_by}
 use Rattle.replica.specs.declared.record.PatchRecord.{PatchRecord}
-use Rattle.patch_stream.specs.Stream.{is_change, steps_anew, steps_applied, steps_of_play, steps_remapped, steps_to_end, stream}
+use Rattle.patch_stream.specs.Stream.{Step, is_change, steps_anew, steps_applied, steps_of_play, steps_remapped, steps_to_end, stream}
 use Rattle.patch_stream.proofs.Chains.{steps-push}
 use Rattle.patch_stream.proofs.Streamed.{are_few}
 
@@ -109,6 +109,13 @@ anew_few version records by_two =
       keys_many records,
     )
 
+-- the numbers of the records of few steps fit
+pub numbers_of : (steps : List Step) (item : PatchRecord) → length steps < 2 ^ 64 → In item (stream steps) → item.number < 2 ^ 64
+numbers_of steps item few there =
+    let within = are_few 0 (filter is_change steps) item there in
+    let all = filter_few is_change steps in
+    omega (arith, within, all, few)
+
 module _ (hz : Option ℕ) (replies : Replies) where
   -- so many deliveries make so many steps at most
   abbrev AreFewSteps : List Delivery → Type 0
@@ -138,6 +145,9 @@ module _ (hz : Option ℕ) (replies : Replies) where
   few_more ds (Ask q) few =
       let same : in_order (due hz false (ds ++ Ask q ∷ [])) ≡ in_order (due hz false ds) = ap in_order (due-kept hz false ds (Ask q) refl refl) in
       omega (arith, few, ap length (steps-push hz replies ds (Ask q)), length-append (steps_of_play hz replies ds) [], ap length same, length-append ds (Ask q ∷ []), squared (length ds), ap (λ n. n * n) (length-append ds (Ask q ∷ [])))
+  few_more ds (Match q) few =
+      let same : in_order (due hz false (ds ++ Match q ∷ [])) ≡ in_order (due hz false ds) = ap in_order (due-kept hz false ds (Match q) refl refl) in
+      omega (arith, few, ap length (steps-push hz replies ds (Match q)), length-append (steps_of_play hz replies ds) [], ap length same, length-append ds (Match q ∷ []), squared (length ds), ap (λ n. n * n) (length-append ds (Match q ∷ [])))
   few_more ds (Mapping v) few =
       let records : Records = (play hz replies ds).records in
       let by_two : List EntityId = all_by (version_in_force ds) records in
@@ -178,9 +188,12 @@ module _ (hz : Option ℕ) (replies : Replies) where
       let within = column_fits (length ds) (length ds) 4294967295 4294967296 small (omega (arith, small)) in
       omega (arith, steps_few ds, within)
 
+  -- nor are there more before the end
+  pub few_so_far : (ds : List Delivery) → length ds < 2 ^ 32 → length (steps_of_play hz replies ds) < 2 ^ 64
+  few_so_far ds small =
+      let es : List Event = newly_due hz ds true ds in
+      omega (arith, few_enough ds small, length-append (steps_of_play hz replies ds) (steps_applied (version_in_force ds) replies (play hz replies ds) es))
+
   -- and the number of each record fits
   pub numbers_fit : (ds : List Delivery) (item : PatchRecord) → length ds < 2 ^ 32 → In item (stream (steps_to_end hz replies ds)) → item.number < 2 ^ 64
-  numbers_fit ds item small there =
-      let few = are_few 0 (filter is_change (steps_to_end hz replies ds)) item there in
-      let all = filter_few is_change (steps_to_end hz replies ds) in
-      omega (arith, few, all, few_enough ds small)
+  numbers_fit ds item small there = numbers_of (steps_to_end hz replies ds) item (few_enough ds small) there

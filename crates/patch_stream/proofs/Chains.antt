@@ -10,7 +10,7 @@ use Rattle.rdf_term.specs.declared.triple.Triple.{Triple}
 use Rattle.rdf_term.specs.Fit.{HasFitAndShortTerms}
 use Rattle.rdf_term.specs.Order.{triple_cmp, triple_cmp-total}
 use Rattle.delivery.specs.declared.Delivery.{Delivery}
-use Rattle.delivery.specs.declared.Delivery.TheVariants.{Event as Told, Watermark, Ask, Mapping}
+use Rattle.delivery.specs.declared.Delivery.TheVariants.{Event as Told, Watermark, Ask, Mapping, Match}
 use Rattle.entity_model.specs.declared.id.EntityId.{EntityId}
 use Rattle.entity_model.specs.declared.event.Event.{Event}
 use Rattle.entity_model.specs.declared.mapping.MappingVersion.{MappingVersion}
@@ -148,6 +148,7 @@ module _ (hz : Option ℕ) (replies : Replies) where
       (kept ds (Watermark w) _ (version-kept ds (Watermark w) refl) (play-push hz replies ds (Watermark w)))
       (chain_applied (version_in_force ds) replies (play hz replies ds) (newly_due hz ds false (ds ++ Watermark w ∷ [])))
   chain_at ds (Ask q) = kept ds (Ask q) _ (version-kept ds (Ask q) refl) (play-push hz replies ds (Ask q))
+  chain_at ds (Match q) = kept ds (Match q) _ (version-kept ds (Match q) refl) (play-push hz replies ds (Match q))
   chain_at ds (Mapping v) =
       subst (IsChain (stored ds) (steps_anew v (play hz replies ds).records (all_by (version_in_force ds) (play hz replies ds).records)))
       (λ i. union triple_cmp (meaning (sym (version-mapping ds v) i)) (sym (play-push hz replies ds (Mapping v)) i).records)
@@ -163,7 +164,7 @@ module _ (hz : Option ℕ) (replies : Replies) where
   nothing_stored : [] ≡ stored []
   nothing_stored = ap (λ es. sorted triple_cmp (flat_map (triples_at (meaning (version_in_force []))) es)) (sym (no_entries (map.entries nothing_played.records) (sym (map.len-entries nothing_played.records) ∙ map.len-empty _ _)))
 
-  chain_of_play : (ds : List Delivery) → IsChain [] (steps_of_play hz replies ds) (stored ds)
+  pub chain_of_play : (ds : List Delivery) → IsChain [] (steps_of_play hz replies ds) (stored ds)
   chain_of_play = by_pushes (λ ds. IsChain [] (steps_of_play hz replies ds) (stored ds)) nothing_stored
       (λ ds d before. subst (λ steps. IsChain [] steps (stored (ds ++ d ∷ []))) (sym (steps-push ds d))
       (chain-append [] (stored ds) (stored (ds ++ d ∷ [])) (steps_of_play hz replies ds) (steps_at hz replies (record { before = ds; delivery = d })) before (chain_at ds d)))

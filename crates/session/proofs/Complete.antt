@@ -21,14 +21,14 @@ use Rattle.event_line.specs.declared.faults.LineCause.TheVariants.{LineLong}
 use Rattle.event_line.specs.Line.{delivery_of}
 use Rattle.replay_model.specs.Acceptance.{accepted, late, version_in_force}
 use Rattle.replay_model.specs.Entries.{has_open_revision}
-use Rattle.replay_model.specs.Play.{play_to_end}
+use Rattle.replay_model.specs.Play.{Played, played}
 use Rattle.replay_model.specs.Records.{Bytes, Records, is_settled, record_of}
 use Rattle.replay_model.specs.Replies.{TellsWhatIsThere, failed_events, source_replies}
 use Rattle.replay_model.specs.ReplayState.{ReplayState}
 use Rattle.replay_model.specs.Union.{triples_held}
 use Rattle.world.specs.Meaning.{meaning}
 use Rattle.world.proofs.Entries.{over_ids}
-use Rattle.words.specs.Options.{max_bytes_of}
+use Rattle.words.specs.Options.{closes, max_bytes_of}
 use Rattle.session.specs.declared.status.Status.{Status}
 use Rattle.session.specs.declared.status.Status.TheVariants.{Ok as Ended, BadWords, BadLine, ReadFault, WriteFault, TooLong, StoreFull, OutOfMemory}
 use Rattle.session.specs.Complete.{FindsDocument, IsStill, has_document, triples_in}
@@ -38,8 +38,9 @@ use Rattle.session.specs.Reading.{AreDeliveries, IsPastLimit, IsRefusedLine, del
 use Rattle.session.specs.Remapping.{held_triples}
 use Rattle.session.specs.Stop.{stop_of}
 use Rattle.session.specs.declared.stop.Stop.TheVariants.{StoreFull as RoomPassed}
-use Rattle.session.specs.Taking.{judgement}
+use Rattle.session.specs.Taking.{judgement, replies_there}
 use Rattle.session.proofs.Ends.{none_failed}
+use Rattle.session.proofs.Printed.{state_played}
 use Rattle.session.proofs.Finding.{none_named}
 use Rattle.session.proofs.Opening.{any_opened, settled_triples}
 use Rattle.session.proofs.Reading.{at_known}
@@ -109,7 +110,7 @@ none_refused {G} limit bytes ds before number cause are refused = ⊎_elim
     clash none = let never : Some ds ≡ None = sym are.delivered ∙ none in cc
 
 module _ (run : Run) (before now : Moment) (bytes : List ℕ) (ds : List Delivery) (known : before.input.left ≡ Some bytes) (are : AreDeliveries (max_bytes_of run.choices) bytes ds)
-    (reads : IsStill before.input.faults now.input.faults) (writes : IsStill before.stage.output.faults now.stage.output.faults) (room : Stopped RoomPassed run before now → ⊥) where
+    (reads : IsStill before.input.faults now.input.faults) (writes : IsStill before.stage.output.faults now.stage.output.faults) (saves : IsStill before.snapshot.faults now.snapshot.faults) (room : Stopped RoomPassed run before now → ⊥) where
   pub ends_well : (status : Status) → (status ≡ BadWords → ⊥) → IfSome (stop_of status) (λ stop. Stopped stop run before now) → (status ≡ Ended) ⊎ (status ≡ OutOfMemory)
   ends_well Ended understood stopped = inl refl
   ends_well BadWords understood stopped = absurd (understood refl)
@@ -117,7 +118,7 @@ module _ (run : Run) (before now : Moment) (bytes : List ℕ) (ds : List Deliver
       none_refused (max_bytes_of run.choices) bytes ds stopped.deliveries number cause are
       (at_known before.input.left bytes (λ b. IsRefusedLine (max_bytes_of run.choices) b stopped.deliveries number cause) known stopped.bad)
   ends_well ReadFault understood stopped = not_risen before.input.faults now.input.faults reads stopped.0
-  ends_well WriteFault understood stopped = not_risen before.stage.output.faults now.stage.output.faults writes stopped.0
+  ends_well WriteFault understood stopped = ⊎_elim (λ out. not_risen before.stage.output.faults now.stage.output.faults writes out.0) (λ file. not_risen before.snapshot.faults now.snapshot.faults saves file.0) stopped
   ends_well TooLong understood stopped =
       let past = at_known before.input.left bytes (λ b. max_bytes_of run.choices < length b) known (more before.input.left stopped.past) in
       absurd (omega (arith, past, are.within))
@@ -173,5 +174,6 @@ module _ (run : Run) (before now : Moment) (contents : ℕ → Option Bytes) (en
       ((e : Event) → has event_cmp e (accepted (horizon_at before.stage) ending.replayed.deliveries) ≡ true → FindsDocument judgement contents e) → now.stage.world.played.side ≡ []
   nothing_named still none find =
       ap (λ (w : ReplayState). w.played.side) (ending.replayed.replay.played.source contents known)
-      ∙ ap (λ failed. (play_to_end (horizon_at before.stage) (source_replies judgement contents failed) ending.replayed.deliveries).side) (none_failed_now still)
-      ∙ none_named judgement contents (horizon_at before.stage) ending.replayed.deliveries none find
+      ∙ ap (λ (p : Played). p.side) (state_played (closes run.choices) ending.replayed.deliveries before.stage (replies_there contents now.stage.world))
+      ∙ ap (λ failed. (played (horizon_at before.stage) (closes run.choices) (source_replies judgement contents failed) ending.replayed.deliveries).side) (none_failed_now still)
+      ∙ none_named judgement contents (horizon_at before.stage) (closes run.choices) ending.replayed.deliveries none find

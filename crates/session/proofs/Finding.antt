@@ -19,7 +19,7 @@ use Rattle.rising.proofs.Pushes.{by_pushes, first_empty}
 use Rattle.reorder_buffer.specs.Watermarks.{is_due}
 use Rattle.replay_model.specs.Acceptance.{accepted, due, is_accepted, is_late, late, mark}
 use Rattle.replay_model.specs.Fate.{is_of}
-use Rattle.replay_model.specs.Play.{Played, apply, apply_all, entries_after, entry_of, happens, newly_due, nothing_played, play, play_to_end, record_after}
+use Rattle.replay_model.specs.Play.{Played, apply, apply_all, entries_after, entry_of, happens, newly_due, nothing_played, play, played, record_after}
 use Rattle.replay_model.specs.Records.{Bytes, record_of}
 use Rattle.replay_model.specs.Replies.{Judgement, reply_there, source_replies}
 use Rattle.replay_model.proofs.Arrivals.{events_passing-push, play-push}
@@ -115,5 +115,6 @@ module _ (unfit : Judgement) (contents : ℕ → Option Bytes) where
       (before (first_empty (late hz ds) _ (sym (events_passing-push (is_late hz) ds d) ∙ none)) (λ e h. find e (ap (has event_cmp e) (events_passing-push (is_accepted hz) ds d) ∙ has-front e (accepted hz ds) _ h)))))
 
   -- the side output of the whole play is empty
-  pub none_named : (hz : Option ℕ) (ds : List Delivery) → late hz ds ≡ [] → AllFind (accepted hz ds) → (play_to_end hz (source_replies unfit contents []) ds).side ≡ []
-  none_named hz ds none find = (found-apply_all (play hz (source_replies unfit contents []) ds) (newly_due hz ds true ds) (find-due hz ds true ds find) (found-play hz ds none find)).none
+  pub none_named : (hz : Option ℕ) (closed : Bool) (ds : List Delivery) → late hz ds ≡ [] → AllFind (accepted hz ds) → (played hz closed (source_replies unfit contents []) ds).side ≡ []
+  none_named hz false ds none find = (found-play hz ds none find).none
+  none_named hz true ds none find = (found-apply_all (play hz (source_replies unfit contents []) ds) (newly_due hz ds true ds) (find-due hz ds true ds find) (found-play hz ds none find)).none

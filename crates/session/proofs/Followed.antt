@@ -1,12 +1,13 @@
 -- A follower of a stream has what was held at its end, and what is written of a stream are records.
 use Rattle.std.proofs.Common.{◌≡◌, sym, subst, ◌∙◌, ap, ℕ, ◌+◌, ◌<◌, ◌≤◌, ◌^◌, ◌==◌, Bool, true, false, cond, List, [], ◌∷◌, length, flat_map, append-nil, None, Some, arith}
+use Rattle.rdf_term.specs.declared.triple.Triple.{Triple}
 use Rattle.rdf_term.specs.Order.{triple_cmp}
 use Rattle.rising.specs.Rising.{Each, In}
 use Rattle.wq_io.specs.Streams.{after_known}
 use Rattle.wq_io.specs.Lines.{line_feed, lines, onto_first_line}
 use Rattle.delivery.specs.declared.Delivery.{Delivery}
 use Rattle.replay_model.specs.Acceptance.{version_in_force}
-use Rattle.replay_model.specs.Play.{play_to_end}
+use Rattle.replay_model.specs.Play.{Replies}
 use Rattle.replay_model.specs.ReplayState.{ReplayState}
 use Rattle.replay_model.specs.Union.{union}
 use Rattle.world.specs.Meaning.{meaning}
@@ -15,31 +16,49 @@ use Rattle.replica.specs.Laws.{IsGreatest}
 use Rattle.replica.specs.Record.{record_lines}
 use Rattle.replica.specs.Replica.{after}
 use Rattle.replica.proofs.Producers.{one_greatest}
-use Rattle.patch_stream.specs.Laws.{AreOfStream, HasWritableSides}
+use Rattle.patch_stream.specs.Laws.{AreOfStream, HasWritableSides, IsChain}
 use Rattle.patch_stream.specs.Stream.{changes, stream, stream_text}
-use Rattle.patch_stream.proofs.Bounds.{few_enough, numbers_fit}
-use Rattle.patch_stream.proofs.Chains.{chain_to_end}
+use Rattle.patch_stream.proofs.Bounds.{few_enough, few_so_far, numbers_of}
+use Rattle.patch_stream.proofs.Chains.{chain_of_play, chain_to_end}
 use Rattle.patch_stream.proofs.Readable.{all_of_stream, can_be_read}
 use Rattle.patch_stream.proofs.Streamed.{after_stream, all_there}
-use Rattle.words.specs.Options.{FollowChoices, follow_max_bytes_of, max_bytes_of}
+use Rattle.words.specs.Options.{FollowChoices, closes, follow_max_bytes_of, max_bytes_of}
 use Rattle.following.specs.Following.{Ending as Followed, FollowMoment, replica_text}
 use Rattle.following.specs.Reading.{AreRecords}
 use Rattle.following.proofs.Complete.{found_records}
 use Rattle.following.proofs.Refusals.{one_list}
 use Rattle.session.specs.Complete.{steps_made}
+use Rattle.session.specs.Course.{course_ended}
 use Rattle.session.specs.Headline.{Ending}
-use Rattle.session.specs.Moment.{Moment, Run, horizon_at}
+use Rattle.session.specs.Moment.{Moment, Run, Stage, horizon_at}
 use Rattle.session.specs.Reading.{AreDeliveries}
 use Rattle.session.specs.Remapping.{held_triples}
 use Rattle.session.proofs.Reading.{as_many, at_known}
 use Rattle.session.proofs.Versions.{all_held_by}
 
+-- the triples of all that is held where a play leads
+abbrev last_of : Bool → List Delivery → Stage → Replies → List Triple
+last_of closed ds start replies = union triple_cmp (meaning (version_in_force ds)) ((course_ended closed ds start).state replies).played.records
+
+-- each step of a play begins where the one before it ended
+chain_ended : (closed : Bool) (ds : List Delivery) (start : Stage) (replies : Replies) → IsChain [] ((course_ended closed ds start).steps replies) (last_of closed ds start replies)
+chain_ended true ds start replies = chain_to_end (horizon_at start) replies ds
+chain_ended false ds start replies = chain_of_play (horizon_at start) replies ds
+
+-- fewer deliveries than numbers of 32 bits make fewer steps than numbers of 64 bits
+few_ended : (closed : Bool) (ds : List Delivery) (start : Stage) (replies : Replies) → length ds < 2 ^ 32 → length ((course_ended closed ds start).steps replies) < 2 ^ 64
+few_ended true ds start replies small = few_enough (horizon_at start) replies ds small
+few_ended false ds start replies small = few_so_far (horizon_at start) replies ds small
+
 module _ (run : Run) (start end : Moment) (ended : Ending run start end) where
   abbrev deliveries : List Delivery
   deliveries = ended.replayed.deliveries
 
+  chain : IsChain [] (steps_made run start end ended) (last_of (closes run.choices) deliveries start.stage ended.replayed.replay.played.replies)
+  chain = chain_ended (closes run.choices) deliveries start.stage ended.replayed.replay.played.replies
+
   -- the union of the play is what is held
-  union_held : union triple_cmp (meaning (version_in_force deliveries)) (play_to_end (horizon_at start.stage) ended.replayed.replay.played.replies deliveries).records ≡ held_triples end.stage.mapped end.stage.world.played.records
+  union_held : last_of (closes run.choices) deliveries start.stage ended.replayed.replay.played.replies ≡ held_triples end.stage.mapped end.stage.world.played.records
   union_held =
       ap (λ (w : ReplayState). union triple_cmp (meaning (version_in_force deliveries)) w.played.records) (sym ended.replayed.replay.played.is)
       ∙ sym (all_held_by (version_in_force deliveries) end.stage.mapped end.stage.world.played.records ended.replayed.replay.played.mapped)
@@ -51,12 +70,12 @@ module _ (run : Run) (start end : Moment) (ended : Ending run start end) where
 
     applied_all : followed.applied ≡ changes (steps_made run start end ended)
     applied_all = one_greatest items followed.applied (changes (steps_made run start end ended)) (subst (λ l. IsGreatest l followed.applied) same_items followed.followed.greatest)
-        (all_there _ (steps_made run start end ended) items (chain_to_end (horizon_at start.stage) ended.replayed.replay.played.replies deliveries) of_stream)
+        (all_there _ (steps_made run start end ended) items chain of_stream)
 
     has_union : after followed.items followed.applied ≡ held_triples end.stage.mapped end.stage.world.played.records
     has_union =
         (λ i. after (same_items i) (applied_all i))
-        ∙ after_stream _ (steps_made run start end ended) items (chain_to_end (horizon_at start.stage) ended.replayed.replay.played.replies deliveries) of_stream
+        ∙ after_stream _ (steps_made run start end ended) items chain of_stream
         ∙ union_held
 
     pub follower_has : now.output.bytes ≡ after_known before.output.bytes (replica_text choices.export (changes (steps_made run start end ended)) (held_triples end.stage.mapped end.stage.world.played.records))
@@ -85,13 +104,13 @@ module _ (run : Run) (start end : Moment) (ended : Ending run start end) (bytes 
       omega (arith, as_many (lines bytes) ended.replayed.deliveries are.delivered, lines_few bytes, are.within, bounded)
 
   pub numbers_in_run : (item : PatchRecord) → In item (stream (steps_made run start end ended)) → item.number < 2 ^ 64
-  numbers_in_run item there = numbers_fit (horizon_at start.stage) ended.replayed.replay.played.replies ended.replayed.deliveries item few_deliveries there
+  numbers_in_run item there = numbers_of (steps_made run start end ended) item (few_ended (closes run.choices) ended.replayed.deliveries start.stage ended.replayed.replay.played.replies few_deliveries) there
 
   pub written_records : (limit : ℕ) → Each HasWritableSides (steps_made run start end ended) → length (stream_text (steps_made run start end ended)) ≤ limit →
       AreRecords limit (stream_text (steps_made run start end ended)) (stream (steps_made run start end ended)) None × AreOfStream (steps_made run start end ended) (stream (steps_made run start end ended))
   written_records limit sides within =
-      let read = can_be_read _ (steps_made run start end ended) (chain_to_end (horizon_at start.stage) ended.replayed.replay.played.replies ended.replayed.deliveries) sides
-      (few_enough (horizon_at start.stage) ended.replayed.replay.played.replies ended.replayed.deliveries few_deliveries) in (
+      let read = can_be_read _ (steps_made run start end ended) (chain_ended (closes run.choices) ended.replayed.deliveries start.stage ended.replayed.replay.played.replies) sides
+      (few_ended (closes run.choices) ended.replayed.deliveries start.stage ended.replayed.replay.played.replies few_deliveries) in (
         record { within = within; are = record { are = read.are_lines ∙ sym (append-nil (flat_map record_lines (stream (steps_made run start end ended)))); sound = read.sound; unfinished = tt } },
         all_of_stream (steps_made run start end ended),
       )

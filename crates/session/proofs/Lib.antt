@@ -13,6 +13,7 @@ mod Ongoing
 mod Opening
 mod Pages
 mod Plans
+mod Printed
 mod Progress
 mod Reading
 mod Reports

@@ -7,52 +7,65 @@ use Rattle.session.specs.declared.ports.Ports.{Ports}
 use Rattle.session.specs.Counts.{HasGoneOn, HasWrittenOn, HaveGoneOn}
 use Rattle.session.proofs.Due.{gone-on}
 
-module _ {S R K : Type 0} (input : SourceOf S) (source : RevisionsOf R) (sink : SinkOf K) where
+module _ {S R K F : Type 0} (input : SourceOf S) (source : RevisionsOf R) (sink : SinkOf K) (file : SinkOf F) where
   -- nothing was asked yet
-  pub none_gone : (ports : Ports S R K) → HaveGoneOn input source sink ports ports
+  pub none_gone : (ports : Ports S R K F) → HaveGoneOn input source sink file ports ports
   none_gone ports = record {
     events = record { faults = omega arith; most = refl };
     revisions = record { known = refl; faults = omega arith; misses = omega arith; most = refl };
     out = record { faults = omega arith; most = refl };
+    snapshot = record { faults = omega arith; most = refl };
   }
 
   -- the input is read
-  pub read_on : (old now : Ports S R K) (events : S) → HaveGoneOn input source sink old now → input.faults now.events ≤ input.faults events → input.most_faults events ≡ input.most_faults now.events →
-      HaveGoneOn input source sink old (record now { events = events })
+  pub read_on : (old now : Ports S R K F) (events : S) → HaveGoneOn input source sink file old now → input.faults now.events ≤ input.faults events → input.most_faults events ≡ input.most_faults now.events →
+      HaveGoneOn input source sink file old (record now { events = events })
   read_on old now events so_far later most = record {
     events = record { faults = omega (arith, so_far.events.faults, later); most = most ∙ so_far.events.most };
     revisions = so_far.revisions;
     out = so_far.out;
+    snapshot = so_far.snapshot;
   }
 
   -- revisions are fetched
-  pub fetched_on : (old now : Ports S R K) (revisions : R) → HaveGoneOn input source sink old now → HasGoneOn source now.revisions revisions →
-      HaveGoneOn input source sink old (record now { revisions = revisions })
-  fetched_on old now revisions so_far more = record { events = so_far.events; revisions = gone-on source _ _ _ so_far.revisions more; out = so_far.out }
+  pub fetched_on : (old now : Ports S R K F) (revisions : R) → HaveGoneOn input source sink file old now → HasGoneOn source now.revisions revisions →
+      HaveGoneOn input source sink file old (record now { revisions = revisions })
+  fetched_on old now revisions so_far more = record { events = so_far.events; revisions = gone-on source _ _ _ so_far.revisions more; out = so_far.out; snapshot = so_far.snapshot }
 
   -- the output is written
-  pub written_on : (old now : Ports S R K) (out : K) → HaveGoneOn input source sink old now → HasWrittenOn sink now.out out → HaveGoneOn input source sink old (record now { out = out })
+  pub written_on : (old now : Ports S R K F) (out : K) → HaveGoneOn input source sink file old now → HasWrittenOn sink now.out out → HaveGoneOn input source sink file old (record now { out = out })
   written_on old now out so_far more = record {
     events = so_far.events;
     revisions = so_far.revisions;
     out = record { faults = omega (arith, so_far.out.faults, more.faults); most = more.most ∙ so_far.out.most };
+    snapshot = so_far.snapshot;
   }
 
   -- what waits at the end is applied and told
-  pub ended_on : (old now : Ports S R K) (revisions : R) (out : K) → HaveGoneOn input source sink old now → HasGoneOn source now.revisions revisions → HasWrittenOn sink now.out out →
-      HaveGoneOn input source sink old (record now { revisions = revisions; out = out })
+  pub ended_on : (old now : Ports S R K F) (revisions : R) (out : K) → HaveGoneOn input source sink file old now → HasGoneOn source now.revisions revisions → HasWrittenOn sink now.out out →
+      HaveGoneOn input source sink file old (record now { revisions = revisions; out = out })
   ended_on old now revisions out so_far fetched written = written_on old (record now { revisions = revisions }) out (fetched_on old now revisions so_far fetched) written
 
   -- records are followed
-  pub followed_on : (ports : Ports S R K) (events : S) (out : K) → input.faults ports.events ≤ input.faults events → input.most_faults events ≡ input.most_faults ports.events → HasWrittenOn sink ports.out out →
-      HaveGoneOn input source sink ports (record ports { events = events; out = out })
-  followed_on ports events out later most written = record { events = record { faults = later; most = most }; revisions = (none_gone ports).revisions; out = written }
+  pub followed_on : (ports : Ports S R K F) (events : S) (out : K) → input.faults ports.events ≤ input.faults events → input.most_faults events ≡ input.most_faults ports.events → HasWrittenOn sink ports.out out →
+      HaveGoneOn input source sink file ports (record ports { events = events; out = out })
+  followed_on ports events out later most written = record { events = record { faults = later; most = most }; revisions = (none_gone ports).revisions; out = written; snapshot = (none_gone ports).snapshot }
 
   -- a line is read and delivered
-  pub delivered_on : (old now : Ports S R K) (events : S) (revisions : R) (out : K) → HaveGoneOn input source sink old now → input.faults now.events ≤ input.faults events → input.most_faults events ≡ input.most_faults now.events →
-      HasGoneOn source now.revisions revisions → HasWrittenOn sink now.out out → HaveGoneOn input source sink old (record { events = events; revisions = revisions; out = out })
+  pub delivered_on : (old now : Ports S R K F) (events : S) (revisions : R) (out : K) → HaveGoneOn input source sink file old now → input.faults now.events ≤ input.faults events → input.most_faults events ≡ input.most_faults now.events →
+      HasGoneOn source now.revisions revisions → HasWrittenOn sink now.out out → HaveGoneOn input source sink file old (record now { events = events; revisions = revisions; out = out })
   delivered_on old now events revisions out so_far later most fetched written = record {
     events = record { faults = omega (arith, so_far.events.faults, later); most = most ∙ so_far.events.most };
     revisions = gone-on source _ _ _ so_far.revisions fetched;
     out = record { faults = omega (arith, so_far.out.faults, written.faults); most = written.most ∙ so_far.out.most };
+    snapshot = so_far.snapshot;
+  }
+
+  -- the snapshot is written
+  pub saved_on : (old now : Ports S R K F) (snapshot : F) → HaveGoneOn input source sink file old now → HasWrittenOn file now.snapshot snapshot → HaveGoneOn input source sink file old (record now { snapshot = snapshot })
+  saved_on old now snapshot so_far more = record {
+    events = so_far.events;
+    revisions = so_far.revisions;
+    out = so_far.out;
+    snapshot = record { faults = omega (arith, so_far.snapshot.faults, more.faults); most = more.most ∙ so_far.snapshot.most };
   }

@@ -132,12 +132,12 @@ nothing_taken environment h output counts = record {
 }
 
 -- a moment before the first delivery
-abbrev pub at_start : Option ℕ → Input → Output → SourceCounts → Moment
-at_start h input output counts = record { input = input; stage = record { output = output; counts = counts; world = nothing_delivered_within h; mapped = record { version = One; by_two = [] } } }
+abbrev pub at_start : Option ℕ → Input → Output → SourceCounts → Output → Moment
+at_start h input output counts snapshot = record { input = input; snapshot = snapshot; stage = record { output = output; counts = counts; world = nothing_delivered_within h; mapped = record { version = One; by_two = [] } } }
 
 -- before the first line
-pub nothing_begun : (run : Run) (h : Option ℕ) (input : Input) (output : Output) (counts : SourceCounts) → Progress run (at_start h input output counts) (at_start h input output counts) (fresh (max_bytes_of run.choices) longest_line) 0 0
-nothing_begun run h input output counts = record {
+pub nothing_begun : (run : Run) (h : Option ℕ) (input : Input) (output : Output) (counts : SourceCounts) (snapshot : Output) → Progress run (at_start h input output counts snapshot) (at_start h input output counts snapshot) (fresh (max_bytes_of run.choices) longest_line) 0 0
+nothing_begun run h input output counts snapshot = record {
   deliveries = [];
   read = nothing_read (max_bytes_of run.choices) input.left;
   taken = nothing_taken_of (max_bytes_of run.choices) input.left;
@@ -195,15 +195,16 @@ module _ (run : Run) (before now : Moment) (reader : Reading) (reported matched 
       record { deliveries = so_far.deliveries; played = played; past = past_limit (max_bytes_of run.choices) reader now.input.left so_far.deliveries so_far.max so_far.sound before.input.left so_far.read cause }
   fault_stops (OverLong number) next input last last_next cause leaves reads =
       record { deliveries = so_far.deliveries; played = played; counted = numbered number cause.0; bad = over_long (max_bytes_of run.choices) reader now.input.left so_far.deliveries so_far.max so_far.sound before.input.left number so_far.read cause.0 cause.1 }
-  fault_stops NoMemory next input last last_next cause leaves reads = inl (inl (inl (stands next input last last_next reads)))
+  fault_stops NoMemory next input last last_next cause leaves reads = inl (inl (inl (inl (stands next input last last_next reads))))
 
   -- at the end of the input all lines were taken
-  pub end_reached : (input : Input) → IsAtEnd input.left → IsAtEnd (unread reader now.input.left) → HasTaken run reported before (record now { input = input })
+  pub end_reached : (input : Input) → IsAtEnd input.left → IsAtEnd (unread reader now.input.left) → HasTaken run reported matched before (record now { input = input })
   end_reached input read at_end = record {
     deliveries = so_far.deliveries;
     read = read;
     are = all_read (max_bytes_of run.choices) reader now.input.left so_far.deliveries so_far.max so_far.sound before.input.left so_far.read at_end;
     at_rest = so_far.at_rest;
+    matched_are = so_far.counted;
   }
 
   module _ (line : List ℕ) (next : Reading) (last last_next : Option LastRead) where
@@ -217,7 +218,7 @@ module _ (run : Run) (before now : Moment) (reader : Reading) (reported matched 
           counted = numbered number counted;
           bad = bad_line (max_bytes_of run.choices) reader now.input.left so_far.deliveries so_far.max so_far.sound line next input.left last last_next is before.input.left number bad.0 so_far.read counted bad.2;
         }))
-        (λ refused. subst (λ s. Stopped s run before (record now { input = input })) (sym refused) (inl (inl (inl (stands next input last last_next is.reads)))))
+        (λ refused. subst (λ s. Stopped s run before (record now { input = input })) (sym refused) (inl (inl (inl (inl (stands next input last last_next is.reads))))))
         why
 
     module _ (after : Moment) (d : Delivery) (is : IsNextLine line reader next now.input.left after.input.left last last_next) (delivers : delivery_of line ≡ Ok d) where

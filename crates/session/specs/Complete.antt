@@ -9,9 +9,9 @@ use Rattle.replay_model.specs.Records.{Bytes}
 use Rattle.replay_model.specs.Replies.{Judgement, reply_there}
 use Rattle.replay_model.specs.Union.{Meaning}
 use Rattle.told_pages.specs.Told.{keeps_page, triples_there}
-use Rattle.patch_stream.specs.Stream.{Step, steps_to_end}
-use Rattle.session.specs.Headline.{Ending}
-use Rattle.session.specs.Moment.{Moment, Run, horizon_at}
+use Rattle.patch_stream.specs.Stream.{Step}
+use Rattle.session.specs.Headline.{Ending, course_of}
+use Rattle.session.specs.Moment.{Moment, Run}
 
 -- a count of 64 bits didn't rise, and says so: it is below its last value
 pub record IsStill (before now : ℕ) : Type 0 where
@@ -30,6 +30,7 @@ FindsDocument unfit contents e = keeps_page e.kind ≡ true → has_document unf
 abbrev pub triples_in : {Triple : Type 0} → Meaning Triple → (ℕ → Option Bytes) → EntityId → State → List Triple
 triples_in meaning contents x s = cond (is_kept s.mode) (triples_there meaning contents x s.rev) []
 
--- the steps of a run that ended well: those of its play, with the end of the input. Where changes are reported, the output has their records
+-- the steps of a run that ended well: those of its play, with the end of the deliveries where the input ends them. Where changes are
+-- reported, the output has their records
 abbrev pub steps_made : (run : Run) (before now : Moment) → Ending run before now → List Step
-steps_made run before now ending = steps_to_end (horizon_at before.stage) ending.replayed.replay.played.replies ending.replayed.deliveries
+steps_made run before now ending = (course_of run ending.replayed.deliveries before.stage).steps ending.replayed.replay.played.replies

@@ -1,20 +1,21 @@
 -- Plays, and which bytes an output has then.
-use Rattle.std.specs.Prelude.{ℕ, List, ◌++◌, Option}
+use Rattle.std.specs.Prelude.{ℕ, Bool, true, false, List, ◌++◌, Option}
 use Rattle.std.specs.Option.{option_to_list}
 use Rattle.wq_io.specs.Streams.{after_known}
 use Rattle.delivery.specs.declared.Delivery.{Delivery}
 use Rattle.entity_model.specs.declared.mapping.MappingVersion.{MappingVersion}
 use Rattle.replay_model.specs.Acceptance.{version_in_force}
-use Rattle.replay_model.specs.Play.{Fetch, Replies, fetches, fetches_to_end}
+use Rattle.replay_model.specs.Play.{Fetch, Replies, fetches, fetches_to_end, played}
 use Rattle.replay_model.specs.ReplayState.{ReplayState, following, following_to_end}
-use Rattle.replay_model.specs.Transcript.{Sections, said as answers_said, transcript}
+use Rattle.replay_model.specs.Transcript.{Sections, closing_text, said as answers_said}
 use Rattle.world.specs.Meaning.{meaning}
 use Rattle.patch_stream.specs.Stream.{Step, steps_of_play, steps_to_end}
 use Rattle.session.specs.Moment.{Stage, horizon_at}
 use Rattle.session.specs.Needed.{needed_in, needed_to_end}
 
 -- a play, by the replies to its fetches: where it leads, what it fetches, for how many terms it needs room one time after the other, its
--- steps, and which bytes the output has then where questions are answered; and the version of the mapping that is in force there
+-- steps, and which bytes the output has then where questions are answered; the version of the mapping that is in force there, and whether
+-- the deliveries end there
 pub record Course : Type 0 where
   pub state : Replies → ReplayState
   pub fetched : Replies → List Fetch
@@ -22,6 +23,7 @@ pub record Course : Type 0 where
   pub steps : Replies → List Step
   pub bytes : Replies → Option (List ℕ)
   pub version : MappingVersion
+  pub closed : Bool
 
 -- the bytes of an output behind what a play with these replies says at the deliveries
 abbrev pub said_behind : List Delivery → Stage → Replies → Option (List ℕ)
@@ -36,6 +38,7 @@ course_after ds start = record {
   steps = λ replies. steps_of_play (horizon_at start) replies ds;
   bytes = said_behind ds start;
   version = version_in_force ds;
+  closed = false;
 }
 
 -- the play of these deliveries and perhaps one more, which says nothing yet
@@ -55,10 +58,24 @@ course_to_end ds start = record {
   steps = λ replies. steps_to_end (horizon_at start) replies ds;
   bytes = said_behind ds start;
   version = version_in_force ds;
+  closed = true;
 }
 
--- the same, and these sections
-abbrev pub course_printed : Sections → List Delivery → Stage → Course
-course_printed sections ds start = record (course_to_end ds start) {
-  bytes = λ replies. after_known start.output.bytes (transcript meaning (horizon_at start) sections replies ds);
+-- the play of these deliveries, and of the end of the input where it is that of the deliveries
+abbrev pub course_ended : Bool → List Delivery → Stage → Course
+course_ended closed ds start = record (by closed) { bytes = said_behind ds start; version = version_in_force ds; closed = closed }
+  where
+    by : Bool → Course
+    by false = course_after ds start
+    by true = course_to_end ds start
+
+-- what a play with these replies says at the deliveries, and then in these sections
+abbrev pub all_said : Bool → Sections → List Delivery → Stage → Replies → List ℕ
+all_said closed sections ds start replies =
+    answers_said meaning (horizon_at start) replies ds ++ closing_text meaning (version_in_force ds) sections (played (horizon_at start) closed replies ds)
+
+-- the same play, and these sections
+abbrev pub course_printed : Bool → Sections → List Delivery → Stage → Course
+course_printed closed sections ds start = record (course_ended closed ds start) {
+  bytes = λ replies. after_known start.output.bytes (all_said closed sections ds start replies);
 }

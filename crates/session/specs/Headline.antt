@@ -1,5 +1,5 @@
 -- What a run leaves: the states, what is held, the side output and what was printed.
-use Rattle.std.specs.Prelude.{◌≡◌, ◌⊎◌, ℕ, ◌-◌, ◌^◌, ◌+◌, ◌<◌, true, false, not, List, [], ◌∷◌, ◌++◌, Option, None, Some, IfSome, MatchOption, length}
+use Rattle.std.specs.Prelude.{◌≡◌, ◌⊎◌, ℕ, ◌-◌, ◌^◌, ◌+◌, ◌<◌, Bool, true, false, not, List, [], ◌∷◌, ◌++◌, Option, None, Some, IfSome, MatchOption, length}
 use Rattle.std.specs.List.{list_any}
 use Rattle.rising.specs.Rising.{Each}
 use Rattle.wq_io.specs.Streams.{IsAtEnd, Rose}
@@ -17,7 +17,7 @@ use Rattle.replay_model.specs.Fate.{events_of, fate, in_order}
 use Rattle.replay_model.specs.Records.{Bytes, is_settled, record_of}
 use Rattle.replay_model.specs.Play.{Replies}
 use Rattle.replay_model.specs.Replies.{GivesDocument, HoldsWhatIsThere, TellsWhatIsThere, failed_events, source_replies}
-use Rattle.replay_model.specs.ReplayState.{ReplayState, following_to_end}
+use Rattle.replay_model.specs.ReplayState.{ReplayState}
 use Rattle.replay_model.specs.Transcript.{Question, Sections, answer_section, asking, asks, closing_text, matches}
 use Rattle.replay_model.specs.Union.{union}
 use Rattle.replay_model.specs.Versions.{all_by}
@@ -27,7 +27,8 @@ use Rattle.transcript.specs.declared.write.Unwritten.TheVariants.{WriteFault as 
 use Rattle.transcript.specs.Printing.{IsCutShort, Output}
 use Rattle.replica.specs.Record.{record_text}
 use Rattle.patch_stream.specs.Stream.{Step, changes, is_change, record_of_step, steps_anew, steps_of_play}
-use Rattle.words.specs.Options.{max_bytes_of}
+use Rattle.checkpoint.specs.declared.numbers.Numbers.{Numbers}
+use Rattle.words.specs.Options.{closes, max_bytes_of}
 use Rattle.session.specs.declared.report.Report.TheVariants.{Answers, Changes}
 use Rattle.session.specs.declared.stop.Halt.TheVariants.{Unapplied, Untold}
 use Rattle.session.specs.declared.status.Status.{Status}
@@ -35,12 +36,13 @@ use Rattle.session.specs.declared.stop.Stop.{Stop}
 use Rattle.session.specs.declared.stop.Stop.TheVariants.{BadLine, ReadFault, WriteFault, TooLong, StoreFull, OutOfMemory}
 use Rattle.term_pool.specs.declared.fault.PoolFault.TheVariants.{Full as NoRoom, OutOfMemory as Starved}
 use Rattle.session.specs.Counts.{HasCounted}
-use Rattle.session.specs.Course.{Course, course_after, course_printed, course_remapping, course_to_end}
+use Rattle.session.specs.Course.{Course, course_after, course_ended, course_printed, course_remapping}
 use Rattle.session.specs.Moment.{Moment, Run, Environment, Stage, with_mapped, with_output, horizon_at}
 use Rattle.session.specs.Needed.{HaveRoom, HaveRoomBefore, needed_anew}
 use Rattle.session.specs.Reading.{AreDeliveries, AreFirst, AreWhole, IsPastLimit, IsRefusedLine, TakesByNeed}
 use Rattle.session.specs.Remapping.{IsFullOfStale, mapped_by, remapped_some}
 use Rattle.session.specs.Report.{bytes_of}
+use Rattle.session.specs.Saving.{HasSaved, numbers_of, snapshot_text}
 use Rattle.session.specs.Sections.{sections_of}
 use Rattle.session.specs.Stop.{stop_of}
 use Rattle.session.specs.Stops.{IsHalted}
@@ -70,11 +72,11 @@ abbrev pub IsPlayedAfter : Environment → List Delivery → Stage → Stage →
 IsPlayedAfter environment ds start now = IsPlayed environment (course_after ds start) start now
 
 -- the states: each is the fate of the entity's due events in their order; where no late event of the entity is open,
--- also the fate of all its events, late ones included
-pub record HasFates (h : Option ℕ) (ds : List Delivery) (world : ReplayState) : Type 0 where
-  pub of_due : (x : EntityId) → (record_of world.played.records x).state ≡ fate (in_order (events_of x (due h true ds)))
-  pub of_known : (x : EntityId) → list_any (is_open_late (due h true ds)) (events_of x (late h ds)) ≡ false →
-      (record_of world.played.records x).state ≡ fate (in_order (events_of x (known true ds)))
+-- also the fate of all its events that the mark has reached, late ones included. Where the deliveries end, all are due
+pub record HasFates (closed : Bool) (h : Option ℕ) (ds : List Delivery) (world : ReplayState) : Type 0 where
+  pub of_due : (x : EntityId) → (record_of world.played.records x).state ≡ fate (in_order (events_of x (due h closed ds)))
+  pub of_known : (x : EntityId) → list_any (is_open_late (due h closed ds)) (events_of x (late h ds)) ≡ false →
+      (record_of world.played.records x).state ≡ fate (in_order (events_of x (known closed ds)))
 
 -- what is held: what the state wants, exactly where no revision entry of the entity is open; nothing of a page that
 -- isn't kept; a document of the entity; and what the source has, where it is known
@@ -89,19 +91,19 @@ pub record NamesRightly (environment : Environment) (h : Option ℕ) (ds : List 
   pub late_ones : late_events world.played.side ≡ late h ds
   pub there : (contents : ℕ → Option Bytes) → environment.known ≡ Some contents → Each (TellsWhatIsThere judgement contents (failed_events world.played.side)) world.played.side
 
--- a play of these deliveries to their end: the world is where it leads, and has the states, holds and names what it should
+-- a play of these deliveries: the world is where it leads, and has the states, holds and names what it should
 pub record IsReplayed (environment : Environment) (course : Course) (ds : List Delivery) (start now : Stage) : Type 0 where
   pub played : IsPlayed environment course start now
-  pub fates : HasFates (horizon_at start) ds now.world
+  pub fates : HasFates course.closed (horizon_at start) ds now.world
   pub holds : HoldsRightly environment now.world
   pub names : NamesRightly environment (horizon_at start) ds now.world
 
--- where no fetch failed, the world and what was printed are functions of the sections, the deliveries and the contents
-pub record IsFunction (environment : Environment) (sections : Sections) (ds : List Delivery) (start now : Stage) : Type 0 where
+-- where no fetch failed, the world and what was printed are those of the course with the replies of what is there
+pub record IsFunction (environment : Environment) (course : Course) (start now : Stage) : Type 0 where
   pub world_is : (contents : ℕ → Option Bytes) → environment.known ≡ Some contents → now.counts.faults ≡ start.counts.faults → now.counts.faults < 2 ^ 64 - 1 →
-      now.world ≡ following_to_end (horizon_at start) (source_replies judgement contents []) ds
+      now.world ≡ course.state (source_replies judgement contents [])
   pub output_is : (contents : ℕ → Option Bytes) → environment.known ≡ Some contents → now.counts.faults ≡ start.counts.faults → now.counts.faults < 2 ^ 64 - 1 →
-      now.output.bytes ≡ bytes_of environment.report (course_printed sections ds start) start (source_replies judgement contents [])
+      now.output.bytes ≡ bytes_of environment.report course start (source_replies judgement contents [])
 
 -- the whole input was read, its lines are deliveries, and they were replayed; the output has what this play of them says
 pub record Replayed (run : Run) (course : List Delivery → Stage → Course) (before now : Moment) : Type 0 where
@@ -110,15 +112,49 @@ pub record Replayed (run : Run) (course : List Delivery → Stage → Course) (b
   pub are : IfSome before.input.left (λ bytes. AreDeliveries (max_bytes_of run.choices) bytes deliveries)
   pub replay : IsReplayed run.environment (course deliveries before.stage) deliveries before.stage now.stage
 
--- the whole input was replayed, and the answers were printed, or the records of its changes, and nothing else
+-- the whole input was replayed, to the end of the deliveries if it is that, and the answers were printed, or the records of its changes, and
+-- nothing else
 abbrev pub HasReplayed : Run → Moment → Moment → Type 0
-HasReplayed run before now = Replayed run course_to_end before now
+HasReplayed run before now = Replayed run (course_ended (closes run.choices)) before now
 
--- all that a run leaves that ended well: the input was replayed, and the output has the transcript of the play, or the records of its
--- changes
+-- the same, and where the world is saved, these are the counts of what was reported
+pub record HasTakenAll (run : Run) (numbers : Numbers) (before now : Moment) : Type 0 where
+  pub replayed : HasReplayed run before now
+  pub counted : closes run.choices ≡ false →
+      numbers ≡ numbers_of run.environment.report (course_ended (closes run.choices) replayed.deliveries before.stage).steps replayed.deliveries replayed.replay.played.replies
+
+-- the play of these deliveries that a run makes, with the sections that it prints
+abbrev pub course_of : Run → List Delivery → Stage → Course
+course_of run ds start = course_printed (closes run.choices) (sections_of run.choices) ds start
+
+-- the input was replayed, and the output has the answers and the sections of the play, or the records of its changes; where the world is
+-- saved, these are the counts of what was reported
+pub record HasPrinted (run : Run) (numbers : Numbers) (before now : Moment) : Type 0 where
+  pub replayed : Replayed run (course_of run) before now
+  pub function : IsFunction run.environment (course_of run replayed.deliveries before.stage) before.stage now.stage
+  pub counted : closes run.choices ≡ false → numbers ≡ numbers_of run.environment.report (course_of run replayed.deliveries before.stage).steps replayed.deliveries replayed.replay.played.replies
+
+-- all that a run leaves that ended well: the input was replayed and what is reported of it was printed, and where the world is saved, its
+-- snapshot was written
 pub record Ending (run : Run) (before now : Moment) : Type 0 where
-  pub replayed : Replayed run (course_printed (sections_of run.choices)) before now
-  pub function : IsFunction run.environment (sections_of run.choices) replayed.deliveries before.stage now.stage
+  pub replayed : Replayed run (course_of run) before now
+  pub function : IsFunction run.environment (course_of run replayed.deliveries before.stage) before.stage now.stage
+  pub saved : HasSaved (closes run.choices)
+      (snapshot_text (numbers_of run.environment.report (course_of run replayed.deliveries before.stage).steps replayed.deliveries replayed.replay.played.replies) now.stage)
+      before.snapshot now.snapshot
+
+-- the counts that a later run goes on with
+abbrev pub numbers_saved : {run : Run} {before now : Moment} → Ending run before now → Numbers
+numbers_saved {run} {before} ending =
+    numbers_of run.environment.report (course_of run ending.replayed.deliveries before.stage).steps ending.replayed.deliveries ending.replayed.replay.played.replies
+
+-- what a run leaves that stopped while it wrote the snapshot: the input was replayed and what is reported of it was printed, and a prefix of
+-- the snapshot was written, and nothing else; where a write failed, not all of it
+pub record Unsaved (why : Unwritten) (run : Run) (before now : Moment) : Type 0 where
+  pub saves : closes run.choices ≡ false
+  pub numbers : Numbers
+  pub printed : HasPrinted run numbers before now
+  pub cut_short : IsCutShort why (snapshot_text numbers now.stage) before.snapshot now.snapshot
 
 -- what a run leaves that stopped while it printed the sections: the answers were printed and then a prefix of the sections of
 -- the world, and nothing else; where a write failed, not all of them
@@ -204,12 +240,16 @@ IsInterrupted why run before now = (StandsAtQuestion why run before now ⊎ Brok
 abbrev pub Stopped : Stop → Run → Moment → Moment → Type 0
 Stopped (BadLine number cause) run before now = StandsBeforeLine number cause run before now
 Stopped ReadFault run before now = Rose before.input.faults now.input.faults × StandsAfter run before now
-Stopped WriteFault run before now = Rose before.stage.output.faults now.stage.output.faults × IsInterrupted NotWritten run before now
+Stopped WriteFault run before now =
+    (Rose before.stage.output.faults now.stage.output.faults × IsInterrupted NotWritten run before now)
+    ⊎ (Rose before.snapshot.faults now.snapshot.faults × Unsaved NotWritten run before now)
 Stopped TooLong run before now = StandsAtLimit run before now
 Stopped StoreFull run before now =
     (IsFull run.environment now.stage.world now.stage.mapped × IsHalted (Unapplied NoRoom) run before now)
     ⊎ (IsFullOfStale run.environment.limit now.stage.world.played.records now.stage.mapped × StandsAtMapping run before now)
-Stopped OutOfMemory run before now = (IsHalted (Unapplied Starved) run before now ⊎ StandsAtMapping run before now) ⊎ IsInterrupted Refused run before now
+Stopped OutOfMemory run before now =
+    ((IsHalted (Unapplied Starved) run before now ⊎ StandsAtMapping run before now) ⊎ IsInterrupted Refused run before now)
+    ⊎ Unsaved Refused run before now
 
 -- what a replay leaves that was begun: it ended well, or it stopped for a cause; and what it took of its input is bounded
 pub record ReplayEnding (status : Status) (run : Run) (before now : Moment) : Type 0 where

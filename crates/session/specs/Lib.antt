@@ -11,6 +11,7 @@ pub mod Reading
 pub mod Remapping
 pub mod Report
 pub mod Room
+pub mod Saving
 pub mod Sections
 pub mod Status
 pub mod Stop

@@ -68,12 +68,14 @@ with_mapped s mapped = record { output = s.output; counts = s.counts; world = s.
 pub record Moment : Type 0 where
   pub input : Input
   pub stage : Stage
+  pub snapshot : Output
 
 -- the moment that these are
-abbrev pub moment : {S R K : Type 0} → SourceOf S → RevisionsOf R → SinkOf K → Ports S R K → WorldState → Moment
-moment events source sink ports world = record {
+abbrev pub moment : {S R K F : Type 0} → SourceOf S → RevisionsOf R → SinkOf K → SinkOf F → Ports S R K F → WorldState → Moment
+moment events source sink file ports world = record {
   input = input events ports.events;
   stage = stage source sink ports.revisions ports.out world;
+  snapshot = output file ports.snapshot;
 }
 
 -- a run: what was chosen, and what deliveries are taken under

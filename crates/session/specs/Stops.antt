@@ -6,6 +6,7 @@ use Rattle.wq_io.specs.Streams.{IsAtEnd}
 use Rattle.delivery.specs.declared.Delivery.{Delivery}
 use Rattle.replay_model.specs.Acceptance.{version_in_force}
 use Rattle.replay_model.specs.ReplayState.{after_end, following}
+use Rattle.replay_model.specs.Transcript.{matches}
 use Rattle.session.specs.declared.stop.Halt.{Halt}
 use Rattle.session.specs.Course.{course_begun, course_to_end}
 use Rattle.session.specs.Moment.{Moment, Run, horizon_at}
@@ -14,12 +15,13 @@ use Rattle.session.specs.Remapping.{mapped_by}
 use Rattle.session.specs.Taking.{AtRest, IsWithin, entered_perhaps}
 use Rattle.words.specs.Options.{max_bytes_of}
 
--- the whole input was read, and all lines were taken; so many answers or records were written
-pub record HasTaken (run : Run) (reported : ℕ) (before now : Moment) : Type 0 where
+-- the whole input was read, and all lines were taken; so many asks were answered or records written, and so many of the lines are matches
+pub record HasTaken (run : Run) (reported matched : ℕ) (before now : Moment) : Type 0 where
   pub deliveries : List Delivery
   pub read : IsAtEnd now.input.left
   pub are : IfSome before.input.left (λ bytes. AreDeliveries (max_bytes_of run.choices) bytes deliveries)
   pub at_rest : AtRest run.environment deliveries reported before.stage now.stage
+  pub matched_are : matched ≡ matches deliveries
 
 -- at a line: the world of the first lines of what was taken, of which the last is perhaps a watermark with some of the events that
 -- it makes due; every page is mapped by the version in force

@@ -186,8 +186,14 @@ fn apply_due<R: Revisions, K: Sink>(
 {
     let mut reported = context.reported;
     loop {
-        match world.apply_next_with(revisions, context.folder, context.report.telling()) {
-            Ok(Application { applied: _, change }) => match context.tell(reported, change, out) {
+        match world.apply_next_with(revisions, context.folder, context.report.telling(), None) {
+            Ok(
+                Application {
+                    applied: _,
+                    change,
+                    routed: _,
+                },
+            ) => match context.tell(reported, change, out) {
                 Ok(now) => reported = now,
                 Err(why) => return Err(Halt::Untold(why)),
             },

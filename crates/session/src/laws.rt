@@ -13,24 +13,28 @@ ghost use Rattle.entity_state.specs.State.{is_kept};
 ghost use Rattle.replay_model.specs.Acceptance.{accepted, late, version_in_force};
 ghost use Rattle.replay_model.specs.Records.{Bytes, is_settled, record_of};
 ghost use Rattle.world.specs.Meaning.{meaning};
+ghost use Rattle.snapshot.specs.File.{IsFitSaved, saved_in_bytes};
 ghost use Rattle.triple_store.specs.Room.{distinct};
 ghost use Rattle.wq_io.specs.Streams.{after_known};
 ghost use Rattle.replica.specs.declared.record.PatchRecord.{PatchRecord};
 ghost use Rattle.patch_stream.specs.Laws.{AreOfStream, HasWritableSides};
 ghost use Rattle.patch_stream.specs.Stream.{changes, stream, stream_text};
-ghost use Rattle.words.specs.Options.{FollowChoices, follow_max_bytes_of, max_bytes_of};
+ghost use Rattle.words.specs.Options.{FollowChoices, closes, follow_max_bytes_of, max_bytes_of};
 ghost use Rattle.following.specs.Following.{Ending as Followed, FollowMoment, replica_text};
 ghost use Rattle.following.specs.Reading.{AreRecords};
 ghost use Rattle.session.specs.declared.status.Status.{Status};
 ghost use Rattle.session.specs.declared.stop.Stop.{Stop};
 ghost use Rattle.told_pages.specs.Told.{terms_there};
 ghost use Rattle.session.specs.Complete.{FindsDocument, IsStill, has_document, steps_made, triples_in};
-ghost use Rattle.session.specs.Headline.{Ending, Stopped};
+ghost use Rattle.session.specs.Headline.{Ending, Stopped, numbers_saved};
 ghost use Rattle.session.specs.Moment.{Moment, Run, horizon_at};
 ghost use Rattle.session.specs.Reading.{AreDeliveries};
+ghost use Rattle.session.specs.Saving.{saved_at};
 ghost use Rattle.session.specs.Stop.{stop_of};
 ghost use Rattle.session.specs.Remapping.{IsFullOfStale, held_triples};
 ghost use Rattle.session.specs.Taking.{IsFull, judgement};
+
+use snapshot::{replays_can_be_saved, snapshots_read_back};
 
 /// A replay, with its answers or its changes, ends well, or for want of memory, where the words are understood, each line of the input is
 /// a delivery, the input is within the limit, no read and no write fails, and there is room for the page that the least due event wants and
@@ -39,7 +43,7 @@ pub fn good_input_is_replayed()
     ensures { (run : Run) (before now : Moment) (status : Status) (bytes : List ℕ) (ds : List Delivery) →
         (status ≡ Status.BadWords → ⊥) → IfSome (stop_of status) (λ stop. Stopped stop run before now) →
         before.input.left ≡ Some bytes → AreDeliveries (max_bytes_of run.choices) bytes ds →
-        IsStill before.input.faults now.input.faults → IsStill before.stage.output.faults now.stage.output.faults →
+        IsStill before.input.faults now.input.faults → IsStill before.stage.output.faults now.stage.output.faults → IsStill before.snapshot.faults now.snapshot.faults →
         (IsFull run.environment now.stage.world now.stage.mapped → ⊥) →
         (IsFullOfStale run.environment.limit now.stage.world.played.records now.stage.mapped → ⊥) →
         (status ≡ Status.Ok) ⊎ (status ≡ Status.OutOfMemory) }
@@ -61,7 +65,7 @@ pub fn fitting_input_is_replayed()
     ensures { (run : Run) (before now : Moment) (status : Status) (contents : ℕ → Option Bytes) (bytes : List ℕ) (ds : List Delivery) →
         (status ≡ Status.BadWords → ⊥) → IfSome (stop_of status) (λ stop. Stopped stop run before now) →
         before.input.left ≡ Some bytes → AreDeliveries (max_bytes_of run.choices) bytes ds →
-        IsStill before.input.faults now.input.faults → IsStill before.stage.output.faults now.stage.output.faults →
+        IsStill before.input.faults now.input.faults → IsStill before.stage.output.faults now.stage.output.faults → IsStill before.snapshot.faults now.snapshot.faults →
         run.environment.known ≡ Some contents → distinct (terms_there contents ds) ≤ run.environment.limit →
         (status ≡ Status.Ok) ⊎ (status ≡ Status.OutOfMemory) }
 {}
@@ -123,3 +127,14 @@ pub fn written_streams_are_records()
         AreRecords limit (stream_text (steps_made run start end ended)) (stream (steps_made run start end ended)) None
         × AreOfStream (steps_made run start end ended) (stream (steps_made run start end ended)) }
 {}
+
+/// Where a replay ended well that saves its world, the bytes that were written are read back as this world, by the version in force, with
+/// the number of its answers or of its records; so a loading of them gives the world back. The numbers in it have to fit 64 bits.
+pub fn a_saved_replay_is_read_back()
+    ensures { (run : Run) (before now : Moment) (ending : Ending run before now) → closes run.choices ≡ false → before.snapshot.bytes ≡ Some [] →
+        IsFitSaved (saved_at now.stage (numbers_saved ending)) →
+        IfSome now.snapshot.bytes (λ bytes. saved_in_bytes bytes ≡ Some (saved_at now.stage (numbers_saved ending))) }
+{
+    replays_can_be_saved();
+    snapshots_read_back();
+}

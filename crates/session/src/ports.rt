@@ -2,11 +2,13 @@
 
 /// What a run reads and writes.
 #[derive(Debug, Drop)]
-pub struct Ports<S, R, K> {
+pub struct Ports<S, R, K, F> {
     /// The input, whose lines are the deliveries.
     pub events: S,
     /// The revisions of pages.
     pub revisions: R,
     /// Where answers and sections go.
     pub out: K,
+    /// Where the snapshot of the world goes, if it is saved.
+    pub snapshot: F,
 }

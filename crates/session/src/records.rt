@@ -23,11 +23,11 @@ use wq_io::{Sink, Source};
 const ROOM: u32 = 20_000_000;
 
 // Follows the records of the input. Nothing is fetched, and the world stays empty.
-pub fn follow_records<S: Source, R: Revisions, K: Sink>(
+pub fn follow_records<S: Source, R: Revisions, K: Sink, F: Sink>(
     alloc: Global,
     keys: RandomState,
     options: &FollowOptions,
-    ports: &mut Ports<S, R, K>,
+    ports: &mut Ports<S, R, K, F>,
     world: &mut World,
 ) -> Result<(), Stop>
     requires world { world.old.replay ≡ nothing_delivered }
@@ -38,7 +38,7 @@ pub fn follow_records<S: Source, R: Revisions, K: Sink>(
     ensures others { ports.new ≡ record ports.old { events = ports.new.events; out = ports.new.out } }
     ensures empty { world.new ≡ record world.old { limit = 20000000 } }
     ensures held { HoldsWithin 20000000 world.new }
-    ensures further { HaveGoneOn S.Source R.Revisions K.Sink ports.old ports.new }
+    ensures further { HaveGoneOn S.Source R.Revisions K.Sink F.Sink ports.old ports.new }
 {
     world.set_room(ROOM);
     match follow(alloc, keys, options, &mut ports.events, &mut ports.out) {

@@ -54,7 +54,15 @@ pub fn take_mapping<K: Sink>(
     let mut reported = context.reported;
     while world.stale() > 0 {
         match world.remap_next_with(context.report.telling()) {
-            Ok(Some(Remapping { entity: _, change })) => {
+            Ok(
+                Some(
+                    Remapping {
+                        entity: _,
+                        change,
+                        triples: _,
+                    },
+                ),
+            ) => {
                 match context.tell(reported, change, out) {
                     Ok(now) => reported = now,
                     Err(why) => return Err(Halt::Untold(why)),

@@ -38,15 +38,18 @@ use wq_io::{Sink, Source};
 /// A patch stream replays the same lines, and writes in place of answers and sections how the stored triples change: a record for each
 /// application, and for each page that is mapped anew, that changes them. It passes over questions.
 ///
+/// Where the words say that the world is saved, the end of the input isn't that of the deliveries: what waits goes on waiting, the sections
+/// show the world as it is then, and its snapshot is written last.
+///
 /// A follower reads records of changes, and prints how many of them were applied and, where the words ask for it, the triples then.
 ///
 /// `words` are those after the program's name; terms of records are found by hashes under `keys`; `world` has taken nothing yet and has no horizon; a run begins with the first version of
 /// the mapping, whichever is in force in it.
-pub fn run<S: Source, R: Revisions, K: Sink>(
+pub fn run<S: Source, R: Revisions, K: Sink, F: Sink>(
     alloc: Global,
     keys: RandomState,
     words: &[String],
-    ports: &mut Ports<S, R, K>,
+    ports: &mut Ports<S, R, K, F>,
     world: &mut World,
 ) -> Status
     requires world { world.old.replay ≡ nothing_delivered }
@@ -58,14 +61,14 @@ pub fn run<S: Source, R: Revisions, K: Sink>(
     // A replay ends well, or stops for a cause; it begins with the horizon and the limit of the words, and by the first version.
     ensures replay { (choices : Choices) → plan_of (map (λ w. string_bytes w) words.now) ≡ Some (Replay choices) →
         ReplayEnding result (run_of Answers (R.contents ports.old.revisions) choices)
-        (moment S.Source R.Revisions K.Sink ports.old (world_at_start choices))
-        (moment S.Source R.Revisions K.Sink ports.new world.new) }
+        (moment S.Source R.Revisions K.Sink F.Sink ports.old (world_at_start choices))
+        (moment S.Source R.Revisions K.Sink F.Sink ports.new world.new) }
 
     // So does a patch stream, which is a replay whose output has the records of its changes, and nothing else.
     ensures patches { (choices : Choices) → plan_of (map (λ w. string_bytes w) words.now) ≡ Some (Patches choices) →
         ReplayEnding result (run_of Changes (R.contents ports.old.revisions) choices)
-        (moment S.Source R.Revisions K.Sink ports.old (world_at_start choices))
-        (moment S.Source R.Revisions K.Sink ports.new world.new) }
+        (moment S.Source R.Revisions K.Sink F.Sink ports.old (world_at_start choices))
+        (moment S.Source R.Revisions K.Sink F.Sink ports.new world.new) }
 
     // A drill ends well, or stops while it prints or for want of memory. All that it leaves is mapped by the first version, and it
     // reads nothing.
@@ -87,7 +90,7 @@ pub fn run<S: Source, R: Revisions, K: Sink>(
         (world.new.limit ≡ limit_of_plan plan) × HoldsWithin (limit_of_plan plan) world.new }
 
     // The contents of the revisions stay the same, and failure counters never decrease.
-    ensures further { HaveGoneOn S.Source R.Revisions K.Sink ports.old ports.new }
+    ensures further { HaveGoneOn S.Source R.Revisions K.Sink F.Sink ports.old ports.new }
 {
     match read_plan(words) {
         None => Status::BadWords,

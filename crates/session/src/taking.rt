@@ -28,30 +28,38 @@ use words::ReplayOptions;
 use world::World;
 use wq_io::{Lines, Sink, Source};
 
+// What was taken of an input: how many asks were answered or records written, and how many matches were delivered.
+#[derive(Clone, Copy)]
+pub struct LinesTaken {
+    pub reported: u64,
+    pub matched: u64,
+}
+
 // Takes all lines of the input; after each watermark all due events are applied before the next line is taken, and each
 // question is answered at once; at a change of the mapping all that is held is mapped anew before the next line is taken. Says how many
-// answers or records are written then.
-pub fn take_lines<S: Source, R: Revisions, K: Sink>(
+// answers or records are written then, and how many of the lines are matches.
+pub fn take_lines<S: Source, R: Revisions, K: Sink, F: Sink>(
     alloc: Global,
     plan: &ReplayOptions<'_>,
     report: Report,
-    ports: &mut Ports<S, R, K>,
+    ports: &mut Ports<S, R, K, F>,
     world: &mut World,
-) -> Result<u64, Stop>
+) -> Result<LinesTaken, Stop>
     requires world { world.old.replay ≡ nothing_delivered_within world.old.replay.buffer.horizon }
     requires first { IsByFirst world.old }
     requires limit { world.old.limit ≡ max_terms_of plan.now }
     requires held { HoldsWithin world.old.limit world.old }
-    ensures ok { IfOk result (λ reported. HasTaken (run_of report (R.contents ports.old.revisions) plan.now) reported
-        (moment S.Source R.Revisions K.Sink ports.old world.old)
-        (moment S.Source R.Revisions K.Sink ports.new world.new)) }
+    ensures ok { IfOk result (λ taken. HasTaken (run_of report (R.contents ports.old.revisions) plan.now) taken.reported taken.matched
+        (moment S.Source R.Revisions K.Sink F.Sink ports.old world.old)
+        (moment S.Source R.Revisions K.Sink F.Sink ports.new world.new)) }
     ensures err { IfErr result (λ stop. Stopped stop (run_of report (R.contents ports.old.revisions) plan.now)
-        (moment S.Source R.Revisions K.Sink ports.old world.old)
-        (moment S.Source R.Revisions K.Sink ports.new world.new)) }
+        (moment S.Source R.Revisions K.Sink F.Sink ports.old world.old)
+        (moment S.Source R.Revisions K.Sink F.Sink ports.new world.new)) }
     ensures taken { IfSome (S.left ports.old.events) (λ bytes. TakesByNeed (max_bytes_of plan.now) bytes (S.left ports.new.events)) }
     ensures limit { world.new.limit ≡ world.old.limit }
     ensures held { HoldsWithin world.old.limit world.new }
-    ensures further { HaveGoneOn S.Source R.Revisions K.Sink ports.old ports.new }
+    ensures snapshot { ports.new.snapshot ≡ ports.old.snapshot }
+    ensures further { HaveGoneOn S.Source R.Revisions K.Sink F.Sink ports.old ports.new }
 {
     let folder = plan.folder();
     let mut lines = Lines::new(plan.max_bytes());
@@ -78,7 +86,7 @@ pub fn take_lines<S: Source, R: Revisions, K: Sink>(
         matched += matches_in(&delivery);
         drop(delivery); // its memory is free before the next line is read
     }
-    Ok(reported)
+    Ok(LinesTaken { reported, matched })
 }
 
 // How many matches a delivery is: one, or none.

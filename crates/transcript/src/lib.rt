@@ -15,4 +15,5 @@ mod write;
 
 pub use bindings::print_match;
 pub use sections::{Sections, print_answer, print_closing, print_triples};
+pub use triples::print_section;
 pub use write::{Unwritten, print_lines, write_all};

@@ -1,10 +1,10 @@
 -- What a replay, a patch stream and a follower are asked for.
-use Rattle.std.specs.Prelude.{ℕ, ◌≤◌, Bool, List, Option, IfSome, unwrap_or, codes}
+use Rattle.std.specs.Prelude.{ℕ, ◌≤◌, Bool, List, Option, IfSome, is_none, unwrap_or, codes}
 use Rattle.words.specs.Items.{Item, is_there, number_in, value_in}
 use Rattle.words.specs.Table.{Entry, IsInRange, follow_table, kind_in, replay_table}
 
 -- what is asked for: the folder of the revisions, the most bytes of the input, the most terms and the horizon in microseconds, where
--- the words say them, and which sections are printed
+-- the words say them, which sections are printed, and the file of the snapshot where the world is saved
 pub record Choices : Type 0 where
   pub folder : Option (List ℕ)
   pub max_bytes : Option ℕ
@@ -13,6 +13,7 @@ pub record Choices : Type 0 where
   pub export : Bool
   pub state : Bool
   pub side : Bool
+  pub save : Option (List ℕ)
 
 -- what items of this table ask for; a patch stream has no sections
 abbrev pub choices_of : List Entry → List Item → Choices
@@ -24,6 +25,7 @@ choices_of table items = record {
   export = is_there (codes "--export") items;
   state = is_there (codes "--state") items;
   side = is_there (codes "--side") items;
+  save = value_in (codes "--save") items;
 }
 
 -- the folder of the revisions: without `--from` the current folder
@@ -37,6 +39,10 @@ max_bytes_of c = unwrap_or c.max_bytes 1073741824
 -- for how many terms there is room: without `--max-terms` 20,000,000
 abbrev pub max_terms_of : Choices → ℕ
 max_terms_of c = unwrap_or c.max_terms 20000000
+
+-- whether the end of the input is the end of the deliveries: where the world is saved, more may come in a later run
+abbrev pub closes : Choices → Bool
+closes c = is_none c.save
 
 -- the number that an item has, if it has one, is in the range that the table gives it
 abbrev pub IsItemInRange : List ℕ → Option ℕ → Type 0

@@ -41,6 +41,7 @@ replay_table =
     ∷ entry (codes "--export") Flag
     ∷ entry (codes "--state") Flag
     ∷ entry (codes "--side") Flag
+    ∷ entry (codes "--save") Text
     ∷ []
 
 -- the items of a drill
@@ -54,6 +55,7 @@ patches_table =
     ∷ entry (codes "--max-bytes") (Number 0 4294967295)
     ∷ entry (codes "--max-terms") (Number 1 4294967295)
     ∷ entry (codes "--horizon") (Number 0 9223372036854775807)
+    ∷ entry (codes "--save") Text
     ∷ []
 
 -- the items of a follower

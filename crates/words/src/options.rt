@@ -3,7 +3,7 @@
 ghost use Rattle.std.specs.Prelude.{◌≡◌, ◌⊎◌, ◌≤◌, ◌^◌, codes, option_map};
 ghost use Rattle.words.specs.Items.{number_in};
 ghost use Rattle.words.specs.Table.{table_of};
-ghost use Rattle.words.specs.Options.{IsAllowed, IsBounded, IsItemInRange, choices_of, follow_choices_of, follow_max_bytes_of, max_bytes_of, folder_of, max_terms_of};
+ghost use Rattle.words.specs.Options.{IsAllowed, IsBounded, IsItemInRange, choices_of, follow_choices_of, follow_max_bytes_of, max_bytes_of, closes, folder_of, max_terms_of};
 ghost use Rattle.words.specs.declared.table.Command.TheVariants.{Replay, Patches, Follow};
 
 use crate::items::Request;
@@ -28,6 +28,7 @@ pub struct ReplayOptions<'a> {
     export: bool,
     state: bool,
     side: bool,
+    save: Option<&'a str>,
 }
 
 impl<'a> Model for ReplayOptions<'a> {
@@ -45,6 +46,7 @@ impl<'a> Model for ReplayOptions<'a> {
       export = a.export;
       state = a.state;
       side = a.side;
+      save = option_map (λ p. p.now) a.save;
     } };
 
     ghost invariant = { λ a. IsItemInRange (codes "--max-bytes") a.max_bytes × IsItemInRange (codes "--max-terms") a.max_terms × IsItemInRange (codes "--horizon") a.horizon };
@@ -65,6 +67,7 @@ impl<'a> ReplayOptions<'a> {
             export: items.has("--export"),
             state: items.has("--state"),
             side: items.has("--side"),
+            save: items.text("--save"),
         }
     }
 
@@ -120,6 +123,20 @@ impl<'a> ReplayOptions<'a> {
         ensures { result ≡ self.now.side }
     {
         self.side
+    }
+
+    /// The file to which the world is saved at the end of the input, if it is.
+    pub fn save(&self) -> Option<&'a str>
+        ensures { option_map (λ p. p.now) result ≡ self.now.save }
+    {
+        self.save
+    }
+
+    /// Whether the end of the input is the end of the deliveries: where the world is saved, more may come in a later run.
+    pub fn closes(&self) -> bool
+        ensures { result ≡ closes self.now }
+    {
+        self.save.is_none()
     }
 }
 

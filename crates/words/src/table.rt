@@ -66,6 +66,7 @@ fn replay_kind(name: &str) -> Option<ValueKind>
         "--export" => Some(ValueKind::Flag),
         "--state" => Some(ValueKind::Flag),
         "--side" => Some(ValueKind::Flag),
+        "--save" => Some(ValueKind::Text),
         _ => None,
     }
 }
@@ -89,6 +90,7 @@ fn patches_kind(name: &str) -> Option<ValueKind>
         "--max-bytes" => Some(ValueKind::Number(0, 4_294_967_295)),
         "--max-terms" => Some(ValueKind::Number(1, 4_294_967_295)),
         "--horizon" => Some(ValueKind::Number(0, 9_223_372_036_854_775_807)),
+        "--save" => Some(ValueKind::Text),
         _ => None,
     }
 }

@@ -49,6 +49,35 @@ loop-change-preserved g c =
 pub loop-change-smaller : goal.loop-change-smaller
 loop-change-smaller g c = applies-fewer _ _ _ _ _ c.in-Ok.ensures.applied
 
+-- the same where the page that was stored is let go after that
+pub loop-change-preserved-in-Ok-tell : goal.loop-change-preserved-in-Ok-tell
+loop-change-preserved-in-Ok-tell g c =
+    let before = c.loop-change.invariant in
+    let call = c.in-Ok.ensures in
+    let applied = rw before.source.known at call.applied in
+    let keeps = applies-versions _ _ c.loop-change.world c.apply_next_with.new.self _ applied call.mapping call.by_two in
+    let changed = rw c.telling.ensures at call.change in
+    let told = c.in-Ok-tell.ensures.tells _ _ changed in
+    let is : IsApplied (g.R.Revisions.contents c.args.revisions.now) c.args.context.now.folder.now c.args.world.now.limit
+    (stage g.R.Revisions g.K.Sink c.loop-change.revisions c.loop-change.out c.loop-change.world) (stage g.R.Revisions g.K.Sink c.apply_next_with.new.revisions c.tell.new.out c.apply_next_with.new.self) = record {
+      applied = c.in-Ok.field-0.applied;
+      applies = applied;
+      rises = record { shown = call.shown; calls = call.calls; more_faults = call.more_faults; more_misses = call.more_misses };
+      keeps = keeps;
+      has_room = applied_has_room _ _ _ c.loop-change.world c.apply_next_with.new.self.replay _ applied (rw before.limit at call.within);
+    } in
+    record {
+      goes = goes-further _ _ _ _ _ _ _ before.versions before.goes (applies-leads _ _ _ _ c.loop-change.reported c.in-Ok-tell.now _ _ is told);
+      source = gone-on g.R.Revisions _ _ _ before.source (record { known = call.told; faults = call.more_faults; misses = call.more_misses; most = call.most });
+      limit = call.limit ∙ before.limit;
+      versions = keeps-further c.args.world.now c.loop-change.world c.apply_next_with.new.self before.versions keeps;
+      written = record { faults = omega (arith, before.written.faults, c.in-Ok-tell.ensures.written.faults); most = c.in-Ok-tell.ensures.written.most ∙ before.written.most };
+      silent = λ answers. still_silent _ _ _ _ _ _ answers told ∙ before.silent answers;
+    }
+
+pub loop-change-smaller-in-Ok-tell : goal.loop-change-smaller-in-Ok-tell
+loop-change-smaller-in-Ok-tell g c = applies-fewer _ _ _ _ _ c.in-Ok.ensures.applied
+
 pub returns-in-Err-clause-err : goal.returns-in-Err-clause-err
 returns-in-Err-clause-err g c =
     let before = c.loop-change.invariant in

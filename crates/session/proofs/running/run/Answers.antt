@@ -20,7 +20,7 @@ use Rattle.session.proofs.running.run.Goals as goal
 
 pub returns-in-Ok-clause-replay : goal.returns-in-Ok-clause-replay
 returns-in-Ok-clause-replay g c = λ choices plan.
-    for_choices (λ x. ReplayEnding Ended (run_of Answers (g.R.Revisions.contents c.args.ports.now.revisions) x) (moment g.S.Source g.R.Revisions g.K.Sink c.args.ports.now (world_at_start x)) (moment g.S.Source g.R.Revisions g.K.Sink c.replay.new.ports c.replay.new.world))
+    for_choices (λ x. ReplayEnding Ended (run_of Answers (g.R.Revisions.contents c.args.ports.now.revisions) x) (moment g.S.Source g.R.Revisions g.K.Sink g.F.Sink c.args.ports.now (world_at_start x)) (moment g.S.Source g.R.Revisions g.K.Sink g.F.Sink c.replay.new.ports c.replay.new.world))
     c.in-Some-Replay.options choices (ap Some (sym c.in-Some-Replay.field-0-is) ∙ c.in-Some-Replay.ensures.value ∙ plan) (record { outcome = c.in-Ok.ensures.ok; taken = c.in-Ok.ensures.taken })
 
 pub returns-in-Ok-clause-drill : goal.returns-in-Ok-clause-drill
@@ -38,7 +38,7 @@ returns-in-Ok-clause-limit g c = λ the plan.
 
 pub returns-in-Err-clause-replay : goal.returns-in-Err-clause-replay
 returns-in-Err-clause-replay g c = λ choices plan.
-    for_choices (λ x. ReplayEnding c.status.result (run_of Answers (g.R.Revisions.contents c.args.ports.now.revisions) x) (moment g.S.Source g.R.Revisions g.K.Sink c.args.ports.now (world_at_start x)) (moment g.S.Source g.R.Revisions g.K.Sink c.replay.new.ports c.replay.new.world))
+    for_choices (λ x. ReplayEnding c.status.result (run_of Answers (g.R.Revisions.contents c.args.ports.now.revisions) x) (moment g.S.Source g.R.Revisions g.K.Sink g.F.Sink c.args.ports.now (world_at_start x)) (moment g.S.Source g.R.Revisions g.K.Sink g.F.Sink c.replay.new.ports c.replay.new.world))
     c.in-Some-Replay.options choices (ap Some (sym c.in-Some-Replay.field-0-is) ∙ c.in-Some-Replay.ensures.value ∙ plan) (replay_stopped _ _ _ _ _ c.status.ensures.stops c.in-Err.ensures.err c.in-Err.ensures.taken)
 
 pub returns-in-Err-clause-drill : goal.returns-in-Err-clause-drill
@@ -72,7 +72,7 @@ returns-in-Ok-drill-clause-limit g c = λ the plan.
     (Drill c.in-Some-Drill.size) the (ap Some (sym c.in-Some-Drill.field-0-is) ∙ c.in-Some-Drill.ensures.value ∙ plan) (c.in-Ok-drill.ensures.limit, c.in-Ok-drill.ensures.held)
 
 pub returns-in-Ok-drill-clause-further : goal.returns-in-Ok-drill-clause-further
-returns-in-Ok-drill-clause-further g c = written_on g.S.Source g.R.Revisions g.K.Sink c.args.ports.now c.args.ports.now c.drill.new.out (none_gone g.S.Source g.R.Revisions g.K.Sink _) c.drill.ensures.written
+returns-in-Ok-drill-clause-further g c = written_on g.S.Source g.R.Revisions g.K.Sink g.F.Sink c.args.ports.now c.args.ports.now c.drill.new.out (none_gone g.S.Source g.R.Revisions g.K.Sink g.F.Sink _) c.drill.ensures.written
 
 -- ---- a drill that stopped
 
@@ -88,7 +88,7 @@ returns-in-Err-drill-clause-limit g c = λ the plan.
     (Drill c.in-Some-Drill.size) the (ap Some (sym c.in-Some-Drill.field-0-is) ∙ c.in-Some-Drill.ensures.value ∙ plan) (c.drill.ensures.limit, c.drill.ensures.held)
 
 pub returns-in-Err-drill-clause-further : goal.returns-in-Err-drill-clause-further
-returns-in-Err-drill-clause-further g c = written_on g.S.Source g.R.Revisions g.K.Sink c.args.ports.now c.args.ports.now c.drill.new.out (none_gone g.S.Source g.R.Revisions g.K.Sink _) c.drill.ensures.written
+returns-in-Err-drill-clause-further g c = written_on g.S.Source g.R.Revisions g.K.Sink g.F.Sink c.args.ports.now c.args.ports.now c.drill.new.out (none_gone g.S.Source g.R.Revisions g.K.Sink g.F.Sink _) c.drill.ensures.written
 
 -- ---- a follower that ended well
 

@@ -11,10 +11,11 @@ use Rattle.session.proofs.taking.take_lines.Goals as goal
 pub loop-line-init : goal.loop-line-init
 loop-line-init g c =
     let run : Run = run_of c.args.report (g.R.Revisions.contents c.args.ports.now.revisions) c.args.plan.now in (
-      rw (c.new-lines.ensures, c.max_bytes.ensures.value, c.requires.world, c.requires.first.0, c.requires.first.1) (nothing_begun run _ _ _ _),
-      none_gone g.S.Source g.R.Revisions g.K.Sink _,
+      rw (c.new-lines.ensures, c.max_bytes.ensures.value, c.requires.world, c.requires.first.0, c.requires.first.1) (nothing_begun run _ _ _ _ _),
+      none_gone g.S.Source g.R.Revisions g.K.Sink g.F.Sink _,
       refl,
       c.requires.held,
+      refl,
     )
 
 pub returns-in_err-number-clause-err : goal.returns-in_err-number-clause-err
@@ -43,7 +44,7 @@ returns-in_err-done-clause-err g c =
     let delivered = rw c.as_slice.ensures.value at c.in_ok-delivery.ensures.ok in
     let cuts = rw (c.loop-line.invariant.1.revisions.known, c.folder-folder.ensures, c.loop-line.invariant.2 ∙ c.requires.limit) at c.in_err-done.ensures.err in
     rw (p.1, p.2) (delivery_stops _ _ _ _ _ _ c.loop-line.invariant.0 c.next.new.line.items c.next.new.self _ _
-    (moment g.S.Source g.R.Revisions g.K.Sink (record { events = c.next.new.source; revisions = c.deliver.new.revisions; out = c.deliver.new.out }) c.deliver.new.world) c.in_ok-delivery.delivery
+    (moment g.S.Source g.R.Revisions g.K.Sink g.F.Sink (record c.loop-line.ports { events = c.next.new.source; revisions = c.deliver.new.revisions; out = c.deliver.new.out }) c.deliver.new.world) c.in_ok-delivery.delivery
     (record { first = line; total = c.in_ok-number.ensures.length; takes = bytes; goes = c.in_ok-number.ensures.goes_on; reads = c.next.ensures.reads }) delivered _ cuts)
 
 pub loop-line-preserved : goal.loop-line-preserved
@@ -54,12 +55,13 @@ loop-line-preserved g c =
     let delivered = rw c.as_slice.ensures.value at c.in_ok-delivery.ensures.ok in
     let takes = rw (c.loop-line.invariant.1.revisions.known, c.folder-folder.ensures, c.loop-line.invariant.2 ∙ c.requires.limit) at c.in_ok-done.ensures.ok in (
       rw c.matches_in-matched.ensures (line_taken _ _ _ _ _ _ c.loop-line.invariant.0 c.next.new.line.items c.next.new.self _ _
-          (moment g.S.Source g.R.Revisions g.K.Sink (record { events = c.next.new.source; revisions = c.deliver.new.revisions; out = c.deliver.new.out }) c.deliver.new.world) c.in_ok-delivery.delivery
+          (moment g.S.Source g.R.Revisions g.K.Sink g.F.Sink (record c.loop-line.ports { events = c.next.new.source; revisions = c.deliver.new.revisions; out = c.deliver.new.out }) c.deliver.new.world) c.in_ok-delivery.delivery
           (record { first = line; total = c.in_ok-number.ensures.length; takes = bytes; goes = c.in_ok-number.ensures.goes_on; reads = c.next.ensures.reads }) delivered _
           c.in_ok-number.ensures.later (sym number.1 ∙ number.0) c.in_ok-number.ensures.ended takes),
-      delivered_on g.S.Source g.R.Revisions g.K.Sink _ c.loop-line.ports _ _ _ c.loop-line.invariant.1 c.next.ensures.later c.next.ensures.most c.deliver.ensures.source c.deliver.ensures.written,
+      delivered_on g.S.Source g.R.Revisions g.K.Sink g.F.Sink _ c.loop-line.ports _ _ _ c.loop-line.invariant.1 c.next.ensures.later c.next.ensures.most c.deliver.ensures.source c.deliver.ensures.written,
       c.deliver.ensures.limit ∙ c.loop-line.invariant.2,
       (rw c.loop-line.invariant.2 at c.deliver.ensures.held) c.loop-line.invariant.3,
+      c.loop-line.invariant.4,
     )
 
 pub deliver-requires-clause-number : goal.deliver-requires-clause-number
@@ -83,16 +85,16 @@ pub returns-in_err-done-clause-taken : goal.returns-in_err-done-clause-taken
 returns-in_err-done-clause-taken g c = taken_on _ _ _ _ _ _ c.loop-line.invariant.0 c.next.new.self _ _ _ c.next.ensures.reads
 
 pub returns-clause-further : goal.returns-clause-further
-returns-clause-further g c = read_on g.S.Source g.R.Revisions g.K.Sink _ c.loop-line.ports _ c.loop-line.invariant.1 c.next.ensures.later c.next.ensures.most
+returns-clause-further g c = read_on g.S.Source g.R.Revisions g.K.Sink g.F.Sink _ c.loop-line.ports _ c.loop-line.invariant.1 c.next.ensures.later c.next.ensures.most
 
 pub returns-in_err-number-clause-further : goal.returns-in_err-number-clause-further
-returns-in_err-number-clause-further g c = read_on g.S.Source g.R.Revisions g.K.Sink _ c.loop-line.ports _ c.loop-line.invariant.1 c.next.ensures.later c.next.ensures.most
+returns-in_err-number-clause-further g c = read_on g.S.Source g.R.Revisions g.K.Sink g.F.Sink _ c.loop-line.ports _ c.loop-line.invariant.1 c.next.ensures.later c.next.ensures.most
 
 pub returns-in_err-delivery-clause-further : goal.returns-in_err-delivery-clause-further
-returns-in_err-delivery-clause-further g c = read_on g.S.Source g.R.Revisions g.K.Sink _ c.loop-line.ports _ c.loop-line.invariant.1 c.next.ensures.later c.next.ensures.most
+returns-in_err-delivery-clause-further g c = read_on g.S.Source g.R.Revisions g.K.Sink g.F.Sink _ c.loop-line.ports _ c.loop-line.invariant.1 c.next.ensures.later c.next.ensures.most
 
 pub returns-in_err-done-clause-further : goal.returns-in_err-done-clause-further
-returns-in_err-done-clause-further g c = delivered_on g.S.Source g.R.Revisions g.K.Sink _ c.loop-line.ports _ _ _ c.loop-line.invariant.1 c.next.ensures.later c.next.ensures.most c.deliver.ensures.source c.deliver.ensures.written
+returns-in_err-done-clause-further g c = delivered_on g.S.Source g.R.Revisions g.K.Sink g.F.Sink _ c.loop-line.ports _ _ _ c.loop-line.invariant.1 c.next.ensures.later c.next.ensures.most c.deliver.ensures.source c.deliver.ensures.written
 
 pub returns-in_err-done-clause-held : goal.returns-in_err-done-clause-held
 returns-in_err-done-clause-held g c = (rw c.loop-line.invariant.2 at c.deliver.ensures.held) c.loop-line.invariant.3

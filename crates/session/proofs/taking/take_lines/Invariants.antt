@@ -9,11 +9,12 @@ use Rattle.session.proofs.taking.take_lines.Given as goal
 abbrev pub invariant-loop-line : goal.invariant-loop-line
 invariant-loop-line g l =
     Progress (run_of l.report (g.R.Revisions.contents l.fn.ports.revisions) l.plan)
-    (moment g.S.Source g.R.Revisions g.K.Sink l.fn.ports l.fn.world)
-    (moment g.S.Source g.R.Revisions g.K.Sink l.ports l.world) l.lines l.reported l.matched
-    × HaveGoneOn g.S.Source g.R.Revisions g.K.Sink l.fn.ports l.ports
+    (moment g.S.Source g.R.Revisions g.K.Sink g.F.Sink l.fn.ports l.fn.world)
+    (moment g.S.Source g.R.Revisions g.K.Sink g.F.Sink l.ports l.world) l.lines l.reported l.matched
+    × HaveGoneOn g.S.Source g.R.Revisions g.K.Sink g.F.Sink l.fn.ports l.ports
     × (l.world.limit ≡ l.fn.world.limit)
     × HoldsWithin l.fn.world.limit l.world
+    × (l.ports.snapshot ≡ l.fn.ports.snapshot)
 
 abbrev pub decreases-loop-line : goal.decreases-loop-line
 decreases-loop-line g l = l.lines.max_bytes - l.lines.given

@@ -1,0 +1,37 @@
+-- What is saved of a world at the end of an input.
+use Rattle.std.specs.Prelude.{◌≡◌, ℕ, Bool, true, false, List}
+use Rattle.wq_io.specs.Streams.{after_known}
+use Rattle.delivery.specs.declared.Delivery.{Delivery}
+use Rattle.replay_model.specs.Play.{Replies}
+use Rattle.replay_model.specs.Transcript.{asks, matches}
+use Rattle.transcript.specs.Printing.{Output}
+use Rattle.patch_stream.specs.Stream.{Step, changes}
+use Rattle.snapshot.specs.File.{file_text}
+use Rattle.snapshot.specs.Whole.{Saved}
+use Rattle.checkpoint.specs.declared.numbers.Numbers.{Numbers}
+use Rattle.session.specs.declared.report.Report.{Report}
+use Rattle.session.specs.declared.report.Report.TheVariants.{Answers, Changes}
+use Rattle.session.specs.Moment.{Stage}
+
+-- the counts that a later run goes on with, where so many asks were answered or records written, and so many matches were delivered
+abbrev pub numbers_after : Report → ℕ → ℕ → Numbers
+numbers_after Answers reported matched = record { asks = reported; matches = matched; patches = 0 }
+numbers_after Changes reported matched = record { asks = 0; matches = 0; patches = reported }
+
+-- how many questions of these deliveries were answered, or how many records of changes these steps give
+abbrev pub numbers_of : Report → (Replies → List Step) → List Delivery → Replies → Numbers
+numbers_of Answers steps ds replies = numbers_after Answers (asks ds) (matches ds)
+numbers_of Changes steps ds replies = numbers_after Changes (changes (steps replies)) 0
+
+-- what is saved of a stage with these counts
+abbrev pub saved_at : Stage → Numbers → Saved
+saved_at now numbers = record { version = now.mapped.version; asks = numbers.asks; matches = numbers.matches; patches = numbers.patches; state = now.world }
+
+-- the snapshot of a stage with these counts
+abbrev pub snapshot_text : Numbers → Stage → List ℕ
+snapshot_text numbers now = file_text (saved_at now numbers)
+
+-- where the input doesn't end the deliveries, these bytes were written as the snapshot; else nothing was
+abbrev pub HasSaved : Bool → List ℕ → Output → Output → Type 0
+HasSaved true text old new = new ≡ old
+HasSaved false text old new = new.bytes ≡ after_known old.bytes text

@@ -1,0 +1,48 @@
+#!/usr/bin/env bash
+# Kills wdq at random moments while it saves, 200 times, and sees that the file of --save is whole each time: the old one or the new one.
+# usage: scripts/kill_save.sh [TIMES]
+top=$(cd "$(dirname "$(readlink -f "${BASH_SOURCE[0]}")")/.." && pwd) || exit 2
+program=$top/crates/wdq/out/wdq
+times=${1:-200}
+[ -x "$program" ] || { echo "$program isn't built" >&2 && exit 2; }
+room=$(mktemp -d) || exit 2
+trap 'rm -rf "$room"' EXIT
+cd "$room" || exit 2
+
+# Events of 2,000 redirects, so that a save has some thousand lines; the second input has one event more.
+mkdir pages
+for ((n = 1; n <= 2000; n++)); do
+  printf '{"entity":"Q%d","redirect":"Q%d"}' "$n" "$((n + 1))" >"pages/$n.json"
+  printf '{"kind":"edit","entity":"Q%d","rev":%d,"time":"2024-05-01T10:00:05Z"}\n' "$n" "$n"
+done >events.jsonl
+echo '{"watermark":"2024-05-01T10:00:05Z"}' >>events.jsonl
+cp events.jsonl more.jsonl
+echo '{"kind":"edit","entity":"Q1","rev":1,"time":"2024-05-01T10:00:09Z"}' >>more.jsonl
+
+# How long a save takes, in microseconds.
+"$program" replay --from pages --save old <events.jsonl || exit 1
+begun=${EPOCHREALTIME/./}
+"$program" replay --from pages --save new <more.jsonl || exit 1
+span=$((${EPOCHREALTIME/./} - begun))
+
+killed=0 kept=0 replaced=0 broken=0
+for ((round = 0; round < times; round++)); do
+  cp old file
+  "$program" replay --from pages --save file <more.jsonl &
+  child=$!
+  # Most of the moments are in the last half of the run, where the file is written.
+  pause=$((span / 2 + (RANDOM * 32768 + RANDOM) % (span * 6 / 10)))
+  sleep "$((pause / 1000000)).$(printf '%06d' "$((pause % 1000000))")"
+  kill -9 "$child" 2>/dev/null
+  wait "$child" 2>/dev/null
+  [ $? -ne 137 ] || killed=$((killed + 1))
+  if cmp -s file old; then
+    kept=$((kept + 1))
+  elif cmp -s file new; then
+    replaced=$((replaced + 1))
+  else
+    broken=$((broken + 1))
+  fi
+done
+echo "$times saves, $killed killed: $kept left the old file, $replaced the new one, $broken neither"
+[ "$broken" -eq 0 ]
