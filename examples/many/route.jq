@@ -9,7 +9,7 @@ def part_of_event:
   else null
   end;
 . as $line
-| (try fromjson catch null) as $delivery
+| ([try fromjson catch null] | .[0]) as $delivery
 | if ($delivery | type == "object" and has("match")) then error("a match needs one process: its triples may lie in different parts") else . end
 | (try ($delivery | part_of_event) catch null) as $part
 | if $part then $part else range($parts) end
