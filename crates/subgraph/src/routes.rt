@@ -50,7 +50,8 @@ impl Routes {
 
     /// The number of graphs: one more than the number of routes. It takes no memory.
     pub fn graphs(&self) -> usize
-        ensures { result ≡ length self.now + 1 }
+        ensures count { result ≡ length self.now + 1 }
+        ensures few { result ≤ 17 }
     {
         self.routes.len() + 1
     }

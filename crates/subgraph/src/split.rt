@@ -1,6 +1,6 @@
 // Several graphs, in one of which at most each entity has its triples.
 
-ghost use Rattle.std.specs.Prelude.{◌≡◌, ◌<◌, ◌≤◌, Err, IfOk, OnOk, OnErr};
+ghost use Rattle.std.specs.Prelude.{◌≡◌, ◌<◌, ◌≤◌, Err, IfOk, IfSome, OnOk, OnErr};
 ghost use Rattle.std.specs.FinMap as map;
 ghost use Rattle.std.specs.List.{AllByRecursion};
 ghost use Rattle.rising.specs.Rising.{IsRising, sorted};
@@ -120,7 +120,8 @@ impl Split {
 
     /// The index of the graph that an entity is in, if it has an entry. It takes no memory.
     pub fn graph_of(&self, id: EntityId) -> Option<usize>
-        ensures { result ≡ graph_of self.now.entries id }
+        ensures graph { result ≡ graph_of self.now.entries id }
+        ensures bound { IfSome result (λ graph. graph < self.now.graphs) }
     {
         graph_with(&self.graphs, id)
     }
