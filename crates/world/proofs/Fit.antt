@@ -67,9 +67,10 @@ page_short x bytes fit = by (nat_lt page_limit (length bytes)) refl _ fit
     by false small found e = let few : length bytes ≤ 8388608 = ltb-false page_limit (length bytes) small in omega arith
 
 -- texts of the triples that the bytes mean are those of a page
-pub page_of : (v : MappingVersion) (x : EntityId) (rev : ℕ) (bytes other : List ℕ) (ts : List Triple) → other ≡ bytes → sorted triple_cmp ts ≡ meaning v x rev bytes → AllByRecursion HasFitAndShortTerms ts → length bytes ≤ 33554432
-    → IsPageOf v x rev (record { bytes = other; triples = ts })
-page_of v x rev bytes other ts is meant fit short = record {
+pub page_of : (v : MappingVersion) (x : EntityId) (rev : ℕ) (bytes other : List ℕ) (ts : List Triple) (graph : Option ℕ) → other ≡ bytes → sorted triple_cmp ts ≡ meaning v x rev bytes → AllByRecursion HasFitAndShortTerms ts → length bytes ≤ 33554432
+    → IsPageOf v x rev (record { bytes = other; triples = ts; graph = graph })
+page_of v x rev bytes other ts graph is meant fit short = record {
+  set = meant ∙ ap (meaning v x rev) (sym is);
   meant = λ t. sym (has-sorted triple_cmp-total t ts) ∙ ap (has triple_cmp t) (meant ∙ ap (meaning v x rev) (sym is));
   fit = fit;
   short = subst (λ (b : List ℕ). length b ≤ 33554432) (sym is) short;

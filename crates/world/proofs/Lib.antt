@@ -3,6 +3,7 @@ pub mod ByVersion
 pub mod Changing
 pub mod Entries
 pub mod Fit
+pub mod Giving
 pub mod Laying
 pub mod Means
 pub mod Moving

@@ -1,7 +1,7 @@
 -- What a fetch brings: a document's bytes with the triples that they mean, or why there is no document.
 use Rattle.std.specs.Prelude.{◌≡◌, ℕ, ◌≤◌, Option, None, Some, Result, Ok, Err, ⊤, length}
 use Rattle.std.specs.List.{AllByRecursion}
-use Rattle.rising.specs.Rising.{has}
+use Rattle.rising.specs.Rising.{has, sorted}
 use Rattle.rdf_term.specs.declared.triple.Triple.{Triple}
 use Rattle.rdf_term.specs.Fit.{HasFitAndShortTerms}
 use Rattle.rdf_term.specs.Order.{triple_cmp}
@@ -30,6 +30,7 @@ reply_or_any (Some reply) = reply_of reply
 -- terms are fit and short, and the bytes fit a block of the region
 pub record IsPageOf (mapping : MappingVersion) (x : EntityId) (rev : ℕ) (page : Page) : Type 0 where
   pub meant : (t : Triple) → has triple_cmp t page.triples ≡ has triple_cmp t (meaning mapping x rev page.bytes)
+  pub set : sorted triple_cmp page.triples ≡ meaning mapping x rev page.bytes
   pub fit : AllByRecursion HasFitAndShortTerms page.triples
   pub short : length page.bytes ≤ 33554432
 

@@ -8,6 +8,7 @@ use rdf_term::OutOfMemory;
 use side_output::Cause;
 use thiserror::Error;
 use triple_store::{Change, Telling};
+use triple_texts::TripleTexts;
 
 /// What the application of an event did to what its entity holds.
 #[derive(Clone, Copy, Debug, PartialEq, Eq)]
@@ -36,26 +37,46 @@ pub struct Applied {
     pub outcome: Outcome,
 }
 
-/// What the application of an event did to what its entity holds, and what it changed of the stored triples, where that is told.
-#[derive(Debug, Drop)]
+/// The triples of a page by their texts, of which one may stand there more than once, and the graph that the page is routed to, by its
+/// index from 0.
+#[derive(Drop)]
+pub struct RoutedPage {
+    pub graph: usize,
+    pub triples: TripleTexts,
+}
+
+/// What the application of an event did to what its entity holds; what it changed of the stored triples, where that is told; and the page
+/// that it stored, where it is routed.
+#[derive(Drop)]
 pub struct Effect {
     pub outcome: Outcome,
     pub change: Option<Change>,
+    pub routed: Option<RoutedPage>,
 }
 
-/// An event that was applied, and what that changed of the stored triples, where it is told. None is told of an application that leaves
-/// the store alone.
-#[derive(Debug, Drop)]
+/// An event that was applied; what that changed of the stored triples, where it is told: none is told of an application that leaves the
+/// store alone; and the page that was stored, where there are routes.
+#[derive(Drop)]
 pub struct Application {
     pub applied: Applied,
     pub change: Option<Change>,
+    pub routed: Option<RoutedPage>,
 }
 
-/// An entity whose held page was mapped anew, and what that changed of the stored triples, where it is told.
-#[derive(Debug, Drop)]
+/// What mapping a page anew changed of the stored triples, where it is told, and the triples of the page then, by their texts.
+#[derive(Drop)]
+pub struct Remapped {
+    pub change: Option<Change>,
+    pub triples: TripleTexts,
+}
+
+/// An entity whose held page was mapped anew; what that changed of the stored triples, where it is told; and the triples of the page then,
+/// by their texts, of which one may stand there more than once.
+#[derive(Drop)]
 pub struct Remapping {
     pub entity: EntityId,
     pub change: Option<Change>,
+    pub triples: TripleTexts,
 }
 
 /// Why no event was applied, or no page mapped anew.

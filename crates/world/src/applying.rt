@@ -11,10 +11,11 @@ ghost use Rattle.world.specs.Changing.{Tells};
 ghost use Rattle.world.specs.Fetched.{AreMeant, reply_or_any};
 ghost use Rattle.world.specs.Meaning.{meaning};
 ghost use Rattle.world.specs.Roomed.{HasRoom, Overfills, room_with, triples_of_reply};
+ghost use Rattle.world.specs.Routed.{routed_by, with_route};
 ghost use Rattle.world.specs.WorldState.{AreHolders, played_of, by_two_after, stored_in};
 
-use crate::applied::{Effect, Handling, Outcome};
-use crate::fetching::Reply;
+use crate::applied::{Effect, Handling, Outcome, RoutedPage};
+use crate::fetching::{Page, Reply};
 use crate::holdings::Holdings;
 use entity_model::Event;
 use side_output::{Entry, Side};
@@ -38,6 +39,7 @@ impl Holdings {
         ensures limit { self.new.limit ≡ self.old.limit }
         ensures by_two { IfOk result (λ effect. self.new.by_two ≡ by_two_after effect.outcome how.version event.entity self.old.by_two) }
         ensures change { IfOk result (λ effect. Tells how.telling (stored_in self.old) (stored_in self.new) effect.change) }
+        ensures routed { IfOk result (λ effect. effect.routed ≡ routed_by reply) }
         ensures outcome { IfOk result (λ effect.
             effect.outcome ≡ outcome_after (record_of self.old.records event.entity) event (reply_or_any reply)) }
         ensures full { result ≡ Err Full → Overfills self.old how.version event.entity
@@ -54,10 +56,11 @@ impl Holdings {
             return Err(StoreFault::OutOfMemory);
         }
         match reply {
-            Some(Ok(page)) => match self.hold(event.entity, after, page, how) {
+            Some(Ok(page)) => match self.hold(event.entity, after, &page, how) {
                 Ok(change) => Ok(Effect {
                     outcome: Outcome::Stored,
                     change,
+                    routed: routed(page),
                 }),
                 Err(refused) => Err(refused),
             },
@@ -67,6 +70,7 @@ impl Holdings {
                     Ok(Effect {
                         outcome: Outcome::Sided(cause),
                         change: None,
+                        routed: None,
                     })
                 }
                 Err(_) => Err(StoreFault::OutOfMemory),
@@ -77,4 +81,15 @@ impl Holdings {
             },
         }
     }
+}
+
+// What is given back of a page that was stored, where it is routed.
+fn routed(page: Page) -> Option<RoutedPage>
+    ensures { result ≡ with_route page.graph page.triples }
+{
+    let graph = page.graph?;
+    Some(RoutedPage {
+        graph,
+        triples: page.triples,
+    })
 }

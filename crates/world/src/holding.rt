@@ -36,21 +36,21 @@ impl Holdings {
         &mut self,
         id: EntityId,
         after: Standing,
-        page: Page,
+        page: &Page,
         how: Handling,
     ) -> Result<Option<Change>, StoreFault>
-        requires { IsPageOf how.version id after.state.rev page }
+        requires { IsPageOf how.version id after.state.rev page.now }
         ensures ok { OnOk result (self.new.records ≡ map.insert self.old.records id (record {
           state = after.state;
-          held = Some (record { revision = after.state.rev; content = page.bytes });
+          held = Some (record { revision = after.state.rev; content = page.now.bytes });
           reconciled = after.reconciled;
         })) }
         ensures by_two { OnOk result (self.new.by_two ≡ with_version how.version id self.old.by_two) }
         ensures change { IfOk result (Tells how.telling (stored_in self.old) (stored_in self.new)) }
         ensures limit { self.new.limit ≡ self.old.limit }
         ensures err { OnErr result (self.new ≡ self.old) }
-        ensures full { result ≡ Err Full → self.old.limit < room_with (meaning_by meaning self.old.by_two) self.old.records (meaning how.version id after.state.rev page.bytes) }
-        ensures within { OnOk result (room_with (meaning_by meaning self.old.by_two) self.old.records (meaning how.version id after.state.rev page.bytes) ≤ self.old.limit) }
+        ensures full { result ≡ Err Full → self.old.limit < room_with (meaning_by meaning self.old.by_two) self.old.records (meaning how.version id after.state.rev page.now.bytes) }
+        ensures within { OnOk result (room_with (meaning_by meaning self.old.by_two) self.old.records (meaning how.version id after.state.rev page.now.bytes) ≤ self.old.limit) }
         ensures held { HasRoom (meaning_by meaning self.new.by_two) self.new.limit self.new.records }
         ensures holders { AreHolders self.new.by_two self.new.records }
     {
@@ -104,6 +104,7 @@ impl Holdings {
         ensures by_two { OnOk result ((version : MappingVersion) → self.new.by_two ≡ by_two_after (unfetched_outcome after.state.mode) version id self.old.by_two) }
         ensures outcome { IfOk result (λ effect. effect.outcome ≡ unfetched_outcome after.state.mode) }
         ensures change { IfOk result (λ effect. Tells telling (stored_in self.old) (stored_in self.new) effect.change) }
+        ensures routed { IfOk result (λ effect. effect.routed ≡ None) }
         ensures limit { self.new.limit ≡ self.old.limit }
         ensures err { OnErr result (self.new ≡ self.old) }
         ensures held { HasRoom (meaning_by meaning self.new.by_two) self.new.limit self.new.records }
@@ -115,6 +116,7 @@ impl Holdings {
                 Ok(Effect {
                     outcome: Outcome::Dropped,
                     change,
+                    routed: None,
                 })
             }
             Mode::Unknown | Mode::Kept => {
@@ -122,6 +124,7 @@ impl Holdings {
                 Ok(Effect {
                     outcome: Outcome::Same,
                     change: None,
+                    routed: None,
                 })
             }
         }

@@ -25,7 +25,7 @@ mod versions;
 mod views;
 mod world;
 
-pub use applied::{Application, Applied, Outcome, Remapping, WorldFault};
+pub use applied::{Application, Applied, Outcome, Remapping, RoutedPage, WorldFault};
 pub use laws::{meaning_is_by_rules, versions_follow_the_play};
 pub use restoring::RestoreFault;
 pub use world::World;

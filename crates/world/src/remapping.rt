@@ -15,9 +15,11 @@ ghost use Rattle.world.specs.Changing.{Tells};
 ghost use Rattle.world.specs.Keeping.{held_with, kept_of, piece_at, with_keys};
 ghost use Rattle.world.specs.Meaning.{meaning};
 ghost use Rattle.world.specs.Roomed.{HasRoom, room_with};
+ghost use Rattle.world.specs.Routed.{AreTriplesOf};
 ghost use Rattle.world.specs.WorldState.{AreHolders, stored_in};
 
-use crate::fetching::texts_in;
+use crate::applied::Remapped;
+use crate::fetching::{Wanted, texts_in};
 use crate::holders::other;
 use crate::holding::keys_of;
 use crate::holdings::Holdings;
@@ -27,22 +29,23 @@ use entity_model::{EntityId, MappingVersion};
 use entity_state::{Held, Record, Table};
 use rdf_term::OutOfMemory;
 use std::alloc::Global;
-use triple_store::{Change, Exchange, Keys, Store, StoreFault, Telling};
+use triple_store::{Exchange, Keys, Store, StoreFault, Telling};
 use triple_texts::TripleTexts;
 
 impl Holdings {
-    /// Maps what an entity holds by a version, and tells what that changed of the stored triples, where it is to tell that. After a fault
-    /// nothing has changed. `Full` is said where the new triples, with those of all that is held, have more terms than there may be.
+    /// Maps what an entity holds by a version, gives back its triples, and tells what that changed of the stored triples, where it is to
+    /// tell that. After a fault nothing has changed. `Full` is said where the new triples, with those of all that is held, have more terms than there may be.
     pub fn remap(
         &mut self,
         id: EntityId,
         version: MappingVersion,
         telling: Telling,
-    ) -> Result<Option<Change>, StoreFault>
+    ) -> Result<Remapped, StoreFault>
         requires { is_holder self.old.records id ≡ true }
         ensures records { self.new.records ≡ self.old.records }
         ensures by_two { OnOk result (self.new.by_two ≡ with_version version id self.old.by_two) }
-        ensures change { IfOk result (Tells telling (stored_in self.old) (stored_in self.new)) }
+        ensures change { IfOk result (λ remapped. Tells telling (stored_in self.old) (stored_in self.new) remapped.change) }
+        ensures triples { IfOk result (λ remapped. AreTriplesOf version id (record_of self.old.records id).held remapped.triples) }
         ensures limit { self.new.limit ≡ self.old.limit }
         ensures err { OnErr result (self.new ≡ self.old) }
         ensures full { result ≡ Err Full → self.old.limit < room_with (meaning_by meaning self.old.by_two) self.old.records
@@ -68,7 +71,7 @@ impl Holdings {
             Ok(Exchange { keys, change }) => {
                 set_keys(&mut self.table, id, keys);
                 self.holders.remove(id, other(version));
-                Ok(change)
+                Ok(Remapped { change, triples })
             }
             Err(refused) => {
                 self.holders.take_back(id, version, added);
@@ -94,8 +97,8 @@ fn held_texts(
     let Some((rev, bytes)) = held_in(store, table, id) else {
         return Ok(TripleTexts::new(alloc));
     };
-    match texts_in(alloc, id, rev, bytes, version) {
-        Ok(texts) => Ok(texts),
+    match texts_in(alloc, Wanted { id, rev, version }, bytes, None) {
+        Ok(mapped) => Ok(mapped.triples),
         // bytes that are no document mean nothing
         Err(DocumentFault::Unfit(_)) => Ok(TripleTexts::new(alloc)),
         Err(DocumentFault::OutOfMemory) => Err(OutOfMemory),

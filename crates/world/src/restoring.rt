@@ -172,7 +172,7 @@ impl Holdings {
             rev: held.revision,
             version,
         };
-        match judge(self.alloc, wanted, bytes_of(held.content)) {
+        match judge(self.alloc, wanted, bytes_of(held.content), None) {
             Ok(Ok(page)) => self.put_back(wanted, after, page),
             Ok(Err(_)) => Err(RestoreFault::Unsound),
             Err(OutOfMemory) => Err(RestoreFault::OutOfMemory),
@@ -208,7 +208,7 @@ impl Holdings {
             version: wanted.version,
             telling: Telling::Nothing,
         };
-        match self.hold(wanted.id, there, page, how) {
+        match self.hold(wanted.id, there, &page, how) {
             Ok(_) => {
                 self.set_standing(wanted.id, after);
                 Ok(())

@@ -1,14 +1,16 @@
 // By which version of the mapping the held pages are mapped, and how one is mapped by another.
 
 ghost use Rattle.std.specs.Prelude.{◌≡◌, ◌<◌, ◌≤◌, ◌+◌, true, None, IfOk, IfSome, IsErrOf, IsOk, OnErr, OnOk, length};
+ghost use Rattle.replay_model.specs.Records.{record_of};
 ghost use Rattle.replay_model.specs.Versions.{all_by, is_holder, meaning_by};
 ghost use Rattle.world.specs.Changing.{Tells, entity_of};
 ghost use Rattle.world.specs.Meaning.{meaning};
 ghost use Rattle.world.specs.Roomed.{HasRoom, room_with};
+ghost use Rattle.world.specs.Routed.{AreTriplesOf};
 ghost use Rattle.world.specs.WorldState.{AreHolders, first_of, held_version, next_stale, remapped, stale, stale_by, stored_of, triples_anew, version_in};
 ghost use Rattle.world.specs.declared.applied.WorldFault.TheVariants.{Full, Nothing as NothingDue};
 
-use crate::applied::{Remapping, WorldFault};
+use crate::applied::{Remapped, Remapping, WorldFault};
 use crate::holders::other;
 use crate::holdings::Holdings;
 use crate::world::World;
@@ -77,12 +79,14 @@ impl World {
         }
     }
 
-    /// Does what `remap_next` does, and where it is to tell the change, tells which triples that made stored and which stored no longer.
+    /// Does what `remap_next` does, and gives back the triples of the page by their texts; where it is to tell the change, it tells which
+    /// triples that made stored and which stored no longer.
     pub fn remap_next_with(&mut self, telling: Telling) -> Result<Option<Remapping>, WorldFault>
         ensures ok { OnOk result (self.new ≡ remapped self.old) }
         ensures entity { IfOk result (λ done. entity_of done ≡ next_stale self.old) }
         ensures fewer { IfOk result (λ done. IfSome done (λ _. length (stale self.new) + 1 ≡ length (stale self.old))) }
         ensures change { IfOk result (λ done. IfSome done (λ remapping. Tells telling (stored_of self.old) (stored_of self.new) remapping.change)) }
+        ensures triples { IfOk result (λ done. IfSome done (λ remapping. AreTriplesOf self.old.mapping remapping.entity (record_of self.old.replay.played.records remapping.entity).held remapping.triples)) }
         ensures full { IsErrOf result Full → self.old.limit
             < room_with (meaning_by meaning self.old.by_two) self.old.replay.played.records (triples_anew self.old) }
         ensures within { OnOk result (room_with (meaning_by meaning self.old.by_two) self.old.replay.played.records
@@ -97,7 +101,11 @@ impl World {
             return Ok(None);
         };
         match self.holdings.remap(entity, self.mapping, telling) {
-            Ok(change) => Ok(Some(Remapping { entity, change })),
+            Ok(Remapped { change, triples }) => Ok(Some(Remapping {
+                entity,
+                change,
+                triples,
+            })),
             Err(StoreFault::Full) => Err(WorldFault::Full),
             Err(StoreFault::OutOfMemory) => Err(WorldFault::OutOfMemory),
         }

@@ -1,6 +1,6 @@
 // The state of a replay.
 
-ghost use Rattle.std.specs.Prelude.{◌≡◌, ◌≢◌, ◌↔◌, ◌⊎◌, ◌<◌, ◌≤◌, ◌+◌, ◌++◌, [], false, None, Some, length, is_some, IfSome, if◌then◌else◌, IfOk, IfErr, OnErr, OnOk, IsErrOf};
+ghost use Rattle.std.specs.Prelude.{◌≡◌, ◌≢◌, ◌↔◌, ◌⊎◌, ◌<◌, ◌≤◌, ◌+◌, ◌++◌, [], false, None, Some, length, is_some, IfSome, option_copied, if◌then◌else◌, IfOk, IfErr, OnErr, OnOk, IsErrOf};
 ghost use Rattle.std.specs.FinMap as map;
 ghost use Rattle.revisions.specs.Revisions.{counted};
 ghost use Rattle.reorder_buffer.specs.Buffered.{after_taking, answer_to, first_due};
@@ -15,6 +15,7 @@ ghost use Rattle.world.specs.Changing.{Tells};
 ghost use Rattle.world.specs.Fetched.{AreMeant, reply_of, reply_or_any};
 ghost use Rattle.world.specs.Meaning.{meaning};
 ghost use Rattle.world.specs.Roomed.{HasRoom, IsOverfull, room_with};
+ghost use Rattle.world.specs.Routed.{AreRouted, GivesPage};
 ghost use Rattle.world.specs.WorldState.{AreHolders, by_two_after, stored_of};
 ghost use Rattle.entity_model.specs.declared.mapping.MappingVersion.TheVariants.{One};
 ghost use Rattle.world.specs.declared.applied.Outcome.TheVariants.{Stored};
@@ -31,6 +32,7 @@ use side_output::{Entry, Side};
 use std::alloc::Global;
 use std::hash::RandomState;
 use std::marker::Model;
+use subgraph::Routes;
 use triple_store::{StoreFault, Telling};
 
 // The limit of a world, unless it is set otherwise.
@@ -177,19 +179,21 @@ impl World {
         ensures more_misses { R.misses revisions.old ≤ R.misses revisions.new }
         ensures most { R.most_faults revisions.new ≡ R.most_faults revisions.old }
     {
-        match self.apply_next_with(revisions, folder, Telling::Nothing) {
+        match self.apply_next_with(revisions, folder, Telling::Nothing, None) {
             Ok(done) => Ok(done.applied),
             Err(fault) => Err(fault),
         }
     }
 
     /// Does what `apply_next` does, and where it is to tell the change, tells which triples that made stored and which stored no longer:
-    /// their lines, which take memory.
+    /// their lines, which take memory. Where there are routes, it gives back the page that it stored: its triples by their texts, and its
+    /// graph.
     pub fn apply_next_with<R: Revisions>(
         &mut self,
         revisions: &mut R,
         folder: &str,
         telling: Telling,
+        routes: Option<&Routes>,
     ) -> Result<Application, WorldFault>
         ensures applied { IfOk result (λ done. Applies (R.contents revisions.old) folder.now self.old.replay self.new.replay done.applied) }
         ensures limit { self.new.limit ≡ self.old.limit }
@@ -197,6 +201,8 @@ impl World {
         ensures by_two { IfOk result (λ done.
             self.new.by_two ≡ by_two_after done.applied.outcome self.old.mapping done.applied.event.entity self.old.by_two) }
         ensures change { IfOk result (λ done. Tells telling (stored_of self.old) (stored_of self.new) done.change) }
+        ensures routed { IfOk result (λ done. IfSome (option_copied routes.entry) (λ known. GivesPage known self.old.mapping done.applied.event.entity done.applied.outcome
+            (record_of self.new.replay.played.records done.applied.event.entity).held done.routed)) }
         ensures within { IfOk result (λ done. done.applied.outcome ≡ Stored → room_with (meaning_by meaning self.old.by_two) self.old.replay.played.records
             (triples_held (meaning self.old.mapping) done.applied.event.entity (record_of self.new.replay.played.records done.applied.event.entity).held) ≤ self.old.limit) }
         ensures held { HasRoom (meaning_by meaning self.new.by_two) self.new.limit self.new.replay.played.records }
@@ -219,17 +225,24 @@ impl World {
         let Some(event) = self.buffer.least_due() else {
             return Err(WorldFault::Nothing);
         };
-        let reply = self.reply(revisions, folder, &event)?;
+        let reply = self.reply(revisions, folder, &event, routes)?;
         let how = Handling {
             version: self.mapping,
             telling,
         };
         match self.holdings.apply(&mut self.side, event, reply, how) {
-            Ok(Effect { outcome, change }) => {
+            Ok(
+                Effect {
+                    outcome,
+                    change,
+                    routed,
+                },
+            ) => {
                 self.buffer.drop_least();
                 Ok(Application {
                     applied: Applied { event, outcome },
                     change,
+                    routed,
                 })
             }
             Err(StoreFault::Full) => Err(WorldFault::Full),
@@ -243,6 +256,7 @@ impl World {
         revisions: &mut R,
         folder: &str,
         event: &Event,
+        routes: Option<&Routes>,
     ) -> Result<Option<Reply>, OutOfMemory>
         ensures wanted { IfOk result (λ reply. is_some reply
             ≡ standing_wants (standing_after (standing_of (record_of self.now.replay.played.records event.now.entity)) event.now)) }
@@ -250,6 +264,7 @@ impl World {
             (state_after (record_of self.now.replay.played.records event.now.entity).state event.now).rev (reply_or_any reply)) }
         ensures meant { IfOk result (AreMeant self.now.mapping event.now.entity
             (standing_after (standing_of (record_of self.now.replay.played.records event.now.entity)) event.now).state.rev) }
+        ensures routed { IfOk result (AreRouted (option_copied routes.entry) event.now.entity) }
         ensures told { R.contents revisions.new ≡ R.contents revisions.old }
         ensures shown { IfOk result (λ reply. IfSome reply (λ r. IsShown (outcome_of_reply (reply_of r))
             (R.misses revisions.old) (R.misses revisions.new) (R.faults revisions.old) (R.faults revisions.new))) }
@@ -269,7 +284,7 @@ impl World {
             rev: after.state.rev,
             version: self.mapping,
         };
-        let reply = fetch(self.alloc, revisions, folder, wanted)?;
+        let reply = fetch(self.alloc, revisions, folder, wanted, routes)?;
         Ok(Some(reply))
     }
 }

@@ -20,7 +20,6 @@ use Rattle.world.proofs.Moving.{are_stored, held_is, seen_again}
 use Rattle.world.proofs.Replacing.{kept_refused}
 use Rattle.world.proofs.Rooming.{countable_kept, room_is}
 use Rattle.world.proofs.Stepping.{again_seen, again_step, are_holders, has_room, links}
-use Rattle.world.proofs.holdings.Holdings.remap.Goals.{After-drop-triples-inside-4, After-drop-triples-inside-in-Ok-exchange_with-3}
 use Rattle.world.proofs.holdings.Holdings.remap.Goals as goal
 
 pub exchange_with-requires-clause-may_come : goal.exchange_with-requires-clause-may_come
@@ -34,32 +33,22 @@ exchange_with-requires-clause-may_come c = record {
 pub exchange_with-requires-clause-stored : goal.exchange_with-requires-clause-stored
 exchange_with-requires-clause-stored c = are_stored (meaning_by meaning c.self.inside.holders.by_two) c.self.inside.store c.self.inside.store c.self.inside.table.records c.args.id _ c.self.invariant.kept (λ _ _ is. is) c.keys_of.ensures
 
--- the page is mapped anew
-done : (c : After-drop-triples-inside-in-Ok-exchange_with-3) → AreInStep c.exchange_with.new.self c.remove.new.self c.set_keys.new.table.records
-done c = rw c.set_keys.ensures
-    (again_step c.self.inside.store c.self.inside.holders c.self.inside.table.records c.args.id c.self.invariant c.exchange_with.new.self
-    c.in-Ok-exchange_with.field-0.keys c.args.version (sym (links c.self.inside.store c.self.inside.table.records c.args.id) ∙ (rw (← c.self.view_is) at c.requires)) c.exchange_with.ensures.rest.beside c.remove.new.self c.keys_of.result.rising.now c.in-Ok.triples
-    (moves c.self.inside.holders c.add.new.self c.remove.new.self c.args.id c.args.version c.other.result c.in-Ok-add.ensures.ok c.other.ensures c.remove.ensures)
-    c.exchange_with.ensures.rest.sound c.keys_of.ensures c.in-Ok-exchange_with.ensures.exchanged.ok c.exchange_with.ensures.rest.keeps c.in-Ok-exchange_with.ensures.exchanged.keys
-    (λ t. sym (has-sorted triple_cmp-total t c.in-Ok.triples) ∙ ap (has triple_cmp t) c.in-Ok.ensures.value))
 
--- the page stays as it is mapped
-refused : (c : After-drop-triples-inside-4) → AreInStep c.exchange_with.new.self c.take_back.new.self c.self.inside.table.records
-refused c =
-    subst (λ (i : ByVersion). AreInStep c.exchange_with.new.self i c.self.inside.table.records) (sym (undone c.self.inside.holders c.add.new.self c.take_back.new.self c.self.inside.table.records c.args.id c.args.version c.in-Ok-add.added c.self.invariant.by c.in-Ok-add.ensures.ok c.in-Ok-add.ensures.added c.take_back.ensures)) (record {
-      kept = kept_refused (meaning_by meaning c.self.inside.holders.by_two) c.self.inside.store c.exchange_with.new.self c.self.inside.table.records
-          c.self.invariant.kept c.exchange_with.ensures.rest.sound c.in-Err.ensures.exchanged.err c.exchange_with.ensures.rest.keeps c.exchange_with.ensures.rest.beside;
-      by = c.self.invariant.by;
-    })
 
 pub set_keys-requires : goal.set_keys-requires
 set_keys-requires c = sym (links c.self.inside.store c.self.inside.table.records c.args.id) ∙ (rw (← c.self.view_is) at c.requires)
 
 pub invariant_of-self-in-Ok-exchange_with : goal.invariant_of-self-in-Ok-exchange_with
-invariant_of-self-in-Ok-exchange_with c = done c
+invariant_of-self-in-Ok-exchange_with c = (let in_step : AreInStep c.exchange_with.new.self c.remove.new.self c.set_keys.new.table.records =
+    rw c.set_keys.ensures
+    (again_step c.self.inside.store c.self.inside.holders c.self.inside.table.records c.args.id c.self.invariant c.exchange_with.new.self
+    c.in-Ok-exchange_with.field-0.keys c.args.version (sym (links c.self.inside.store c.self.inside.table.records c.args.id) ∙ (rw (← c.self.view_is) at c.requires)) c.exchange_with.ensures.rest.beside c.remove.new.self c.keys_of.result.rising.now c.in-Ok.triples
+    (moves c.self.inside.holders c.add.new.self c.remove.new.self c.args.id c.args.version c.other.result c.in-Ok-add.ensures.ok c.other.ensures c.remove.ensures)
+    c.exchange_with.ensures.rest.sound c.keys_of.ensures c.in-Ok-exchange_with.ensures.exchanged.ok c.exchange_with.ensures.rest.keeps c.in-Ok-exchange_with.ensures.exchanged.keys
+    (λ t. sym (has-sorted triple_cmp-total t c.in-Ok.triples) ∙ ap (has triple_cmp t) c.in-Ok.ensures.value)) in in_step)
 
-pub invariant_of-self-in-Err : goal.invariant_of-self-in-Err
-invariant_of-self-in-Err c =
+pub invariant_of-self-in-Err-exchange_with : goal.invariant_of-self-in-Err-exchange_with
+invariant_of-self-in-Err-exchange_with c =
     subst (λ (i : ByVersion). AreInStep c.exchange_with.new.self i c.self.inside.table.records) (sym (undone c.self.inside.holders c.add.new.self c.take_back.new.self c.self.inside.table.records c.args.id c.args.version c.in-Ok-add.added c.self.invariant.by c.in-Ok-add.ensures.ok c.in-Ok-add.ensures.added c.take_back.ensures)) (record {
       kept = kept_refused (meaning_by meaning c.self.inside.holders.by_two) c.self.inside.store c.exchange_with.new.self c.self.inside.table.records
           c.self.invariant.kept c.exchange_with.ensures.rest.sound c.in-Err.ensures.exchanged.err c.exchange_with.ensures.rest.keeps c.exchange_with.ensures.rest.beside;
@@ -91,31 +80,65 @@ returns-in-Ok-exchange_with-clause-within c = rw (← c.self.view_is)
 
 pub returns-in-Ok-exchange_with-clause-change : goal.returns-in-Ok-exchange_with-clause-change
 returns-in-Ok-exchange_with-clause-change c = rw (← c.self.view_is)
-    (step_tells c.self.inside.store c.exchange_with.new.self c.self.inside.holders c.remove.new.self c.self.inside.table.records c.set_keys.new.table.records c.self.invariant (done c)
+    (step_tells c.self.inside.store c.exchange_with.new.self c.self.inside.holders c.remove.new.self c.self.inside.table.records c.set_keys.new.table.records c.self.invariant (let in_step : AreInStep c.exchange_with.new.self c.remove.new.self c.set_keys.new.table.records =
+    rw c.set_keys.ensures
+    (again_step c.self.inside.store c.self.inside.holders c.self.inside.table.records c.args.id c.self.invariant c.exchange_with.new.self
+    c.in-Ok-exchange_with.field-0.keys c.args.version (sym (links c.self.inside.store c.self.inside.table.records c.args.id) ∙ (rw (← c.self.view_is) at c.requires)) c.exchange_with.ensures.rest.beside c.remove.new.self c.keys_of.result.rising.now c.in-Ok.triples
+    (moves c.self.inside.holders c.add.new.self c.remove.new.self c.args.id c.args.version c.other.result c.in-Ok-add.ensures.ok c.other.ensures c.remove.ensures)
+    c.exchange_with.ensures.rest.sound c.keys_of.ensures c.in-Ok-exchange_with.ensures.exchanged.ok c.exchange_with.ensures.rest.keeps c.in-Ok-exchange_with.ensures.exchanged.keys
+    (λ t. sym (has-sorted triple_cmp-total t c.in-Ok.triples) ∙ ap (has triple_cmp t) c.in-Ok.ensures.value)) in in_step)
     (counts_in c.self.inside.store) (counts_in c.exchange_with.new.self) refl refl c.args.telling c.in-Ok-exchange_with.field-0.change c.in-Ok-exchange_with.ensures.exchanged.told)
 
 pub returns-in-Ok-exchange_with-clause-held : goal.returns-in-Ok-exchange_with-clause-held
-returns-in-Ok-exchange_with-clause-held c = has_room _ _ _ (done c)
+returns-in-Ok-exchange_with-clause-held c = has_room _ _ _ (let in_step : AreInStep c.exchange_with.new.self c.remove.new.self c.set_keys.new.table.records =
+    rw c.set_keys.ensures
+    (again_step c.self.inside.store c.self.inside.holders c.self.inside.table.records c.args.id c.self.invariant c.exchange_with.new.self
+    c.in-Ok-exchange_with.field-0.keys c.args.version (sym (links c.self.inside.store c.self.inside.table.records c.args.id) ∙ (rw (← c.self.view_is) at c.requires)) c.exchange_with.ensures.rest.beside c.remove.new.self c.keys_of.result.rising.now c.in-Ok.triples
+    (moves c.self.inside.holders c.add.new.self c.remove.new.self c.args.id c.args.version c.other.result c.in-Ok-add.ensures.ok c.other.ensures c.remove.ensures)
+    c.exchange_with.ensures.rest.sound c.keys_of.ensures c.in-Ok-exchange_with.ensures.exchanged.ok c.exchange_with.ensures.rest.keeps c.in-Ok-exchange_with.ensures.exchanged.keys
+    (λ t. sym (has-sorted triple_cmp-total t c.in-Ok.triples) ∙ ap (has triple_cmp t) c.in-Ok.ensures.value)) in in_step)
 
 pub returns-in-Ok-exchange_with-clause-holders : goal.returns-in-Ok-exchange_with-clause-holders
-returns-in-Ok-exchange_with-clause-holders c = are_holders _ _ _ (done c)
+returns-in-Ok-exchange_with-clause-holders c = are_holders _ _ _ (let in_step : AreInStep c.exchange_with.new.self c.remove.new.self c.set_keys.new.table.records =
+    rw c.set_keys.ensures
+    (again_step c.self.inside.store c.self.inside.holders c.self.inside.table.records c.args.id c.self.invariant c.exchange_with.new.self
+    c.in-Ok-exchange_with.field-0.keys c.args.version (sym (links c.self.inside.store c.self.inside.table.records c.args.id) ∙ (rw (← c.self.view_is) at c.requires)) c.exchange_with.ensures.rest.beside c.remove.new.self c.keys_of.result.rising.now c.in-Ok.triples
+    (moves c.self.inside.holders c.add.new.self c.remove.new.self c.args.id c.args.version c.other.result c.in-Ok-add.ensures.ok c.other.ensures c.remove.ensures)
+    c.exchange_with.ensures.rest.sound c.keys_of.ensures c.in-Ok-exchange_with.ensures.exchanged.ok c.exchange_with.ensures.rest.keeps c.in-Ok-exchange_with.ensures.exchanged.keys
+    (λ t. sym (has-sorted triple_cmp-total t c.in-Ok.triples) ∙ ap (has triple_cmp t) c.in-Ok.ensures.value)) in in_step)
 
-pub returns-clause-err : goal.returns-clause-err
-returns-clause-err c = rw (← c.self.view_is) (λ i. record {
+pub returns-in-Err-clause-err : goal.returns-in-Err-clause-err
+returns-in-Err-clause-err c = rw (← c.self.view_is) (λ i. record {
   records = seen_again (beside c.self.inside.store) (beside c.exchange_with.new.self) c.self.inside.table.records c.exchange_with.ensures.rest.beside i;
   limit = c.exchange_with.ensures.rest.limit i;
   by_two = ap (λ (ids : ByVersion). ids.by_two) (undone c.self.inside.holders c.add.new.self c.take_back.new.self c.self.inside.table.records c.args.id c.args.version c.in-Ok-add.added c.self.invariant.by c.in-Ok-add.ensures.ok c.in-Ok-add.ensures.added c.take_back.ensures) i;
 })
 
-pub returns-clause-full : goal.returns-clause-full
-returns-clause-full c = rw (← c.self.view_is) (λ is.
+pub returns-in-Err-clause-full : goal.returns-in-Err-clause-full
+returns-in-Err-clause-full c = rw (← c.self.view_is) (λ is.
     let same : c.in-Err.refused ≡ Full = cc in
     subst (λ n. limit_of c.self.inside.store < n) (room_is (meaning_by meaning c.self.inside.holders.by_two) c.self.inside.store c.self.inside.table.records c.self.invariant.kept _ refl c.in-Ok.triples _
     (λ t. sym (has-sorted triple_cmp-total t c.in-Ok.triples) ∙ ap (has triple_cmp t) c.in-Ok.ensures.value
     ∙ ap (λ (h : Option (Held Bytes)). has triple_cmp t (triples_held (meaning c.args.version) c.args.id h)) (sym (held_is c.self.inside.store c.self.inside.table.records c.args.id)))) (c.in-Err.ensures.exchanged.full (ap (λ fault. Err fault) same)))
 
-pub returns-clause-held : goal.returns-clause-held
-returns-clause-held c = has_room _ _ _ (refused c)
+pub returns-in-Err-clause-held : goal.returns-in-Err-clause-held
+returns-in-Err-clause-held c = has_room _ _ _ (let in_step : AreInStep c.exchange_with.new.self c.take_back.new.self c.self.inside.table.records =
+    subst (λ (i : ByVersion). AreInStep c.exchange_with.new.self i c.self.inside.table.records) (sym (undone c.self.inside.holders c.add.new.self c.take_back.new.self c.self.inside.table.records c.args.id c.args.version c.in-Ok-add.added c.self.invariant.by c.in-Ok-add.ensures.ok c.in-Ok-add.ensures.added c.take_back.ensures)) (record {
+      kept = kept_refused (meaning_by meaning c.self.inside.holders.by_two) c.self.inside.store c.exchange_with.new.self c.self.inside.table.records
+          c.self.invariant.kept c.exchange_with.ensures.rest.sound c.in-Err.ensures.exchanged.err c.exchange_with.ensures.rest.keeps c.exchange_with.ensures.rest.beside;
+      by = c.self.invariant.by;
+    }) in in_step)
 
-pub returns-clause-holders : goal.returns-clause-holders
-returns-clause-holders c = are_holders _ _ _ (refused c)
+pub returns-in-Err-clause-holders : goal.returns-in-Err-clause-holders
+returns-in-Err-clause-holders c = are_holders _ _ _ (let in_step : AreInStep c.exchange_with.new.self c.take_back.new.self c.self.inside.table.records =
+    subst (λ (i : ByVersion). AreInStep c.exchange_with.new.self i c.self.inside.table.records) (sym (undone c.self.inside.holders c.add.new.self c.take_back.new.self c.self.inside.table.records c.args.id c.args.version c.in-Ok-add.added c.self.invariant.by c.in-Ok-add.ensures.ok c.in-Ok-add.ensures.added c.take_back.ensures)) (record {
+      kept = kept_refused (meaning_by meaning c.self.inside.holders.by_two) c.self.inside.store c.exchange_with.new.self c.self.inside.table.records
+          c.self.invariant.kept c.exchange_with.ensures.rest.sound c.in-Err.ensures.exchanged.err c.exchange_with.ensures.rest.keeps c.exchange_with.ensures.rest.beside;
+      by = c.self.invariant.by;
+    }) in in_step)
+
+pub returns-in-Ok-exchange_with-clause-triples : goal.returns-in-Ok-exchange_with-clause-triples
+returns-in-Ok-exchange_with-clause-triples c = rw (← c.self.view_is) (record {
+  meant = c.in-Ok.ensures.value ∙ ap (triples_held (meaning c.args.version) c.args.id) (sym (held_is c.self.inside.store c.self.inside.table.records c.args.id));
+  fit = c.in-Ok.ensures.fit;
+})

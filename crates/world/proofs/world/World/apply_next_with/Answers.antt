@@ -1,5 +1,5 @@
 -- An application keeps what is held in step with the side output, and what it stores has room.
-use Rattle.std.proofs.Common.{◌≤◌, List, ap, subst, sym, ◌∙◌}
+use Rattle.std.proofs.Common.{◌≤◌, List, option_copied, ap, subst, sym, ◌∙◌}
 use Rattle.rdf_term.specs.declared.triple.Triple.{Triple}
 use Rattle.entity_json.specs.Document.{unfit_of}
 use Rattle.entity_model.specs.declared.id.EntityId.{EntityId}
@@ -16,6 +16,7 @@ use Rattle.world.specs.Meaning.{meaning}
 use Rattle.world.specs.Roomed.{room_with}
 use Rattle.world.specs.WorldState.{played_of}
 use Rattle.world.proofs.Fit.{reply_gives}
+use Rattle.world.proofs.Giving.{page_given}
 use Rattle.world.proofs.Rooming.{stored_page}
 use Rattle.world.proofs.world.World.apply_next_with.Goals as goal
 
@@ -38,3 +39,8 @@ returns-in-Ok-clause-within g c = rw (← c.self.view_is) (λ stored.
 
 pub returns-in-Ok-clause-change : goal.returns-in-Ok-clause-change
 returns-in-Ok-clause-change g c = rw (← c.self.view_is) c.in-Ok.ensures.change
+
+pub returns-in-Ok-clause-routed : goal.returns-in-Ok-clause-routed
+returns-in-Ok-clause-routed g c = rw (← c.self.view_is)
+    (page_given (option_copied c.args.routes) c.self.inside.mapping (played_of c.self.inside.holdings c.self.inside.side.entries) (played_of c.apply.new.self c.apply.new.side.entries) c.in-Some.event c.in_ok-reply.reply
+    c.in-Ok.field-0.outcome c.in-Ok.field-0.routed (rw (← c.self.view_is) at c.in_ok-reply.ensures.meant) c.in_ok-reply.ensures.routed c.in-Ok.ensures.applied c.in-Ok.ensures.outcome c.in-Ok.ensures.routed)

@@ -35,3 +35,10 @@ returns-clause-change c = elim c.match-remap.branch [
   | in-Err-Full w ↦ rw w.result-is tt
   | in-Err-OutOfMemory w ↦ rw w.result-is tt
 ]
+
+pub returns-clause-triples : goal.returns-clause-triples
+returns-clause-triples c = elim c.match-remap.branch [
+  | in-Ok w ↦ rw (w.result-is, ← c.self.view_is) w.in-Ok.ensures.triples
+  | in-Err-Full w ↦ rw w.result-is tt
+  | in-Err-OutOfMemory w ↦ rw w.result-is tt
+]

@@ -1,0 +1,74 @@
+-- The graph that a page goes to, and what is given back of a page that was stored, or mapped anew.
+use Rattle.std.specs.Prelude.{◌≡◌, ℕ, ⊤, List, Option, None, Some, Result, Ok, Err, length, option_map}
+use Rattle.std.specs.List.{AllByRecursion}
+use Rattle.rising.specs.Rising.{sorted}
+use Rattle.rdf_term.specs.declared.triple.Triple.{Triple}
+use Rattle.rdf_term.specs.Fit.{HasFitAndShortTerms}
+use Rattle.rdf_term.specs.Order.{triple_cmp}
+use Rattle.entity_json.specs.Document.{document_of}
+use Rattle.entity_model.specs.declared.document.Document.{Document}
+use Rattle.entity_model.specs.declared.id.EntityId.{EntityId}
+use Rattle.entity_model.specs.declared.mapping.MappingVersion.{MappingVersion}
+use Rattle.entity_state.specs.declared.record.Held.{Held}
+use Rattle.replay_model.specs.Records.{Bytes}
+use Rattle.replay_model.specs.Union.{triples_held}
+use Rattle.side_output.specs.declared.entry.Cause.{Cause}
+use Rattle.subgraph.specs.declared.routes.Route.{Route}
+use Rattle.subgraph.specs.Routing.{route_of}
+use Rattle.world.specs.declared.applied.Outcome.{Outcome}
+use Rattle.world.specs.declared.applied.Outcome.TheVariants.{Same, Stored, Dropped, Sided}
+use Rattle.world.specs.declared.applied.RoutedPage.{RoutedPage}
+use Rattle.world.specs.declared.fetching.Page.{Page}
+use Rattle.world.specs.Meaning.{meaning}
+
+-- the graph that a document is routed to; the last graph where there is none
+abbrev pub route_if : List Route → Option Document → ℕ
+route_if routes None = length routes
+route_if routes (Some document) = route_of routes document
+
+-- the graph that the bytes of a page of x are routed to: that of their document
+abbrev pub route_of_page : List Route → EntityId → Bytes → ℕ
+route_of_page routes x bytes = route_if routes (document_of x bytes)
+
+-- the same, where there are routes
+abbrev pub route_by : Option (List Route) → EntityId → Bytes → Option ℕ
+route_by routes x bytes = option_map (λ (r : List Route). route_of_page r x bytes) routes
+
+-- a reply that has a page has its graph
+abbrev pub IsReplyRouted : Option (List Route) → EntityId → Result Page Cause → Type 0
+IsReplyRouted routes x (Ok page) = page.graph ≡ route_by routes x page.bytes
+IsReplyRouted routes x (Err cause) = ⊤
+
+-- the same, where a fetch was made
+abbrev pub AreRouted : Option (List Route) → EntityId → Option (Result Page Cause) → Type 0
+AreRouted routes x None = ⊤
+AreRouted routes x (Some reply) = IsReplyRouted routes x reply
+
+-- the triples of a page with the graph that it is routed to
+abbrev pub with_route : Option ℕ → List Triple → Option RoutedPage
+with_route graph triples = option_map (λ (g : ℕ). record { graph = g; triples = triples }) graph
+
+-- the same of the page that a reply has
+abbrev pub routed_by : Option (Result Page Cause) → Option RoutedPage
+routed_by None = None
+routed_by (Some (Ok page)) = with_route page.graph page.triples
+routed_by (Some (Err cause)) = None
+
+-- the triples are those that what x holds means by this version, though one may stand there twice; their terms are fit and short
+pub record AreTriplesOf (version : MappingVersion) (x : EntityId) (held : Option (Held Bytes)) (triples : List Triple) : Type 0 where
+  pub meant : sorted triple_cmp triples ≡ triples_held (meaning version) x held
+  pub fit : AllByRecursion HasFitAndShortTerms triples
+
+-- x holds this page: the graph that it is routed to, and its triples by this version
+pub record IsRouted (routes : List Route) (version : MappingVersion) (x : EntityId) (h : Held Bytes) (page : RoutedPage) : Type 0 where
+  pub graph : page.graph ≡ route_of_page routes x h.content
+  pub triples_are : AreTriplesOf version x (Some h) page.triples
+
+-- of an application that stored a page of x, by this version, the page that is held then is given back
+abbrev pub GivesPage : List Route → MappingVersion → EntityId → Outcome → Option (Held Bytes) → Option RoutedPage → Type 0
+GivesPage routes version x Stored None page = ⊥
+GivesPage routes version x Stored (Some h) None = ⊥
+GivesPage routes version x Stored (Some h) (Some page) = IsRouted routes version x h page
+GivesPage routes version x Same held page = ⊤
+GivesPage routes version x Dropped held page = ⊤
+GivesPage routes version x (Sided cause) held page = ⊤
