@@ -13,4 +13,5 @@ mod triples;
 mod write;
 
 pub use sections::{Sections, print_answer, print_closing, print_triples};
+pub use triples::print_section;
 pub use write::{Unwritten, print_lines, write_all};

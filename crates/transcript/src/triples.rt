@@ -9,8 +9,11 @@ use std::alloc::Global;
 use triple_store::Rows;
 use wq_io::Sink;
 
-// Prints a head and the line of each triple.
-pub(crate) fn print_section<K: Sink>(
+/// Prints a section: its head, and the line of each triple.
+///
+/// # Errors
+/// The output could not be written, or memory was refused: then a prefix of the section was written, and nothing else.
+pub fn print_section<K: Sink>(
     alloc: Global,
     head: &str,
     rows: &Rows<'_>,
