@@ -13,7 +13,7 @@ use Rattle.replay_model.specs.Records.{Bytes, Records, is_settled, record_of}
 use Rattle.replay_model.specs.Play.{Played, Replies, played}
 use Rattle.replay_model.specs.Replies.{HoldsWhatIsThere, TellsWhatIsThere, failed_events, source_replies}
 use Rattle.replay_model.specs.ReplayState.{ReplayState, following_to_end}
-use Rattle.replay_model.specs.Transcript.{Sections, closing_text, said}
+use Rattle.replay_model.specs.Transcript.{Sections}
 use Rattle.replay_model.proofs.Explaining.{Explained-fetches, Explained-is, Explained-source, Explained-source_fetches}
 use Rattle.replay_model.proofs.RecordOf.{state-played}
 use Rattle.replay_model.proofs.Known.{fate-known}
@@ -40,6 +40,9 @@ use Rattle.session.specs.Sections.{sections_of}
 use Rattle.session.specs.Report.{bytes_of}
 use Rattle.session.specs.Stop.{stop_of_halt, stop_of_unapplied, stop_of_unwritten}
 use Rattle.session.specs.Stops.{IsHalted}
+use Rattle.subgraph.specs.declared.routes.Route.{Route}
+use Rattle.replay_model.specs.Versions.{meaning_by}
+use Rattle.session.specs.Answering.{closing_by, closing_held, said_by}
 use Rattle.session.specs.declared.report.Report.{Report}
 use Rattle.session.specs.declared.report.Report.TheVariants.{Answers, Changes}
 use Rattle.session.specs.declared.stop.Halt.{Halt}
@@ -50,6 +53,7 @@ use Rattle.session.specs.Taking.{AtEnd, HoldsDocuments, IsHeldUp, IsLeft, Leads,
 use Rattle.words.specs.Options.{max_bytes_of}
 use Rattle.session.proofs.Needed.{all_met, due-none}
 use Rattle.session.proofs.Reports.{all_reported}
+use Rattle.session.proofs.Answers.{closing_held_by}
 use Rattle.session.proofs.Versions.{all_held_by}
 
 -- where no event is due, a world that leads to a play is played
@@ -104,9 +108,9 @@ module _ (environment : Environment) (hz : Option ℕ) (ds : List Delivery) (wor
   }
 
 -- at the end the world has the states, holds and names what it should
-is_replayed : (environment : Environment) (ds : List Delivery) (reported : ℕ) (start now : Stage) → AtEnd environment ds reported start now → IsReplayed environment (course_to_end ds start) ds start now
+is_replayed : (environment : Environment) (ds : List Delivery) (reported : ℕ) (start now : Stage) → AtEnd environment ds reported start now → IsReplayed environment (course_to_end environment.routes ds start) ds start now
 is_replayed environment ds reported start now at_end =
-    let play : IsPlayed environment (course_to_end ds start) start now = is_played environment (course_to_end ds start) reported start now at_end.leads at_end.rests at_end.mapped in
+    let play : IsPlayed environment (course_to_end environment.routes ds start) start now = is_played environment (course_to_end environment.routes ds start) reported start now at_end.leads at_end.rests at_end.mapped in
     let whole : played (horizon_at start) true play.replies ds ≡ now.world.played = ap (λ (w : ReplayState). w.played) (sym play.is) in
     let source : (contents : ℕ → Option Bytes) → environment.known ≡ Some contents → played (horizon_at start) true (replies_there contents now.world) ds ≡ now.world.played =
     λ contents is. ap (λ (w : ReplayState). w.played) (sym (play.source contents is)) in
@@ -126,28 +130,26 @@ pub none_failed : (failed : List Event) (before now : ℕ) → RoseBy (length fa
 none_failed [] before now rose same below = refl
 none_failed (e ∷ es) before now rose same below = absurd (omega (arith, rose below))
 
--- the sections that were asked for were printed, by the version of the mapping that is in force
-pub prints_asked : (version : MappingVersion) (sections wanted : Sections) (mapped : Mapped) (p : Played) (old new : Output) (result : Result (Unit {0}) Unwritten) → sections ≡ wanted → mapped ≡ mapped_by version p.records →
-    Prints (closing_of (held_triples mapped p.records) sections p) old new result → Prints (closing_text meaning version wanted p) old new result
-prints_asked version sections wanted mapped p old new result same by prints =
-    let Printed : Sections → List Triple → Type 0 = λ s triples. Prints (closing_of triples s p) old new result in
-    subst (λ s. Printed s (union triple_cmp (meaning version) p.records)) same (subst (Printed sections) (all_held_by version mapped p.records by) prints)
+-- what is printed at the end was printed, by the version of the mapping that is in force
+pub prints_asked : (routes : Option (List Route)) (version : MappingVersion) (sections : Sections) (mapped : Mapped) (p : Played) (old new : Output) (result : Result (Unit {0}) Unwritten) → mapped ≡ mapped_by version p.records →
+    Prints (closing_held routes (meaning_by meaning mapped.by_two) sections p) old new result → Prints (closing_by routes version sections p) old new result
+prints_asked routes version sections mapped p old new result by prints = subst (λ text. Prints text old new result) (closing_held_by routes version sections mapped p by) prints
 
 -- what the output has where questions are answered
 bytes_answered : (report : Report) (course : Course) (start : Stage) (replies : Replies) → report ≡ Answers → bytes_of report course start replies ≡ course.bytes replies
 bytes_answered report course start replies answers = ap (λ r. bytes_of r course start replies) answers
 
 -- and where changes are reported: the sections are none of it
-bytes_told : (report : Report) (sections : Sections) (ds : List Delivery) (start : Stage) (replies : Replies) → report ≡ Changes → bytes_of report (course_to_end ds start) start replies ≡ bytes_of report (course_printed sections ds start) start replies
-bytes_told report sections ds start replies changes =
-    ap (λ r. bytes_of r (course_to_end ds start) start replies) changes ∙ ap (λ r. bytes_of r (course_printed sections ds start) start replies) (sym changes)
+bytes_told : (routes : Option (List Route)) (report : Report) (sections : Sections) (ds : List Delivery) (start : Stage) (replies : Replies) → report ≡ Changes → bytes_of report (course_to_end routes ds start) start replies ≡ bytes_of report (course_printed routes sections ds start) start replies
+bytes_told routes report sections ds start replies changes =
+    ap (λ r. bytes_of r (course_to_end routes ds start) start replies) changes ∙ ap (λ r. bytes_of r (course_printed routes sections ds start) start replies) (sym changes)
 
 -- where the output has what is reported of the play and its sections, all that a run leaves is there
-module _ (environment : Environment) (sections : Sections) (ds : List Delivery) (start now : Stage) (out : Output) (replay : IsReplayed environment (course_to_end ds start) ds start now)
-    (says : (replies : Replies) → now.world ≡ following_to_end (horizon_at start) replies ds → now.output.bytes ≡ bytes_of environment.report (course_to_end ds start) start replies →
-    out.bytes ≡ bytes_of environment.report (course_printed sections ds start) start replies) where
+module _ (environment : Environment) (sections : Sections) (ds : List Delivery) (start now : Stage) (out : Output) (replay : IsReplayed environment (course_to_end environment.routes ds start) ds start now)
+    (says : (replies : Replies) → now.world ≡ following_to_end (horizon_at start) replies ds → now.output.bytes ≡ bytes_of environment.report (course_to_end environment.routes ds start) start replies →
+    out.bytes ≡ bytes_of environment.report (course_printed environment.routes sections ds start) start replies) where
   -- the same, with the replies of what is there
-  says_there : (contents : ℕ → Option Bytes) → environment.known ≡ Some contents → out.bytes ≡ bytes_of environment.report (course_printed sections ds start) start (replies_there contents now.world)
+  says_there : (contents : ℕ → Option Bytes) → environment.known ≡ Some contents → out.bytes ≡ bytes_of environment.report (course_printed environment.routes sections ds start) start (replies_there contents now.world)
   says_there contents is = says (replies_there contents now.world) (replay.played.source contents is) (replay.played.source_says contents is)
 
   -- where no fetch failed, world and output are functions of the sections, the deliveries and the contents
@@ -156,11 +158,11 @@ module _ (environment : Environment) (sections : Sections) (ds : List Delivery) 
       let none = none_failed (failed_events now.world.played.side) start.counts.faults now.counts.faults replay.played.counted.failed in
       record {
         world_is = λ contents is same below. replay.played.source contents is ∙ ap (λ failed. following_to_end (horizon_at start) (source_replies judgement contents failed) ds) (none same below);
-        output_is = λ contents is same below. says_there contents is ∙ ap (λ failed. bytes_of environment.report (course_printed sections ds start) start (source_replies judgement contents failed)) (none same below);
+        output_is = λ contents is same below. says_there contents is ∙ ap (λ failed. bytes_of environment.report (course_printed environment.routes sections ds start) start (source_replies judgement contents failed)) (none same below);
       }
 
   -- the play says all of it
-  all_printed : IsReplayed environment (course_printed sections ds start) ds start (with_output now out)
+  all_printed : IsReplayed environment (course_printed environment.routes sections ds start) ds start (with_output now out)
   all_printed = record {
     played = record {
       replies = replay.played.replies;
@@ -182,8 +184,8 @@ module _ (environment : Environment) (sections : Sections) (ds : List Delivery) 
   }
 
 ended : (run : Run) (before now : Moment) (out : Output) (replayed : HasReplayed run before now) →
-    ((replies : Replies) → now.stage.world ≡ following_to_end (horizon_at before.stage) replies replayed.deliveries → now.stage.output.bytes ≡ bytes_of run.environment.report (course_to_end replayed.deliveries before.stage) before.stage replies →
-    out.bytes ≡ bytes_of run.environment.report (course_printed (sections_of run.choices) replayed.deliveries before.stage) before.stage replies) → Ending run before (record now { stage = with_output now.stage out })
+    ((replies : Replies) → now.stage.world ≡ following_to_end (horizon_at before.stage) replies replayed.deliveries → now.stage.output.bytes ≡ bytes_of run.environment.report (course_to_end run.environment.routes replayed.deliveries before.stage) before.stage replies →
+    out.bytes ≡ bytes_of run.environment.report (course_printed run.environment.routes (sections_of run.choices) replayed.deliveries before.stage) before.stage replies) → Ending run before (record now { stage = with_output now.stage out })
 ended run before now out replayed says =
     let sections : Sections = sections_of run.choices in
     record {
@@ -193,21 +195,21 @@ ended run before now out replayed says =
 
 -- a run ended well that answered questions: the answers and the sections are the transcript
 pub ending : (run : Run) (before now : Moment) (out : Output) → run.environment.report ≡ Answers → (replayed : HasReplayed run before now) →
-    Prints (closing_text meaning (version_in_force replayed.deliveries) (sections_of run.choices) now.stage.world.played) now.stage.output out (Ok tt) → Ending run before (record now { stage = with_output now.stage out })
+    Prints (closing_by run.environment.routes (version_in_force replayed.deliveries) (sections_of run.choices) now.stage.world.played) now.stage.output out (Ok tt) → Ending run before (record now { stage = with_output now.stage out })
 ending run before now out answers replayed prints =
     let ds : List Delivery = replayed.deliveries in
     let start : Stage = before.stage in
     let sections : Sections = sections_of run.choices in
     ended run before now out replayed (λ replies is says.
-    prints.outcome ∙ ap (λ b. after_known b (closing_text meaning (version_in_force ds) sections now.stage.world.played)) (says ∙ bytes_answered run.environment.report (course_to_end ds start) start replies answers)
-    ∙ after_twice start.output.bytes (said meaning (horizon_at start) replies ds) (closing_text meaning (version_in_force ds) sections now.stage.world.played)
-    ∙ ap (λ (w : ReplayState). after_known start.output.bytes (said meaning (horizon_at start) replies ds ++ closing_text meaning (version_in_force ds) sections w.played)) is
-    ∙ sym (bytes_answered run.environment.report (course_printed sections ds start) start replies answers))
+    prints.outcome ∙ ap (λ b. after_known b (closing_by run.environment.routes (version_in_force ds) sections now.stage.world.played)) (says ∙ bytes_answered run.environment.report (course_to_end run.environment.routes ds start) start replies answers)
+    ∙ after_twice start.output.bytes (said_by run.environment.routes (horizon_at start) replies ds) (closing_by run.environment.routes (version_in_force ds) sections now.stage.world.played)
+    ∙ ap (λ (w : ReplayState). after_known start.output.bytes (said_by run.environment.routes (horizon_at start) replies ds ++ closing_by run.environment.routes (version_in_force ds) sections w.played)) is
+    ∙ sym (bytes_answered run.environment.report (course_printed run.environment.routes sections ds start) start replies answers))
 
 -- a run ended well that reported changes
 pub ending_told : (run : Run) (before now : Moment) → run.environment.report ≡ Changes → HasReplayed run before now → Ending run before now
 ending_told run before now changes replayed =
-    ended run before now now.stage.output replayed (λ replies is says. says ∙ bytes_told run.environment.report (sections_of run.choices) replayed.deliveries before.stage replies changes)
+    ended run before now now.stage.output replayed (λ replies is says. says ∙ bytes_told run.environment.routes run.environment.report (sections_of run.choices) replayed.deliveries before.stage replies changes)
 
 -- a count that rose since a later time rose since an earlier one
 pub rose_since : (before between after : ℕ) → before ≤ between → Rose between after → Rose before after
@@ -239,7 +241,7 @@ page_untold Refused run before now limit records between earlier rose stands = i
 
 -- the sections weren't all written
 pub broken_off : (why : Unwritten) (run : Run) (before now : Moment) (out : Output) → run.environment.report ≡ Answers → (replayed : HasReplayed run before now) → before.stage.output.faults ≤ now.stage.output.faults →
-    Prints (closing_text meaning (version_in_force replayed.deliveries) (sections_of run.choices) now.stage.world.played) now.stage.output out (Err why) → Stopped (stop_of_unwritten why) run before (record now { stage = with_output now.stage out })
+    Prints (closing_by run.environment.routes (version_in_force replayed.deliveries) (sections_of run.choices) now.stage.world.played) now.stage.output out (Err why) → Stopped (stop_of_unwritten why) run before (record now { stage = with_output now.stage out })
 broken_off why run before now out answers replayed earlier prints =
     let broken : BrokenOff why run before (record now { stage = with_output now.stage out }) = record { answers = answers; between = now.stage.output; replayed = replayed; cut_short = prints.outcome } in
     interrupted why run before (record now { stage = with_output now.stage out }) now.stage.output earlier (λ fault. (prints.outcome.failed fault).1) (inl (inr broken))

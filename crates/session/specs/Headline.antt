@@ -19,7 +19,7 @@ use Rattle.replay_model.specs.Records.{Bytes, is_settled, record_of}
 use Rattle.replay_model.specs.Play.{Replies}
 use Rattle.replay_model.specs.Replies.{GivesDocument, HoldsWhatIsThere, TellsWhatIsThere, failed_events, source_replies}
 use Rattle.replay_model.specs.ReplayState.{ReplayState, following_to_end}
-use Rattle.replay_model.specs.Transcript.{Sections, ask_section, asks, closing_text}
+use Rattle.replay_model.specs.Transcript.{Sections, asks}
 use Rattle.replay_model.specs.Union.{union}
 use Rattle.replay_model.specs.Versions.{all_by}
 use Rattle.rdf_term.specs.Pattern.{rows}
@@ -36,6 +36,7 @@ use Rattle.session.specs.declared.status.Status.{Status}
 use Rattle.session.specs.declared.stop.Stop.{Stop}
 use Rattle.session.specs.declared.stop.Stop.TheVariants.{BadLine, ReadFault, WriteFault, TooLong, StoreFull, OutOfMemory}
 use Rattle.term_pool.specs.declared.fault.PoolFault.TheVariants.{Full as NoRoom, OutOfMemory as Starved}
+use Rattle.session.specs.Answering.{answer_text, closing_by}
 use Rattle.session.specs.Counts.{HasCounted}
 use Rattle.session.specs.Course.{Course, course_after, course_printed, course_remapping, course_to_end}
 use Rattle.session.specs.Moment.{Moment, Run, Environment, Stage, with_mapped, with_output, horizon_at}
@@ -69,7 +70,7 @@ pub record IsPlayed (environment : Environment) (course : Course) (start now : S
 
 -- the world has taken these deliveries, and the answers to their questions were printed, or the records of their changes, and nothing else
 abbrev pub IsPlayedAfter : Environment → List Delivery → Stage → Stage → Type 0
-IsPlayedAfter environment ds start now = IsPlayed environment (course_after ds start) start now
+IsPlayedAfter environment ds start now = IsPlayed environment (course_after environment.routes ds start) start now
 
 -- the states: each is the fate of the entity's due events in their order; where no late event of the entity is open,
 -- also the fate of all its events, late ones included
@@ -103,7 +104,7 @@ pub record IsFunction (environment : Environment) (sections : Sections) (ds : Li
   pub world_is : (contents : ℕ → Option Bytes) → environment.known ≡ Some contents → now.counts.faults ≡ start.counts.faults → now.counts.faults < 2 ^ 64 - 1 →
       now.world ≡ following_to_end (horizon_at start) (source_replies judgement contents []) ds
   pub output_is : (contents : ℕ → Option Bytes) → environment.known ≡ Some contents → now.counts.faults ≡ start.counts.faults → now.counts.faults < 2 ^ 64 - 1 →
-      now.output.bytes ≡ bytes_of environment.report (course_printed sections ds start) start (source_replies judgement contents [])
+      now.output.bytes ≡ bytes_of environment.report (course_printed environment.routes sections ds start) start (source_replies judgement contents [])
 
 -- the whole input was read, its lines are deliveries, and they were replayed; the output has what this play of them says
 pub record Replayed (run : Run) (course : List Delivery → Stage → Course) (before now : Moment) : Type 0 where
@@ -114,12 +115,12 @@ pub record Replayed (run : Run) (course : List Delivery → Stage → Course) (b
 
 -- the whole input was replayed, and the answers were printed, or the records of its changes, and nothing else
 abbrev pub HasReplayed : Run → Moment → Moment → Type 0
-HasReplayed run before now = Replayed run course_to_end before now
+HasReplayed run before now = Replayed run (course_to_end run.environment.routes) before now
 
 -- all that a run leaves that ended well: the input was replayed, and the output has the transcript of the play, or the records of its
 -- changes
 pub record Ending (run : Run) (before now : Moment) : Type 0 where
-  pub replayed : Replayed run (course_printed (sections_of run.choices)) before now
+  pub replayed : Replayed run (course_printed run.environment.routes (sections_of run.choices)) before now
   pub function : IsFunction run.environment (sections_of run.choices) replayed.deliveries before.stage now.stage
 
 -- what a run leaves that stopped while it printed the sections: the answers were printed and then a prefix of the sections of
@@ -128,7 +129,7 @@ pub record BrokenOff (why : Unwritten) (run : Run) (before now : Moment) : Type 
   pub answers : run.environment.report ≡ Answers
   pub between : Output
   pub replayed : HasReplayed run before (record now { stage = with_output now.stage between })
-  pub cut_short : IsCutShort why (closing_text meaning (version_in_force replayed.deliveries) (sections_of run.choices) now.stage.world.played) between now.stage.output
+  pub cut_short : IsCutShort why (closing_by run.environment.routes (version_in_force replayed.deliveries) (sections_of run.choices) now.stage.world.played) between now.stage.output
 
 -- the world has taken the deliveries of all whole lines of the bytes that were read before a read failed
 pub record StandsAfter (run : Run) (before now : Moment) : Type 0 where
@@ -157,7 +158,7 @@ pub record StandsAtQuestion (why : Unwritten) (run : Run) (before now : Moment) 
   pub pattern : Pattern
   pub between : Output
   pub played : IsPlayedAfter run.environment deliveries before.stage (with_output now.stage between)
-  pub cut_short : IsCutShort why (ask_section (asks deliveries + 1) (rows (union triple_cmp (meaning (version_in_force deliveries)) now.stage.world.played.records) pattern)) between now.stage.output
+  pub cut_short : IsCutShort why (answer_text run.environment.routes (asks deliveries + 1) (meaning (version_in_force deliveries)) now.stage.world.played.records pattern) between now.stage.output
   pub first : AreFirst (max_bytes_of run.choices) before.input.left now.input.left (deliveries ++ Ask pattern ∷ [])
 
 -- the world has taken the deliveries before a line that changes the mapping, every page being mapped by the version that was in force
@@ -170,7 +171,7 @@ pub record StandsAtMapping (run : Run) (before now : Moment) : Type 0 where
   pub pages : List Step
   pub are : pages ++ steps_anew version now.stage.world.played.records now.stage.mapped.by_two
       ≡ steps_anew version now.stage.world.played.records (all_by (version_in_force deliveries) now.stage.world.played.records)
-  pub played : IsPlayed run.environment (course_remapping pages deliveries before.stage) before.stage (with_mapped now.stage (mapped_by (version_in_force deliveries) now.stage.world.played.records))
+  pub played : IsPlayed run.environment (course_remapping run.environment.routes pages deliveries before.stage) before.stage (with_mapped now.stage (mapped_by (version_in_force deliveries) now.stage.world.played.records))
   pub mapped : now.stage.mapped ≡ remapped_some steps now.stage.world.played.records (record { version = version; by_two = all_by (version_in_force deliveries) now.stage.world.played.records })
   pub roomed : HaveRoomBefore run.environment.limit (needed_anew now.stage.world.played.records now.stage.mapped)
       (needed_anew now.stage.world.played.records (record { version = version; by_two = all_by (version_in_force deliveries) now.stage.world.played.records }))
@@ -189,7 +190,7 @@ pub record StandsAtPage (why : Unwritten) (run : Run) (before now : Moment) : Ty
       ≡ steps_anew version now.stage.world.played.records (all_by (version_in_force deliveries) now.stage.world.played.records)
   pub differs : is_change last ≡ true
   pub between : Output
-  pub played : IsPlayed run.environment (course_remapping pages deliveries before.stage) before.stage
+  pub played : IsPlayed run.environment (course_remapping run.environment.routes pages deliveries before.stage) before.stage
       (with_output (with_mapped now.stage (mapped_by (version_in_force deliveries) now.stage.world.played.records)) between)
   pub mapped : now.stage.mapped ≡ remapped_some steps now.stage.world.played.records (record { version = version; by_two = all_by (version_in_force deliveries) now.stage.world.played.records })
   pub roomed : HaveRoomBefore run.environment.limit (needed_anew now.stage.world.played.records now.stage.mapped)

@@ -1,3 +1,4 @@
+pub mod Answering
 pub mod Complete
 pub mod Counts
 pub mod Course
@@ -16,3 +17,4 @@ pub mod Status
 pub mod Stop
 pub mod Stops
 pub mod Taking
+pub mod Understood

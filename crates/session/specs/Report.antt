@@ -3,9 +3,8 @@ use Rattle.std.specs.Prelude.{◌≡◌, ⊤, true, ℕ, ◌+◌, ◌-◌, ◌^�
 use Rattle.wq_io.specs.Streams.{after_known}
 use Rattle.triple_store.specs.declared.telling.Telling.{Telling}
 use Rattle.triple_store.specs.declared.telling.Telling.TheVariants.{Nothing, Change}
-use Rattle.replay_model.specs.Transcript.{ask_section, asks}
+use Rattle.replay_model.specs.Transcript.{asks}
 use Rattle.replay_model.specs.Play.{Replies}
-use Rattle.rdf_term.specs.declared.triple.Triple.{Triple}
 use Rattle.replica.specs.Record.{record_text}
 use Rattle.delivery.specs.declared.Delivery.{Delivery}
 use Rattle.transcript.specs.declared.write.Unwritten.{Unwritten}
@@ -71,12 +70,12 @@ HasReportedAt (Untold why) Changes course start now replies = HasBrokenOff why c
 
 -- ---- answers
 
--- a question is answered behind so many answers, where questions are answered, and how many were given then is said
-abbrev pub AnswersAsk : Report → ℕ → List Triple → Output → Output → Result ℕ Unwritten → Type 0
-AnswersAsk Answers reported triples old new (Ok now) = (now ≡ reported + 1) × Prints (ask_section (reported + 1) triples) old new (Ok tt)
-AnswersAsk Answers reported triples old new (Err why) = Prints (ask_section (reported + 1) triples) old new (Err why)
-AnswersAsk Changes reported triples old new (Ok now) = (now ≡ reported) × (new ≡ old)
-AnswersAsk Changes reported triples old new (Err why) = ⊥
+-- a question is answered by this text behind so many answers, where questions are answered, and how many were given then is said
+abbrev pub AnswersAsk : Report → ℕ → List ℕ → Output → Output → Result ℕ Unwritten → Type 0
+AnswersAsk Answers reported text old new (Ok now) = (now ≡ reported + 1) × Prints text old new (Ok tt)
+AnswersAsk Answers reported text old new (Err why) = Prints text old new (Err why)
+AnswersAsk Changes reported text old new (Ok now) = (now ≡ reported) × (new ≡ old)
+AnswersAsk Changes reported text old new (Err why) = ⊥
 
 -- ---- steps that are told
 
