@@ -176,7 +176,7 @@ export|'export' is no command
 ''|'' is no command
 'replay drill'|'replay drill' is no command
 events.jsonl|'events.jsonl' is a file; did you mean replay < events.jsonl?
---export|the command comes first: replay patches follow drill
+--export|the command comes first: replay patches follow split drill
 folow --export|'folow' is no command; did you mean follow?
 replay --exprt|'--exprt' is no option of replay; did you mean --export?
 replay --exp|'--exp' is no option of replay; did you mean --export?
@@ -189,7 +189,7 @@ replay --|'--' is no option of replay
 replay --size 5|--size is an option of drill
 drill --size 5 --state|--state is an option of replay
 drill --export|--export is an option of replay and follow
-drill --max-bytes 5|--max-bytes is an option of replay, patches and follow
+drill --max-bytes 5|--max-bytes is an option of replay, patches, follow and split
 patch --from pages|'patch' is no command; did you mean patches?
 patches --side|--side is an option of replay
 patches --max-byte 5|'--max-byte' is no option of patches; did you mean --max-bytes?
@@ -200,8 +200,8 @@ patches events.jsonl|'events.jsonl' is a file; did you mean < events.jsonl?
 patches pages|'pages' is a folder; did you mean --from pages?
 drill events.jsonl|'events.jsonl' is no option of drill
 drill pages|'pages' is no option of drill
-follow --from pages|--from is an option of replay and patches
-follow --max-terms=5|--max-terms is an option of replay and patches
+follow --from pages|--from is an option of replay, patches and split
+follow --max-terms=5|--max-terms is an option of replay, patches and split
 follow --size 5|--size is an option of drill
 follow --exprt|'--exprt' is no option of follow; did you mean --export?
 follow --sid|'--sid' is no option of follow
@@ -236,6 +236,14 @@ replay --horizon 9223372036854775808|--horizon takes a number from 0 to 92233720
 replay --export=yes|--export takes no value
 replay --export --export|--export is given twice
 replay --from a --from=b|--from is given twice
+split|split lacks --route ROUTES
+split --route|--route lacks its value, routes as 'people:Q5;places:Q515,Q532'
+split --route main:Q5|--route takes routes as 'people:Q5;places:Q515,Q532', and not 'main:Q5'
+split --route people:Q5,P31|--route takes routes as 'people:Q5;places:Q515,Q532', and not 'people:Q5,P31'
+split --route 'people:Q5;people:Q6'|--route takes routes as 'people:Q5;places:Q515,Q532', and not 'people:Q5;people:Q6'
+split --route people:Q5 --export|--export is an option of replay and follow
+split --rout people:Q5|'--rout' is no option of split; did you mean --route?
+replay --route people:Q5|--route is an option of split
 drill|drill lacks --size N
 drill 10|'10' is no option of drill; did you mean --size 10?
 drill --size 0|--size takes a number from 1 to 200000
@@ -251,6 +259,8 @@ in_terminal "'$checkout/wdq' replay --max-bytes 1099511627776 --max-terms 429496
 shows 'words without a fault' $'wdq: words not understood\n\nwdq '
 in_terminal "'$checkout/wdq' patches --max-bytes 4294967295 --max-terms=4294967295 --horizon 0 --from pages < /dev/null"
 shows 'words of patches without a fault' $'wdq: words not understood\n\nwdq '
+in_terminal "'$checkout/wdq' split --route 'people:Q5;places:Q515,Q532' --max-bytes 1099511627776 --from pages < /dev/null"
+shows 'words of split without a fault' $'wdq: words not understood\n\nwdq '
 in_terminal "'$checkout/wdq' follow --max-bytes=1099511627776 --export < /dev/null"
 shows 'words of follow without a fault' $'wdq: words not understood\n\nwdq '
 unset STAND_IN_STATUS
@@ -372,7 +382,7 @@ done
 words=$top/crates/words/specs/Table.antt
 table=$(grep -oE '^[a-z]+_table =|entry \(codes "--[a-z-]+"\) (Flag|Text|\(Number [0-9]+ [0-9]+)' "$words" | awk '
   sub(/_table =$/, "") { command = $0; next }
-  { gsub(/entry \(codes "|"\)|\(Number /, ""); sub(/ /, " " command " "); sub(/Flag$/, "nothing"); if (/^--from /) sub(/Text$/, "folder"); sub(/Text$/, "file"); print }')
+  { gsub(/entry \(codes "|"\)|\(Number /, ""); sub(/ /, " " command " "); sub(/Flag$/, "nothing"); sub(/Text$/, /^--route/ ? "routes" : /^--from/ ? "folder" : "file"); print }')
 wants 'the options of the script are those of the crate words' \
   "$(sort <<<"$table")" \
   "$(sed -n '/^options=(/,/^)/p' "$top/wdq" | sed -n "s/^  '\(.*\)'$/\1/p" | sort)"

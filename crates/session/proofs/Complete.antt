@@ -174,6 +174,6 @@ module _ (run : Run) (before now : Moment) (contents : ℕ → Option Bytes) (en
       ((e : Event) → has event_cmp e (accepted (horizon_at before.stage) ending.replayed.deliveries) ≡ true → FindsDocument judgement contents e) → now.stage.world.played.side ≡ []
   nothing_named still none find =
       ap (λ (w : ReplayState). w.played.side) (ending.replayed.replay.played.source contents known)
-      ∙ ap (λ (p : Played). p.side) (state_played (closes run.choices) ending.replayed.deliveries before.stage (replies_there contents now.stage.world))
+      ∙ ap (λ (p : Played). p.side) (state_played run.environment.routes (closes run.choices) ending.replayed.deliveries before.stage (replies_there contents now.stage.world))
       ∙ ap (λ failed. (played (horizon_at before.stage) (closes run.choices) (source_replies judgement contents failed) ending.replayed.deliveries).side) (none_failed_now still)
       ∙ none_named judgement contents (horizon_at before.stage) (closes run.choices) ending.replayed.deliveries none find

@@ -2,8 +2,6 @@
 use Rattle.std.proofs.Common.{refl, inl, inr, sym, subst, ap, ◌∙◌, ◌≡◌, ℕ, ◌+◌, ◌≤◌, ℤ, false, List, [], ◌∷◌, ◌++◌, length, length-append, append-nil, Option, None, Some, Ok, Err, arith}
 use Rattle.std.specs.List.{filter_map}
 use Rattle.std.proofs.lemmas.List.Elements.{filter_map-append}
-use Rattle.rdf_term.specs.declared.triple.Triple.{Triple}
-use Rattle.rdf_term.specs.Order.{triple_cmp}
 use Rattle.wq_io.specs.Streams.{after_known}
 use Rattle.entity_model.specs.declared.event.Event.{Event}
 use Rattle.delivery.specs.declared.Delivery.{Delivery}
@@ -20,19 +18,18 @@ use Rattle.replay_model.specs.Records.{Records}
 use Rattle.replay_model.specs.Versions.{all_by}
 use Rattle.replay_model.specs.Play.{Replies}
 use Rattle.replay_model.specs.ReplayState.{ReplayState, after_end, after_event, after_mark, entered, following, taken_entries}
-use Rattle.replay_model.specs.Transcript.{Question, for_triples, for_bindings, answer_said, answer_section, asking, asks, matches, pattern_of, question_of, said, said_at, shapes_of}
-use Rattle.replay_model.specs.Union.{union}
+use Rattle.replay_model.specs.Transcript.{Question, for_triples, for_bindings, asking, asks, matches, pattern_of, question_of, shapes_of}
 use Rattle.replay_model.proofs.Applied.{applied-end, applied-event, applied-mark}
 use Rattle.replay_model.proofs.Explaining.{Explained-ask, Explained-end, Explained-event, Explained-event_rests, Explained-is, Explained-mapping, Explained-mark, Explained-rests, ask_replies, end_replies, event_replies, mapping_replies, mark_replies}
 use Rattle.replay_model.proofs.Fetching.{failed-taken, missing-taken}
 use Rattle.replay_model.proofs.InForce.{version-kept, version-mapping}
-use Rattle.replay_model.proofs.Printing.{said-push}
 use Rattle.world.specs.Meaning.{meaning}
 use Rattle.session.specs.Counts.{SourceCounts, HasCounted, RoseBy}
 use Rattle.transcript.specs.declared.write.Unwritten.{Unwritten}
 use Rattle.transcript.specs.Printing.{Output}
 use Rattle.transcript.proofs.Parts.{after_twice}
 use Rattle.patch_stream.specs.Stream.{Step, changes, steps_anew, steps_at, steps_due, steps_of_play}
+use Rattle.session.specs.Answering.{answer_by, answer_held, answer_text, said_at_by, said_by}
 use Rattle.session.specs.declared.report.Report.{Report}
 use Rattle.session.specs.declared.report.Report.TheVariants.{Answers, Changes}
 use Rattle.session.specs.declared.stop.Halt.{Halt}
@@ -42,14 +39,14 @@ use Rattle.term_pool.specs.declared.fault.PoolFault.TheVariants.{OutOfMemory as 
 use Rattle.session.specs.Course.{Course, course_after, course_begun, course_remapping, course_to_end, said_behind}
 use Rattle.session.specs.Moment.{Environment, Stage, with_mapped, with_output, with_world, horizon_at}
 use Rattle.session.specs.Needed.{HaveRoom, HaveRoomBefore, needed_anew, needed_at, needed_by_due, needed_in, needed_to_end}
-use Rattle.session.specs.Remapping.{KeepsVersion, Mapped, held_triples, mapped_by}
+use Rattle.session.specs.Remapping.{KeepsVersion, Mapped, mapped_by}
 use Rattle.session.specs.Report.{AnswersQuestion, HasAnswered, HasReported, TellsBy}
 use Rattle.session.specs.Stop.{stop_of_halt, stop_of_unwritten}
 use Rattle.session.specs.Taking.{AppliesDue, AtEnd, AtRest, CutsOff, IsHeldUp, IsWithin, Leads, RemapsPages, StaysWithin, judgement, turn}
 use Rattle.session.proofs.Due.{no_call, within}
 use Rattle.session.proofs.Needed.{all_met, due-none, first_met, needed-end, needed-push, needed-still, needed-watermark, none_left}
+use Rattle.session.proofs.Answers.{answer_held_by, said_by-push}
 use Rattle.session.proofs.Reports.{reported_still, steps-end, steps-none, steps-push, steps-still, steps-watermark}
-use Rattle.session.proofs.Versions.{all_held_by}
 
 -- one delivery more: how many questions were asked
 pub asks-push : (ds : List Delivery) (d : Delivery) → asks (ds ++ d ∷ []) ≡ asks ds + asks (d ∷ [])
@@ -93,9 +90,9 @@ is_answer ds Changes reported is answers = cc
 
 module _ (environment : Environment) (ds : List Delivery) (start : Stage) where
   -- where a delivery doesn't ask, what was said before it is said with it
-  silent : (d : Delivery) (replies : Replies) → said_at meaning (horizon_at start) replies (record { before = ds; delivery = d }) ≡ [] → said_behind (ds ++ d ∷ []) start replies ≡ said_behind ds start replies
+  silent : (d : Delivery) (replies : Replies) → said_at_by environment.routes (horizon_at start) replies (record { before = ds; delivery = d }) ≡ [] → said_behind environment.routes (ds ++ d ∷ []) start replies ≡ said_behind environment.routes ds start replies
   silent d replies none =
-      ap (after_known start.output.bytes) (said-push (horizon_at start) meaning replies ds d ∙ ap (λ l. said meaning (horizon_at start) replies ds ++ l) none ∙ append-nil (said meaning (horizon_at start) replies ds))
+      ap (after_known start.output.bytes) (said_by-push environment.routes (horizon_at start) replies ds d ∙ ap (λ l. said_by environment.routes (horizon_at start) replies ds ++ l) none ∙ append-nil (said_by environment.routes (horizon_at start) replies ds))
 
   -- where no event is due, the steps so far are all of the play
   all_steps : (now : Stage) (others : Replies) (first : List Step) → first_due now.world.buffer ≡ None → first ++ steps_due (version_in_force ds) others now.world ≡ steps_of_play (horizon_at start) others ds → first ≡ steps_of_play (horizon_at start) others ds
@@ -103,10 +100,10 @@ module _ (environment : Environment) (ds : List Delivery) (start : Stage) where
 
   -- where a delivery makes no step and says nothing, what was reported before it is reported with it
   still_reported : (now then : Stage) (reported : ℕ) (d : Delivery) (others : Replies) → then.output ≡ now.output → first_due now.world.buffer ≡ None → first_due then.world.buffer ≡ None →
-      (environment.report ≡ Answers → said_at meaning (horizon_at start) others (record { before = ds; delivery = d }) ≡ []) → steps_at (horizon_at start) others (record { before = ds; delivery = d }) ≡ [] →
-      HasReported environment.report (course_after ds start) reported start now others → HasReported environment.report (course_after (ds ++ d ∷ []) start) reported start then others
+      (environment.report ≡ Answers → said_at_by environment.routes (horizon_at start) others (record { before = ds; delivery = d }) ≡ []) → steps_at (horizon_at start) others (record { before = ds; delivery = d }) ≡ [] →
+      HasReported environment.report (course_after environment.routes ds start) reported start now others → HasReported environment.report (course_after environment.routes (ds ++ d ∷ []) start) reported start then others
   still_reported now then reported d others same rests rests_then says none =
-      reported_still environment.report (course_after ds start) (course_after (ds ++ d ∷ []) start) reported start now then others same
+      reported_still environment.report (course_after environment.routes ds start) (course_after environment.routes (ds ++ d ∷ []) start) reported start now then others same
       (λ answers. silent d others (says answers))
       (λ changes first are. ap (λ l. first ++ l) (steps-none (version_in_force (ds ++ d ∷ [])) others then.world rests_then) ∙ append-nil first
       ∙ all_steps now others first rests are ∙ sym (steps-still (horizon_at start) others ds d none))
@@ -125,7 +122,7 @@ module _ (environment : Environment) (ds : List Delivery) (start : Stage) where
   -- a world at rest is where the play is, with all replies that agree on what was applied
   rest_is : (now : Stage) (reported : ℕ) (at_rest : AtRest environment ds reported start now) (others : Replies) → AgreeOnApplied now.world at_rest.leads.explained.replies others → now.world ≡ following (horizon_at start) others ds
   rest_is now reported at_rest =
-      Explained-rests judgement environment.known (course_after ds start).state (course_after ds start).fetched at_rest.leads.made now.world at_rest.leads.explained at_rest.rests
+      Explained-rests judgement environment.known (course_after environment.routes ds start).state (course_after environment.routes ds start).fetched at_rest.leads.made now.world at_rest.leads.explained at_rest.rests
 
   -- there was room for all that the play needs
   rest_room : (now : Stage) (reported : ℕ) (at_rest : AtRest environment ds reported start now) (others : Replies) → AgreeOnApplied now.world at_rest.leads.explained.replies others → HaveRoom environment.limit (needed_in (horizon_at start) others ds)
@@ -148,7 +145,7 @@ module _ (environment : Environment) (ds : List Delivery) (start : Stage) where
   pub rest_open : (now : Stage) (reported : ℕ) → AtRest environment ds reported start now → now.world.buffer.closed ≡ false
   rest_open now reported at_rest =
       ap (λ (w : ReplayState). w.buffer.closed)
-      (Explained-is judgement environment.known (course_after ds start).state (course_after ds start).fetched at_rest.leads.made now.world at_rest.leads.explained at_rest.rests)
+      (Explained-is judgement environment.known (course_after environment.routes ds start).state (course_after environment.routes ds start).fetched at_rest.leads.made now.world at_rest.leads.explained at_rest.rests)
 
   -- an event is taken
   pub event_taken : (now : Stage) (reported : ℕ) (e : Event) → AtRest environment ds reported start now → AtRest environment (ds ++ Told e ∷ []) reported start (with_world now (after_event now.world e))
@@ -174,7 +171,7 @@ module _ (environment : Environment) (ds : List Delivery) (start : Stage) where
 
   -- the play with a watermark, which says what was said before
   abbrev course_of_mark : ℤ → Course
-  course_of_mark m = course_begun ds (Some (Watermark m)) start
+  course_of_mark m = course_begun environment.routes ds (Some (Watermark m)) start
 
   -- a watermark is taken: there was room for all but what it makes due
   mark_room : (now : Stage) (reported : ℕ) (m : ℤ) (at_rest : AtRest environment ds reported start now) (others : Replies) → AgreeOnApplied now.world at_rest.leads.explained.replies others →
@@ -193,7 +190,7 @@ module _ (environment : Environment) (ds : List Delivery) (start : Stage) where
   mark_reported now reported m at_rest others agree =
       let all : List Step = steps_of_play (horizon_at start) others ds in
       let v : MappingVersion = version_in_force (ds ++ Watermark m ∷ []) in
-      reported_still environment.report (course_after ds start) (course_of_mark m) reported start now (with_world now (after_mark now.world m)) others refl (λ answers. refl)
+      reported_still environment.report (course_after environment.routes ds start) (course_of_mark m) reported start now (with_world now (after_mark now.world m)) others refl (λ answers. refl)
       (λ changes first are. ap (λ l. l ++ steps_due v others (after_mark now.world m)) (all_steps now others first at_rest.rests are)
       ∙ ap (λ u. all ++ steps_due u others (after_mark now.world m)) (version-kept ds (Watermark m) refl)
       ∙ ap (λ w. all ++ steps_due (version_in_force ds) others (after_mark w m)) (rest_is now reported at_rest others agree)
@@ -211,10 +208,10 @@ module _ (environment : Environment) (ds : List Delivery) (start : Stage) where
 
   -- what was reported is reported of the play to the end, whose further steps are those of what waits
   end_reported : (now : Stage) (reported : ℕ) (at_rest : AtRest environment ds reported start now) (others : Replies) → AgreeOnApplied now.world at_rest.leads.explained.replies others →
-      HasReported environment.report (course_to_end ds start) reported start (with_world now (after_end now.world)) others
+      HasReported environment.report (course_to_end environment.routes ds start) reported start (with_world now (after_end now.world)) others
   end_reported now reported at_rest others agree =
       let all : List Step = steps_of_play (horizon_at start) others ds in
-      reported_still environment.report (course_after ds start) (course_to_end ds start) reported start now (with_world now (after_end now.world)) others refl (λ answers. refl)
+      reported_still environment.report (course_after environment.routes ds start) (course_to_end environment.routes ds start) reported start now (with_world now (after_end now.world)) others refl (λ answers. refl)
       (λ changes first are. ap (λ l. l ++ steps_due (version_in_force ds) others (after_end now.world)) (all_steps now others first at_rest.rests are)
       ∙ ap (λ w. all ++ steps_due (version_in_force ds) others (after_end w)) (rest_is now reported at_rest others agree)
       ∙ sym (steps-end (horizon_at start) others ds))
@@ -234,7 +231,7 @@ module _ (environment : Environment) (ds : List Delivery) (start : Stage) where
   }
 
   -- the end is taken: the world leads to the play to the end
-  abbrev end_leads : (now : Stage) (reported : ℕ) → AtRest environment ds reported start now → Leads environment (course_to_end ds start) reported start (with_world now (after_end now.world))
+  abbrev end_leads : (now : Stage) (reported : ℕ) → AtRest environment ds reported start now → Leads environment (course_to_end environment.routes ds start) reported start (with_world now (after_end now.world))
   end_leads now reported at_rest = record {
     made = at_rest.leads.made;
     explained = Explained-end judgement environment.known (horizon_at start) ds at_rest.leads.made now.world at_rest.leads.explained at_rest.rests;
@@ -261,7 +258,7 @@ module _ (environment : Environment) (ds : List Delivery) (start : Stage) where
           explained = there.explained;
           counted = there.counted;
           documents = there.documents;
-          says = λ others agree. reported_still environment.report (course_of_mark m) (course_after (ds ++ Watermark m ∷ []) start) reported_now start then then others refl
+          says = λ others agree. reported_still environment.report (course_of_mark m) (course_after environment.routes (ds ++ Watermark m ∷ []) start) reported_now start then then others refl
               (λ answers. silent (Watermark m) others refl) (λ changes first are. are) (there.says others agree);
           roomed = there.roomed;
         };
@@ -275,17 +272,17 @@ module _ (environment : Environment) (ds : List Delivery) (start : Stage) where
   pub end_taken : (now then : Stage) (reported reported_now : ℕ) → AppliesDue environment reported reported_now (with_world now (after_end now.world)) then →
       KeepsVersion now.mapped then.mapped now.world.played.records then.world.played.records → now.output.faults ≤ then.output.faults → AtRest environment ds reported start now → AtEnd environment ds reported_now start then
   end_taken now then reported reported_now applies keeps more at_rest = record {
-    leads = applies.leads (course_to_end ds start) start at_rest.mapped (end_leads now reported at_rest);
+    leads = applies.leads (course_to_end environment.routes ds start) start at_rest.mapped (end_leads now reported at_rest);
     rests = applies.rests;
     mapped = keeps (version_in_force ds) at_rest.mapped;
     later = omega (arith, at_rest.later, more);
   }
 
   -- a world at rest is where its play is
-  pub rest_within : (now : Stage) (reported : ℕ) → AtRest environment ds reported start now → IsWithin (NotApplied Starved) environment (course_begun ds None start) (λ replies. following (horizon_at start) replies ds) start now
+  pub rest_within : (now : Stage) (reported : ℕ) → AtRest environment ds reported start now → IsWithin (NotApplied Starved) environment (course_begun environment.routes ds None start) (λ replies. following (horizon_at start) replies ds) start now
   rest_within now reported at_rest =
-      let There : List Delivery → Type 0 = λ l. IsWithin (NotApplied Starved) environment (record (course_after l start) { bytes = said_behind ds start }) (λ replies. following (horizon_at start) replies ds) start now in
-      subst There (sym (append-nil ds)) (within Starved environment (course_after ds start) (λ replies. following (horizon_at start) replies ds) reported start now now.counts (no_call now.counts) (record { leads = at_rest.leads; steps = 0; is = rest_is now reported at_rest }))
+      let There : List Delivery → Type 0 = λ l. IsWithin (NotApplied Starved) environment (record (course_after environment.routes l start) { bytes = said_behind environment.routes ds start }) (λ replies. following (horizon_at start) replies ds) start now in
+      subst There (sym (append-nil ds)) (within Starved environment (course_after environment.routes ds start) (λ replies. following (horizon_at start) replies ds) reported start now now.counts (no_call now.counts) (record { leads = at_rest.leads; steps = 0; is = rest_is now reported at_rest }))
 
   -- a watermark is taken, and some of what is due is applied
   pub mark_begun : (halt : Halt) (now then : Stage) (reported : ℕ) (m : ℤ) → StaysWithin halt environment reported (with_world now (after_mark now.world m)) then → AtRest environment ds reported start now →
@@ -300,9 +297,9 @@ module _ (environment : Environment) (ds : List Delivery) (start : Stage) where
 
   -- the end is taken, and some of what waits is applied
   pub end_begun : (halt : Halt) (now then : Stage) (reported : ℕ) → StaysWithin halt environment reported (with_world now (after_end now.world)) then → AtRest environment ds reported start now →
-      IsWithin halt environment (course_to_end ds start) (λ replies. after_end (following (horizon_at start) replies ds)) start then
+      IsWithin halt environment (course_to_end environment.routes ds start) (λ replies. after_end (following (horizon_at start) replies ds)) start then
   end_begun halt now then reported stays at_rest =
-      stays (course_to_end ds start) (λ replies. after_end (following (horizon_at start) replies ds)) start at_rest.mapped (record {
+      stays (course_to_end environment.routes ds start) (λ replies. after_end (following (horizon_at start) replies ds)) start at_rest.mapped (record {
         leads = end_leads now reported at_rest;
         steps = 0;
         is = λ others agree. ap after_end (rest_is now reported at_rest others
@@ -311,45 +308,45 @@ module _ (environment : Environment) (ds : List Delivery) (start : Stage) where
 
   -- the answer of a world at rest is that of its play
   answer_is : (now : Stage) (q : Question) (reported matched : ℕ) (at_rest : AtRest environment ds reported start now) (others : Replies) → AgreeOnApplied now.world at_rest.leads.explained.replies others → reported ≡ asks ds → matched ≡ matches ds →
-      answer_section reported matched (held_triples now.mapped now.world.played.records) q ≡ said_at meaning (horizon_at start) others (record { before = ds; delivery = asking q })
+      answer_held environment.routes reported matched now.mapped now.world.played.records q ≡ said_at_by environment.routes (horizon_at start) others (record { before = ds; delivery = asking q })
   answer_is now q reported matched at_rest others agree asked counted =
-      ap (λ n. answer_section n matched (held_triples now.mapped now.world.played.records) q) asked
-      ∙ ap (λ n. answer_section (asks ds) n (held_triples now.mapped now.world.played.records) q) counted
-      ∙ ap (λ triples. answer_section (asks ds) (matches ds) triples q) (all_held_by (version_in_force ds) now.mapped now.world.played.records at_rest.mapped)
-      ∙ ap (λ (w : ReplayState). answer_section (asks ds) (matches ds) (union triple_cmp (meaning (version_in_force ds)) w.played.records) q) (rest_is now reported at_rest others agree)
-      ∙ ap (answer_said meaning (horizon_at start) others ds) (sym (question-asked q))
+      ap (λ n. answer_held environment.routes n matched now.mapped now.world.played.records q) asked
+      ∙ ap (λ n. answer_held environment.routes (asks ds) n now.mapped now.world.played.records q) counted
+      ∙ answer_held_by environment.routes (asks ds) (matches ds) (version_in_force ds) now.mapped now.world.played.records q at_rest.mapped
+      ∙ ap (λ (w : ReplayState). answer_text environment.routes (asks ds) (matches ds) (meaning (version_in_force ds)) w.played.records q) (rest_is now reported at_rest others agree)
+      ∙ ap (answer_by environment.routes (horizon_at start) others ds) (sym (question-asked q))
 
   -- a question is answered where questions are, and passed over where changes are reported
   ask_reported : (report : Report) (now : Stage) (q : Question) (reported matched reported_now : ℕ) (out : Output) (others : Replies) → report ≡ environment.report → first_due now.world.buffer ≡ None →
-      AnswersQuestion report reported matched q (held_triples now.mapped now.world.played.records) now.output out (Ok reported_now) →
-      (report ≡ Answers → answer_section reported matched (held_triples now.mapped now.world.played.records) q ≡ said_at meaning (horizon_at start) others (record { before = ds; delivery = asking q })) →
-      HasReported report (course_after ds start) reported start now others → HasReported report (course_after (ds ++ asking q ∷ []) start) reported_now start (with_output now out) others
+      AnswersQuestion report reported q (answer_held environment.routes reported matched now.mapped now.world.played.records q) now.output out (Ok reported_now) →
+      (report ≡ Answers → answer_held environment.routes reported matched now.mapped now.world.played.records q ≡ said_at_by environment.routes (horizon_at start) others (record { before = ds; delivery = asking q })) →
+      HasReported report (course_after environment.routes ds start) reported start now others → HasReported report (course_after environment.routes (ds ++ asking q ∷ []) start) reported_now start (with_output now out) others
   ask_reported Answers now q reported matched reported_now out others is rests answers said_there x =
-      let answer : List ℕ = answer_section reported matched (held_triples now.mapped now.world.played.records) q in
+      let answer : List ℕ = answer_held environment.routes reported matched now.mapped now.world.played.records q in
       answers.1.outcome
       ∙ ap (λ b. after_known b answer) x
-      ∙ after_twice start.output.bytes (said meaning (horizon_at start) others ds) answer
-      ∙ ap (λ l. after_known start.output.bytes (said meaning (horizon_at start) others ds ++ l)) (said_there refl)
-      ∙ ap (after_known start.output.bytes) (sym (said-push (horizon_at start) meaning others ds (asking q)))
+      ∙ after_twice start.output.bytes (said_by environment.routes (horizon_at start) others ds) answer
+      ∙ ap (λ l. after_known start.output.bytes (said_by environment.routes (horizon_at start) others ds ++ l)) (said_there refl)
+      ∙ ap (after_known start.output.bytes) (sym (said_by-push environment.routes (horizon_at start) others ds (asking q)))
   ask_reported Changes now q reported matched reported_now out others is rests answers said_there x =
-      let passed : HasReported Changes (course_after (ds ++ asking q ∷ []) start) reported start (with_output now out) others = record {
+      let passed : HasReported Changes (course_after environment.routes (ds ++ asking q ∷ []) start) reported start (with_output now out) others = record {
         steps = x.steps;
         are = ap (λ l. x.steps ++ l) (steps-none (version_in_force (ds ++ asking q ∷ [])) others now.world rests) ∙ append-nil x.steps
             ∙ all_steps now others x.steps rests x.are ∙ sym (steps-still (horizon_at start) others ds (asking q) (asking-steps (horizon_at start) others ds q));
         counted = x.counted;
         bytes = ap (λ (o : Output). o.bytes) answers.1 ∙ x.bytes;
       } in
-      subst (λ n. HasReported Changes (course_after (ds ++ asking q ∷ []) start) n start (with_output now out) others) (sym answers.0) passed
+      subst (λ n. HasReported Changes (course_after environment.routes (ds ++ asking q ∷ []) start) n start (with_output now out) others) (sym answers.0) passed
 
-  ask_answered : (report : Report) (q : Question) (reported matched reported_now : ℕ) (triples : List Triple) (old out : Output) → AnswersQuestion report reported matched q triples old out (Ok reported_now) → HasAnswered report reported ds → HasAnswered report reported_now (ds ++ asking q ∷ [])
-  ask_answered Answers q reported matched reported_now triples old out answers is = omega (arith, answers.0, is, asks-push ds (asking q))
-  ask_answered Changes q reported matched reported_now triples old out answers is = tt
+  ask_answered : (report : Report) (q : Question) (reported reported_now : ℕ) (text : List ℕ) (old out : Output) → AnswersQuestion report reported q text old out (Ok reported_now) → HasAnswered report reported ds → HasAnswered report reported_now (ds ++ asking q ∷ [])
+  ask_answered Answers q reported reported_now text old out answers is = omega (arith, answers.0, is, asks-push ds (asking q))
+  ask_answered Changes q reported reported_now text old out answers is = tt
 
-  ask_later : (report : Report) (q : Question) (reported matched reported_now : ℕ) (triples : List Triple) (old out : Output) → AnswersQuestion report reported matched q triples old out (Ok reported_now) → old.faults ≤ out.faults
-  ask_later Answers q reported matched reported_now triples old out answers = answers.1.later
-  ask_later Changes q reported matched reported_now triples old out answers = rw answers.1 (omega arith)
+  ask_later : (report : Report) (q : Question) (reported reported_now : ℕ) (text : List ℕ) (old out : Output) → AnswersQuestion report reported q text old out (Ok reported_now) → old.faults ≤ out.faults
+  ask_later Answers q reported reported_now text old out answers = answers.1.later
+  ask_later Changes q reported reported_now text old out answers = rw answers.1 (omega arith)
 
-  pub ask_taken : (now : Stage) (q : Question) (reported matched reported_now : ℕ) (out : Output) → AnswersQuestion environment.report reported matched q (held_triples now.mapped now.world.played.records) now.output out (Ok reported_now) →
+  pub ask_taken : (now : Stage) (q : Question) (reported matched reported_now : ℕ) (out : Output) → AnswersQuestion environment.report reported q (answer_held environment.routes reported matched now.mapped now.world.played.records q) now.output out (Ok reported_now) →
       matched ≡ matches ds → AtRest environment ds reported start now → AtRest environment (ds ++ asking q ∷ []) reported_now start (with_output now out)
   ask_taken now q reported matched reported_now out answers counted at_rest = record {
     leads = record {
@@ -366,10 +363,10 @@ module _ (environment : Environment) (ds : List Delivery) (start : Stage) where
           (λ asked. answer_is now q reported matched at_rest others before (is_answer ds environment.report reported at_rest.answered asked) counted)
           (at_rest.leads.says others before);
     };
-    answered = ask_answered environment.report q reported matched reported_now _ now.output out answers at_rest.answered;
+    answered = ask_answered environment.report q reported reported_now _ now.output out answers at_rest.answered;
     rests = at_rest.rests;
     mapped = still_mapped now.world.played.records now.world.played.records (asking q) (asking-mapping q) now.mapped now.mapped (λ version is. is) at_rest.mapped;
-    later = omega (arith, at_rest.later, ask_later environment.report q reported matched reported_now _ now.output out answers);
+    later = omega (arith, at_rest.later, ask_later environment.report q reported reported_now _ now.output out answers);
   }
 
   -- another version of the mapping comes into force, by which every page is mapped: there was room for this too
@@ -389,7 +386,7 @@ module _ (environment : Environment) (ds : List Delivery) (start : Stage) where
   mapping_reported : (report : Report) (now : Stage) (v : MappingVersion) (reported reported_now : ℕ) (mapped : Mapped) (out : Output) (others : Replies) → first_due now.world.buffer ≡ None →
       now.mapped ≡ mapped_by (version_in_force ds) now.world.played.records → now.world ≡ following (horizon_at start) others ds →
       TellsBy report reported (steps_anew v now.world.played.records now.mapped.by_two) reported_now now.output out →
-      HasReported report (course_after ds start) reported start now others → HasReported report (course_after (ds ++ Mapping v ∷ []) start) reported_now start (with_mapped (with_output now out) mapped) others
+      HasReported report (course_after environment.routes ds start) reported start now others → HasReported report (course_after environment.routes (ds ++ Mapping v ∷ []) start) reported_now start (with_mapped (with_output now out) mapped) others
   mapping_reported Answers now v reported reported_now mapped out others rests is_mapped is tells x = ap (λ (o : Output). o.bytes) tells.1 ∙ x ∙ sym (silent (Mapping v) others refl)
   mapping_reported Changes now v reported reported_now mapped out others rests is_mapped is tells x =
       let anew : List Step = steps_anew v now.world.played.records now.mapped.by_two in
@@ -434,8 +431,8 @@ module _ (environment : Environment) (ds : List Delivery) (start : Stage) where
 
   -- pages were mapped anew and told behind the play of these deliveries
   pub remapping_reported : (report : Report) (now : Stage) (reported reported_now : ℕ) (pages : List Step) (mapped : Mapped) (out : Output) (others : Replies) → first_due now.world.buffer ≡ None →
-      TellsBy report reported pages reported_now now.output out → HasReported report (course_after ds start) reported start now others →
-      HasReported report (course_remapping pages ds start) reported_now start (with_mapped (with_output now out) mapped) others
+      TellsBy report reported pages reported_now now.output out → HasReported report (course_after environment.routes ds start) reported start now others →
+      HasReported report (course_remapping environment.routes pages ds start) reported_now start (with_mapped (with_output now out) mapped) others
   remapping_reported Answers now reported reported_now pages mapped out others rests tells x = ap (λ (o : Output). o.bytes) tells.1 ∙ x
   remapping_reported Changes now reported reported_now pages mapped out others rests tells x = record {
     steps = x.steps ++ pages;
@@ -445,7 +442,7 @@ module _ (environment : Environment) (ds : List Delivery) (start : Stage) where
   }
 
   abbrev pub remapping_leads : (now : Stage) (reported reported_now : ℕ) (pages : List Step) (mapped : Mapped) (out : Output) → TellsBy environment.report reported pages reported_now now.output out → AtRest environment ds reported start now →
-      Leads environment (course_remapping pages ds start) reported_now start (with_mapped (with_output now out) mapped)
+      Leads environment (course_remapping environment.routes pages ds start) reported_now start (with_mapped (with_output now out) mapped)
   remapping_leads now reported reported_now pages mapped out tells at_rest = record {
     made = at_rest.leads.made;
     explained = at_rest.leads.explained;
@@ -457,7 +454,7 @@ module _ (environment : Environment) (ds : List Delivery) (start : Stage) where
 
   -- how many records there are then
   remapping_many : (report : Report) (now : Stage) (reported reported_now : ℕ) (pages : List Step) (out : Output) (others : Replies) → first_due now.world.buffer ≡ None →
-      TellsBy report reported pages reported_now now.output out → HasReported report (course_after ds start) reported start now others → report ≡ Changes → reported_now ≡ changes (steps_of_play (horizon_at start) others ds ++ pages)
+      TellsBy report reported pages reported_now now.output out → HasReported report (course_after environment.routes ds start) reported start now others → report ≡ Changes → reported_now ≡ changes (steps_of_play (horizon_at start) others ds ++ pages)
   remapping_many Answers now reported reported_now pages out others rests tells x told = cc
   remapping_many Changes now reported reported_now pages out others rests tells x told = tells.counted x.steps x.counted ∙ ap (λ l. changes (l ++ pages)) (all_steps now others x.steps rests x.are)
 
@@ -487,7 +484,7 @@ mark_cut_off halt environment m reported matched now then held_up keeps stays =
 
 -- a question was answered in part
 pub ask_cut_off : (report : Report) (why : Unwritten) (environment : Environment) (q : Question) (reported matched : ℕ) (now : Stage) (out : Output) → environment.report ≡ report →
-    AnswersQuestion report reported matched q (held_triples now.mapped now.world.played.records) now.output out (Err why) → CutsOff (stop_of_unwritten why) environment (turn reported matched (asking q)) now (with_output now out)
+    AnswersQuestion report reported q (answer_held environment.routes reported matched now.mapped now.world.played.records q) now.output out (Err why) → CutsOff (stop_of_unwritten why) environment (turn reported matched (asking q)) now (with_output now out)
 ask_cut_off Answers why environment q reported matched now out is prints = inl (why, refl, record { answers = is; question = q; is = refl; world = refl; mapped = refl; counts = refl; cut_short = prints.outcome })
 ask_cut_off Changes why environment q reported matched now out is never = absurd never
 

@@ -67,11 +67,11 @@ module _ (size : ℕ) (start now : Stage) (nothing : start.world ≡ nothing_del
 
   pub after_is : (ds : List Delivery) → AtRest (drill_environment size) ds 0 start now → now.world ≡ following None (replies_of size) ds
   after_is ds at_rest =
-      course_is (course_after ds start) 0 at_rest.leads at_rest.rests at_rest.mapped ∙ ap (λ (w : ReplayState). following w.buffer.horizon (replies_of size) ds) nothing
+      course_is (course_after None ds start) 0 at_rest.leads at_rest.rests at_rest.mapped ∙ ap (λ (w : ReplayState). following w.buffer.horizon (replies_of size) ds) nothing
 
   pub end_is : (ds : List Delivery) (reported : ℕ) → AtEnd (drill_environment size) ds reported start now → now.world ≡ following_to_end None (replies_of size) ds
   end_is ds reported at_end =
-      course_is (course_to_end ds start) reported at_end.leads at_end.rests at_end.mapped ∙ ap (λ (w : ReplayState). following_to_end w.buffer.horizon (replies_of size) ds) nothing
+      course_is (course_to_end None ds start) reported at_end.leads at_end.rests at_end.mapped ∙ ap (λ (w : ReplayState). following_to_end w.buffer.horizon (replies_of size) ds) nothing
 
   unapplied_none : (halt : Halt) (made : ℕ) → HasCountedAt halt start.counts now.counts made now.world.played.side → failed_events now.world.played.side ≡ []
   unapplied_none (NotApplied Full) made counted = none_failed _ _ _ counted.failed still
@@ -142,8 +142,8 @@ module _ (run : DrillRun) (ds after : List Delivery) (d : Delivery) (all : drill
       cc
 
   module _ (folder : List ℕ) (out : Output) (world : WorldState) (taken : HasTakenFirst run ds out world) where
-    environment_is : environment Answers (told_of run.pages.size) folder world.limit ≡ drill_environment run.size
-    environment_is = ap (λ c. environment Answers c folder world.limit) taken.told ∙ ap (λ n. environment Answers (told_of run.size) folder n) taken.limit
+    environment_is : environment None Answers (told_of run.pages.size) folder world.limit ≡ drill_environment run.size
+    environment_is = ap (λ c. environment None Answers c folder world.limit) taken.told ∙ ap (λ n. environment None Answers (told_of run.size) folder n) taken.limit
 
     abbrev pub before : Stage
     before = drill_stage run.pages out world
@@ -153,7 +153,7 @@ module _ (run : DrillRun) (ds after : List Delivery) (d : Delivery) (all : drill
 
     -- it is taken and counted
     pub next_taken : (pages_now : Source) (counts_now : DrillCounts) (answer : Option Taken) (reported_now : ℕ) (out_now : Output) (world_now : WorldState) → told_of pages_now.size ≡ told_of run.pages.size →
-        TakesDelivery (environment Answers (told_of run.pages.size) folder world.limit) (turn 0 0 d) reported_now before (drill_stage pages_now out_now world_now) → answer ≡ answer_of world.replay.buffer d → counts_now ≡ with_answer answer run.counts →
+        TakesDelivery (environment None Answers (told_of run.pages.size) folder world.limit) (turn 0 0 d) reported_now before (drill_stage pages_now out_now world_now) → answer ≡ answer_of world.replay.buffer d → counts_now ≡ with_answer answer run.counts →
         world_now.limit ≡ world.limit → (HoldsWithin world.limit world → HoldsWithin world.limit world_now) → HasTakenFirst (record run { pages = pages_now; counts = counts_now }) (ds ++ d ∷ []) out_now world_now
     next_taken pages_now counts_now answer reported_now out_now world_now told takes answered counted limit held = record {
       start = taken.start;
@@ -177,7 +177,7 @@ module _ (run : DrillRun) (ds after : List Delivery) (d : Delivery) (all : drill
       abbrev pub now : Stage
       now = drill_stage pages_now out_now world_now
 
-      in_part : (halt : Halt) → IsUntaken halt before now ⊎ IsWithin halt (drill_environment run.size) (course_begun ds (Some d) taken.start) (λ replies. entered (following taken.start.world.buffer.horizon replies ds) d) taken.start now →
+      in_part : (halt : Halt) → IsUntaken halt before now ⊎ IsWithin halt (drill_environment run.size) (course_begun None ds (Some d) taken.start) (λ replies. entered (following taken.start.world.buffer.horizon replies ds) d) taken.start now →
           (world_now.replay ≡ following None (replies_of run.size) ds) ⊎ ((steps : ℕ) × (world_now.replay ≡ after_some (replies_of run.size) steps (entered (following None (replies_of run.size) ds) d)))
       in_part halt part = ⊎_elim (λ none. inl (untaken halt none)) (λ some. inr (some.steps, within_is run.size taken.start now taken.nothing refl halt _ _ some ∙ ap (λ (w : ReplayState). after_some (replies_of run.size) some.steps (entered (following w.buffer.horizon (replies_of run.size) ds) d)) taken.nothing)) part
         where
@@ -206,13 +206,13 @@ module _ (run : DrillRun) (ds after : List Delivery) (d : Delivery) (all : drill
           mapped = x.mapped (version_in_force ds) taken.at_rest.mapped ∙ ap (λ v. mapped_by v world_now.replay.played.records) (part_by_first run.size ds (d ∷ after) all)
 
           by : (halt : Halt) → IsHeldUp halt (drill_environment run.size) out now →
-              IsUntaken halt before now ⊎ IsWithin halt (drill_environment run.size) (course_begun ds (Some d) taken.start) (λ replies. entered (following taken.start.world.buffer.horizon replies ds) d) taken.start now → stop_of_halt halt ≡ Refused
+              IsUntaken halt before now ⊎ IsWithin halt (drill_environment run.size) (course_begun None ds (Some d) taken.start) (λ replies. entered (following taken.start.world.buffer.horizon replies ds) d) taken.start now → stop_of_halt halt ≡ Refused
           by (NotApplied Full) full part = absurd (full_never run.size world_now.replay (mapped_in world_now) is_size (begun at) mapped full)
           by (NotApplied OutOfMemory) held_up part = refl
           by (Untold why) held_up part = absurd (⊎_elim (λ never. never) (λ within. within.says) part)
 
       -- it isn't taken wholly
-      pub cut_off : IsSize run.size → (stop : Stop) → CutsOff stop (environment Answers (told_of run.pages.size) folder world.limit) (turn 0 0 d) before now → IsDrillHalted run.size ds d stop world_now
+      pub cut_off : IsSize run.size → (stop : Stop) → CutsOff stop (environment None Answers (told_of run.pages.size) folder world.limit) (turn 0 0 d) before now → IsDrillHalted run.size ds d stop world_now
       cut_off is_size stop cuts = ⊎_elim
           (λ printing. absurd (no_question printing.2.question printing.2.is))
           (⊎_elim
@@ -293,8 +293,8 @@ all_taken run size done out world same low high taken =
 -- ---- the end of a drill
 
 module _ (run : DrillRun) (folder : List ℕ) (out : Output) (world : WorldState) (taken : HasTakenFirst run (drill run.size) out world) (pages_now : Source) (out_now : Output) (world_now : WorldState) where
-  environment_at_end : environment Answers (told_of run.pages.size) folder world.limit ≡ drill_environment run.size
-  environment_at_end = ap (λ c. environment Answers c folder world.limit) taken.told ∙ ap (λ n. environment Answers (told_of run.size) folder n) taken.limit
+  environment_at_end : environment None Answers (told_of run.pages.size) folder world.limit ≡ drill_environment run.size
+  environment_at_end = ap (λ c. environment None Answers c folder world.limit) taken.told ∙ ap (λ n. environment None Answers (told_of run.size) folder n) taken.limit
 
   abbrev pub stage_before : Stage
   stage_before = drill_stage run.pages out world
@@ -314,21 +314,21 @@ module _ (run : DrillRun) (folder : List ℕ) (out : Output) (world : WorldState
   }
 
   -- all was applied
-  pub end_reached : (reported_now : ℕ) → AppliesDue (environment Answers (told_of run.pages.size) folder world.limit) 0 reported_now (with_world stage_before (after_end world.replay)) stage_now →
+  pub end_reached : (reported_now : ℕ) → AppliesDue (environment None Answers (told_of run.pages.size) folder world.limit) 0 reported_now (with_world stage_before (after_end world.replay)) stage_now →
       KeepsVersion (mapped_in world) (mapped_in world_now) world.replay.played.records world_now.replay.played.records → out.faults ≤ out_now.faults → world_now.replay ≡ drilled run.size
   end_reached reported_now applies keeps more =
       end_is run.size taken.start stage_now taken.nothing refl (drill run.size) reported_now
       (end_taken (drill_environment run.size) (drill run.size) taken.start stage_before stage_now 0 reported_now
       (subst (λ s. AppliesDue s 0 reported_now (with_world stage_before (after_end world.replay)) stage_now) environment_at_end applies) keeps more taken.at_rest)
 
-  end_within : (halt : Halt) → StaysWithin halt (environment Answers (told_of run.pages.size) folder world.limit) 0 (with_world stage_before (after_end world.replay)) stage_now →
-      IsWithin halt (drill_environment run.size) (course_to_end (drill run.size) taken.start) (λ replies. after_end (following taken.start.world.buffer.horizon replies (drill run.size))) taken.start stage_now
+  end_within : (halt : Halt) → StaysWithin halt (environment None Answers (told_of run.pages.size) folder world.limit) 0 (with_world stage_before (after_end world.replay)) stage_now →
+      IsWithin halt (drill_environment run.size) (course_to_end None (drill run.size) taken.start) (λ replies. after_end (following taken.start.world.buffer.horizon replies (drill run.size))) taken.start stage_now
   end_within halt stays =
       end_begun (drill_environment run.size) (drill run.size) taken.start halt stage_before stage_now 0
       (subst (λ s. StaysWithin halt s 0 (with_world stage_before (after_end world.replay)) stage_now) environment_at_end stays) taken.at_rest
 
   -- not all was applied
-  pub end_halted : (halt : Halt) → StaysWithin halt (environment Answers (told_of run.pages.size) folder world.limit) 0 (with_world stage_before (after_end world.replay)) stage_now → StandsAtEnd run.size world_now.replay
+  pub end_halted : (halt : Halt) → StaysWithin halt (environment None Answers (told_of run.pages.size) folder world.limit) 0 (with_world stage_before (after_end world.replay)) stage_now → StandsAtEnd run.size world_now.replay
   end_halted halt stays =
       let within = end_within halt stays in
       record {
@@ -338,8 +338,8 @@ module _ (run : DrillRun) (folder : List ℕ) (out : Output) (world : WorldState
       }
 
   -- for want of memory alone
-  pub end_starved : IsSize run.size → (halt : Halt) → StaysWithin halt (environment Answers (told_of run.pages.size) folder world.limit) 0 (with_world stage_before (after_end world.replay)) stage_now →
-      KeepsVersion (mapped_in world) (mapped_in world_now) world.replay.played.records world_now.replay.played.records → IsHeldUp halt (environment Answers (told_of run.pages.size) folder world.limit) out stage_now → halt ≡ NotApplied OutOfMemory
+  pub end_starved : IsSize run.size → (halt : Halt) → StaysWithin halt (environment None Answers (told_of run.pages.size) folder world.limit) 0 (with_world stage_before (after_end world.replay)) stage_now →
+      KeepsVersion (mapped_in world) (mapped_in world_now) world.replay.played.records world_now.replay.played.records → IsHeldUp halt (environment None Answers (told_of run.pages.size) folder world.limit) out stage_now → halt ≡ NotApplied OutOfMemory
   end_starved is_size (NotApplied OutOfMemory) stays keeps held_up = refl
   end_starved is_size (NotApplied Full) stays keeps full =
       absurd (full_never run.size world_now.replay (mapped_in world_now) is_size (inr (end_halted (NotApplied Full) stays)) (end_first keeps)

@@ -33,6 +33,7 @@ use Rattle.transcript.specs.Printing.{Output}
 use Rattle.patch_stream.specs.Stream.{Step, step, steps_due}
 use Rattle.session.specs.Counts.{SourceCounts, HasCounted, HasCountedUnapplied, HasGoneOn, RoseBy}
 use Rattle.session.specs.Course.{Course}
+use Rattle.subgraph.specs.declared.routes.Route.{Route}
 use Rattle.session.specs.declared.report.Report.{Report}
 use Rattle.session.specs.declared.report.Report.TheVariants.{Answers}
 use Rattle.session.specs.declared.stop.Halt.TheVariants.{Unapplied as NotApplied, Untold}
@@ -61,20 +62,20 @@ pub record Rises (outcome : Outcome) (before now : SourceCounts) : Type 0 where
   pub more_misses : before.misses ≤ now.misses
 
 -- a reply that agrees with what the source has is honest
-pub reply_is_honest : (report : Report) (contents : Option Contents) (folder : List ℕ) (limit : ℕ) (x : EntityId) (r : ℕ) (reply : Result Bytes Cause) →
-    IsReply contents folder x r reply → (there : ℕ → Option Bytes) → (environment report contents folder limit).known ≡ Some there →
+pub reply_is_honest : (routes : Option (List Route)) (report : Report) (contents : Option Contents) (folder : List ℕ) (limit : ℕ) (x : EntityId) (r : ℕ) (reply : Result Bytes Cause) →
+    IsReply contents folder x r reply → (there : ℕ → Option Bytes) → (environment routes report contents folder limit).known ≡ Some there →
     (reply ≡ Err Failed) ⊎ (reply ≡ reply_there judgement x (there r))
-reply_is_honest report None folder limit x r reply is there known = cc
-reply_is_honest report (Some c) folder limit x r (Ok bytes) is there known =
+reply_is_honest routes report None folder limit x r reply is there known = cc
+reply_is_honest routes report (Some c) folder limit x r (Ok bytes) is there known =
     let same : c folder ≡ there = cc in
     let found : there r ≡ Some bytes = ap (λ (f : ℕ → Option Bytes). f r) (sym same) ∙ is.1 in
     inr (rw (found, is.0) refl)
-reply_is_honest report (Some c) folder limit x r (Err Missing) is there known =
+reply_is_honest routes report (Some c) folder limit x r (Err Missing) is there known =
     let same : c folder ≡ there = cc in
     let found : there r ≡ None = ap (λ (f : ℕ → Option Bytes). f r) (sym same) ∙ is in
     inr (rw found refl)
-reply_is_honest report (Some c) folder limit x r (Err Failed) is there known = inl refl
-reply_is_honest report (Some c) folder limit x r (Err (NoDocument unfit)) is there known =
+reply_is_honest routes report (Some c) folder limit x r (Err Failed) is there known = inl refl
+reply_is_honest routes report (Some c) folder limit x r (Err (NoDocument unfit)) is there known =
     let same : c folder ≡ there = cc in
     inr (unfit_there judgement x unfit (c folder r) is ∙ ap (λ (f : ℕ → Option Bytes). reply_there judgement x (f r)) same)
 
@@ -169,23 +170,23 @@ pub record IsApplied (contents : Option Contents) (folder : List ℕ) (limit : �
       HaveRoom limit (cond (is_fetching before.world applied.event) (needed_for version before.world.played.records applied.event.entity (revision_wanted before.world applied.event) applies.reply) [])
 
 -- the world still leads to its play, one application further
-applies-on : (report : Report) (contents : Option Contents) (folder : List ℕ) (limit : ℕ) (before now : Stage) → IsApplied contents folder limit before now →
+applies-on : (routes : Option (List Route)) (report : Report) (contents : Option Contents) (folder : List ℕ) (limit : ℕ) (before now : Stage) → IsApplied contents folder limit before now →
     (course : Course) (reported : ℕ) (start : Stage) → before.mapped ≡ mapped_by course.version before.world.played.records →
-    (x : Leads (environment report contents folder limit) course reported start before) → LeadsOn (environment report contents folder limit) course reported start before now x
-applies-on report contents folder limit before now is course reported start is_mapped x =
-    let known : Option (ℕ → Option Bytes) = (environment report contents folder limit).known in
+    (x : Leads (environment routes report contents folder limit) course reported start before) → LeadsOn (environment routes report contents folder limit) course reported start before now x
+applies-on routes report contents folder limit before now is course reported start is_mapped x =
+    let known : Option (ℕ → Option Bytes) = (environment routes report contents folder limit).known in
     let a = is.applies in
     let e : Event = is.applied.event in
     let old : ReplayState = before.world in
     let made : ℕ = x.made + cond (is_fetching old e) 1 0 in
     let next : Next judgement known course.state course.fetched x.made old e a.reply x.explained =
     Explained-next judgement known course.state course.fetched x.made old e a.reply x.explained a.due
-    (λ there told _. reply_is_honest report contents folder limit e.entity _ a.reply a.is_reply there told)
+    (λ there told _. reply_is_honest routes report contents folder limit e.entity _ a.reply a.is_reply there told)
     (reply_gives contents folder e.entity _ a.reply a.is_reply) in
     let same : (others : Replies) → AgreeOnApplied (next_by old e a.reply) next.explained.replies others → next_by old e a.reply ≡ after_applying others old (Some e) =
     λ others agree. next.is_next others agree ∙ ap (after_applying others old) a.due in
     let Counted : ReplayState → Type 0 = λ w. HasCounted start.counts now.counts made w.played.side in
-    let There : ReplayState → Type 0 = λ w. LeadsOn (environment report contents folder limit) course reported start before (with_world now w) x in
+    let There : ReplayState → Type 0 = λ w. LeadsOn (environment routes report contents folder limit) course reported start before (with_world now w) x in
     let there : There (next_by old e a.reply) = record {
       made = made;
       explained = next.explained;
@@ -210,12 +211,12 @@ applies-on report contents folder limit before now is course reported start is_m
     subst There (sym a.new_is) there
 
 -- and it is told
-pub applies-leads : (report : Report) (contents : Option Contents) (folder : List ℕ) (limit : ℕ) (reported reported_now : ℕ) (before now : Stage) → IsApplied contents folder limit before now →
-    TellsStepBy report reported (step_between before now) before.output now.output (Ok reported_now) → Goes (environment report contents folder limit) reported reported_now before now
-applies-leads report contents folder limit reported reported_now before now is tells = record {
+pub applies-leads : (routes : Option (List Route)) (report : Report) (contents : Option Contents) (folder : List ℕ) (limit : ℕ) (reported reported_now : ℕ) (before now : Stage) → IsApplied contents folder limit before now →
+    TellsStepBy report reported (step_between before now) before.output now.output (Ok reported_now) → Goes (environment routes report contents folder limit) reported reported_now before now
+applies-leads routes report contents folder limit reported reported_now before now is tells = record {
   leads = λ course begun start is_mapped under_way.
       let x = under_way.leads in
-      let on = applies-on report contents folder limit before now is course reported start is_mapped x in
+      let on = applies-on routes report contents folder limit before now is course reported start is_mapped x in
       record {
         leads = record {
           made = on.made;
@@ -325,11 +326,11 @@ within why environment course begun reported start now counts last under_way =
     }
 
 -- an event was applied, and isn't told wholly
-within_untold : (report : Report) (why : Unwritten) (contents : Option Contents) (folder : List ℕ) (limit : ℕ) (course : Course) (begun : Replies → ReplayState) (reported : ℕ) (start before now : Stage) →
-    (u : IsUnderWay (environment report contents folder limit) course begun reported start before) → LeadsOn (environment report contents folder limit) course reported start before now u.leads →
-    TellsStepBy report reported (step_between before now) before.output now.output (Err why) → IsWithin (Untold why) (environment report contents folder limit) course begun start now
-within_untold report why contents folder limit course begun reported start before now u on tells =
-    let honest : (there : ℕ → Option Bytes) → (environment report contents folder limit).known ≡ Some there → AgreeOnApplied now.world on.explained.replies (replies_there there now.world) =
+within_untold : (routes : Option (List Route)) (report : Report) (why : Unwritten) (contents : Option Contents) (folder : List ℕ) (limit : ℕ) (course : Course) (begun : Replies → ReplayState) (reported : ℕ) (start before now : Stage) →
+    (u : IsUnderWay (environment routes report contents folder limit) course begun reported start before) → LeadsOn (environment routes report contents folder limit) course reported start before now u.leads →
+    TellsStepBy report reported (step_between before now) before.output now.output (Err why) → IsWithin (Untold why) (environment routes report contents folder limit) course begun start now
+within_untold routes report why contents folder limit course begun reported start before now u on tells =
+    let honest : (there : ℕ → Option Bytes) → (environment routes report contents folder limit).known ≡ Some there → AgreeOnApplied now.world on.explained.replies (replies_there there now.world) =
     λ there is q r h. sym (on.explained.honest there is q r) in
     let is : (others : Replies) → AgreeOnApplied now.world on.explained.replies others → now.world ≡ after_some others (suc u.steps) (begun others) =
     λ others agree. on.is_next others agree ∙ ap (after_next others) (u.is others (on.agree_before others agree)) in
@@ -382,23 +383,23 @@ starved why environment reported reported_now before out now last world new goes
     rw same (λ course begun start is_mapped under_way. within why environment course begun reported_now start (stage_in out now world) last lasts (goes.leads course begun start is_mapped under_way))
 
 -- an event is applied, and isn't told wholly
-pub untold : (report : Report) (why : Unwritten) (contents : Option Contents) (folder : List ℕ) (limit : ℕ) (reported between : ℕ) (before middle now : Stage) → KeepsVersion before.mapped middle.mapped before.world.played.records middle.world.played.records →
-    Goes (environment report contents folder limit) reported between before middle → IsApplied contents folder limit middle now → TellsStepBy report between (step_between middle now) middle.output now.output (Err why) →
-    StaysWithin (Untold why) (environment report contents folder limit) reported before now
-untold report why contents folder limit reported between before middle now keeps goes is tells = λ course begun start is_mapped under_way.
+pub untold : (routes : Option (List Route)) (report : Report) (why : Unwritten) (contents : Option Contents) (folder : List ℕ) (limit : ℕ) (reported between : ℕ) (before middle now : Stage) → KeepsVersion before.mapped middle.mapped before.world.played.records middle.world.played.records →
+    Goes (environment routes report contents folder limit) reported between before middle → IsApplied contents folder limit middle now → TellsStepBy report between (step_between middle now) middle.output now.output (Err why) →
+    StaysWithin (Untold why) (environment routes report contents folder limit) reported before now
+untold routes report why contents folder limit reported between before middle now keeps goes is tells = λ course begun start is_mapped under_way.
     let u = goes.leads course begun start is_mapped under_way in
-    within_untold report why contents folder limit course begun between start middle now u (applies-on report contents folder limit middle now is course between start (keeps course.version is_mapped) u.leads) tells
+    within_untold routes report why contents folder limit course begun between start middle now u (applies-on routes report contents folder limit middle now is course between start (keeps course.version is_mapped) u.leads) tells
 
 -- where the world says that there is no room, the store is full
-full_there : (report : Report) (contents : Option Contents) (folder : List ℕ) (limit : ℕ) (x : EntityId) (r : ℕ) (bytes : Bytes) → IsReply contents folder x r (Ok bytes) → (there : ℕ → Option Bytes) →
-    (environment report contents folder limit).known ≡ Some there → there r ≡ Some bytes
-full_there report None folder limit x r bytes is there known = cc
-full_there report (Some c) folder limit x r bytes is there known =
+full_there : (routes : Option (List Route)) (report : Report) (contents : Option Contents) (folder : List ℕ) (limit : ℕ) (x : EntityId) (r : ℕ) (bytes : Bytes) → IsReply contents folder x r (Ok bytes) → (there : ℕ → Option Bytes) →
+    (environment routes report contents folder limit).known ≡ Some there → there r ≡ Some bytes
+full_there routes report None folder limit x r bytes is there known = cc
+full_there routes report (Some c) folder limit x r bytes is there known =
     let same : c folder ≡ there = cc in
     ap (λ (f : ℕ → Option Bytes). f r) (sym same) ∙ is.1
 
-pub is_full : (report : Report) (contents : Option Contents) (folder : List ℕ) (limit : ℕ) (old new : WorldState) → old.limit ≡ limit → new ≡ old → IsOverfull contents folder old → IsFull (environment report contents folder limit) new.replay (mapped_in new)
-is_full report contents folder limit old new same stays over =
+pub is_full : (routes : Option (List Route)) (report : Report) (contents : Option Contents) (folder : List ℕ) (limit : ℕ) (old new : WorldState) → old.limit ≡ limit → new ≡ old → IsOverfull contents folder old → IsFull (environment routes report contents folder limit) new.replay (mapped_in new)
+is_full routes report contents folder limit old new same stays over =
     let Over : ℕ → Type 0 = λ n. HasNoRoom n old.replay.played.records (mapped_in old) over.event.entity (revision_wanted old.replay over.event) over.bytes in
     rw stays (record {
       event = over.event;
@@ -406,6 +407,6 @@ is_full report contents folder limit old new same stays over =
       fetches = over.wanted;
       bytes = over.bytes;
       document = over.is_reply.0;
-      there = full_there report contents folder limit over.event.entity _ over.bytes over.is_reply;
+      there = full_there routes report contents folder limit over.event.entity _ over.bytes over.is_reply;
       over = subst Over same over.over;
     })

@@ -13,35 +13,34 @@ use Rattle.replay_model.specs.Records.{Bytes, Records, is_settled, record_of}
 use Rattle.replay_model.specs.Play.{Played, Replies, played}
 use Rattle.replay_model.specs.Replies.{HoldsWhatIsThere, TellsWhatIsThere, failed_events}
 use Rattle.replay_model.specs.ReplayState.{ReplayState}
-use Rattle.replay_model.specs.Transcript.{Sections, asks, closing_text, matches}
+use Rattle.replay_model.specs.Transcript.{Sections, asks, matches}
 use Rattle.replay_model.proofs.Explaining.{Explained-fetches, Explained-is, Explained-source, Explained-source_fetches}
 use Rattle.replay_model.proofs.RecordOf.{state-played}
 use Rattle.replay_model.proofs.Known.{fate-known}
 use Rattle.replay_model.proofs.LateEntries.{late-played}
 use Rattle.replay_model.proofs.Settled.{Tells-played, settled-played}
 use Rattle.replay_model.proofs.ToldContents.{entries-told, held-told}
-use Rattle.rdf_term.specs.declared.triple.Triple.{Triple}
-use Rattle.rdf_term.specs.Order.{triple_cmp}
 use Rattle.entity_model.specs.declared.mapping.MappingVersion.{MappingVersion}
-use Rattle.replay_model.specs.Union.{union}
 use Rattle.world.specs.Meaning.{meaning}
 use Rattle.transcript.specs.declared.write.Unwritten.{Unwritten}
 use Rattle.transcript.specs.declared.write.Unwritten.TheVariants.{WriteFault as NotWritten, OutOfMemory as Refused}
 use Rattle.transcript.specs.Printing.{Output, Prints}
 use Rattle.patch_stream.specs.Stream.{changes}
-use Rattle.transcript.specs.Sections.{closing_of}
 use Rattle.session.specs.Counts.{RoseBy, HasCounted}
 use Rattle.session.specs.Course.{Course, course_after, course_ended, course_to_end}
 use Rattle.session.specs.Headline.{BrokenOff, HasFates, HasReplayed, HasTakenAll, HoldsRightly, IsInterrupted, IsPlayed, IsReplayed, NamesRightly, StandsAtMapping, StandsAtPage, Stopped}
 use Rattle.session.specs.Moment.{Moment, Run, Environment, Stage, with_output, horizon_at}
 use Rattle.session.specs.Reading.{AreDeliveries}
-use Rattle.session.specs.Remapping.{IsLeftStale, Mapped, held_triples, mapped_by}
+use Rattle.session.specs.Remapping.{IsLeftStale, Mapped, mapped_by}
 use Rattle.session.specs.Sections.{sections_of}
 use Rattle.session.specs.Report.{HasAnswered, HasReported}
 use Rattle.checkpoint.specs.declared.numbers.Numbers.{Numbers}
 use Rattle.session.specs.Saving.{numbers_after, numbers_of}
 use Rattle.session.specs.Stop.{stop_of_halt, stop_of_unapplied, stop_of_unwritten}
 use Rattle.session.specs.Stops.{HasTaken, IsHalted}
+use Rattle.subgraph.specs.declared.routes.Route.{Route}
+use Rattle.replay_model.specs.Versions.{meaning_by}
+use Rattle.session.specs.Answering.{closing_by, closing_held}
 use Rattle.session.specs.declared.report.Report.{Report}
 use Rattle.session.specs.declared.report.Report.TheVariants.{Answers, Changes}
 use Rattle.session.specs.declared.stop.Halt.{Halt}
@@ -52,7 +51,7 @@ use Rattle.session.specs.Taking.{AtEnd, HoldsDocuments, IsHeldUp, IsLeft, Leads,
 use Rattle.words.specs.Options.{closes, max_bytes_of}
 use Rattle.session.proofs.Needed.{all_met, due-none}
 use Rattle.session.proofs.Reports.{all_reported, steps-none}
-use Rattle.session.proofs.Versions.{all_held_by}
+use Rattle.session.proofs.Answers.{closing_held_by}
 
 -- where no event is due, a world that leads to a play is played
 abbrev pub is_played : (environment : Environment) (course : Course) (reported : ℕ) (start now : Stage) → Leads environment course reported start now → first_due now.world.buffer ≡ None → now.mapped ≡ mapped_by course.version now.world.played.records →
@@ -123,14 +122,14 @@ is_replayed environment course ds start now leads play =
 pub replayed : (run : Run) (before now : Moment) (ds : List Delivery) (reported : ℕ) → closes run.choices ≡ true → IsAtEnd now.input.left → IfSome before.input.left (λ bytes. AreDeliveries (max_bytes_of run.choices) bytes ds) →
     AtEnd run.environment ds reported before.stage now.stage → (numbers : Numbers) → HasTakenAll run numbers before now
 replayed run before now ds reported closed read are at_end numbers =
-    let Replay : Bool → Type 0 = λ b. IsReplayed run.environment (course_ended b ds before.stage) ds before.stage now.stage in
+    let Replay : Bool → Type 0 = λ b. IsReplayed run.environment (course_ended run.environment.routes b ds before.stage) ds before.stage now.stage in
     record {
       replayed = record {
         deliveries = ds;
         read = read;
         are = are;
-        replay = subst Replay (sym closed) (is_replayed run.environment (course_to_end ds before.stage) ds before.stage now.stage (λ replies. refl)
-            (is_played run.environment (course_to_end ds before.stage) reported before.stage now.stage at_end.leads at_end.rests at_end.mapped));
+        replay = subst Replay (sym closed) (is_replayed run.environment (course_to_end run.environment.routes ds before.stage) ds before.stage now.stage (λ replies. refl)
+            (is_played run.environment (course_to_end run.environment.routes ds before.stage) reported before.stage now.stage at_end.leads at_end.rests at_end.mapped));
       };
       counted = λ open_still. let never : true ≡ false = sym closed ∙ open_still in cc;
     }
@@ -147,14 +146,14 @@ numbers_are Changes course ds reported matched start now replies none answered s
 
 -- the deliveries were taken, and there may be more
 record Paused (run : Run) (closed : Bool) (numbers : Numbers) (ds : List Delivery) (before now : Moment) : Type 0 where
-  replay : IsReplayed run.environment (course_ended closed ds before.stage) ds before.stage now.stage
-  counted : numbers ≡ numbers_of run.environment.report (course_ended closed ds before.stage).steps ds replay.played.replies
+  replay : IsReplayed run.environment (course_ended run.environment.routes closed ds before.stage) ds before.stage now.stage
+  counted : numbers ≡ numbers_of run.environment.report (course_ended run.environment.routes closed ds before.stage).steps ds replay.played.replies
 
 pub paused : (run : Run) (before now : Moment) (reported matched : ℕ) → closes run.choices ≡ false → HasTaken run reported matched before now → HasTakenAll run (numbers_after run.environment.report reported matched) before now
 paused run before now reported matched open_still taken =
     let numbers : Numbers = numbers_after run.environment.report reported matched in
     let ds : List Delivery = taken.deliveries in
-    let course : Course = course_after ds before.stage in
+    let course : Course = course_after run.environment.routes ds before.stage in
     let here : Paused run false numbers ds before now = record {
       replay = is_replayed run.environment course ds before.stage now.stage (λ replies. refl)
           (is_played run.environment course reported before.stage now.stage taken.at_rest.leads taken.at_rest.rests taken.at_rest.mapped);
@@ -172,12 +171,10 @@ pub none_failed : (failed : List Event) (before now : ℕ) → RoseBy (length fa
 none_failed [] before now rose same below = refl
 none_failed (e ∷ es) before now rose same below = absurd (omega (arith, rose below))
 
--- the sections that were asked for were printed, by the version of the mapping that is in force
-pub prints_asked : (version : MappingVersion) (sections wanted : Sections) (mapped : Mapped) (p : Played) (old new : Output) (result : Result (Unit {0}) Unwritten) → sections ≡ wanted → mapped ≡ mapped_by version p.records →
-    Prints (closing_of (held_triples mapped p.records) sections p) old new result → Prints (closing_text meaning version wanted p) old new result
-prints_asked version sections wanted mapped p old new result same by prints =
-    let Printed : Sections → List Triple → Type 0 = λ s triples. Prints (closing_of triples s p) old new result in
-    subst (λ s. Printed s (union triple_cmp (meaning version) p.records)) same (subst (Printed sections) (all_held_by version mapped p.records by) prints)
+-- what is printed at the end was printed, by the version of the mapping that is in force
+pub prints_asked : (routes : Option (List Route)) (version : MappingVersion) (sections : Sections) (mapped : Mapped) (p : Played) (old new : Output) (result : Result (Unit {0}) Unwritten) → mapped ≡ mapped_by version p.records →
+    Prints (closing_held routes (meaning_by meaning mapped.by_two) sections p) old new result → Prints (closing_by routes version sections p) old new result
+prints_asked routes version sections mapped p old new result by prints = subst (λ text. Prints text old new result) (closing_held_by routes version sections mapped p by) prints
 
 -- a count that rose since a later time rose since an earlier one
 pub rose_since : (before between after : ℕ) → before ≤ between → Rose between after → Rose before after
@@ -209,7 +206,7 @@ page_untold Refused run before now limit records between earlier rose stands = i
 
 -- the sections weren't all written
 pub broken_off : (why : Unwritten) (run : Run) (before now : Moment) (out : Output) → run.environment.report ≡ Answers → (replayed : HasReplayed run before now) → before.stage.output.faults ≤ now.stage.output.faults →
-    Prints (closing_text meaning (version_in_force replayed.deliveries) (sections_of run.choices) now.stage.world.played) now.stage.output out (Err why) → Stopped (stop_of_unwritten why) run before (record now { stage = with_output now.stage out })
+    Prints (closing_by run.environment.routes (version_in_force replayed.deliveries) (sections_of run.choices) now.stage.world.played) now.stage.output out (Err why) → Stopped (stop_of_unwritten why) run before (record now { stage = with_output now.stage out })
 broken_off why run before now out answers replayed earlier prints =
     let broken : BrokenOff why run before (record now { stage = with_output now.stage out }) = record { answers = answers; between = now.stage.output; replayed = replayed; cut_short = prints.outcome } in
     interrupted why run before (record now { stage = with_output now.stage out }) now.stage.output earlier (λ fault. (prints.outcome.failed fault).1) (inl (inr broken))

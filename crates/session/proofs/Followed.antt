@@ -1,5 +1,5 @@
 -- A follower of a stream has what was held at its end, and what is written of a stream are records.
-use Rattle.std.proofs.Common.{◌≡◌, sym, subst, ◌∙◌, ap, ℕ, ◌+◌, ◌<◌, ◌≤◌, ◌^◌, ◌==◌, Bool, true, false, cond, List, [], ◌∷◌, length, flat_map, append-nil, None, Some, arith}
+use Rattle.std.proofs.Common.{◌≡◌, sym, subst, ◌∙◌, ap, ℕ, ◌+◌, ◌<◌, ◌≤◌, ◌^◌, ◌==◌, Bool, true, false, cond, List, [], ◌∷◌, length, flat_map, append-nil, Option, None, Some, arith}
 use Rattle.rdf_term.specs.declared.triple.Triple.{Triple}
 use Rattle.rdf_term.specs.Order.{triple_cmp}
 use Rattle.rising.specs.Rising.{Each, In}
@@ -12,6 +12,7 @@ use Rattle.replay_model.specs.ReplayState.{ReplayState}
 use Rattle.replay_model.specs.Union.{union}
 use Rattle.world.specs.Meaning.{meaning}
 use Rattle.replica.specs.declared.record.PatchRecord.{PatchRecord}
+use Rattle.subgraph.specs.declared.routes.Route.{Route}
 use Rattle.replica.specs.Laws.{IsGreatest}
 use Rattle.replica.specs.Record.{record_lines}
 use Rattle.replica.specs.Replica.{after}
@@ -37,28 +38,28 @@ use Rattle.session.proofs.Reading.{as_many, at_known}
 use Rattle.session.proofs.Versions.{all_held_by}
 
 -- the triples of all that is held where a play leads
-abbrev last_of : Bool → List Delivery → Stage → Replies → List Triple
-last_of closed ds start replies = union triple_cmp (meaning (version_in_force ds)) ((course_ended closed ds start).state replies).played.records
+abbrev last_of : Option (List Route) → Bool → List Delivery → Stage → Replies → List Triple
+last_of routes closed ds start replies = union triple_cmp (meaning (version_in_force ds)) ((course_ended routes closed ds start).state replies).played.records
 
 -- each step of a play begins where the one before it ended
-chain_ended : (closed : Bool) (ds : List Delivery) (start : Stage) (replies : Replies) → IsChain [] ((course_ended closed ds start).steps replies) (last_of closed ds start replies)
-chain_ended true ds start replies = chain_to_end (horizon_at start) replies ds
-chain_ended false ds start replies = chain_of_play (horizon_at start) replies ds
+chain_ended : (routes : Option (List Route)) (closed : Bool) (ds : List Delivery) (start : Stage) (replies : Replies) → IsChain [] ((course_ended routes closed ds start).steps replies) (last_of routes closed ds start replies)
+chain_ended routes true ds start replies = chain_to_end (horizon_at start) replies ds
+chain_ended routes false ds start replies = chain_of_play (horizon_at start) replies ds
 
 -- fewer deliveries than numbers of 32 bits make fewer steps than numbers of 64 bits
-few_ended : (closed : Bool) (ds : List Delivery) (start : Stage) (replies : Replies) → length ds < 2 ^ 32 → length ((course_ended closed ds start).steps replies) < 2 ^ 64
-few_ended true ds start replies small = few_enough (horizon_at start) replies ds small
-few_ended false ds start replies small = few_so_far (horizon_at start) replies ds small
+few_ended : (routes : Option (List Route)) (closed : Bool) (ds : List Delivery) (start : Stage) (replies : Replies) → length ds < 2 ^ 32 → length ((course_ended routes closed ds start).steps replies) < 2 ^ 64
+few_ended routes true ds start replies small = few_enough (horizon_at start) replies ds small
+few_ended routes false ds start replies small = few_so_far (horizon_at start) replies ds small
 
 module _ (run : Run) (start end : Moment) (ended : Ending run start end) where
   abbrev deliveries : List Delivery
   deliveries = ended.replayed.deliveries
 
-  chain : IsChain [] (steps_made run start end ended) (last_of (closes run.choices) deliveries start.stage ended.replayed.replay.played.replies)
-  chain = chain_ended (closes run.choices) deliveries start.stage ended.replayed.replay.played.replies
+  chain : IsChain [] (steps_made run start end ended) (last_of run.environment.routes (closes run.choices) deliveries start.stage ended.replayed.replay.played.replies)
+  chain = chain_ended run.environment.routes (closes run.choices) deliveries start.stage ended.replayed.replay.played.replies
 
   -- the union of the play is what is held
-  union_held : last_of (closes run.choices) deliveries start.stage ended.replayed.replay.played.replies ≡ held_triples end.stage.mapped end.stage.world.played.records
+  union_held : last_of run.environment.routes (closes run.choices) deliveries start.stage ended.replayed.replay.played.replies ≡ held_triples end.stage.mapped end.stage.world.played.records
   union_held =
       ap (λ (w : ReplayState). union triple_cmp (meaning (version_in_force deliveries)) w.played.records) (sym ended.replayed.replay.played.is)
       ∙ sym (all_held_by (version_in_force deliveries) end.stage.mapped end.stage.world.played.records ended.replayed.replay.played.mapped)
@@ -104,13 +105,13 @@ module _ (run : Run) (start end : Moment) (ended : Ending run start end) (bytes 
       omega (arith, as_many (lines bytes) ended.replayed.deliveries are.delivered, lines_few bytes, are.within, bounded)
 
   pub numbers_in_run : (item : PatchRecord) → In item (stream (steps_made run start end ended)) → item.number < 2 ^ 64
-  numbers_in_run item there = numbers_of (steps_made run start end ended) item (few_ended (closes run.choices) ended.replayed.deliveries start.stage ended.replayed.replay.played.replies few_deliveries) there
+  numbers_in_run item there = numbers_of (steps_made run start end ended) item (few_ended run.environment.routes (closes run.choices) ended.replayed.deliveries start.stage ended.replayed.replay.played.replies few_deliveries) there
 
   pub written_records : (limit : ℕ) → Each HasWritableSides (steps_made run start end ended) → length (stream_text (steps_made run start end ended)) ≤ limit →
       AreRecords limit (stream_text (steps_made run start end ended)) (stream (steps_made run start end ended)) None × AreOfStream (steps_made run start end ended) (stream (steps_made run start end ended))
   written_records limit sides within =
-      let read = can_be_read _ (steps_made run start end ended) (chain_ended (closes run.choices) ended.replayed.deliveries start.stage ended.replayed.replay.played.replies) sides
-      (few_ended (closes run.choices) ended.replayed.deliveries start.stage ended.replayed.replay.played.replies few_deliveries) in (
+      let read = can_be_read _ (steps_made run start end ended) (chain_ended run.environment.routes (closes run.choices) ended.replayed.deliveries start.stage ended.replayed.replay.played.replies) sides
+      (few_ended run.environment.routes (closes run.choices) ended.replayed.deliveries start.stage ended.replayed.replay.played.replies few_deliveries) in (
         record { within = within; are = record { are = read.are_lines ∙ sym (append-nil (flat_map record_lines (stream (steps_made run start end ended)))); sound = read.sound; unfinished = tt } },
         all_of_stream (steps_made run start end ended),
       )

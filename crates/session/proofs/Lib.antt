@@ -1,3 +1,4 @@
+mod Answers
 mod Beginnings
 mod Complete
 mod Deliveries

@@ -7,13 +7,14 @@ use Rattle.replay_model.specs.Records.{Bytes}
 use Rattle.replay_model.specs.Play.{Played, Replies, played}
 use Rattle.replay_model.specs.Replies.{failed_events, source_replies}
 use Rattle.replay_model.specs.ReplayState.{ReplayState}
-use Rattle.replay_model.specs.Transcript.{Sections, closing_text, said}
-use Rattle.world.specs.Meaning.{meaning}
+use Rattle.replay_model.specs.Transcript.{Sections}
+use Rattle.subgraph.specs.declared.routes.Route.{Route}
 use Rattle.transcript.specs.declared.write.Unwritten.{Unwritten}
 use Rattle.transcript.specs.declared.write.Unwritten.TheVariants.{WriteFault as NotWritten, OutOfMemory as Refused}
 use Rattle.transcript.specs.Printing.{IsCutShort, Output, Prints}
 use Rattle.transcript.proofs.Parts.{after_twice}
 use Rattle.checkpoint.specs.declared.numbers.Numbers.{Numbers}
+use Rattle.session.specs.Answering.{closing_by, said_by}
 use Rattle.session.specs.Course.{Course, course_ended, course_printed}
 use Rattle.session.specs.Headline.{Ending, HasPrinted, HasTakenAll, IsFunction, IsReplayed, Stopped, Unsaved, course_of}
 use Rattle.session.specs.Moment.{Moment, Run, Environment, Stage, with_output, horizon_at}
@@ -32,35 +33,35 @@ bytes_answered : (report : Report) (course : Course) (start : Stage) (replies : 
 bytes_answered report course start replies answers = ap (λ r. bytes_of r course start replies) answers
 
 -- and where changes are reported: the sections are none of it
-bytes_told : (report : Report) (closed : Bool) (sections : Sections) (ds : List Delivery) (start : Stage) (replies : Replies) → report ≡ Changes →
-    bytes_of report (course_ended closed ds start) start replies ≡ bytes_of report (course_printed closed sections ds start) start replies
-bytes_told report closed sections ds start replies changed =
-    ap (λ r. bytes_of r (course_ended closed ds start) start replies) changed ∙ ap (λ r. bytes_of r (course_printed closed sections ds start) start replies) (sym changed)
+bytes_told : (routes : Option (List Route)) (report : Report) (closed : Bool) (sections : Sections) (ds : List Delivery) (start : Stage) (replies : Replies) → report ≡ Changes →
+    bytes_of report (course_ended routes closed ds start) start replies ≡ bytes_of report (course_printed routes closed sections ds start) start replies
+bytes_told routes report closed sections ds start replies changed =
+    ap (λ r. bytes_of r (course_ended routes closed ds start) start replies) changed ∙ ap (λ r. bytes_of r (course_printed routes closed sections ds start) start replies) (sym changed)
 
 -- what was played where the play leads
-pub state_played : (closed : Bool) (ds : List Delivery) (start : Stage) (replies : Replies) → ((course_ended closed ds start).state replies).played ≡ played (horizon_at start) closed replies ds
-state_played true ds start replies = refl
-state_played false ds start replies = refl
+pub state_played : (routes : Option (List Route)) (closed : Bool) (ds : List Delivery) (start : Stage) (replies : Replies) → ((course_ended routes closed ds start).state replies).played ≡ played (horizon_at start) closed replies ds
+state_played routes true ds start replies = refl
+state_played routes false ds start replies = refl
 
 -- where the output has what is reported of the play and its sections, all that a run leaves is there
-module _ (environment : Environment) (closed : Bool) (sections : Sections) (ds : List Delivery) (start now : Stage) (out : Output) (replay : IsReplayed environment (course_ended closed ds start) ds start now)
-    (says : (replies : Replies) → now.world ≡ (course_ended closed ds start).state replies → now.output.bytes ≡ bytes_of environment.report (course_ended closed ds start) start replies →
-    out.bytes ≡ bytes_of environment.report (course_printed closed sections ds start) start replies) where
-  says_there : (contents : ℕ → Option Bytes) → environment.known ≡ Some contents → out.bytes ≡ bytes_of environment.report (course_printed closed sections ds start) start (replies_there contents now.world)
+module _ (environment : Environment) (closed : Bool) (sections : Sections) (ds : List Delivery) (start now : Stage) (out : Output) (replay : IsReplayed environment (course_ended environment.routes closed ds start) ds start now)
+    (says : (replies : Replies) → now.world ≡ (course_ended environment.routes closed ds start).state replies → now.output.bytes ≡ bytes_of environment.report (course_ended environment.routes closed ds start) start replies →
+    out.bytes ≡ bytes_of environment.report (course_printed environment.routes closed sections ds start) start replies) where
+  says_there : (contents : ℕ → Option Bytes) → environment.known ≡ Some contents → out.bytes ≡ bytes_of environment.report (course_printed environment.routes closed sections ds start) start (replies_there contents now.world)
   says_there contents is = says (replies_there contents now.world) (replay.played.source contents is) (replay.played.source_says contents is)
 
   -- where no fetch failed, world and output are functions of the sections, the deliveries and the contents
-  is_function : IsFunction environment (course_printed closed sections ds start) start (with_output now out)
+  is_function : IsFunction environment (course_printed environment.routes closed sections ds start) start (with_output now out)
   is_function =
       let none = none_failed (failed_events now.world.played.side) start.counts.faults now.counts.faults replay.played.counted.failed in
       record {
-        world_is = λ contents is same below. replay.played.source contents is ∙ ap (λ failed. (course_ended closed ds start).state (source_replies judgement contents failed)) (none same below);
+        world_is = λ contents is same below. replay.played.source contents is ∙ ap (λ failed. (course_ended environment.routes closed ds start).state (source_replies judgement contents failed)) (none same below);
         output_is = λ contents is same below.
-            says_there contents is ∙ ap (λ failed. bytes_of environment.report (course_printed closed sections ds start) start (source_replies judgement contents failed)) (none same below);
+            says_there contents is ∙ ap (λ failed. bytes_of environment.report (course_printed environment.routes closed sections ds start) start (source_replies judgement contents failed)) (none same below);
       }
 
   -- the play says all of it
-  abbrev all_printed : IsReplayed environment (course_printed closed sections ds start) ds start (with_output now out)
+  abbrev all_printed : IsReplayed environment (course_printed environment.routes closed sections ds start) ds start (with_output now out)
   all_printed = record {
     played = record {
       replies = replay.played.replies;
@@ -83,7 +84,7 @@ module _ (environment : Environment) (closed : Bool) (sections : Sections) (ds :
 
 -- the play that a run makes before it prints the sections
 abbrev course_before : Run → List Delivery → Stage → Course
-course_before run ds start = course_ended (closes run.choices) ds start
+course_before run ds start = course_ended run.environment.routes (closes run.choices) ds start
 
 printed : (run : Run) (numbers : Numbers) (before now : Moment) (out : Output) (taken : HasTakenAll run numbers before now) →
     ((replies : Replies) → now.stage.world ≡ (course_before run taken.replayed.deliveries before.stage).state replies →
@@ -100,26 +101,27 @@ printed run numbers before now out taken says =
 
 -- the answers and the sections were printed
 pub printed_answers : (run : Run) (numbers : Numbers) (before now : Moment) (out : Output) → run.environment.report ≡ Answers → (taken : HasTakenAll run numbers before now) →
-    Prints (closing_text meaning (version_in_force taken.replayed.deliveries) (sections_of run.choices) now.stage.world.played) now.stage.output out (Ok tt) →
+    Prints (closing_by run.environment.routes (version_in_force taken.replayed.deliveries) (sections_of run.choices) now.stage.world.played) now.stage.output out (Ok tt) →
     HasPrinted run numbers before (record now { stage = with_output now.stage out })
 printed_answers run numbers before now out answers taken prints =
+    let routes : Option (List Route) = run.environment.routes in
     let closed : Bool = closes run.choices in
     let ds : List Delivery = taken.replayed.deliveries in
     let start : Stage = before.stage in
     let sections : Sections = sections_of run.choices in
     printed run numbers before now out taken (λ replies is says.
-    prints.outcome ∙ ap (λ b. after_known b (closing_text meaning (version_in_force ds) sections now.stage.world.played))
-    (says ∙ bytes_answered run.environment.report (course_ended closed ds start) start replies answers)
-    ∙ after_twice start.output.bytes (said meaning (horizon_at start) replies ds) (closing_text meaning (version_in_force ds) sections now.stage.world.played)
-    ∙ ap (λ (p : Played). after_known start.output.bytes (said meaning (horizon_at start) replies ds ++ closing_text meaning (version_in_force ds) sections p))
-    (ap (λ (w : ReplayState). w.played) is ∙ state_played closed ds start replies)
-    ∙ sym (bytes_answered run.environment.report (course_printed closed sections ds start) start replies answers))
+    prints.outcome ∙ ap (λ b. after_known b (closing_by routes (version_in_force ds) sections now.stage.world.played))
+    (says ∙ bytes_answered run.environment.report (course_ended routes closed ds start) start replies answers)
+    ∙ after_twice start.output.bytes (said_by routes (horizon_at start) replies ds) (closing_by routes (version_in_force ds) sections now.stage.world.played)
+    ∙ ap (λ (p : Played). after_known start.output.bytes (said_by routes (horizon_at start) replies ds ++ closing_by routes (version_in_force ds) sections p))
+    (ap (λ (w : ReplayState). w.played) is ∙ state_played routes closed ds start replies)
+    ∙ sym (bytes_answered run.environment.report (course_printed routes closed sections ds start) start replies answers))
 
 -- the records of changes were printed
 pub printed_changes : (run : Run) (numbers : Numbers) (before now : Moment) → run.environment.report ≡ Changes → HasTakenAll run numbers before now → HasPrinted run numbers before now
 printed_changes run numbers before now changed taken =
     printed run numbers before now now.stage.output taken
-    (λ replies is says. says ∙ bytes_told run.environment.report (closes run.choices) (sections_of run.choices) taken.replayed.deliveries before.stage replies changed)
+    (λ replies is says. says ∙ bytes_told run.environment.routes run.environment.report (closes run.choices) (sections_of run.choices) taken.replayed.deliveries before.stage replies changed)
 
 -- the input ends the deliveries, and nothing is saved
 pub ending_closed : (run : Run) (numbers : Numbers) (before now : Moment) → closes run.choices ≡ true → now.snapshot ≡ before.snapshot → HasPrinted run numbers before now → Ending run before now

@@ -4,8 +4,6 @@ use Rattle.wq_io.specs.Streams.{IsAtEnd, LastRead}
 use Rattle.wq_io.specs.Lines.{HasCause, IsSound, Leaves, ReadsAsNeeded, Reading, fresh, longest_line, unread}
 use Rattle.wq_io.specs.declared.lines.LineFault.{LineFault}
 use Rattle.wq_io.specs.declared.lines.LineFault.TheVariants.{ReadFault as NotRead, TooLong as PastLimit, LineLong as OverLong, OutOfMemory as NoMemory}
-use Rattle.rdf_term.specs.declared.triple.Triple.{Triple}
-use Rattle.rdf_term.specs.Order.{triple_cmp}
 use Rattle.entity_model.specs.declared.id.EntityId.{EntityId}
 use Rattle.entity_model.specs.declared.mapping.MappingVersion.{MappingVersion}
 use Rattle.entity_model.specs.declared.mapping.MappingVersion.TheVariants.{One}
@@ -20,8 +18,8 @@ use Rattle.replay_model.specs.Play.{Replies}
 use Rattle.replay_model.specs.Records.{Bytes, Records}
 use Rattle.replay_model.specs.Replies.{HoldsDocument}
 use Rattle.replay_model.specs.ReplayState.{ReplayState, following, nothing_delivered_within}
-use Rattle.replay_model.specs.Transcript.{answer_section, asking, asks, matches}
-use Rattle.replay_model.specs.Union.{union}
+use Rattle.replay_model.specs.Transcript.{asks, matches}
+use Rattle.wq_io.specs.Streams.{after_known}
 use Rattle.world.specs.Meaning.{meaning}
 use Rattle.replay_model.proofs.Explaining.{Explained-start}
 use Rattle.replay_model.proofs.FetchCounts.{risen_by-none}
@@ -32,6 +30,8 @@ use Rattle.transcript.proofs.Parts.{after_nothing}
 use Rattle.replica.specs.Record.{record_text}
 use Rattle.reorder_buffer.specs.Watermarks.{is_due}
 use Rattle.patch_stream.specs.Stream.{Step, changes, record_of_step, steps_anew, steps_applied, steps_of_play}
+use Rattle.subgraph.specs.declared.routes.Route.{Route}
+use Rattle.session.specs.Answering.{answer_held, answer_text}
 use Rattle.session.specs.declared.report.Report.{Report}
 use Rattle.session.specs.declared.report.Report.TheVariants.{Answers, Changes}
 use Rattle.session.specs.declared.stop.Halt.{Halt}
@@ -46,7 +46,7 @@ use Rattle.following.specs.Input.{Input}
 use Rattle.session.specs.Moment.{Moment, Run, Environment, Stage, horizon_at, onward, with_mapped, with_output}
 use Rattle.session.specs.Needed.{HaveRoomBefore, needed_anew}
 use Rattle.session.specs.Reading.{AreFirst, HasRead, TakesByNeed}
-use Rattle.session.specs.Remapping.{IsLeftStale, Mapped, held_triples, mapped_by, remapped_some}
+use Rattle.session.specs.Remapping.{IsLeftStale, Mapped, mapped_by, remapped_some}
 use Rattle.session.specs.Report.{BreaksOffBy, HasAnswered, HasNumberLeft, HasReported, TellsBy}
 use Rattle.session.specs.Stop.{stop_of_fault, stop_of_halt}
 use Rattle.session.specs.Stops.{HasTaken, StopsWithin}
@@ -55,8 +55,8 @@ use Rattle.words.specs.Options.{max_bytes_of}
 use Rattle.session.proofs.Deliveries.{asks-push, matches-push, is_answer, remapping_counted, remapping_leads, rest_within}
 use Rattle.session.proofs.Due.{within_mapped}
 use Rattle.session.proofs.Ends.{halted, interrupted, is_played, left_stale, page_untold, rose_since}
-use Rattle.session.proofs.Versions.{all_held_by}
-use Rattle.session.proofs.Reading.{HasLimits, IsNextLine, all_read, as_many, bad_line, first_lines, first_with, nothing_read, nothing_taken_of, over_long, past_limit, read_more, takes_on, whole_read}
+use Rattle.session.proofs.Answers.{answer_held_by, said_by-none}
+use Rattle.session.proofs.Reading.{HasLimits, IsNextLine, all_read, as_many, bad_line, first_lines, first_with, nothing_first, nothing_read, nothing_taken_of, over_long, past_limit, read_more, takes_on, whole_read}
 
 -- where questions are answered, no more were than lines were read
 abbrev pub FewAnswers : Report → ℕ → ℕ → Type 0
@@ -79,9 +79,9 @@ pub record Progress (run : Run) (before now : Moment) (reader : Reading) (report
   pub ended : reader.ended ≡ true → IsAtEnd now.input.left
 
 -- nothing is reported before the first delivery
-nothing_reported : (report : Report) (s : Stage) (others : Replies) → s.world.buffer.waiting ≡ [] → HasReported report (course_after [] s) 0 s s others
-nothing_reported Answers s others none = sym (after_nothing s.output.bytes)
-nothing_reported Changes s others none = record {
+nothing_reported : (routes : Option (List Route)) (report : Report) (s : Stage) (others : Replies) → s.world.buffer.waiting ≡ [] → HasReported report (course_after routes [] s) 0 s s others
+nothing_reported routes Answers s others none = sym (ap (after_known s.output.bytes) (said_by-none routes (horizon_at s) others) ∙ after_nothing s.output.bytes)
+nothing_reported routes Changes s others none = record {
   steps = [];
   are = ap (λ es. steps_applied One others s.world.played (filter (is_due s.world.buffer.closed s.world.buffer.mark) es)) none;
   counted = refl;
@@ -122,7 +122,7 @@ nothing_taken environment h output counts = record {
     explained = Explained-start judgement environment.known h;
     counted = record { calls = sym (risen_by-none counts.calls); failed = λ below. omega arith; missing = λ below. omega arith };
     documents = λ x. subst (λ (r : Record Bytes). HoldsDocument judgement x r.held) (sym (record_of-empty x)) tt;
-    says = λ others agree. nothing_reported environment.report _ others refl;
+    says = λ others agree. nothing_reported environment.routes environment.report _ others refl;
     roomed = λ others agree. record { met = []; are = refl; have_room = tt };
   };
   answered = none_answered environment.report;
@@ -152,9 +152,22 @@ nothing_begun run h input output counts snapshot = record {
   ended = λ never. cc;
 }
 
+-- memory was refused before the first line
+pub starved_at_once : (run : Run) (h : Option ℕ) (input : Input) (output : Output) (counts : SourceCounts) (snapshot : Output) → Stopped OutOfMemory run (at_start h input output counts snapshot) (at_start h input output counts snapshot)
+starved_at_once run h input output counts snapshot =
+    let start : Stage = record { output = output; counts = counts; world = nothing_delivered_within h; mapped = record { version = One; by_two = [] } } in
+    let stands : StopsWithin (NotApplied Starved) run (at_start h input output counts snapshot) (at_start h input output counts snapshot) = record {
+      deliveries = [];
+      last = None;
+      within = rest_within run.environment [] start start 0 (nothing_taken run.environment h output counts);
+      mapped = refl;
+      first = nothing_first (max_bytes_of run.choices) input.left;
+    } in
+    inl (inl (inl (inl stands)))
+
 module _ (run : Run) (before now : Moment) (reader : Reading) (reported matched : ℕ) (so_far : Progress run before now reader reported matched) where
   played : IsPlayedAfter run.environment so_far.deliveries before.stage now.stage
-  played = is_played run.environment (course_after so_far.deliveries before.stage) reported before.stage now.stage so_far.at_rest.leads so_far.at_rest.rests so_far.at_rest.mapped
+  played = is_played run.environment (course_after run.environment.routes so_far.deliveries before.stage) reported before.stage now.stage so_far.at_rest.leads so_far.at_rest.rests so_far.at_rest.mapped
 
   -- what was taken, after a call of the reader, whatever it answered
   pub taken_on : (next : Reading) (left_next : Option (List ℕ)) (last last_next : Option LastRead) → ReadsAsNeeded reader next now.input.left left_next last last_next →
@@ -236,19 +249,20 @@ module _ (run : Run) (before now : Moment) (reader : Reading) (reported matched 
       -- a question that isn't answered wholly stops the taking
       at_question : (why : Unwritten) → AnswersInPart why run.environment (turn reported matched d) now.stage after.stage → StandsAtQuestion why run before after
       at_question why in_part =
-          let CutShort : ℕ → ℕ → List Triple → Type 0 = λ asked counted triples. IsCutShort why (answer_section asked counted triples in_part.question) now.stage.output after.stage.output in
+          let CutShort : List ℕ → Type 0 = λ text. IsCutShort why text now.stage.output after.stage.output in
           record {
             answers = in_part.answers;
             deliveries = so_far.deliveries;
             question = in_part.question;
             between = now.stage.output;
             played = played_still in_part.world in_part.counts after.stage.mapped in_part.mapped;
-            cut_short = subst (CutShort (asks so_far.deliveries) (matches so_far.deliveries))
-                (all_held_by (version_in_force so_far.deliveries) now.stage.mapped now.stage.world.played.records so_far.at_rest.mapped
-                ∙ ap (λ (w : ReplayState). union triple_cmp (meaning (version_in_force so_far.deliveries)) w.played.records) (sym in_part.world))
-                (subst (λ n. CutShort (asks so_far.deliveries) n (held_triples now.stage.mapped now.stage.world.played.records)) so_far.counted
-                (subst (λ n. CutShort n matched (held_triples now.stage.mapped now.stage.world.played.records))
-                (is_answer so_far.deliveries run.environment.report reported so_far.at_rest.answered in_part.answers) in_part.cut_short));
+            cut_short = subst CutShort
+                (ap (λ n. answer_held run.environment.routes n matched now.stage.mapped now.stage.world.played.records in_part.question)
+                (is_answer so_far.deliveries run.environment.report reported so_far.at_rest.answered in_part.answers)
+                ∙ ap (λ n. answer_held run.environment.routes (asks so_far.deliveries) n now.stage.mapped now.stage.world.played.records in_part.question) so_far.counted
+                ∙ answer_held_by run.environment.routes (asks so_far.deliveries) (matches so_far.deliveries) (version_in_force so_far.deliveries) now.stage.mapped now.stage.world.played.records in_part.question so_far.at_rest.mapped
+                ∙ ap (λ (w : ReplayState). answer_text run.environment.routes (asks so_far.deliveries) (matches so_far.deliveries) (meaning (version_in_force so_far.deliveries)) w.played.records in_part.question) (sym in_part.world))
+                in_part.cut_short;
             first = subst (λ q. AreFirst (max_bytes_of run.choices) before.input.left after.input.left (so_far.deliveries ++ q ∷ [])) in_part.is first;
           }
 
@@ -262,7 +276,7 @@ module _ (run : Run) (before now : Moment) (reader : Reading) (reported matched 
           (in_part.world so_far.deliveries before.stage so_far.at_rest)
         where
           Within : Stage → Type 0
-          Within s = IsWithin (NotApplied Starved) run.environment (course_begun so_far.deliveries None before.stage) (λ replies. following (horizon_at before.stage) replies so_far.deliveries) before.stage s
+          Within s = IsWithin (NotApplied Starved) run.environment (course_begun run.environment.routes so_far.deliveries None before.stage) (λ replies. following (horizon_at before.stage) replies so_far.deliveries) before.stage s
 
           still : after.stage.world ≡ now.stage.world → after.stage.counts ≡ now.stage.counts → after.stage.output ≡ now.stage.output → Within after.stage
           still world counts output =
@@ -295,14 +309,14 @@ module _ (run : Run) (before now : Moment) (reader : Reading) (reported matched 
           -- the play of the deliveries, and of pages behind them that are told, of which these are all records
           Played : List Step → ℕ → Output → SourceCounts → ReplayState → Type 0
           Played pages n out c w =
-              (p : IsPlayed run.environment (course_remapping pages so_far.deliveries before.stage) before.stage (record { output = out; counts = c; world = w; mapped = mapped_by v w.played.records }))
+              (p : IsPlayed run.environment (course_remapping run.environment.routes pages so_far.deliveries before.stage) before.stage (record { output = out; counts = c; world = w; mapped = mapped_by v w.played.records }))
               × (run.environment.report ≡ Changes → n ≡ changes (steps_of_play (horizon_at before.stage) p.replies so_far.deliveries ++ pages))
 
           played_with : (pages : List Step) (n : ℕ) (out : Output) → TellsBy run.environment.report reported pages n now.stage.output out → Played pages n out after.stage.counts after.stage.world
           played_with pages n out tells =
               subst (λ c. Played pages n out c after.stage.world) (sym in_part.counts)
               (subst (λ w. Played pages n out now.stage.counts w) (sym in_part.world) (
-                is_played run.environment (course_remapping pages so_far.deliveries before.stage) n before.stage (with_mapped (with_output now.stage out) (mapped_by v now.stage.world.played.records))
+                is_played run.environment (course_remapping run.environment.routes pages so_far.deliveries before.stage) n before.stage (with_mapped (with_output now.stage out) (mapped_by v now.stage.world.played.records))
                     (remapping_leads run.environment so_far.deliveries before.stage now.stage reported n pages (mapped_by v now.stage.world.played.records) out tells so_far.at_rest) so_far.at_rest.rests refl,
                 remapping_counted run.environment so_far.deliveries before.stage now.stage reported n pages out tells so_far.at_rest,
               ))

@@ -116,6 +116,33 @@ nothing_taken_of limit (Some bytes) = record {
   bounded = omega arith;
 }
 
+-- and the first lines are none
+pub nothing_first : (limit : ℕ) (left : Option (List ℕ)) → AreFirst limit left left []
+nothing_first limit None = record {
+  before = [];
+  read = [];
+  part = [];
+  last = [];
+  all = refl;
+  are_lines = refl;
+  within = tt;
+  delivered = refl;
+  undecided = nothing_undecided (limit - 0);
+  piece = omega arith;
+}
+nothing_first limit (Some bytes) = record {
+  before = [];
+  read = [];
+  part = [];
+  last = [];
+  all = refl;
+  are_lines = refl;
+  within = omega arith;
+  delivered = refl;
+  undecided = nothing_undecided (limit - 0);
+  piece = omega arith;
+}
+
 -- where the bytes aren't told, those that are left aren't either
 untold : (xs : List ℕ) (known : Option (List ℕ)) → None ≡ before_known xs known → None ≡ known
 untold xs None is = refl

@@ -1,5 +1,5 @@
 -- How far a drill has come whose deliveries are taken as those of an input are.
-use Rattle.std.specs.Prelude.{◌≡◌, ℕ, List, Option, Some}
+use Rattle.std.specs.Prelude.{◌≡◌, ℕ, List, Option, None, Some}
 use Rattle.revisions.specs.Revisions.{Contents}
 use Rattle.delivery.specs.declared.Delivery.{Delivery}
 use Rattle.replay_model.specs.ReplayState.{nothing_delivered}
@@ -20,7 +20,7 @@ told_of size = Some (λ folder. contents_of size)
 
 -- what the deliveries of a drill are taken under: its pages, and the limit of every drill
 abbrev pub drill_environment : ℕ → Environment
-drill_environment size = record { known = Some (contents_of size); limit = 20000000; report = Answers }
+drill_environment size = record { known = Some (contents_of size); limit = 20000000; report = Answers; routes = None }
 
 -- the stage of a drill over its pages, whose fetches never fail
 abbrev pub drill_stage : Source → Output → WorldState → Stage

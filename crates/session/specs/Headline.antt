@@ -3,7 +3,6 @@ use Rattle.std.specs.Prelude.{◌≡◌, ◌⊎◌, ℕ, ◌-◌, ◌^◌, ◌+�
 use Rattle.std.specs.List.{list_any}
 use Rattle.rising.specs.Rising.{Each}
 use Rattle.wq_io.specs.Streams.{IsAtEnd, Rose}
-use Rattle.rdf_term.specs.Order.{triple_cmp}
 use Rattle.entity_model.specs.declared.id.EntityId.{EntityId}
 use Rattle.entity_model.specs.declared.event.Event.{Event}
 use Rattle.entity_state.specs.State.{is_kept}
@@ -18,8 +17,7 @@ use Rattle.replay_model.specs.Records.{Bytes, is_settled, record_of}
 use Rattle.replay_model.specs.Play.{Replies}
 use Rattle.replay_model.specs.Replies.{GivesDocument, HoldsWhatIsThere, TellsWhatIsThere, failed_events, source_replies}
 use Rattle.replay_model.specs.ReplayState.{ReplayState}
-use Rattle.replay_model.specs.Transcript.{Question, Sections, answer_section, asking, asks, closing_text, matches}
-use Rattle.replay_model.specs.Union.{union}
+use Rattle.replay_model.specs.Transcript.{Question, asking, asks, matches}
 use Rattle.replay_model.specs.Versions.{all_by}
 use Rattle.world.specs.Meaning.{meaning}
 use Rattle.transcript.specs.declared.write.Unwritten.{Unwritten}
@@ -35,6 +33,7 @@ use Rattle.session.specs.declared.status.Status.{Status}
 use Rattle.session.specs.declared.stop.Stop.{Stop}
 use Rattle.session.specs.declared.stop.Stop.TheVariants.{BadLine, ReadFault, WriteFault, TooLong, StoreFull, OutOfMemory}
 use Rattle.term_pool.specs.declared.fault.PoolFault.TheVariants.{Full as NoRoom, OutOfMemory as Starved}
+use Rattle.session.specs.Answering.{answer_text, closing_by}
 use Rattle.session.specs.Counts.{HasCounted}
 use Rattle.session.specs.Course.{Course, course_after, course_ended, course_printed, course_remapping}
 use Rattle.session.specs.Moment.{Moment, Run, Environment, Stage, with_mapped, with_output, horizon_at}
@@ -69,7 +68,7 @@ pub record IsPlayed (environment : Environment) (course : Course) (start now : S
 
 -- the world has taken these deliveries, and the answers to their questions were printed, or the records of their changes, and nothing else
 abbrev pub IsPlayedAfter : Environment → List Delivery → Stage → Stage → Type 0
-IsPlayedAfter environment ds start now = IsPlayed environment (course_after ds start) start now
+IsPlayedAfter environment ds start now = IsPlayed environment (course_after environment.routes ds start) start now
 
 -- the states: each is the fate of the entity's due events in their order; where no late event of the entity is open,
 -- also the fate of all its events that the mark has reached, late ones included. Where the deliveries end, all are due
@@ -115,17 +114,17 @@ pub record Replayed (run : Run) (course : List Delivery → Stage → Course) (b
 -- the whole input was replayed, to the end of the deliveries if it is that, and the answers were printed, or the records of its changes, and
 -- nothing else
 abbrev pub HasReplayed : Run → Moment → Moment → Type 0
-HasReplayed run before now = Replayed run (course_ended (closes run.choices)) before now
+HasReplayed run before now = Replayed run (course_ended run.environment.routes (closes run.choices)) before now
 
 -- the same, and where the world is saved, these are the counts of what was reported
 pub record HasTakenAll (run : Run) (numbers : Numbers) (before now : Moment) : Type 0 where
   pub replayed : HasReplayed run before now
   pub counted : closes run.choices ≡ false →
-      numbers ≡ numbers_of run.environment.report (course_ended (closes run.choices) replayed.deliveries before.stage).steps replayed.deliveries replayed.replay.played.replies
+      numbers ≡ numbers_of run.environment.report (course_ended run.environment.routes (closes run.choices) replayed.deliveries before.stage).steps replayed.deliveries replayed.replay.played.replies
 
 -- the play of these deliveries that a run makes, with the sections that it prints
 abbrev pub course_of : Run → List Delivery → Stage → Course
-course_of run ds start = course_printed (closes run.choices) (sections_of run.choices) ds start
+course_of run ds start = course_printed run.environment.routes (closes run.choices) (sections_of run.choices) ds start
 
 -- the input was replayed, and the output has the answers and the sections of the play, or the records of its changes; where the world is
 -- saved, these are the counts of what was reported
@@ -162,7 +161,7 @@ pub record BrokenOff (why : Unwritten) (run : Run) (before now : Moment) : Type 
   pub answers : run.environment.report ≡ Answers
   pub between : Output
   pub replayed : HasReplayed run before (record now { stage = with_output now.stage between })
-  pub cut_short : IsCutShort why (closing_text meaning (version_in_force replayed.deliveries) (sections_of run.choices) now.stage.world.played) between now.stage.output
+  pub cut_short : IsCutShort why (closing_by run.environment.routes (version_in_force replayed.deliveries) (sections_of run.choices) now.stage.world.played) between now.stage.output
 
 -- the world has taken the deliveries of all whole lines of the bytes that were read before a read failed
 pub record StandsAfter (run : Run) (before now : Moment) : Type 0 where
@@ -191,7 +190,7 @@ pub record StandsAtQuestion (why : Unwritten) (run : Run) (before now : Moment) 
   pub question : Question
   pub between : Output
   pub played : IsPlayedAfter run.environment deliveries before.stage (with_output now.stage between)
-  pub cut_short : IsCutShort why (answer_section (asks deliveries) (matches deliveries) (union triple_cmp (meaning (version_in_force deliveries)) now.stage.world.played.records) question) between now.stage.output
+  pub cut_short : IsCutShort why (answer_text run.environment.routes (asks deliveries) (matches deliveries) (meaning (version_in_force deliveries)) now.stage.world.played.records question) between now.stage.output
   pub first : AreFirst (max_bytes_of run.choices) before.input.left now.input.left (deliveries ++ asking question ∷ [])
 
 -- the world has taken the deliveries before a line that changes the mapping, every page being mapped by the version that was in force
@@ -204,7 +203,7 @@ pub record StandsAtMapping (run : Run) (before now : Moment) : Type 0 where
   pub pages : List Step
   pub are : pages ++ steps_anew version now.stage.world.played.records now.stage.mapped.by_two
       ≡ steps_anew version now.stage.world.played.records (all_by (version_in_force deliveries) now.stage.world.played.records)
-  pub played : IsPlayed run.environment (course_remapping pages deliveries before.stage) before.stage (with_mapped now.stage (mapped_by (version_in_force deliveries) now.stage.world.played.records))
+  pub played : IsPlayed run.environment (course_remapping run.environment.routes pages deliveries before.stage) before.stage (with_mapped now.stage (mapped_by (version_in_force deliveries) now.stage.world.played.records))
   pub mapped : now.stage.mapped ≡ remapped_some steps now.stage.world.played.records (record { version = version; by_two = all_by (version_in_force deliveries) now.stage.world.played.records })
   pub roomed : HaveRoomBefore run.environment.limit (needed_anew now.stage.world.played.records now.stage.mapped)
       (needed_anew now.stage.world.played.records (record { version = version; by_two = all_by (version_in_force deliveries) now.stage.world.played.records }))
@@ -223,7 +222,7 @@ pub record StandsAtPage (why : Unwritten) (run : Run) (before now : Moment) : Ty
       ≡ steps_anew version now.stage.world.played.records (all_by (version_in_force deliveries) now.stage.world.played.records)
   pub differs : is_change last ≡ true
   pub between : Output
-  pub played : IsPlayed run.environment (course_remapping pages deliveries before.stage) before.stage
+  pub played : IsPlayed run.environment (course_remapping run.environment.routes pages deliveries before.stage) before.stage
       (with_output (with_mapped now.stage (mapped_by (version_in_force deliveries) now.stage.world.played.records)) between)
   pub mapped : now.stage.mapped ≡ remapped_some steps now.stage.world.played.records (record { version = version; by_two = all_by (version_in_force deliveries) now.stage.world.played.records })
   pub roomed : HaveRoomBefore run.environment.limit (needed_anew now.stage.world.played.records now.stage.mapped)

@@ -1,3 +1,4 @@
+pub mod Answering
 pub mod Complete
 pub mod Counts
 pub mod Course
@@ -17,3 +18,4 @@ pub mod Status
 pub mod Stop
 pub mod Stops
 pub mod Taking
+pub mod Understood

@@ -13,20 +13,22 @@ use Rattle.transcript.specs.Printing.{Output, output}
 use Rattle.following.specs.Input.{Input, input}
 use Rattle.session.specs.declared.ports.Ports.{Ports}
 use Rattle.session.specs.declared.report.Report.{Report}
+use Rattle.subgraph.specs.declared.routes.Route.{Route}
 use Rattle.session.specs.Counts.{SourceCounts, counts}
 use Rattle.session.specs.Remapping.{Mapped, mapped_in}
 use Rattle.words.specs.Options.{Choices, folder_of, max_terms_of}
 
 -- what deliveries are taken under: what the source of revisions has in its folder, where it is known, for how many terms there is room,
--- and what is reported
+-- what is reported, and by which routes pages go to graphs, if they are routed
 pub record Environment : Type 0 where
   pub known : Option (ℕ → Option Bytes)
   pub limit : ℕ
   pub report : Report
+  pub routes : Option (List Route)
 
--- the environment of a report, of a source with these contents, of a folder, and of a store with this limit
-abbrev pub environment : Report → Option Contents → List ℕ → ℕ → Environment
-environment report contents folder limit = record { known = option_map (λ (c : Contents). c folder) contents; limit = limit; report = report }
+-- the environment of these routes, of a report, of a source with these contents, of a folder, and of a store with this limit
+abbrev pub environment : Option (List Route) → Report → Option Contents → List ℕ → ℕ → Environment
+environment routes report contents folder limit = record { known = option_map (λ (c : Contents). c folder) contents; limit = limit; report = report; routes = routes }
 
 -- what the taking of deliveries changes: the output, the counts of the source of revisions, the world, and the versions by which
 -- it maps
@@ -88,6 +90,6 @@ pub record Run : Type 0 where
 abbrev pub world_at_start : Choices → WorldState
 world_at_start choices = record { replay = nothing_delivered_within choices.horizon; limit = max_terms_of choices; mapping = One; by_two = [] }
 
--- the run of these choices over a source with these contents, of which this is reported
-abbrev pub run_of : Report → Option Contents → Choices → Run
-run_of report contents choices = record { choices = choices; environment = environment report contents (folder_of choices) (max_terms_of choices) }
+-- the run of these choices over a source with these contents, of which this is reported, with these routes
+abbrev pub run_of : Option (List Route) → Report → Option Contents → Choices → Run
+run_of routes report contents choices = record { choices = choices; environment = environment routes report contents (folder_of choices) (max_terms_of choices) }

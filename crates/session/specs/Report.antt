@@ -3,9 +3,8 @@ use Rattle.std.specs.Prelude.{◌≡◌, ⊤, true, ℕ, ◌+◌, ◌-◌, ◌^�
 use Rattle.wq_io.specs.Streams.{after_known}
 use Rattle.triple_store.specs.declared.telling.Telling.{Telling}
 use Rattle.triple_store.specs.declared.telling.Telling.TheVariants.{Nothing, Change}
-use Rattle.replay_model.specs.Transcript.{Question, answer_section, asking, asks}
+use Rattle.replay_model.specs.Transcript.{Question, asking, asks}
 use Rattle.replay_model.specs.Play.{Replies}
-use Rattle.rdf_term.specs.declared.triple.Triple.{Triple}
 use Rattle.replica.specs.Record.{record_text}
 use Rattle.delivery.specs.declared.Delivery.{Delivery}
 use Rattle.transcript.specs.declared.write.Unwritten.{Unwritten}
@@ -71,14 +70,12 @@ HasReportedAt (Untold why) Changes course start now replies = HasBrokenOff why c
 
 -- ---- answers
 
--- a question is answered over these triples behind so many asks and so many matches, where questions are answered, and how many asks were
--- answered then is said
-abbrev pub AnswersQuestion : Report → ℕ → ℕ → Question → List Triple → Output → Output → Result ℕ Unwritten → Type 0
-AnswersQuestion Answers reported matched question triples old new (Ok now) =
-    (now ≡ reported + asks (asking question ∷ [])) × Prints (answer_section reported matched triples question) old new (Ok tt)
-AnswersQuestion Answers reported matched question triples old new (Err why) = Prints (answer_section reported matched triples question) old new (Err why)
-AnswersQuestion Changes reported matched question triples old new (Ok now) = (now ≡ reported) × (new ≡ old)
-AnswersQuestion Changes reported matched question triples old new (Err why) = ⊥
+-- a question is answered by this text behind so many asks, where questions are answered, and how many asks were answered then is said
+abbrev pub AnswersQuestion : Report → ℕ → Question → List ℕ → Output → Output → Result ℕ Unwritten → Type 0
+AnswersQuestion Answers reported question text old new (Ok now) = (now ≡ reported + asks (asking question ∷ [])) × Prints text old new (Ok tt)
+AnswersQuestion Answers reported question text old new (Err why) = Prints text old new (Err why)
+AnswersQuestion Changes reported question text old new (Ok now) = (now ≡ reported) × (new ≡ old)
+AnswersQuestion Changes reported question text old new (Err why) = ⊥
 
 -- ---- steps that are told
 

@@ -28,7 +28,7 @@ pub record HasTaken (run : Run) (reported matched : ℕ) (before now : Moment) :
 pub record StopsWithin (halt : Halt) (run : Run) (before now : Moment) : Type 0 where
   pub deliveries : List Delivery
   pub last : Option Delivery
-  pub within : IsWithin halt run.environment (course_begun deliveries last before.stage) (λ replies. entered_perhaps (following (horizon_at before.stage) replies deliveries) last) before.stage now.stage
+  pub within : IsWithin halt run.environment (course_begun run.environment.routes deliveries last before.stage) (λ replies. entered_perhaps (following (horizon_at before.stage) replies deliveries) last) before.stage now.stage
   pub mapped : now.stage.mapped ≡ mapped_by (version_in_force deliveries) now.stage.world.played.records
   pub first : AreFirst (max_bytes_of run.choices) before.input.left now.input.left (deliveries ++ option_to_list last)
 
@@ -37,7 +37,7 @@ pub record StopsWithin (halt : Halt) (run : Run) (before now : Moment) : Type 0 
 pub record StopsAtEnd (halt : Halt) (run : Run) (before now : Moment) : Type 0 where
   pub deliveries : List Delivery
   pub read : IsAtEnd now.input.left
-  pub within : IsWithin halt run.environment (course_to_end deliveries before.stage) (λ replies. after_end (following (horizon_at before.stage) replies deliveries)) before.stage now.stage
+  pub within : IsWithin halt run.environment (course_to_end run.environment.routes deliveries before.stage) (λ replies. after_end (following (horizon_at before.stage) replies deliveries)) before.stage now.stage
   pub mapped : now.stage.mapped ≡ mapped_by (version_in_force deliveries) now.stage.world.played.records
   pub are : IfSome before.input.left (λ bytes. AreDeliveries (max_bytes_of run.choices) bytes deliveries)
 

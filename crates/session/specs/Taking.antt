@@ -14,7 +14,7 @@ use Rattle.replay_model.specs.Play.{Replies}
 use Rattle.replay_model.specs.Replies.{GivesDocument, HoldsDocument, Judgement, failed_events, source_replies}
 use Rattle.replay_model.specs.ReplayState.{ReplayState, after_some, entered, fetches_due, following}
 use Rattle.replay_model.specs.Explained.{AgreeOnApplied, Explained, is_fetching, revision_wanted}
-use Rattle.replay_model.specs.Transcript.{Question, answer_section, asking, matches}
+use Rattle.replay_model.specs.Transcript.{Question, asking, matches}
 use Rattle.transcript.specs.declared.write.Unwritten.{Unwritten}
 use Rattle.transcript.specs.declared.write.Unwritten.TheVariants.{WriteFault, OutOfMemory as NoMemory}
 use Rattle.transcript.specs.Printing.{IsCutShort, Output}
@@ -25,11 +25,12 @@ use Rattle.session.specs.declared.report.Report.TheVariants.{Answers}
 use Rattle.session.specs.declared.stop.Halt.{Halt}
 use Rattle.session.specs.declared.stop.Halt.TheVariants.{Unapplied, Untold}
 use Rattle.term_pool.specs.declared.fault.PoolFault.TheVariants.{Full, OutOfMemory}
+use Rattle.session.specs.Answering.{answer_held}
 use Rattle.session.specs.Counts.{HasCounted, HasCountedAt}
 use Rattle.session.specs.Course.{Course, course_after, course_begun, course_to_end}
 use Rattle.session.specs.Moment.{Environment, Stage, horizon_at}
 use Rattle.session.specs.Needed.{HaveRoomBefore, needed_anew, needed_by_due}
-use Rattle.session.specs.Remapping.{HasNoRoom, IsLeftStale, KeepsVersion, Mapped, held_triples, mapped_by, remapped_some}
+use Rattle.session.specs.Remapping.{HasNoRoom, IsLeftStale, KeepsVersion, Mapped, mapped_by, remapped_some}
 use Rattle.session.specs.Report.{BreaksOffBy, HasAnswered, HasReported, HasReportedAt, TellsBy}
 use Rattle.session.specs.Stop.{stop_of_halt, stop_of_unwritten}
 
@@ -95,7 +96,7 @@ entered_perhaps w (Some d) = entered w d
 -- the world has taken these deliveries, and no event is due: with some replies, it is where a replay of them leads, and the
 -- output has what is reported of this replay, so many answers or records; and every page is mapped by the version in force
 pub record AtRest (environment : Environment) (ds : List Delivery) (reported : ℕ) (start now : Stage) : Type 0 where
-  pub leads : Leads environment (course_after ds start) reported start now
+  pub leads : Leads environment (course_after environment.routes ds start) reported start now
   pub answered : HasAnswered environment.report reported ds
   pub rests : first_due now.world.buffer ≡ None
   pub mapped : now.mapped ≡ mapped_by (version_in_force ds) now.world.played.records
@@ -103,7 +104,7 @@ pub record AtRest (environment : Environment) (ds : List Delivery) (reported : �
 
 -- the world has taken these deliveries and the end of the input, no event is due, and every page is mapped by the version in force
 pub record AtEnd (environment : Environment) (ds : List Delivery) (reported : ℕ) (start now : Stage) : Type 0 where
-  pub leads : Leads environment (course_to_end ds start) reported start now
+  pub leads : Leads environment (course_to_end environment.routes ds start) reported start now
   pub rests : first_due now.world.buffer ≡ None
   pub mapped : now.mapped ≡ mapped_by (version_in_force ds) now.world.played.records
   pub later : start.output.faults ≤ now.output.faults
@@ -162,7 +163,7 @@ pub record AnswersInPart (why : Unwritten) (environment : Environment) (t : Turn
   pub world : now.world ≡ before.world
   pub mapped : now.mapped ≡ before.mapped
   pub counts : now.counts ≡ before.counts
-  pub cut_short : IsCutShort why (answer_section t.reported t.matched (held_triples before.mapped before.world.played.records) question) before.output now.output
+  pub cut_short : IsCutShort why (answer_held environment.routes t.reported t.matched before.mapped before.world.played.records question) before.output now.output
 
 -- nothing of a delivery was taken, as may be where memory was refused
 abbrev pub IsUntaken : Halt → Stage → Stage → Type 0
@@ -177,7 +178,7 @@ pub record TakesInPart (halt : Halt) (environment : Environment) (t : Turn) (bef
   pub mapped : KeepsVersion before.mapped now.mapped before.world.played.records now.world.played.records
   pub world : (ds : List Delivery) (start : Stage) → AtRest environment ds t.reported start before →
       IsUntaken halt before now
-      ⊎ IsWithin halt environment (course_begun ds (Some t.delivery) start) (λ replies. entered (following (horizon_at start) replies ds) t.delivery) start now
+      ⊎ IsWithin halt environment (course_begun environment.routes ds (Some t.delivery) start) (λ replies. entered (following (horizon_at start) replies ds) t.delivery) start now
 
 -- why not all pages were mapped anew, or the last one isn't told
 abbrev pub IsLeft : Halt → ℕ → Records → Mapped → Output → Output → Type 0

@@ -1,22 +1,24 @@
 // Under what a delivery is taken, and what is reported of it.
 
-ghost use Rattle.std.specs.Prelude.{◌≡◌, List};
+ghost use Rattle.std.specs.Prelude.{◌≡◌, ◌+◌, ◌-◌, ◌^◌, ◌<◌, List};
 ghost use Rattle.rdf_term.specs.declared.triple.Triple.{Triple as TheTriple};
-ghost use Rattle.rdf_term.specs.Order.{triple_cmp};
 ghost use Rattle.replay_model.specs.Transcript.{for_bindings, for_triples};
-ghost use Rattle.replay_model.specs.Union.{union};
 ghost use Rattle.replay_model.specs.Versions.{meaning_by};
 ghost use Rattle.world.specs.Changing.{Tells};
 ghost use Rattle.world.specs.Meaning.{meaning};
-ghost use Rattle.transcript.specs.Printing.{output};
+ghost use Rattle.transcript.specs.Printing.{Prints, output};
 ghost use Rattle.patch_stream.specs.Stream.{step};
+ghost use Rattle.session.specs.Answering.{answer_text};
 ghost use Rattle.session.specs.Counts.{HasWrittenOn};
 ghost use Rattle.session.specs.Report.{AnswersQuestion, HasNumberLeft, TellsStepBy, telling_of};
+ghost use Rattle.splitting.specs.Graphs.{MayFollow, routes_of};
 
 use crate::report::Report;
+use delivery::Delivery;
 use graph_query::Query;
 use patch_stream::print_step;
 use rdf_term::Pattern;
+use splitting::Graphs;
 use std::alloc::Global;
 use transcript::{Unwritten, print_answer, print_match};
 use triple_store::Change;
@@ -34,52 +36,97 @@ pub struct Context<'a> {
     pub matched: u64,
 }
 
+// A delivery, and under what it is taken.
+#[derive(Clone, Copy)]
+pub struct Incoming<'a> {
+    pub context: Context<'a>,
+    pub delivery: &'a Delivery,
+}
+
 impl Context<'_> {
-    // Answers an ask, where questions are answered, and says how many asks were answered then.
+    // Answers an ask, where questions are answered, and says how many asks were answered then. Each graph answers, where there are graphs.
     pub fn answer<K: Sink>(
         &self,
         pattern: &Pattern,
         world: &World,
+        graphs: &Option<Graphs>,
         out: &mut K,
     ) -> Result<u64, Unwritten>
-        requires { HasNumberLeft self.now.report self.now.reported self.now.matched }
-        ensures answers { AnswersQuestion self.now.report self.now.reported self.now.matched (for_triples pattern.now)
-            (union triple_cmp (meaning_by meaning world.now.by_two) world.now.replay.played.records) (output K.Sink out.old) (output K.Sink out.new) result }
+        requires number { HasNumberLeft self.now.report self.now.reported self.now.matched }
+        requires follow { MayFollow graphs.now world.now }
+        ensures answers { AnswersQuestion self.now.report self.now.reported (for_triples pattern.now)
+            (answer_text (routes_of graphs.now) self.now.reported self.now.matched (meaning_by meaning world.now.by_two) world.now.replay.played.records (for_triples pattern.now))
+            (output K.Sink out.old) (output K.Sink out.new) result }
         ensures written { HasWrittenOn K.Sink out.old out.new }
     {
         match self.report {
-            Report::Answers => {
-                let number = self.reported + 1;
-                match print_answer(self.alloc, number, pattern, world, out) {
-                    Ok(()) => Ok(number),
-                    Err(why) => Err(why),
-                }
-            }
+            Report::Answers => match self.print(pattern, world, graphs, out) {
+                Ok(()) => Ok(self.reported + 1),
+                Err(why) => Err(why),
+            },
             Report::Changes => Ok(self.reported),
         }
     }
 
-    // Answers a match, where questions are answered, and says how many asks were answered then: as many as before.
+    // Answers a match, where questions are answered, and says how many asks were answered then: as many as before. It is passed over where
+    // there are graphs.
     pub fn answer_match<K: Sink>(
         &self,
         query: &Query,
         world: &World,
+        graphs: &Option<Graphs>,
         out: &mut K,
     ) -> Result<u64, Unwritten>
-        requires { HasNumberLeft self.now.report self.now.reported self.now.matched }
-        ensures answers { AnswersQuestion self.now.report self.now.reported self.now.matched (for_bindings query.now)
-            (union triple_cmp (meaning_by meaning world.now.by_two) world.now.replay.played.records) (output K.Sink out.old) (output K.Sink out.new) result }
+        requires number { HasNumberLeft self.now.report self.now.reported self.now.matched }
+        ensures answers { AnswersQuestion self.now.report self.now.reported (for_bindings query.now)
+            (answer_text (routes_of graphs.now) self.now.reported self.now.matched (meaning_by meaning world.now.by_two) world.now.replay.played.records (for_bindings query.now))
+            (output K.Sink out.old) (output K.Sink out.new) result }
         ensures written { HasWrittenOn K.Sink out.old out.new }
     {
         match self.report {
-            Report::Answers => {
-                let number = self.matched + 1;
-                match print_match(self.alloc, number, query, world, out) {
-                    Ok(()) => Ok(self.reported),
-                    Err(why) => Err(why),
-                }
-            }
+            Report::Answers => match self.print_rows(query, world, graphs, out) {
+                Ok(()) => Ok(self.reported),
+                Err(why) => Err(why),
+            },
             Report::Changes => Ok(self.reported),
+        }
+    }
+
+    // Prints the answer to the next match, where there are no graphs.
+    fn print_rows<K: Sink>(
+        &self,
+        query: &Query,
+        world: &World,
+        graphs: &Option<Graphs>,
+        out: &mut K,
+    ) -> Result<(), Unwritten>
+        requires number { self.now.matched < 2 ^ 64 - 1 }
+        ensures { Prints (answer_text (routes_of graphs.now) self.now.reported self.now.matched (meaning_by meaning world.now.by_two) world.now.replay.played.records (for_bindings query.now))
+            (output K.Sink out.old) (output K.Sink out.new) result }
+    {
+        match graphs {
+            Some(_) => Ok(()),
+            None => print_match(self.alloc, self.matched + 1, query, world, out),
+        }
+    }
+
+    // Prints the answer to the next ask.
+    fn print<K: Sink>(
+        &self,
+        pattern: &Pattern,
+        world: &World,
+        graphs: &Option<Graphs>,
+        out: &mut K,
+    ) -> Result<(), Unwritten>
+        requires number { self.now.reported < 2 ^ 64 - 1 }
+        requires follow { MayFollow graphs.now world.now }
+        ensures { Prints (answer_text (routes_of graphs.now) self.now.reported self.now.matched (meaning_by meaning world.now.by_two) world.now.replay.played.records (for_triples pattern.now))
+            (output K.Sink out.old) (output K.Sink out.new) result }
+    {
+        let number = self.reported + 1;
+        match graphs {
+            Some(graphs) => graphs.print_answers(self.alloc, number, pattern, out),
+            None => print_answer(self.alloc, number, pattern, world, out),
         }
     }
 

@@ -11,7 +11,7 @@ ghost use Rattle.session.specs.declared.stop.Stop.TheVariants.{OutOfMemory as Re
 ghost use Rattle.term_pool.specs.declared.fault.PoolFault.TheVariants.{OutOfMemory as Starved};
 ghost use Rattle.session.specs.DrillPlaying.{HasTakenFirst, LeavesDrill};
 
-use crate::context::Context;
+use crate::context::{Context, Incoming};
 use crate::delivering::{deliver, take_end};
 use crate::report::Report;
 use crate::stop::{Halt, Stop};
@@ -94,7 +94,8 @@ impl DrillRun {
         };
         let list = deliveries(self.alloc, done + 1)?;
         for delivery in list.as_slice() {
-            match deliver(&context, delivery, &mut self.pages, out, world) {
+            let incoming = Incoming { context, delivery };
+            match deliver(&incoming, &mut self.pages, out, world, &mut None) {
                 Ok(done) => self.counts.add(done.answer),
                 Err(stop) => return Err(refused(stop)),
             }
@@ -119,7 +120,7 @@ impl DrillRun {
             reported: 0,
             matched: 0,
         };
-        match take_end(&context, &mut self.pages, out, world) {
+        match take_end(&context, &mut self.pages, out, world, &mut None) {
             Ok(_) => Ok(()),
             Err(halt) => Err(starved(halt)),
         }

@@ -1,9 +1,9 @@
 //! The top call: the words are judged, the lines are taken one by one, and what was asked for is printed; or records are followed, or a
 //! drill is run.
 //!
-//! `run` is the whole program but for the process around it; `running` has it. `replaying` is a replay, `records` the following of
-//! records, and `drilling` a drill, whose deliveries `drill_playing` takes.
-//! `taking` takes the lines of the input, `delivering` one delivery, and the end, and `remapping` a change of the mapping; `report` is what is
+//! `run` is the whole program but for the process around it; `running` has it. `replaying` is a replay, `split` a replay into several
+//! graphs, `records` the following of records, and `drilling` a drill, whose deliveries `drill_playing` takes.
+//! `task` is what is asked of a replay. `taking` takes the lines of the input, `delivering` one delivery, and the end, and `remapping` a change of the mapping; `report` is what is
 //! reported of them, answers or changes, and `context` writes it.
 //! `ports` are what a run reads and writes, `stop` is why it stopped, and `status` how it ended. The words stand in the crate `words`, what is printed in `transcript`, and
 //! the summary of a drill in `drill_replay`. `laws` says what follows from the contract of `run` where nothing goes wrong.
@@ -20,9 +20,11 @@ mod remapping;
 mod replaying;
 mod report;
 mod running;
+mod split;
 mod status;
 mod stop;
 mod taking;
+mod task;
 
 pub use laws::{
     a_saved_replay_is_read_back, fitting_input_is_replayed, followers_have_what_was_held,

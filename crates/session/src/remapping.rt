@@ -3,6 +3,7 @@
 ghost use Rattle.std.specs.Prelude.{◌≡◌, IfErr, IfOk, OnOk};
 ghost use Rattle.replay_model.specs.ReplayState.{nothing_delivered};
 ghost use Rattle.drill_replay.specs.Playing.{IsByFirst};
+ghost use Rattle.splitting.specs.Graphs.{MayFollow, routes_of};
 ghost use Rattle.transcript.specs.Printing.{output};
 ghost use Rattle.patch_stream.specs.Stream.{steps_anew};
 ghost use Rattle.session.specs.declared.report.Report.TheVariants.{Answers};
@@ -15,6 +16,7 @@ ghost use Rattle.session.specs.Taking.{RemapsPages};
 use crate::context::Context;
 use crate::stop::Halt;
 use entity_model::MappingVersion;
+use splitting::{Graphs, follow_remapping};
 use triple_store::StoreFault;
 use world::{Remapping, World, WorldFault};
 use wq_io::Sink;
@@ -37,7 +39,9 @@ pub fn take_mapping<K: Sink>(
     version: MappingVersion,
     out: &mut K,
     world: &mut World,
+    graphs: &mut Option<Graphs>,
 ) -> Result<u64, Halt>
+    requires { MayFollow graphs.old world.old }
     ensures replay { world.new.replay ≡ world.old.replay }
     ensures limit { world.new.limit ≡ world.old.limit }
     ensures held { HoldsWithin world.old.limit world.old → HoldsWithin world.old.limit world.new }
@@ -47,6 +51,8 @@ pub fn take_mapping<K: Sink>(
         (output K.Sink out.old) (output K.Sink out.new)) }
     ensures err { IfErr result (λ halt. RemapsPages halt context.now.report world.old.limit context.now.reported version world.old.replay.played.records
         (mapped_in world.old) (mapped_in world.new) (output K.Sink out.old) (output K.Sink out.new)) }
+    ensures follow { OnOk result (MayFollow graphs.new world.new) }
+    ensures routes { routes_of graphs.new ≡ routes_of graphs.old }
     ensures written { HasWrittenOn K.Sink out.old out.new }
     ensures silent { context.now.report ≡ Answers → output K.Sink out.new ≡ output K.Sink out.old }
 {
@@ -57,12 +63,13 @@ pub fn take_mapping<K: Sink>(
             Ok(
                 Some(
                     Remapping {
-                        entity: _,
+                        entity,
                         change,
-                        triples: _,
+                        triples,
                     },
                 ),
             ) => {
+                follow_remapping(graphs, entity, &triples);
                 match context.tell(reported, change, out) {
                     Ok(now) => reported = now,
                     Err(why) => return Err(Halt::Untold(why)),

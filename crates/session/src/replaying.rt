@@ -1,9 +1,15 @@
-// A replay: the lines of the input, the end, the sections that are asked for, where it answers questions, and the snapshot of the world.
+// A replay: the lines of the input, the end, what is printed then, where it answers questions, and the snapshot of the world.
 
-ghost use Rattle.std.specs.Prelude.{◌≡◌, IfErr, IfOk, IfSome, OnOk};
+ghost use Rattle.std.specs.Prelude.{◌≡◌, None, Some, IfErr, IfOk, IfSome, OnOk};
+ghost use Rattle.std.specs.FinMap as map;
 ghost use Rattle.drill_replay.specs.Playing.{IsByFirst};
 ghost use Rattle.replay_model.specs.ReplayState.{nothing_delivered, nothing_delivered_within};
+ghost use Rattle.replay_model.specs.Versions.{meaning_by};
+ghost use Rattle.splitting.specs.Graphs.{MayFollow, routes_of};
+ghost use Rattle.transcript.specs.Printing.{Prints, output};
 ghost use Rattle.transcript.specs.Sections.{chosen};
+ghost use Rattle.world.specs.Meaning.{meaning};
+ghost use Rattle.session.specs.Answering.{closing_held};
 ghost use Rattle.session.specs.Counts.{HaveGoneOn};
 ghost use Rattle.session.specs.Headline.{Ending, HasPrinted, HasTakenAll, Stopped};
 ghost use Rattle.session.specs.Moment.{moment, run_of, world_at_start};
@@ -19,17 +25,17 @@ use crate::remapping::begin_by_first;
 use crate::report::Report;
 use crate::stop::Stop;
 use crate::taking::take_lines;
+use crate::task::Task;
 use checkpoint::{Numbers, save};
 use revisions::Revisions;
+use splitting::Graphs;
 use std::alloc::Global;
-use transcript::{Sections, print_closing};
+use transcript::{Sections, Unwritten, print_closing};
 use words::ReplayOptions;
 use world::World;
 use wq_io::{Sink, Source};
 
-// Begins by the first version of the mapping, sets the horizon and the limit, takes the lines and the end, prints, and saves the world where
-// the options say so: then the end of the input isn't that of the deliveries. What is reported are the answers to questions, with the
-// sections that are asked for, or the changes of the stored triples.
+// Replays without graphs.
 pub fn replay<S: Source, R: Revisions, K: Sink, F: Sink>(
     alloc: Global,
     options: &ReplayOptions<'_>,
@@ -38,10 +44,10 @@ pub fn replay<S: Source, R: Revisions, K: Sink, F: Sink>(
     world: &mut World,
 ) -> Result<(), Stop>
     requires world { world.old.replay ≡ nothing_delivered }
-    ensures ok { OnOk result (Ending (run_of report (R.contents ports.old.revisions) options.now)
+    ensures ok { OnOk result (Ending (run_of None report (R.contents ports.old.revisions) options.now)
         (moment S.Source R.Revisions K.Sink F.Sink ports.old (world_at_start options.now))
         (moment S.Source R.Revisions K.Sink F.Sink ports.new world.new)) }
-    ensures err { IfErr result (λ stop. Stopped stop (run_of report (R.contents ports.old.revisions) options.now)
+    ensures err { IfErr result (λ stop. Stopped stop (run_of None report (R.contents ports.old.revisions) options.now)
         (moment S.Source R.Revisions K.Sink F.Sink ports.old (world_at_start options.now))
         (moment S.Source R.Revisions K.Sink F.Sink ports.new world.new)) }
     ensures taken { IfSome (S.left ports.old.events) (λ bytes. TakesByNeed (max_bytes_of options.now) bytes (S.left ports.new.events)) }
@@ -49,9 +55,49 @@ pub fn replay<S: Source, R: Revisions, K: Sink, F: Sink>(
     ensures held { HoldsWithin (max_terms_of options.now) world.new }
     ensures further { HaveGoneOn S.Source R.Revisions K.Sink F.Sink ports.old ports.new }
 {
+    let task = Task {
+        alloc,
+        options,
+        report,
+    };
+    replay_into(&task, ports, world, &mut None)
+}
+
+// Begins by the first version of the mapping, sets the horizon and the limit, takes the lines and the end, prints, and saves the world where
+// the options say so: then the end of the input isn't that of the deliveries. What is reported are the answers to questions, with the
+// sections that are asked for, or the changes of the stored triples. Where there are graphs, each answers the asks, and the triples of each
+// are printed in the place of the sections.
+pub fn replay_into<S: Source, R: Revisions, K: Sink, F: Sink>(
+    task: &Task<'_>,
+    ports: &mut Ports<S, R, K, F>,
+    world: &mut World,
+    graphs: &mut Option<Graphs>,
+) -> Result<(), Stop>
+    requires world { world.old.replay ≡ nothing_delivered }
+    requires fresh { IfSome graphs.old (λ g. g.entries ≡ Some map.empty) }
+    ensures ok { OnOk result (Ending (run_of (routes_of graphs.old) task.now.report (R.contents ports.old.revisions) task.now.options.now)
+        (moment S.Source R.Revisions K.Sink F.Sink ports.old (world_at_start task.now.options.now))
+        (moment S.Source R.Revisions K.Sink F.Sink ports.new world.new)) }
+    ensures err { IfErr result (λ stop. Stopped stop (run_of (routes_of graphs.old) task.now.report (R.contents ports.old.revisions) task.now.options.now)
+        (moment S.Source R.Revisions K.Sink F.Sink ports.old (world_at_start task.now.options.now))
+        (moment S.Source R.Revisions K.Sink F.Sink ports.new world.new)) }
+    ensures taken { IfSome (S.left ports.old.events) (λ bytes. TakesByNeed (max_bytes_of task.now.options.now) bytes (S.left ports.new.events)) }
+    ensures limit { world.new.limit ≡ max_terms_of task.now.options.now }
+    ensures held { HoldsWithin (max_terms_of task.now.options.now) world.new }
+    ensures further { HaveGoneOn S.Source R.Revisions K.Sink F.Sink ports.old ports.new }
+{
+    begin(task.options, world);
+    replay_within(task, ports, world, graphs)
+}
+
+// Begins a replay: by the first version of the mapping, with the horizon that is asked for, if one is, and the limit.
+pub fn begin(options: &ReplayOptions<'_>, world: &mut World)
+    requires { world.old.replay ≡ nothing_delivered }
+    ensures { world.new ≡ world_at_start options.now }
+{
     begin_by_first(world);
     set_horizon(options, world);
-    replay_within(alloc, options, report, ports, world)
+    world.set_room(options.max_terms());
 }
 
 // Sets the horizon that is asked for, if one is.
@@ -67,66 +113,81 @@ fn set_horizon(options: &ReplayOptions<'_>, world: &mut World)
     }
 }
 
-// Sets the limit, takes the lines and the end, prints, and saves the world where it is to be saved.
+// Takes the lines and the end, prints, and saves the world where it is to be saved.
 fn replay_within<S: Source, R: Revisions, K: Sink, F: Sink>(
-    alloc: Global,
-    options: &ReplayOptions<'_>,
-    report: Report,
+    task: &Task<'_>,
     ports: &mut Ports<S, R, K, F>,
     world: &mut World,
+    graphs: &mut Option<Graphs>,
 ) -> Result<(), Stop>
-    requires world { world.old.replay ≡ nothing_delivered_within world.old.replay.buffer.horizon }
-    requires first { IsByFirst world.old }
-    ensures ok { OnOk result (Ending (run_of report (R.contents ports.old.revisions) options.now)
+    requires world { world.old ≡ world_at_start task.now.options.now }
+    requires follow { MayFollow graphs.old world.old }
+    ensures ok { OnOk result (Ending (run_of (routes_of graphs.old) task.now.report (R.contents ports.old.revisions) task.now.options.now)
         (moment S.Source R.Revisions K.Sink F.Sink ports.old world.old)
         (moment S.Source R.Revisions K.Sink F.Sink ports.new world.new)) }
-    ensures err { IfErr result (λ stop. Stopped stop (run_of report (R.contents ports.old.revisions) options.now)
+    ensures err { IfErr result (λ stop. Stopped stop (run_of (routes_of graphs.old) task.now.report (R.contents ports.old.revisions) task.now.options.now)
         (moment S.Source R.Revisions K.Sink F.Sink ports.old world.old)
         (moment S.Source R.Revisions K.Sink F.Sink ports.new world.new)) }
-    ensures taken { IfSome (S.left ports.old.events) (λ bytes. TakesByNeed (max_bytes_of options.now) bytes (S.left ports.new.events)) }
-    ensures limit { world.new.limit ≡ max_terms_of options.now }
-    ensures held { HoldsWithin (max_terms_of options.now) world.new }
+    ensures taken { IfSome (S.left ports.old.events) (λ bytes. TakesByNeed (max_bytes_of task.now.options.now) bytes (S.left ports.new.events)) }
+    ensures limit { world.new.limit ≡ max_terms_of task.now.options.now }
+    ensures held { HoldsWithin (max_terms_of task.now.options.now) world.new }
     ensures further { HaveGoneOn S.Source R.Revisions K.Sink F.Sink ports.old ports.new }
 {
-    world.set_room(options.max_terms());
-    let numbers = take_and_print(alloc, options, report, ports, world)?;
-    if options.closes() {
+    let numbers = take_and_print(task, ports, world, graphs)?;
+    if task.options.closes() {
         return Ok(());
     }
-    Ok(save(alloc, world, numbers, &mut ports.snapshot)?)
+    Ok(save(task.alloc, world, numbers, &mut ports.snapshot)?)
 }
 
 // Takes the lines and the end, and prints. Says the counts that a later run goes on with.
 fn take_and_print<S: Source, R: Revisions, K: Sink, F: Sink>(
-    alloc: Global,
-    options: &ReplayOptions<'_>,
-    report: Report,
+    task: &Task<'_>,
     ports: &mut Ports<S, R, K, F>,
     world: &mut World,
+    graphs: &mut Option<Graphs>,
 ) -> Result<Numbers, Stop>
     requires world { world.old.replay ≡ nothing_delivered_within world.old.replay.buffer.horizon }
     requires first { IsByFirst world.old }
-    requires limit { world.old.limit ≡ max_terms_of options.now }
+    requires limit { world.old.limit ≡ max_terms_of task.now.options.now }
+    requires follow { MayFollow graphs.old world.old }
     requires held { HoldsWithin world.old.limit world.old }
-    ensures ok { IfOk result (λ numbers. HasPrinted (run_of report (R.contents ports.old.revisions) options.now) numbers
+    ensures ok { IfOk result (λ numbers. HasPrinted (run_of (routes_of graphs.old) task.now.report (R.contents ports.old.revisions) task.now.options.now) numbers
         (moment S.Source R.Revisions K.Sink F.Sink ports.old world.old)
         (moment S.Source R.Revisions K.Sink F.Sink ports.new world.new)) }
-    ensures err { IfErr result (λ stop. Stopped stop (run_of report (R.contents ports.old.revisions) options.now)
+    ensures err { IfErr result (λ stop. Stopped stop (run_of (routes_of graphs.old) task.now.report (R.contents ports.old.revisions) task.now.options.now)
         (moment S.Source R.Revisions K.Sink F.Sink ports.old world.old)
         (moment S.Source R.Revisions K.Sink F.Sink ports.new world.new)) }
-    ensures taken { IfSome (S.left ports.old.events) (λ bytes. TakesByNeed (max_bytes_of options.now) bytes (S.left ports.new.events)) }
+    ensures taken { IfSome (S.left ports.old.events) (λ bytes. TakesByNeed (max_bytes_of task.now.options.now) bytes (S.left ports.new.events)) }
     ensures limit { world.new.limit ≡ world.old.limit }
     ensures held { HoldsWithin world.old.limit world.new }
     ensures snapshot { ports.new.snapshot ≡ ports.old.snapshot }
     ensures further { HaveGoneOn S.Source R.Revisions K.Sink F.Sink ports.old ports.new }
 {
-    let numbers = take_all(alloc, options, report, ports, world)?;
-    match report {
+    let numbers = take_all(task, ports, world, graphs)?;
+    match task.report {
         Report::Answers => {
-            print_closing(alloc, sections(options), world, &mut ports.out)?;
+            close(task, world, graphs, &mut ports.out)?;
             Ok(numbers)
         }
         Report::Changes => Ok(numbers),
+    }
+}
+
+// Prints the sections that are asked for, or the triples of each graph, where there are graphs.
+fn close<K: Sink>(
+    task: &Task<'_>,
+    world: &World,
+    graphs: &Option<Graphs>,
+    out: &mut K,
+) -> Result<(), Unwritten>
+    requires { MayFollow graphs.now world.now }
+    ensures { Prints (closing_held (routes_of graphs.now) (meaning_by meaning world.now.by_two) (sections_of task.now.options.now) world.now.replay.played)
+        (output K.Sink out.old) (output K.Sink out.new) result }
+{
+    match graphs {
+        Some(graphs) => graphs.print(task.alloc, out),
+        None => print_closing(task.alloc, sections(task.options), world, out),
     }
 }
 
@@ -144,39 +205,47 @@ fn sections(options: &ReplayOptions<'_>) -> Sections
 // Takes the lines, and the end where it is that of the deliveries, with what is reported of them. Says the counts that a later run goes
 // on with.
 fn take_all<S: Source, R: Revisions, K: Sink, F: Sink>(
-    alloc: Global,
-    plan: &ReplayOptions<'_>,
-    report: Report,
+    task: &Task<'_>,
     ports: &mut Ports<S, R, K, F>,
     world: &mut World,
+    graphs: &mut Option<Graphs>,
 ) -> Result<Numbers, Stop>
     requires world { world.old.replay ≡ nothing_delivered_within world.old.replay.buffer.horizon }
     requires first { IsByFirst world.old }
-    requires limit { world.old.limit ≡ max_terms_of plan.now }
+    requires limit { world.old.limit ≡ max_terms_of task.now.options.now }
+    requires follow { MayFollow graphs.old world.old }
     requires held { HoldsWithin world.old.limit world.old }
-    ensures ok { IfOk result (λ numbers. HasTakenAll (run_of report (R.contents ports.old.revisions) plan.now) numbers
+    ensures ok { IfOk result (λ numbers. HasTakenAll (run_of (routes_of graphs.old) task.now.report (R.contents ports.old.revisions) task.now.options.now) numbers
         (moment S.Source R.Revisions K.Sink F.Sink ports.old world.old)
         (moment S.Source R.Revisions K.Sink F.Sink ports.new world.new)) }
-    ensures err { IfErr result (λ stop. Stopped stop (run_of report (R.contents ports.old.revisions) plan.now)
+    ensures err { IfErr result (λ stop. Stopped stop (run_of (routes_of graphs.old) task.now.report (R.contents ports.old.revisions) task.now.options.now)
         (moment S.Source R.Revisions K.Sink F.Sink ports.old world.old)
         (moment S.Source R.Revisions K.Sink F.Sink ports.new world.new)) }
-    ensures taken { IfSome (S.left ports.old.events) (λ bytes. TakesByNeed (max_bytes_of plan.now) bytes (S.left ports.new.events)) }
+    ensures taken { IfSome (S.left ports.old.events) (λ bytes. TakesByNeed (max_bytes_of task.now.options.now) bytes (S.left ports.new.events)) }
+    ensures follow { OnOk result (MayFollow graphs.new world.new) }
+    ensures routes { routes_of graphs.new ≡ routes_of graphs.old }
     ensures limit { world.new.limit ≡ world.old.limit }
     ensures held { HoldsWithin world.old.limit world.new }
     ensures snapshot { ports.new.snapshot ≡ ports.old.snapshot }
     ensures further { HaveGoneOn S.Source R.Revisions K.Sink F.Sink ports.old ports.new }
 {
-    let taken = take_lines(alloc, plan, report, ports, world)?;
-    if !plan.closes() {
-        return Ok(report.numbers(taken.reported, taken.matched));
+    let taken = take_lines(task, ports, world, graphs)?;
+    if !task.options.closes() {
+        return Ok(task.report.numbers(taken.reported, taken.matched));
     }
     let context = Context {
-        alloc,
-        folder: plan.folder(),
-        report,
+        alloc: task.alloc,
+        folder: task.options.folder(),
+        report: task.report,
         reported: taken.reported,
         matched: taken.matched,
     };
-    let reported = take_end(&context, &mut ports.revisions, &mut ports.out, world)?;
-    Ok(report.numbers(reported, taken.matched))
+    let reported = take_end(
+        &context,
+        &mut ports.revisions,
+        &mut ports.out,
+        world,
+        graphs,
+    )?;
+    Ok(task.report.numbers(reported, taken.matched))
 }

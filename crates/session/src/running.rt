@@ -1,6 +1,6 @@
 // The top call.
 
-ghost use Rattle.std.specs.Prelude.{◌≡◌, ◌↔◌, ℕ, None, Some, map, string_bytes};
+ghost use Rattle.std.specs.Prelude.{◌≡◌, ◌⊎◌, ℕ, List, None, Some, map, string_bytes};
 ghost use Rattle.replay_model.specs.ReplayState.{nothing_delivered};
 ghost use Rattle.drill_replay.specs.Playing.{IsByFirst};
 ghost use Rattle.session.specs.declared.report.Report.TheVariants.{Answers, Changes};
@@ -11,17 +11,21 @@ ghost use Rattle.session.specs.Headline.{ReplayEnding};
 ghost use Rattle.session.specs.Moment.{moment, run_of, stage, world_at_start};
 ghost use Rattle.session.specs.Remapping.{HoldsWithin};
 ghost use Rattle.session.specs.Room.{limit_of_plan};
+ghost use Rattle.session.specs.Understood.{IsNotUnderstood};
 ghost use Rattle.following.specs.Following.{follow_moment};
-ghost use Rattle.words.specs.Options.{Choices, FollowChoices};
+ghost use Rattle.subgraph.specs.declared.routes.Route.{Route};
+ghost use Rattle.subgraph.specs.Routes.{AreRoutesIn};
+ghost use Rattle.words.specs.Options.{Choices, FollowChoices, SplitChoices};
 ghost use Rattle.words.specs.Plan.{plan_of};
 ghost use Rattle.words.specs.declared.plan.Plan.{Plan as ThePlan};
-ghost use Rattle.words.specs.declared.plan.Plan.TheVariants.{Replay, Drill, Patches, Follow};
+ghost use Rattle.words.specs.declared.plan.Plan.TheVariants.{Replay, Drill, Patches, Follow, Split};
 
 use crate::drilling::drill;
 use crate::ports::Ports;
 use crate::records::follow_records;
 use crate::replaying::replay;
 use crate::report::Report;
+use crate::split::split;
 use crate::status::Status;
 use crate::stop::Stop;
 use revisions::Revisions;
@@ -41,6 +45,9 @@ use wq_io::{Sink, Source};
 /// Where the words say that the world is saved, the end of the input isn't that of the deliveries: what waits goes on waiting, the sections
 /// show the world as it is then, and its snapshot is written last.
 ///
+/// A split replays the same lines into several graphs: an ask is answered for each graph, and at the end the triples of each are printed.
+/// It passes over matches.
+///
 /// A follower reads records of changes, and prints how many of them were applied and, where the words ask for it, the triples then.
 ///
 /// `words` are those after the program's name; terms of records are found by hashes under `keys`; `world` has taken nothing yet and has no horizon; a run begins with the first version of
@@ -54,20 +61,29 @@ pub fn run<S: Source, R: Revisions, K: Sink, F: Sink>(
 ) -> Status
     requires world { world.old.replay ≡ nothing_delivered }
 
-    // Where the words are not understood, nothing is done.
-    ensures bad_words { (result ≡ Status.BadWords) ↔ (plan_of (map (λ w. string_bytes w) words.now) ≡ None) }
+    // Where the words are not understood, or the text of a split's routes is not, nothing is done; but memory may be refused before the
+    // text of the routes is.
+    ensures bad_words { result ≡ Status.BadWords → IsNotUnderstood (map (λ w. string_bytes w) words.now) }
+    ensures words { plan_of (map (λ w. string_bytes w) words.now) ≡ None → result ≡ Status.BadWords }
+    ensures routes { IsNotUnderstood (map (λ w. string_bytes w) words.now) → (result ≡ Status.BadWords) ⊎ (result ≡ Status.OutOfMemory) }
     ensures untouched { result ≡ Status.BadWords → (ports.new ≡ ports.old) × (world.new ≡ world.old) }
 
     // A replay ends well, or stops for a cause; it begins with the horizon and the limit of the words, and by the first version.
     ensures replay { (choices : Choices) → plan_of (map (λ w. string_bytes w) words.now) ≡ Some (Replay choices) →
-        ReplayEnding result (run_of Answers (R.contents ports.old.revisions) choices)
+        ReplayEnding result (run_of None Answers (R.contents ports.old.revisions) choices)
         (moment S.Source R.Revisions K.Sink F.Sink ports.old (world_at_start choices))
         (moment S.Source R.Revisions K.Sink F.Sink ports.new world.new) }
 
     // So does a patch stream, which is a replay whose output has the records of its changes, and nothing else.
     ensures patches { (choices : Choices) → plan_of (map (λ w. string_bytes w) words.now) ≡ Some (Patches choices) →
-        ReplayEnding result (run_of Changes (R.contents ports.old.revisions) choices)
+        ReplayEnding result (run_of None Changes (R.contents ports.old.revisions) choices)
         (moment S.Source R.Revisions K.Sink F.Sink ports.old (world_at_start choices))
+        (moment S.Source R.Revisions K.Sink F.Sink ports.new world.new) }
+
+    // So does a split, which is a replay that routes pages to graphs: its output has the answers of each graph, and then the triples of each.
+    ensures split { (choices : SplitChoices) → plan_of (map (λ w. string_bytes w) words.now) ≡ Some (Split choices) → (routes : List Route) → AreRoutesIn choices.route routes →
+        ReplayEnding result (run_of (Some routes) Answers (R.contents ports.old.revisions) choices.replay)
+        (moment S.Source R.Revisions K.Sink F.Sink ports.old (world_at_start choices.replay))
         (moment S.Source R.Revisions K.Sink F.Sink ports.new world.new) }
 
     // A drill ends well, or stops while it prints or for want of memory. All that it leaves is mapped by the first version, and it
@@ -85,9 +101,9 @@ pub fn run<S: Source, R: Revisions, K: Sink, F: Sink>(
         (follow_moment S.Source K.Sink ports.new.events ports.new.out)
         × (ports.new ≡ record ports.old { events = ports.new.events; out = ports.new.out }) × (world.new ≡ record world.old { limit = 20000000 }) }
 
-    // However a run ends, the world is left with the limit of the plan, and what it holds stays within it.
+    // However a run ends that was begun, the world is left with the limit of the plan, and what it holds stays within it.
     ensures limit { (plan : ThePlan) → plan_of (map (λ w. string_bytes w) words.now) ≡ Some plan →
-        (world.new.limit ≡ limit_of_plan plan) × HoldsWithin (limit_of_plan plan) world.new }
+        (result ≡ Status.BadWords) ⊎ ((world.new.limit ≡ limit_of_plan plan) × HoldsWithin (limit_of_plan plan) world.new) }
 
     // The contents of the revisions stay the same, and failure counters never decrease.
     ensures further { HaveGoneOn S.Source R.Revisions K.Sink F.Sink ports.old ports.new }
@@ -116,5 +132,6 @@ pub fn run<S: Source, R: Revisions, K: Sink, F: Sink>(
                 Err(stop) => stop.status(),
             }
         }
+        Some(Plan::Split(options)) => split(alloc, keys, &options, ports, world),
     }
 }

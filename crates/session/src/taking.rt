@@ -1,11 +1,12 @@
 // The lines of the input are taken one by one.
 
-ghost use Rattle.std.specs.Prelude.{◌≡◌, ◌⊎◌, ◌∷◌, [], Ok, Err, IfErr, IfOk, IfSome};
+ghost use Rattle.std.specs.Prelude.{◌≡◌, ◌⊎◌, ◌∷◌, [], Ok, Err, IfErr, IfOk, IfSome, OnOk};
 ghost use Rattle.drill_replay.specs.Playing.{IsByFirst};
 ghost use Rattle.replay_model.specs.ReplayState.{nothing_delivered_within};
 ghost use Rattle.replay_model.specs.Transcript.{matches};
 ghost use Rattle.event_line.specs.declared.faults.LineCause.{LineCause};
 ghost use Rattle.event_line.specs.Line.{delivery_of};
+ghost use Rattle.splitting.specs.Graphs.{MayFollow, routes_of};
 ghost use Rattle.session.specs.declared.stop.Stop.TheVariants.{BadLine, OutOfMemory as Refused};
 ghost use Rattle.session.specs.Counts.{HaveGoneOn};
 ghost use Rattle.session.specs.Headline.{Stopped};
@@ -15,16 +16,16 @@ ghost use Rattle.session.specs.Remapping.{HoldsWithin};
 ghost use Rattle.session.specs.Stops.{HasTaken};
 ghost use Rattle.words.specs.Options.{max_bytes_of, max_terms_of};
 
-use crate::context::Context;
+use crate::context::{Context, Incoming};
 use crate::delivering::deliver;
 use crate::ports::Ports;
-use crate::report::Report;
 use crate::stop::Stop;
+use crate::task::Task;
 use delivery::Delivery;
 use event_line::{DeliveryFault, delivery};
 use revisions::Revisions;
+use splitting::Graphs;
 use std::alloc::Global;
-use words::ReplayOptions;
 use world::World;
 use wq_io::{Lines, Sink, Source};
 
@@ -39,48 +40,54 @@ pub struct LinesTaken {
 // question is answered at once; at a change of the mapping all that is held is mapped anew before the next line is taken. Says how many
 // answers or records are written then, and how many of the lines are matches.
 pub fn take_lines<S: Source, R: Revisions, K: Sink, F: Sink>(
-    alloc: Global,
-    plan: &ReplayOptions<'_>,
-    report: Report,
+    task: &Task<'_>,
     ports: &mut Ports<S, R, K, F>,
     world: &mut World,
+    graphs: &mut Option<Graphs>,
 ) -> Result<LinesTaken, Stop>
     requires world { world.old.replay ≡ nothing_delivered_within world.old.replay.buffer.horizon }
     requires first { IsByFirst world.old }
-    requires limit { world.old.limit ≡ max_terms_of plan.now }
+    requires limit { world.old.limit ≡ max_terms_of task.now.options.now }
+    requires follow { MayFollow graphs.old world.old }
     requires held { HoldsWithin world.old.limit world.old }
-    ensures ok { IfOk result (λ taken. HasTaken (run_of report (R.contents ports.old.revisions) plan.now) taken.reported taken.matched
+    ensures ok { IfOk result (λ taken. HasTaken (run_of (routes_of graphs.old) task.now.report (R.contents ports.old.revisions) task.now.options.now) taken.reported taken.matched
         (moment S.Source R.Revisions K.Sink F.Sink ports.old world.old)
         (moment S.Source R.Revisions K.Sink F.Sink ports.new world.new)) }
-    ensures err { IfErr result (λ stop. Stopped stop (run_of report (R.contents ports.old.revisions) plan.now)
+    ensures err { IfErr result (λ stop. Stopped stop (run_of (routes_of graphs.old) task.now.report (R.contents ports.old.revisions) task.now.options.now)
         (moment S.Source R.Revisions K.Sink F.Sink ports.old world.old)
         (moment S.Source R.Revisions K.Sink F.Sink ports.new world.new)) }
-    ensures taken { IfSome (S.left ports.old.events) (λ bytes. TakesByNeed (max_bytes_of plan.now) bytes (S.left ports.new.events)) }
+    ensures taken { IfSome (S.left ports.old.events) (λ bytes. TakesByNeed (max_bytes_of task.now.options.now) bytes (S.left ports.new.events)) }
     ensures limit { world.new.limit ≡ world.old.limit }
     ensures held { HoldsWithin world.old.limit world.new }
+    ensures follow { OnOk result (MayFollow graphs.new world.new) }
+    ensures routes { routes_of graphs.new ≡ routes_of graphs.old }
     ensures snapshot { ports.new.snapshot ≡ ports.old.snapshot }
     ensures further { HaveGoneOn S.Source R.Revisions K.Sink F.Sink ports.old ports.new }
 {
-    let folder = plan.folder();
-    let mut lines = Lines::new(plan.max_bytes());
-    let mut line = Vec::new(alloc);
+    let folder = task.options.folder();
+    let mut lines = Lines::new(task.options.max_bytes());
+    let mut line = Vec::new(task.alloc);
     let mut reported = 0;
     let mut matched = 0;
     while let Some(number) = lines.next(&mut ports.events, &mut line)? {
-        let delivery = read_delivery(alloc, line.as_slice(), number)?;
+        let delivery = read_delivery(task.alloc, line.as_slice(), number)?;
         let context = Context {
-            alloc,
+            alloc: task.alloc,
             folder,
-            report,
+            report: task.report,
             reported,
             matched,
         };
+        let incoming = Incoming {
+            context,
+            delivery: &delivery,
+        };
         let done = deliver(
-            &context,
-            &delivery,
+            &incoming,
             &mut ports.revisions,
             &mut ports.out,
             world,
+            graphs,
         )?;
         reported = done.reported;
         matched += matches_in(&delivery);

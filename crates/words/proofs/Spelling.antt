@@ -13,7 +13,7 @@ use Rattle.words.specs.Plan.{asked, plan_of, understood}
 use Rattle.words.specs.Grammar.{AreDistinct, IsPlan, Spell, Written, items_in, words_of_item, words_written}
 use Rattle.words.specs.declared.plan.Plan.{Plan}
 use Rattle.words.specs.declared.table.Command.{Command}
-use Rattle.words.specs.declared.table.Command.TheVariants.{Replay as ToReplay, Drill as ToDrill, Patches as ToPatches, Follow as ToFollow}
+use Rattle.words.specs.declared.table.Command.TheVariants.{Replay as ToReplay, Drill as ToDrill, Patches as ToPatches, Follow as ToFollow, Split as ToSplit}
 use Rattle.words.proofs.Naming.{are_plain, is_plain, item_alone, item_joined, items_apart, items_whole, joined_untold, kind_plain, same_name}
 
 abbrev IsFit : List Entry → Item → Type 0
@@ -176,6 +176,7 @@ named ToReplay = refl
 named ToDrill = refl
 named ToPatches = refl
 named ToFollow = refl
+named ToSplit = refl
 
 -- no table has a name with `=`
 plain_tables : (command : Command) → are_plain (table_of command) ≡ true
@@ -183,6 +184,7 @@ plain_tables ToReplay = refl
 plain_tables ToDrill = refl
 plain_tables ToPatches = refl
 plain_tables ToFollow = refl
+plain_tables ToSplit = refl
 
 pub plan_spelled : (words : List (List ℕ)) (plan : Plan) → plan_of words ≡ Some plan → IsPlan words plan
 plan_spelled [] plan is = cc

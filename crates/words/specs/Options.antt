@@ -1,7 +1,7 @@
--- What a replay, a patch stream and a follower are asked for.
-use Rattle.std.specs.Prelude.{ℕ, ◌≤◌, Bool, List, Option, IfSome, is_none, unwrap_or, codes}
+-- What a replay, a patch stream, a follower and a split are asked for.
+use Rattle.std.specs.Prelude.{ℕ, ◌≤◌, Bool, false, List, Option, None, IfSome, is_none, unwrap_or, codes}
 use Rattle.words.specs.Items.{Item, is_there, number_in, value_in}
-use Rattle.words.specs.Table.{Entry, IsInRange, follow_table, kind_in, replay_table}
+use Rattle.words.specs.Table.{Entry, IsInRange, follow_table, kind_in, replay_table, split_table}
 
 -- what is asked for: the folder of the revisions, the most bytes of the input, the most terms and the horizon in microseconds, where
 -- the words say them, which sections are printed, and the file of the snapshot where the world is saved
@@ -68,3 +68,24 @@ follow_choices_of items = record { max_bytes = number_in follow_table (codes "--
 -- the most bytes of a follower's input: without `--max-bytes` 1,073,741,824
 abbrev pub follow_max_bytes_of : FollowChoices → ℕ
 follow_max_bytes_of c = unwrap_or c.max_bytes 1073741824
+
+-- what a split is asked for: the text of its routes, and what a replay of the same lines would be asked for, which prints no section
+pub record SplitChoices : Type 0 where
+  pub route : List ℕ
+  pub replay : Choices
+
+-- what its items ask for, where this is the text of the routes
+abbrev pub split_choices_of : List Item → List ℕ → SplitChoices
+split_choices_of items route = record {
+  route = route;
+  replay = record {
+    folder = value_in (codes "--from") items;
+    max_bytes = number_in split_table (codes "--max-bytes") items;
+    max_terms = number_in split_table (codes "--max-terms") items;
+    horizon = number_in split_table (codes "--horizon") items;
+    export = false;
+    state = false;
+    side = false;
+    save = None;
+  };
+}

@@ -5,7 +5,7 @@ use Rattle.words.specs.Numbers.{number_between}
 use Rattle.words.specs.declared.table.ValueKind.{ValueKind}
 use Rattle.words.specs.declared.table.ValueKind.TheVariants.{Flag, Text, Number}
 use Rattle.words.specs.declared.table.Command.{Command}
-use Rattle.words.specs.declared.table.Command.TheVariants.{Replay, Drill, Patches, Follow}
+use Rattle.words.specs.declared.table.Command.TheVariants.{Replay, Drill, Patches, Follow, Split}
 
 -- an item that a command has: its name, and the kind of its value
 pub record Entry : Type 0 where
@@ -18,7 +18,7 @@ entry name kind = record { name = name; kind = kind }
 
 -- the commands
 abbrev pub commands : List Command
-commands = Replay ∷ Drill ∷ Patches ∷ Follow ∷ []
+commands = Replay ∷ Drill ∷ Patches ∷ Follow ∷ Split ∷ []
 
 -- the name of a command
 abbrev pub name_of : Command → List ℕ
@@ -26,6 +26,7 @@ name_of Replay = codes "replay"
 name_of Drill = codes "drill"
 name_of Patches = codes "patches"
 name_of Follow = codes "follow"
+name_of Split = codes "split"
 
 -- the command with this name
 abbrev pub command_named : List ℕ → Option Command
@@ -62,12 +63,23 @@ patches_table =
 abbrev pub follow_table : List Entry
 follow_table = entry (codes "--max-bytes") (Number 0 1099511627776) ∷ entry (codes "--export") Flag ∷ []
 
+-- the items of a split
+abbrev pub split_table : List Entry
+split_table =
+    entry (codes "--route") Text
+    ∷ entry (codes "--from") Text
+    ∷ entry (codes "--max-bytes") (Number 0 1099511627776)
+    ∷ entry (codes "--max-terms") (Number 1 4294967295)
+    ∷ entry (codes "--horizon") (Number 0 9223372036854775807)
+    ∷ []
+
 -- the items of a command
 abbrev pub table_of : Command → List Entry
 table_of Replay = replay_table
 table_of Drill = drill_table
 table_of Patches = patches_table
 table_of Follow = follow_table
+table_of Split = split_table
 
 -- the kind of the value of the item with this name, if the table has one
 abbrev pub kind_in : List Entry → List ℕ → Option ValueKind

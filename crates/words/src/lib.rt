@@ -1,7 +1,7 @@
 //! The words after the program's name: which of them are understood, and what they ask for.
 //!
 //! `table` has the items of each command, with the kinds of their values; `items` reads the words by a table; `options` has what a
-//! replay, a patch stream and a follower are asked for; `plan` reads a whole command; `numbers` reads a number in its range. `grammar` says which words are a plan.
+//! replay, a patch stream, a follower and a split are asked for; `plan` reads a whole command; `numbers` reads a number in its range. `grammar` says which words are a plan.
 //! Nothing here takes memory, so words that aren't understood are refused whatever memory there is.
 #![tactic(auto)]
 
@@ -13,5 +13,5 @@ mod plan;
 mod table;
 
 pub use grammar::plans_are_spelled;
-pub use options::{FollowOptions, ReplayOptions};
+pub use options::{FollowOptions, ReplayOptions, SplitOptions};
 pub use plan::{Plan, read_plan};

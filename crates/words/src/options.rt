@@ -1,10 +1,10 @@
-// What a replay, a patch stream and a follower are asked for.
+// What a replay, a patch stream, a follower and a split are asked for.
 
 ghost use Rattle.std.specs.Prelude.{◌≡◌, ◌⊎◌, ◌≤◌, ◌^◌, codes, option_map};
 ghost use Rattle.words.specs.Items.{number_in};
-ghost use Rattle.words.specs.Table.{table_of};
-ghost use Rattle.words.specs.Options.{IsAllowed, IsBounded, IsItemInRange, choices_of, follow_choices_of, follow_max_bytes_of, max_bytes_of, closes, folder_of, max_terms_of};
-ghost use Rattle.words.specs.declared.table.Command.TheVariants.{Replay, Patches, Follow};
+ghost use Rattle.words.specs.Table.{split_table, table_of};
+ghost use Rattle.words.specs.Options.{IsAllowed, IsBounded, IsItemInRange, choices_of, follow_choices_of, follow_max_bytes_of, max_bytes_of, closes, folder_of, max_terms_of, split_choices_of};
+ghost use Rattle.words.specs.declared.table.Command.TheVariants.{Replay, Patches, Follow, Split};
 
 use crate::items::Request;
 use std::marker::Model;
@@ -194,4 +194,63 @@ impl FollowOptions {
     {
         self.export
     }
+}
+
+/// What a split is asked for, as the words say it.
+#[derive(Debug, Drop)]
+pub struct SplitOptions<'a> {
+    route: &'a str,
+    replay: ReplayOptions<'a>,
+}
+
+impl<'a> Model for SplitOptions<'a> {
+    ghost use Rattle.words.specs.Options.{SplitChoices};
+
+    ghost Value = { SplitChoices };
+
+    ghost view = { λ a. record { route = a.route.now; replay = a.replay } };
+}
+
+impl<'a> SplitOptions<'a> {
+    /// What the items after `split` ask for, where this is the text of the routes.
+    pub fn of_items(items: &Request<'a>, route: &'a str) -> SplitOptions<'a>
+        requires { items.now.command ≡ Split }
+        ensures { result ≡ split_choices_of items.now.items route.now }
+    {
+        let replay = ReplayOptions {
+            folder: items.text("--from"),
+            max_bytes: items.number("--max-bytes"),
+            max_terms: max_terms_of_split(items),
+            horizon: items.number("--horizon"),
+            export: false,
+            state: false,
+            side: false,
+            save: None,
+        };
+        SplitOptions { route, replay }
+    }
+
+    /// The text of the routes.
+    pub fn route(&self) -> &str
+        ensures { result.now ≡ self.now.route }
+    {
+        self.route
+    }
+
+    /// What a replay of the same lines would be asked for.
+    pub fn replay(&self) -> &ReplayOptions<'a>
+        ensures { result.now ≡ self.now.replay }
+    {
+        &self.replay
+    }
+}
+
+// The most terms that the items of a split say.
+fn max_terms_of_split(items: &Request<'_>) -> Option<u32>
+    requires { items.now.command ≡ Split }
+    ensures value { result ≡ number_in split_table (codes "--max-terms") items.now.items }
+    ensures within { IsItemInRange (codes "--max-terms") result }
+{
+    let terms = items.number("--max-terms")?;
+    Some(terms as u32)
 }

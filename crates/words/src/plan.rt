@@ -4,7 +4,7 @@ ghost use Rattle.std.specs.Prelude.{◌≡◌, map, string_bytes, IfSome};
 ghost use Rattle.words.specs.Plan.{IsSized, asked, plan_of};
 
 use crate::items::Request;
-use crate::options::{FollowOptions, ReplayOptions};
+use crate::options::{FollowOptions, ReplayOptions, SplitOptions};
 use crate::table::Command;
 
 /// What a person asked for.
@@ -18,9 +18,12 @@ pub enum Plan<'a> {
     Patches(ReplayOptions<'a>),
     /// To rebuild a producer's triples from records of their changes.
     Follow(FollowOptions),
+    /// To replay the event lines of the input into several graphs.
+    Split(SplitOptions<'a>),
 }
 
-/// The plan that the words are: a command, and then items of its table in any order, each at most once; a drill has its size.
+/// The plan that the words are: a command, and then items of its table in any order, each at most once; a drill has its size, and a split the text of its
+/// routes.
 pub fn read_plan<'a>(words: &'a [String]) -> Option<Plan<'a>>
     ensures value { result ≡ plan_of (map (λ w. string_bytes w) words.now) }
     ensures sized { IfSome result IsSized }
@@ -44,5 +47,9 @@ fn asked<'a>(request: &Request<'a>) -> Option<Plan<'a>>
         }
         Command::Patches => Some(Plan::Patches(ReplayOptions::of_items(request))),
         Command::Follow => Some(Plan::Follow(FollowOptions::of_items(request))),
+        Command::Split => {
+            let route = request.text("--route")?;
+            Some(Plan::Split(SplitOptions::of_items(request, route)))
+        }
     }
 }

@@ -1,7 +1,7 @@
 // The commands, and the table of each: the names of its items, with the kinds of their values.
 
 ghost use Rattle.std.specs.Prelude.{◌≡◌};
-ghost use Rattle.words.specs.Table.{command_named, drill_table, follow_table, has_value, kind_in, patches_table, replay_table, table_of};
+ghost use Rattle.words.specs.Table.{command_named, drill_table, follow_table, has_value, kind_in, patches_table, replay_table, split_table, table_of};
 
 /// What an item has as its value.
 #[derive(Clone, Copy, Debug, PartialEq, Eq)]
@@ -25,6 +25,8 @@ pub enum Command {
     Patches,
     /// To rebuild a producer's triples from records of their changes.
     Follow,
+    /// To replay the event lines of the input into several graphs.
+    Split,
 }
 
 impl Command {
@@ -37,6 +39,7 @@ impl Command {
             "drill" => Some(Command::Drill),
             "patches" => Some(Command::Patches),
             "follow" => Some(Command::Follow),
+            "split" => Some(Command::Split),
             _ => None,
         }
     }
@@ -50,6 +53,7 @@ impl Command {
             Command::Drill => drill_kind(name),
             Command::Patches => patches_kind(name),
             Command::Follow => follow_kind(name),
+            Command::Split => split_kind(name),
         }
     }
 }
@@ -102,6 +106,20 @@ fn follow_kind(name: &str) -> Option<ValueKind>
     match name {
         "--max-bytes" => Some(ValueKind::Number(0, 1_099_511_627_776)),
         "--export" => Some(ValueKind::Flag),
+        _ => None,
+    }
+}
+
+// The items of a split.
+fn split_kind(name: &str) -> Option<ValueKind>
+    ensures { result ≡ kind_in split_table name.now }
+{
+    match name {
+        "--route" => Some(ValueKind::Text),
+        "--from" => Some(ValueKind::Text),
+        "--max-bytes" => Some(ValueKind::Number(0, 1_099_511_627_776)),
+        "--max-terms" => Some(ValueKind::Number(1, 4_294_967_295)),
+        "--horizon" => Some(ValueKind::Number(0, 9_223_372_036_854_775_807)),
         _ => None,
     }
 }

@@ -3,6 +3,8 @@ use Rattle.std.proofs.Common.{refl, ap, ◌∙◌, arith, Err, inl, inr, ⊎_eli
 use Rattle.transcript.specs.Printing.{output}
 use Rattle.told_pages.proofs.Applying.{applies-fewer}
 use Rattle.term_pool.specs.declared.fault.PoolFault.TheVariants.{Full, OutOfMemory}
+use Rattle.splitting.specs.Graphs.{routes_of}
+use Rattle.splitting.proofs.Following.{may_be_sound}
 use Rattle.session.specs.Counts.{counts}
 use Rattle.session.specs.Moment.{stage}
 use Rattle.session.proofs.Due.{IsApplied, applies-leads, goes-further, goes-nowhere, gone-on, none_due, starved, untold}
@@ -11,103 +13,81 @@ use Rattle.session.proofs.Reports.{never_untold, still_silent, untold_held_up}
 use Rattle.session.proofs.Versions.{applies-versions, keeps-further}
 use Rattle.session.proofs.delivering.apply_due.Goals as goal
 
-pub loop-change-init : goal.loop-change-init
-loop-change-init g c = record {
+pub loop-applied-init : goal.loop-applied-init
+loop-applied-init g c = record {
   goes = goes-nowhere _ _ _;
   source = record { known = refl; faults = omega arith; misses = omega arith; most = refl };
   limit = refl;
   versions = λ version is. is;
+  follow = c.requires;
+  routes = refl;
   written = record { faults = omega arith; most = refl };
   silent = λ answers. refl;
 }
 
-pub loop-change-preserved : goal.loop-change-preserved
-loop-change-preserved g c =
-    let before = c.loop-change.invariant in
+pub loop-applied-preserved : goal.loop-applied-preserved
+loop-applied-preserved g c =
+    let before = c.loop-applied.invariant in
     let call = c.in-Ok.ensures in
     let applied = rw before.source.known at call.applied in
-    let keeps = applies-versions _ _ c.loop-change.world c.apply_next_with.new.self _ applied call.mapping call.by_two in
+    let keeps = applies-versions _ _ c.loop-applied.world c.apply_next_with.new.self _ applied call.mapping call.by_two in
     let changed = rw c.telling.ensures at call.change in
     let told = c.in-Ok-tell.ensures.tells _ _ changed in
     let is : IsApplied (g.R.Revisions.contents c.args.revisions.now) c.args.context.now.folder.now c.args.world.now.limit
-    (stage g.R.Revisions g.K.Sink c.loop-change.revisions c.loop-change.out c.loop-change.world) (stage g.R.Revisions g.K.Sink c.apply_next_with.new.revisions c.tell.new.out c.apply_next_with.new.self) = record {
+    (stage g.R.Revisions g.K.Sink c.loop-applied.revisions c.loop-applied.out c.loop-applied.world) (stage g.R.Revisions g.K.Sink c.apply_next_with.new.revisions c.tell.new.out c.apply_next_with.new.self) = record {
       applied = c.in-Ok.field-0.applied;
       applies = applied;
       rises = record { shown = call.shown; calls = call.calls; more_faults = call.more_faults; more_misses = call.more_misses };
       keeps = keeps;
-      has_room = applied_has_room _ _ _ c.loop-change.world c.apply_next_with.new.self.replay _ applied (rw before.limit at call.within);
+      has_room = applied_has_room _ _ _ c.loop-applied.world c.apply_next_with.new.self.replay _ applied (rw before.limit at call.within);
     } in
     record {
-      goes = goes-further _ _ _ _ _ _ _ before.versions before.goes (applies-leads _ _ _ _ c.loop-change.reported c.in-Ok-tell.now _ _ is told);
+      goes = goes-further _ _ _ _ _ _ _ before.versions before.goes (applies-leads _ _ _ _ _ c.loop-applied.reported c.in-Ok-tell.now _ _ is told);
       source = gone-on g.R.Revisions _ _ _ before.source (record { known = call.told; faults = call.more_faults; misses = call.more_misses; most = call.most });
       limit = call.limit ∙ before.limit;
-      versions = keeps-further c.args.world.now c.loop-change.world c.apply_next_with.new.self before.versions keeps;
+      versions = keeps-further c.args.world.now c.loop-applied.world c.apply_next_with.new.self before.versions keeps;
+      follow = c.follow_application.ensures.follow _ _ c.loop-applied.world c.apply_next_with.new.self call.applied call.by_two call.holders (rw c.routes_of.ensures at call.routed) before.follow;
+      routes = c.follow_application.ensures.routes ∙ before.routes;
       written = record { faults = omega (arith, before.written.faults, c.in-Ok-tell.ensures.written.faults); most = c.in-Ok-tell.ensures.written.most ∙ before.written.most };
       silent = λ answers. still_silent _ _ _ _ _ _ answers told ∙ before.silent answers;
     }
 
-pub loop-change-smaller : goal.loop-change-smaller
-loop-change-smaller g c = applies-fewer _ _ _ _ _ c.in-Ok.ensures.applied
+pub follow_application-requires : goal.follow_application-requires
+follow_application-requires g c = may_be_sound (routes_of c.loop-applied.graphs) _ _ _ _ _ (rw c.routes_of.ensures at c.in-Ok.ensures.routed)
 
--- the same where the page that was stored is let go after that
-pub loop-change-preserved-in-Ok-tell : goal.loop-change-preserved-in-Ok-tell
-loop-change-preserved-in-Ok-tell g c =
-    let before = c.loop-change.invariant in
-    let call = c.in-Ok.ensures in
-    let applied = rw before.source.known at call.applied in
-    let keeps = applies-versions _ _ c.loop-change.world c.apply_next_with.new.self _ applied call.mapping call.by_two in
-    let changed = rw c.telling.ensures at call.change in
-    let told = c.in-Ok-tell.ensures.tells _ _ changed in
-    let is : IsApplied (g.R.Revisions.contents c.args.revisions.now) c.args.context.now.folder.now c.args.world.now.limit
-    (stage g.R.Revisions g.K.Sink c.loop-change.revisions c.loop-change.out c.loop-change.world) (stage g.R.Revisions g.K.Sink c.apply_next_with.new.revisions c.tell.new.out c.apply_next_with.new.self) = record {
-      applied = c.in-Ok.field-0.applied;
-      applies = applied;
-      rises = record { shown = call.shown; calls = call.calls; more_faults = call.more_faults; more_misses = call.more_misses };
-      keeps = keeps;
-      has_room = applied_has_room _ _ _ c.loop-change.world c.apply_next_with.new.self.replay _ applied (rw before.limit at call.within);
-    } in
-    record {
-      goes = goes-further _ _ _ _ _ _ _ before.versions before.goes (applies-leads _ _ _ _ c.loop-change.reported c.in-Ok-tell.now _ _ is told);
-      source = gone-on g.R.Revisions _ _ _ before.source (record { known = call.told; faults = call.more_faults; misses = call.more_misses; most = call.most });
-      limit = call.limit ∙ before.limit;
-      versions = keeps-further c.args.world.now c.loop-change.world c.apply_next_with.new.self before.versions keeps;
-      written = record { faults = omega (arith, before.written.faults, c.in-Ok-tell.ensures.written.faults); most = c.in-Ok-tell.ensures.written.most ∙ before.written.most };
-      silent = λ answers. still_silent _ _ _ _ _ _ answers told ∙ before.silent answers;
-    }
-
-pub loop-change-smaller-in-Ok-tell : goal.loop-change-smaller-in-Ok-tell
-loop-change-smaller-in-Ok-tell g c = applies-fewer _ _ _ _ _ c.in-Ok.ensures.applied
+pub loop-applied-smaller : goal.loop-applied-smaller
+loop-applied-smaller g c = applies-fewer _ _ _ _ _ c.in-Ok.ensures.applied
 
 pub returns-in-Err-clause-err : goal.returns-in-Err-clause-err
 returns-in-Err-clause-err g c =
-    let before = c.loop-change.invariant in
+    let before = c.loop-applied.invariant in
     let call = c.in-Ok.ensures in
     let applied = rw before.source.known at call.applied in
     let changed = rw c.telling.ensures at call.change in
     let told = c.in-Err.ensures.tells _ _ changed in
     let is : IsApplied (g.R.Revisions.contents c.args.revisions.now) c.args.context.now.folder.now c.args.world.now.limit
-    (stage g.R.Revisions g.K.Sink c.loop-change.revisions c.loop-change.out c.loop-change.world) (stage g.R.Revisions g.K.Sink c.apply_next_with.new.revisions c.tell.new.out c.apply_next_with.new.self) = record {
+    (stage g.R.Revisions g.K.Sink c.loop-applied.revisions c.loop-applied.out c.loop-applied.world) (stage g.R.Revisions g.K.Sink c.apply_next_with.new.revisions c.tell.new.out c.apply_next_with.new.self) = record {
       applied = c.in-Ok.field-0.applied;
       applies = applied;
       rises = record { shown = call.shown; calls = call.calls; more_faults = call.more_faults; more_misses = call.more_misses };
-      keeps = applies-versions _ _ c.loop-change.world c.apply_next_with.new.self _ applied call.mapping call.by_two;
-      has_room = applied_has_room _ _ _ c.loop-change.world c.apply_next_with.new.self.replay _ applied (rw before.limit at call.within);
+      keeps = applies-versions _ _ c.loop-applied.world c.apply_next_with.new.self _ applied call.mapping call.by_two;
+      has_room = applied_has_room _ _ _ c.loop-applied.world c.apply_next_with.new.self.replay _ applied (rw before.limit at call.within);
     } in
-    untold _ c.in-Err.why _ _ _ _ c.loop-change.reported _ _ _ before.versions before.goes is told
+    untold _ _ c.in-Err.why _ _ _ _ c.loop-applied.reported _ _ _ before.versions before.goes is told
 
 pub returns-in-Err-clause-held_up : goal.returns-in-Err-clause-held_up
 returns-in-Err-clause-held_up g c =
     let changed = rw c.telling.ensures at c.in-Ok.ensures.change in
     let told = c.in-Err.ensures.tells _ _ changed in
     untold_held_up _ c.in-Err.why _ _ _ (output g.K.Sink c.args.out.now) (stage g.R.Revisions g.K.Sink c.apply_next_with.new.revisions c.tell.new.out c.apply_next_with.new.self)
-    (output g.K.Sink c.loop-change.out) c.loop-change.invariant.written.faults told
+    (output g.K.Sink c.loop-applied.out) c.loop-applied.invariant.written.faults told
 
 pub returns-in-Err-clause-versions : goal.returns-in-Err-clause-versions
 returns-in-Err-clause-versions g c =
-    let before = c.loop-change.invariant in
+    let before = c.loop-applied.invariant in
     let call = c.in-Ok.ensures in
-    keeps-further c.args.world.now c.loop-change.world c.apply_next_with.new.self before.versions
-    (applies-versions _ _ c.loop-change.world c.apply_next_with.new.self _ call.applied call.mapping call.by_two)
+    keeps-further c.args.world.now c.loop-applied.world c.apply_next_with.new.self before.versions
+    (applies-versions _ _ c.loop-applied.world c.apply_next_with.new.self _ call.applied call.mapping call.by_two)
 
 pub returns-in-Err-clause-silent : goal.returns-in-Err-clause-silent
 returns-in-Err-clause-silent g c =
@@ -117,17 +97,17 @@ returns-in-Err-clause-silent g c =
 pub returns-in-Err-Nothing-clause-ok : goal.returns-in-Err-Nothing-clause-ok
 returns-in-Err-Nothing-clause-ok g c =
     let call = c.in-Err-Nothing.ensures in
-    none_due _ _ _ _ (output g.K.Sink c.loop-change.out) (counts g.R.Revisions c.loop-change.revisions) _ c.loop-change.world c.apply_next_with.new.self c.loop-change.invariant.goes
+    none_due _ _ _ _ (output g.K.Sink c.loop-applied.out) (counts g.R.Revisions c.loop-applied.revisions) _ c.loop-applied.world c.apply_next_with.new.self c.loop-applied.invariant.goes
     (⊎_elim (λ same. same) (λ refused. absurd (refused.0 c.in-Err-Nothing.field-0-is)) call.calls_at_fault) call.more_faults call.more_misses call.err (call.nothing.0 (ap Err c.in-Err-Nothing.field-0-is))
 
 pub returns-in-Err-Full-clause-err : goal.returns-in-Err-Full-clause-err
 returns-in-Err-Full-clause-err g c =
     let call = c.in-Err-Full.ensures in
-    starved Full _ _ _ _ (output g.K.Sink c.loop-change.out) (counts g.R.Revisions c.loop-change.revisions) _ c.loop-change.world c.apply_next_with.new.self c.loop-change.invariant.goes
+    starved Full _ _ _ _ (output g.K.Sink c.loop-applied.out) (counts g.R.Revisions c.loop-applied.revisions) _ c.loop-applied.world c.apply_next_with.new.self c.loop-applied.invariant.goes
     (record { calls = call.calls_at_full (ap Err c.in-Err-Full.field-0-is); faults = call.more_faults; misses = call.more_misses }) call.err
 
 pub returns-in-Err-OutOfMemory-clause-err : goal.returns-in-Err-OutOfMemory-clause-err
 returns-in-Err-OutOfMemory-clause-err g c =
     let call = c.in-Err-OutOfMemory.ensures in
-    starved OutOfMemory _ _ _ _ (output g.K.Sink c.loop-change.out) (counts g.R.Revisions c.loop-change.revisions) _ c.loop-change.world c.apply_next_with.new.self c.loop-change.invariant.goes
+    starved OutOfMemory _ _ _ _ (output g.K.Sink c.loop-applied.out) (counts g.R.Revisions c.loop-applied.revisions) _ c.loop-applied.world c.apply_next_with.new.self c.loop-applied.invariant.goes
     (record { calls = ⊎_elim (λ same. inl same) (λ one. inr one.1) call.calls_at_fault; faults = call.more_faults; misses = call.more_misses }) call.err

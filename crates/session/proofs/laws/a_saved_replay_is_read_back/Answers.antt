@@ -19,7 +19,7 @@ returns c = λ run before now ending open_still empty fit.
     let ds : List Delivery = ending.replayed.deliveries in
     let replies : Replies = ending.replayed.replay.played.replies in
     let stands : now.stage.world ≡ following (horizon_at before.stage) replies ds =
-    subst (λ closed. now.stage.world ≡ (course_ended closed ds before.stage).state replies) open_still ending.replayed.replay.played.is in
+    subst (λ closed. now.stage.world ≡ (course_ended run.environment.routes closed ds before.stage).state replies) open_still ending.replayed.replay.played.is in
     let rest : IsAtRest now.stage.world.buffer =
     subst (λ (w : ReplayState). IsAtRest w.buffer) (sym stands) (c.replays_can_be_saved.ensures.at_rest (horizon_at before.stage) replies ds) in
     let saved : now.snapshot.bytes ≡ after_known before.snapshot.bytes (file_text s) = subst (λ closed. HasSaved closed (file_text s) before.snapshot now.snapshot) open_still ending.saved in

@@ -1,6 +1,8 @@
 -- No page yet, one more, and all of them.
 use Rattle.std.proofs.Common.{◌≡◌, ◌<◌, length, refl, sym, subst, ap, ◌∙◌, arith, Err}
-use Rattle.world.specs.WorldState.{WorldState, stale}
+use Rattle.splitting.specs.Graphs.{MayFollow}
+use Rattle.splitting.proofs.Fresh.{follow_same}
+use Rattle.world.specs.WorldState.{AreHolders, WorldState, stale}
 use Rattle.term_pool.specs.declared.fault.PoolFault.TheVariants.{Full, OutOfMemory}
 use Rattle.session.specs.Remapping.{HoldsWithin}
 use Rattle.session.proofs.Pages.{told_all, told_before, told_but_last, told_next, told_none}
@@ -12,6 +14,8 @@ pub loop-world-init : goal.loop-world-init
 loop-world-init g c = record {
   told = told_none _ _ _ _ _ _ c.set_mapping.ensures.set (remaps_none _ _ _ c.set_mapping.ensures.set c.set_mapping.ensures.holders);
   written = record { faults = omega arith; most = refl };
+  follow = follow_same c.args.graphs.now c.args.world.now c.set_mapping.new.self (ap (λ (w : WorldState). w.replay.played.records) c.set_mapping.ensures.set) (ap (λ (w : WorldState). w.by_two) c.set_mapping.ensures.set) c.requires;
+  routes = refl;
   silent = λ answers. refl;
 }
 
@@ -26,8 +30,17 @@ loop-world-preserved g c =
     record {
       told = told_next _ _ _ _ _ c.loop-world.world c.remap_next_with.new.self _ _ _ b.told call.ok some c.in-Ok.now remaps told;
       written = record { faults = omega (arith, b.written.faults, c.in-Ok.ensures.written.faults); most = c.in-Ok.ensures.written.most ∙ b.written.most };
+      follow = subst (MayFollow c.follow_remapping.new.graphs) (sym call.ok)
+          (c.follow_remapping.ensures.follow c.loop-world.world (sym (rw c.in-Ok-Some.field-0-is at call.entity)) (rw c.in-Ok-Some.field-0-is at call.triples)
+          (subst (λ (w : WorldState). AreHolders w.by_two w.replay.played.records) call.ok c.remap_next_with.ensures.holders) b.follow);
+      routes = c.follow_remapping.ensures.routes ∙ b.routes;
       silent = λ answers. still_silent _ _ _ _ _ _ answers told ∙ b.silent answers;
     }
+
+pub follow_remapping-requires : goal.follow_remapping-requires
+follow_remapping-requires g c =
+    let are = rw c.in-Ok-Some.field-0-is at c.in-Ok-Some.ensures.triples in
+    are.fit
 
 pub loop-world-smaller : goal.loop-world-smaller
 loop-world-smaller g c =

@@ -1,5 +1,5 @@
 -- What a replay, a drill and a follower leave, by the plan that was read.
-use Rattle.std.proofs.Common.{◌≡◌, ◌∙◌, sym, ap, Some, refl}
+use Rattle.std.proofs.Common.{◌≡◌, ◌∙◌, sym, ap, None, Some, inr, refl}
 use Rattle.words.specs.declared.plan.Plan.TheVariants.{Replay, Drill, Follow}
 use Rattle.session.specs.declared.report.Report.TheVariants.{Answers}
 use Rattle.session.specs.declared.status.Status.TheVariants.{Ok as Ended}
@@ -20,7 +20,7 @@ use Rattle.session.proofs.running.run.Goals as goal
 
 pub returns-in-Ok-clause-replay : goal.returns-in-Ok-clause-replay
 returns-in-Ok-clause-replay g c = λ choices plan.
-    for_choices (λ x. ReplayEnding Ended (run_of Answers (g.R.Revisions.contents c.args.ports.now.revisions) x) (moment g.S.Source g.R.Revisions g.K.Sink g.F.Sink c.args.ports.now (world_at_start x)) (moment g.S.Source g.R.Revisions g.K.Sink g.F.Sink c.replay.new.ports c.replay.new.world))
+    for_choices (λ x. ReplayEnding Ended (run_of None Answers (g.R.Revisions.contents c.args.ports.now.revisions) x) (moment g.S.Source g.R.Revisions g.K.Sink g.F.Sink c.args.ports.now (world_at_start x)) (moment g.S.Source g.R.Revisions g.K.Sink g.F.Sink c.replay.new.ports c.replay.new.world))
     c.in-Some-Replay.options choices (ap Some (sym c.in-Some-Replay.field-0-is) ∙ c.in-Some-Replay.ensures.value ∙ plan) (record { outcome = c.in-Ok.ensures.ok; taken = c.in-Ok.ensures.taken })
 
 pub returns-in-Ok-clause-drill : goal.returns-in-Ok-clause-drill
@@ -31,14 +31,14 @@ returns-in-Ok-clause-follow g c = λ choices plan. replay_no_follow _ _ choices 
 
 pub returns-in-Ok-clause-limit : goal.returns-in-Ok-clause-limit
 returns-in-Ok-clause-limit g c = λ the plan.
-    for_plan (λ x. (c.replay.new.world.limit ≡ limit_of_plan x) × HoldsWithin (limit_of_plan x) c.replay.new.world)
-    (Replay c.in-Some-Replay.options) the (ap Some (sym c.in-Some-Replay.field-0-is) ∙ c.in-Some-Replay.ensures.value ∙ plan) (c.replay.ensures.limit, c.in-Ok.ensures.held)
+    inr (for_plan (λ x. (c.replay.new.world.limit ≡ limit_of_plan x) × HoldsWithin (limit_of_plan x) c.replay.new.world)
+    (Replay c.in-Some-Replay.options) the (ap Some (sym c.in-Some-Replay.field-0-is) ∙ c.in-Some-Replay.ensures.value ∙ plan) (c.replay.ensures.limit, c.in-Ok.ensures.held))
 
 -- ---- a replay that stopped
 
 pub returns-in-Err-clause-replay : goal.returns-in-Err-clause-replay
 returns-in-Err-clause-replay g c = λ choices plan.
-    for_choices (λ x. ReplayEnding c.status.result (run_of Answers (g.R.Revisions.contents c.args.ports.now.revisions) x) (moment g.S.Source g.R.Revisions g.K.Sink g.F.Sink c.args.ports.now (world_at_start x)) (moment g.S.Source g.R.Revisions g.K.Sink g.F.Sink c.replay.new.ports c.replay.new.world))
+    for_choices (λ x. ReplayEnding c.status.result (run_of None Answers (g.R.Revisions.contents c.args.ports.now.revisions) x) (moment g.S.Source g.R.Revisions g.K.Sink g.F.Sink c.args.ports.now (world_at_start x)) (moment g.S.Source g.R.Revisions g.K.Sink g.F.Sink c.replay.new.ports c.replay.new.world))
     c.in-Some-Replay.options choices (ap Some (sym c.in-Some-Replay.field-0-is) ∙ c.in-Some-Replay.ensures.value ∙ plan) (replay_stopped _ _ _ _ _ c.status.ensures.stops c.in-Err.ensures.err c.in-Err.ensures.taken)
 
 pub returns-in-Err-clause-drill : goal.returns-in-Err-clause-drill
@@ -49,8 +49,8 @@ returns-in-Err-clause-follow g c = λ choices plan. replay_no_follow _ _ choices
 
 pub returns-in-Err-clause-limit : goal.returns-in-Err-clause-limit
 returns-in-Err-clause-limit g c = λ the plan.
-    for_plan (λ x. (c.replay.new.world.limit ≡ limit_of_plan x) × HoldsWithin (limit_of_plan x) c.replay.new.world)
-    (Replay c.in-Some-Replay.options) the (ap Some (sym c.in-Some-Replay.field-0-is) ∙ c.in-Some-Replay.ensures.value ∙ plan) (c.replay.ensures.limit, c.in-Err.ensures.held)
+    inr (for_plan (λ x. (c.replay.new.world.limit ≡ limit_of_plan x) × HoldsWithin (limit_of_plan x) c.replay.new.world)
+    (Replay c.in-Some-Replay.options) the (ap Some (sym c.in-Some-Replay.field-0-is) ∙ c.in-Some-Replay.ensures.value ∙ plan) (c.replay.ensures.limit, c.in-Err.ensures.held))
 
 -- ---- a drill that ended well
 
@@ -68,8 +68,8 @@ returns-in-Ok-drill-clause-follow g c = λ choices plan. drill_no_follow _ _ cho
 
 pub returns-in-Ok-drill-clause-limit : goal.returns-in-Ok-drill-clause-limit
 returns-in-Ok-drill-clause-limit g c = λ the plan.
-    for_plan (λ x. (c.drill.new.world.limit ≡ limit_of_plan x) × HoldsWithin (limit_of_plan x) c.drill.new.world)
-    (Drill c.in-Some-Drill.size) the (ap Some (sym c.in-Some-Drill.field-0-is) ∙ c.in-Some-Drill.ensures.value ∙ plan) (c.in-Ok-drill.ensures.limit, c.in-Ok-drill.ensures.held)
+    inr (for_plan (λ x. (c.drill.new.world.limit ≡ limit_of_plan x) × HoldsWithin (limit_of_plan x) c.drill.new.world)
+    (Drill c.in-Some-Drill.size) the (ap Some (sym c.in-Some-Drill.field-0-is) ∙ c.in-Some-Drill.ensures.value ∙ plan) (c.in-Ok-drill.ensures.limit, c.in-Ok-drill.ensures.held))
 
 pub returns-in-Ok-drill-clause-further : goal.returns-in-Ok-drill-clause-further
 returns-in-Ok-drill-clause-further g c = written_on g.S.Source g.R.Revisions g.K.Sink g.F.Sink c.args.ports.now c.args.ports.now c.drill.new.out (none_gone g.S.Source g.R.Revisions g.K.Sink g.F.Sink _) c.drill.ensures.written
@@ -84,8 +84,8 @@ returns-in-Err-drill-clause-follow g c = λ choices plan. drill_no_follow _ _ ch
 
 pub returns-in-Err-drill-clause-limit : goal.returns-in-Err-drill-clause-limit
 returns-in-Err-drill-clause-limit g c = λ the plan.
-    for_plan (λ x. (c.drill.new.world.limit ≡ limit_of_plan x) × HoldsWithin (limit_of_plan x) c.drill.new.world)
-    (Drill c.in-Some-Drill.size) the (ap Some (sym c.in-Some-Drill.field-0-is) ∙ c.in-Some-Drill.ensures.value ∙ plan) (c.drill.ensures.limit, c.drill.ensures.held)
+    inr (for_plan (λ x. (c.drill.new.world.limit ≡ limit_of_plan x) × HoldsWithin (limit_of_plan x) c.drill.new.world)
+    (Drill c.in-Some-Drill.size) the (ap Some (sym c.in-Some-Drill.field-0-is) ∙ c.in-Some-Drill.ensures.value ∙ plan) (c.drill.ensures.limit, c.drill.ensures.held))
 
 pub returns-in-Err-drill-clause-further : goal.returns-in-Err-drill-clause-further
 returns-in-Err-drill-clause-further g c = written_on g.S.Source g.R.Revisions g.K.Sink g.F.Sink c.args.ports.now c.args.ports.now c.drill.new.out (none_gone g.S.Source g.R.Revisions g.K.Sink g.F.Sink _) c.drill.ensures.written
@@ -106,8 +106,8 @@ returns-in-Ok-follow_records-clause-follow g c = λ choices plan.
 
 pub returns-in-Ok-follow_records-clause-limit : goal.returns-in-Ok-follow_records-clause-limit
 returns-in-Ok-follow_records-clause-limit g c = λ the plan.
-    for_plan (λ x. (c.follow_records.new.world.limit ≡ limit_of_plan x) × HoldsWithin (limit_of_plan x) c.follow_records.new.world)
-    (Follow c.in-Some-Follow.options) the (ap Some (sym c.in-Some-Follow.field-0-is) ∙ c.in-Some-Follow.ensures.value ∙ plan) (ap (λ (w : WorldState). w.limit) c.follow_records.ensures.empty, c.follow_records.ensures.held)
+    inr (for_plan (λ x. (c.follow_records.new.world.limit ≡ limit_of_plan x) × HoldsWithin (limit_of_plan x) c.follow_records.new.world)
+    (Follow c.in-Some-Follow.options) the (ap Some (sym c.in-Some-Follow.field-0-is) ∙ c.in-Some-Follow.ensures.value ∙ plan) (ap (λ (w : WorldState). w.limit) c.follow_records.ensures.empty, c.follow_records.ensures.held))
 
 -- ---- a follower that stopped
 
@@ -125,5 +125,5 @@ returns-in-Err-follow_records-clause-follow g c = λ choices plan.
 
 pub returns-in-Err-follow_records-clause-limit : goal.returns-in-Err-follow_records-clause-limit
 returns-in-Err-follow_records-clause-limit g c = λ the plan.
-    for_plan (λ x. (c.follow_records.new.world.limit ≡ limit_of_plan x) × HoldsWithin (limit_of_plan x) c.follow_records.new.world)
-    (Follow c.in-Some-Follow.options) the (ap Some (sym c.in-Some-Follow.field-0-is) ∙ c.in-Some-Follow.ensures.value ∙ plan) (ap (λ (w : WorldState). w.limit) c.follow_records.ensures.empty, c.follow_records.ensures.held)
+    inr (for_plan (λ x. (c.follow_records.new.world.limit ≡ limit_of_plan x) × HoldsWithin (limit_of_plan x) c.follow_records.new.world)
+    (Follow c.in-Some-Follow.options) the (ap Some (sym c.in-Some-Follow.field-0-is) ∙ c.in-Some-Follow.ensures.value ∙ plan) (ap (λ (w : WorldState). w.limit) c.follow_records.ensures.empty, c.follow_records.ensures.held))

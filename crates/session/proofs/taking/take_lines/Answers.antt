@@ -1,6 +1,7 @@
 -- The start, a fault of the reader, a line that is refused, and a line that is taken.
 use Rattle.std.proofs.Common.{refl, sym, ◌∙◌}
 use Rattle.std.proofs.lemmas.Result.{err_from_is_err_and}
+use Rattle.splitting.specs.Graphs.{routes_of}
 use Rattle.session.specs.Moment.{Run, moment, run_of}
 use Rattle.session.proofs.Deliveries.{rest_open}
 use Rattle.session.proofs.Ongoing.{delivered_on, none_gone, read_on}
@@ -10,11 +11,13 @@ use Rattle.session.proofs.taking.take_lines.Goals as goal
 
 pub loop-line-init : goal.loop-line-init
 loop-line-init g c =
-    let run : Run = run_of c.args.report (g.R.Revisions.contents c.args.ports.now.revisions) c.args.plan.now in (
+    let run : Run = run_of (routes_of c.args.graphs.now) c.args.task.now.report (g.R.Revisions.contents c.args.ports.now.revisions) c.args.task.now.options.now in (
       rw (c.new-lines.ensures, c.max_bytes.ensures.value, c.requires.world, c.requires.first.0, c.requires.first.1) (nothing_begun run _ _ _ _ _),
       none_gone g.S.Source g.R.Revisions g.K.Sink g.F.Sink _,
       refl,
       c.requires.held,
+      refl,
+      c.requires.follow,
       refl,
     )
 
@@ -42,7 +45,7 @@ returns-in_err-done-clause-err g c =
     let line = rw c.in-Some.is at c.in_ok-number.ensures.line in
     let bytes = rw c.in-Some.is at c.in_ok-number.ensures.bytes in
     let delivered = rw c.as_slice.ensures.value at c.in_ok-delivery.ensures.ok in
-    let cuts = rw (c.loop-line.invariant.1.revisions.known, c.folder-folder.ensures, c.loop-line.invariant.2 ∙ c.requires.limit) at c.in_err-done.ensures.err in
+    let cuts = rw (c.loop-line.invariant.1.revisions.known, c.folder-folder.ensures, c.loop-line.invariant.2 ∙ c.requires.limit, c.loop-line.invariant.4) at c.in_err-done.ensures.err in
     rw (p.1, p.2) (delivery_stops _ _ _ _ _ _ c.loop-line.invariant.0 c.next.new.line.items c.next.new.self _ _
     (moment g.S.Source g.R.Revisions g.K.Sink g.F.Sink (record c.loop-line.ports { events = c.next.new.source; revisions = c.deliver.new.revisions; out = c.deliver.new.out }) c.deliver.new.world) c.in_ok-delivery.delivery
     (record { first = line; total = c.in_ok-number.ensures.length; takes = bytes; goes = c.in_ok-number.ensures.goes_on; reads = c.next.ensures.reads }) delivered _ cuts)
@@ -53,7 +56,7 @@ loop-line-preserved g c =
     let number = rw c.in-Some.is at c.in_ok-number.ensures.number in
     let bytes = rw c.in-Some.is at c.in_ok-number.ensures.bytes in
     let delivered = rw c.as_slice.ensures.value at c.in_ok-delivery.ensures.ok in
-    let takes = rw (c.loop-line.invariant.1.revisions.known, c.folder-folder.ensures, c.loop-line.invariant.2 ∙ c.requires.limit) at c.in_ok-done.ensures.ok in (
+    let takes = rw (c.loop-line.invariant.1.revisions.known, c.folder-folder.ensures, c.loop-line.invariant.2 ∙ c.requires.limit, c.loop-line.invariant.4) at c.in_ok-done.ensures.ok in (
       rw c.matches_in-matched.ensures (line_taken _ _ _ _ _ _ c.loop-line.invariant.0 c.next.new.line.items c.next.new.self _ _
           (moment g.S.Source g.R.Revisions g.K.Sink g.F.Sink (record c.loop-line.ports { events = c.next.new.source; revisions = c.deliver.new.revisions; out = c.deliver.new.out }) c.deliver.new.world) c.in_ok-delivery.delivery
           (record { first = line; total = c.in_ok-number.ensures.length; takes = bytes; goes = c.in_ok-number.ensures.goes_on; reads = c.next.ensures.reads }) delivered _
@@ -61,11 +64,13 @@ loop-line-preserved g c =
       delivered_on g.S.Source g.R.Revisions g.K.Sink g.F.Sink _ c.loop-line.ports _ _ _ c.loop-line.invariant.1 c.next.ensures.later c.next.ensures.most c.deliver.ensures.source c.deliver.ensures.written,
       c.deliver.ensures.limit ∙ c.loop-line.invariant.2,
       (rw c.loop-line.invariant.2 at c.deliver.ensures.held) c.loop-line.invariant.3,
-      c.loop-line.invariant.4,
+      c.deliver.ensures.routes ∙ c.loop-line.invariant.4,
+      c.in_ok-done.ensures.follow,
+      c.loop-line.invariant.6,
     )
 
 pub deliver-requires-clause-number : goal.deliver-requires-clause-number
-deliver-requires-clause-number g c = numbers_left c.args.report c.loop-line.reported c.loop-line.matched c.loop-line.lines c.loop-line.invariant.0.few c.loop-line.invariant.0.few_matched c.loop-line.invariant.0.sound c.loop-line.invariant.0.max (rw c.max_bytes.ensures.value at c.max_bytes.ensures.bounded)
+deliver-requires-clause-number g c = numbers_left c.args.task.now.report c.loop-line.reported c.loop-line.matched c.loop-line.lines c.loop-line.invariant.0.few c.loop-line.invariant.0.few_matched c.loop-line.invariant.0.sound c.loop-line.invariant.0.max (rw c.max_bytes.ensures.value at c.max_bytes.ensures.bounded)
 
 pub returns-clause-ok : goal.returns-clause-ok
 returns-clause-ok g c =

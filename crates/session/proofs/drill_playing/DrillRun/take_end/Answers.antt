@@ -19,12 +19,12 @@ returns-in-Ok-clause-left g c =
     let call = c.in-Ok.ensures in
     leaves_end c.args.self.now [] (output g.K.Sink c.args.out.now) c.args.world.now c.requires.taken c.take_end.new.revisions (output g.K.Sink c.take_end.new.out) c.take_end.new.world call.versions call.limit call.held
 
-pub returns-in-Err-clause-err : goal.returns-in-Err-clause-err
-returns-in-Err-clause-err g c =
+pub returns-clause-err : goal.returns-clause-err
+returns-clause-err g c =
     let call = c.in-Err.ensures in
     end_halted c.args.self.now [] (output g.K.Sink c.args.out.now) c.args.world.now c.requires.taken c.take_end.new.revisions (output g.K.Sink c.take_end.new.out) c.take_end.new.world _ call.err
 
-pub returns-in-Err-clause-left : goal.returns-in-Err-clause-left
-returns-in-Err-clause-left g c =
+pub returns-clause-left : goal.returns-clause-left
+returns-clause-left g c =
     let call = c.in-Err.ensures in
     leaves_end c.args.self.now [] (output g.K.Sink c.args.out.now) c.args.world.now c.requires.taken c.take_end.new.revisions (output g.K.Sink c.take_end.new.out) c.take_end.new.world call.versions call.limit call.held

@@ -1,0 +1,7 @@
+-- Graphs pass over a match: nothing is printed.
+use Rattle.transcript.specs.Printing.{output}
+use Rattle.transcript.proofs.Parts.{prints_nothing}
+use Rattle.session.proofs.context.Context.print_rows.Goals as goal
+
+pub returns-in-Some : goal.returns-in-Some
+returns-in-Some g c = rw c.in-Some.is (prints_nothing (output g.K.Sink c.args.out.now))

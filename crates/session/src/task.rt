@@ -1,0 +1,13 @@
+// What is asked of a replay.
+
+use crate::report::Report;
+use std::alloc::Global;
+use words::ReplayOptions;
+
+// What is asked of a replay: where memory comes from, the options, and what is reported of the deliveries.
+#[derive(Clone, Copy)]
+pub struct Task<'a> {
+    pub alloc: Global,
+    pub options: &'a ReplayOptions<'a>,
+    pub report: Report,
+}

@@ -1,0 +1,5 @@
+pub mod Following
+pub mod Fresh
+pub mod Pieces
+pub mod Printed
+pub mod Versions

@@ -1,0 +1,41 @@
+-- One section more, and where one isn't begun or isn't ended.
+use Rattle.std.proofs.Common.{◌≡◌, ◌+◌, ◌≤◌, suc, length, subst, Ok, Err, arith}
+use Rattle.std.proofs.lemmas.Result.{err_from_is_err_and}
+use Rattle.transcript.specs.Printing.{Prints, output}
+use Rattle.transcript.proofs.Parts.{prints_nothing}
+use Rattle.splitting.specs.Sections.{texts_below}
+use Rattle.splitting.proofs.Pieces.{below_cut_short, below_not_begun, below_printed}
+use Rattle.splitting.proofs.Printed.{section_in, sections_printed}
+use Rattle.splitting.proofs.graphs.Graphs.print.Goals as goal
+
+pub loop-graph-init : goal.loop-graph-init
+loop-graph-init g c = prints_nothing _
+
+pub returns-in_err-rows : goal.returns-in_err-rows
+returns-in_err-rows g c =
+    let p = err_from_is_err_and c.from_residual.result c.from_residual.ensures.1 in
+    let few : c.loop-graph.graph ≤ suc (length c.self.inside.routes) = omega (arith, c.graphs-graph-end.ensures.count, c.loop-graph-test.true) in
+    rw (← c.self.view_is, c.in-Some.is, p.1, p.2) (λ world follows.
+    sections_printed c.self.inside.routes c.in-Some.split.entries world follows _ _ _
+    (below_not_begun (section_in c.self.inside.routes c.in-Some.split.entries) c.loop-graph.graph (suc (length c.self.inside.routes)) _ _ few c.loop-graph.invariant))
+
+pub returns-in_err-print_graph : goal.returns-in_err-print_graph
+returns-in_err-print_graph g c =
+    let p = err_from_is_err_and c.from_residual-in_err-print_graph.result c.from_residual-in_err-print_graph.ensures.1 in
+    let few : c.loop-graph.graph + 1 ≤ suc (length c.self.inside.routes) = omega (arith, c.graphs-graph-end.ensures.count, c.loop-graph-test.true) in
+    let prints = rw (c.name.ensures, c.in_ok-rows.ensures) at c.in_err-print_graph.ensures in
+    rw (← c.self.view_is, c.in-Some.is, p.1, p.2) (λ world follows.
+    sections_printed c.self.inside.routes c.in-Some.split.entries world follows _ _ _
+    (below_cut_short (section_in c.self.inside.routes c.in-Some.split.entries) _ c.loop-graph.graph (suc (length c.self.inside.routes)) _ _ _ few c.loop-graph.invariant prints))
+
+pub loop-graph-preserved : goal.loop-graph-preserved
+loop-graph-preserved g c =
+    let prints = rw (c.name.ensures, c.in_ok-rows.ensures) at c.in_ok-print_graph.ensures in
+    below_printed (section_in c.self.inside.routes c.in-Some.split.entries) c.loop-graph.graph _ _ _ c.loop-graph.invariant prints
+
+pub returns : goal.returns
+returns g c =
+    let all : c.loop-graph.graph ≡ suc (length c.self.inside.routes) = omega (arith, c.graphs-graph-end.ensures.count, c.loop-graph-test.false, c.loop-graph.auto.graph-end) in
+    rw (← c.self.view_is, c.in-Some.is) (λ world follows.
+    sections_printed c.self.inside.routes c.in-Some.split.entries world follows _ _ _
+    (subst (λ n. Prints (texts_below n (section_in c.self.inside.routes c.in-Some.split.entries)) (output g.K.Sink c.args.out.now) (output g.K.Sink c.loop-graph.out) (Ok tt)) all c.loop-graph.invariant))

@@ -1,0 +1,76 @@
+-- Graphs that follow a world.
+use Rattle.std.specs.Prelude.{◌≡◌, ℕ, ◌<◌, ◌+◌, ⊤, List, Option, None, Some, length, IfSome, option_map}
+use Rattle.std.specs.FinMap as map
+use Rattle.std.specs.List.{AllByRecursion}
+use Rattle.rising.specs.Rising.{sorted}
+use Rattle.rdf_term.specs.declared.triple.Triple.{Triple}
+use Rattle.rdf_term.specs.Fit.{HasFitAndShortTerms}
+use Rattle.rdf_term.specs.Order.{triple_cmp}
+use Rattle.entity_model.specs.declared.id.EntityId.{EntityId}
+use Rattle.replay_model.specs.Versions.{meaning_by}
+use Rattle.subgraph.specs.declared.routes.Route.{Route}
+use Rattle.subgraph.specs.Entries.{Entries}
+use Rattle.subgraph.specs.Laws.{IsSplitOf, Routing}
+use Rattle.subgraph.specs.Split.{entry}
+use Rattle.world.specs.declared.applied.Outcome.{Outcome}
+use Rattle.world.specs.declared.applied.Outcome.TheVariants.{Same, Stored, Dropped, Sided}
+use Rattle.world.specs.declared.applied.RoutedPage.{RoutedPage}
+use Rattle.world.specs.Meaning.{meaning}
+use Rattle.world.specs.Routed.{route_of_page}
+use Rattle.world.specs.WorldState.{AreHolders, WorldState}
+
+-- graphs: the routes, and the entry of each entity, which is the index of its graph and its triples; none where the graphs are lost
+pub record GraphsState : Type 0 where
+  pub routes : List Route
+  pub entries : Option Entries
+
+-- pages are routed by these routes
+abbrev pub routing_by : List Route → Routing
+routing_by routes x rev bytes = route_of_page routes x bytes
+
+-- each entity has its entry by what it holds: the graph that its page is routed to, and the triples that the page means by the version
+-- that it is mapped by
+pub record AreEntriesOf (routes : List Route) (world : WorldState) (entries : Entries) : Type 0 where
+  pub split : IsSplitOf (routing_by routes) (meaning_by meaning world.by_two) entries world.replay.played.records
+  pub holders : AreHolders world.by_two world.replay.played.records
+
+-- graphs follow a world, or are lost
+abbrev pub Follow : GraphsState → WorldState → Type 0
+Follow graphs world = IfSome graphs.entries (AreEntriesOf graphs.routes world)
+
+-- ---- graphs that there may be
+
+-- their routes, if there are graphs
+abbrev pub routes_of : Option GraphsState → Option (List Route)
+routes_of graphs = option_map (λ (g : GraphsState). g.routes) graphs
+
+-- they follow a world, if there are graphs
+abbrev pub MayFollow : Option GraphsState → WorldState → Type 0
+MayFollow graphs world = IfSome graphs (λ (g : GraphsState). Follow g world)
+
+-- ---- steps
+
+-- a page that an application stored is routed to one of so many graphs, and its terms are fit and short
+abbrev pub IsSoundFor : ℕ → Outcome → Option RoutedPage → Type 0
+IsSoundFor graphs Stored None = ⊤
+IsSoundFor graphs Stored (Some page) = (page.graph < graphs) × AllByRecursion HasFitAndShortTerms page.triples
+IsSoundFor graphs Same page = ⊤
+IsSoundFor graphs Dropped page = ⊤
+IsSoundFor graphs (Sided cause) page = ⊤
+
+-- the same for the graphs of these routes
+abbrev pub IsSound : List Route → Outcome → Option RoutedPage → Type 0
+IsSound routes outcome page = IsSoundFor (length routes + 1) outcome page
+
+-- the entries after an application, by its outcome and the page that it stored
+abbrev pub AreEntriesAfter : Outcome → EntityId → Option RoutedPage → Entries → Entries → Type 0
+AreEntriesAfter Stored x None entries now = ⊤
+AreEntriesAfter Stored x (Some page) entries now = now ≡ map.insert entries x (entry page.graph (sorted triple_cmp page.triples))
+AreEntriesAfter Same x page entries now = now ≡ entries
+AreEntriesAfter Dropped x page entries now = now ≡ map.remove entries x
+AreEntriesAfter (Sided cause) x page entries now = now ≡ entries
+
+-- the entries once an entity has these triples in its graph, if it is in one
+abbrev pub AreEntriesAnew : Option ℕ → EntityId → List Triple → Entries → Entries → Type 0
+AreEntriesAnew None x triples entries now = now ≡ entries
+AreEntriesAnew (Some graph) x triples entries now = now ≡ map.insert entries x (entry graph (sorted triple_cmp triples))

@@ -1,0 +1,163 @@
+// The graphs, which follow a world step by step.
+
+ghost use Rattle.std.specs.Prelude.{◌≡◌, ◌<◌, ℕ, List, Option, Some, IfOk, OnOk};
+ghost use Rattle.std.specs.FinMap as map;
+ghost use Rattle.std.specs.List.{AllByRecursion};
+ghost use Rattle.rdf_term.specs.Fit.{HasFitAndShortTerms};
+ghost use Rattle.replay_model.specs.Records.{record_of};
+ghost use Rattle.revisions.specs.Revisions.{Contents};
+ghost use Rattle.rdf_term.specs.Order.{triple_cmp};
+ghost use Rattle.rising.specs.Rising.{sorted};
+ghost use Rattle.subgraph.specs.Split.{entry, graph_of};
+ghost use Rattle.world.specs.Applying.{Applies};
+ghost use Rattle.world.specs.Routed.{AreTriplesOf, GivesPage};
+ghost use Rattle.world.specs.WorldState.{AreHolders, WorldState, by_two_after, next_stale, remapped};
+ghost use Rattle.splitting.specs.Graphs.{AreEntriesAfter, AreEntriesAnew, Follow, IsSound, IsSoundFor};
+
+use entity_model::EntityId;
+use rdf_term::OutOfMemory;
+use std::alloc::Global;
+use std::hash::RandomState;
+use std::marker::Model;
+use subgraph::{Routes, Split};
+use triple_texts::TripleTexts;
+use world::{Applied, Outcome, RoutedPage};
+
+/// Several graphs, by routes: one graph for each route, and a last one. An entity has its triples in one of them, or in none. Once memory
+/// was refused while they followed a step, they are lost, and hold nothing. Contracts see the routes, and the entry of each entity, which is
+/// the index of its graph and its triples; none where the graphs are lost.
+#[derive(Drop)]
+pub struct Graphs {
+    pub(crate) routes: Routes,
+    pub(crate) split: Option<Split>,
+}
+
+impl Model for Graphs {
+    ghost use Rattle.std.specs.Prelude.{◌≡◌, ◌+◌, IfSome, length, option_map};
+    ghost use Rattle.subgraph.specs.Entries.{SplitState};
+    ghost use Rattle.splitting.specs.Codes.{graphs_code};
+    ghost use Rattle.splitting.specs.Graphs.{GraphsState};
+
+    ghost Value = { GraphsState };
+
+    ghost coded = { graphs_code };
+
+    ghost view = { λ g. record { routes = g.routes; entries = option_map (λ (s : SplitState). s.entries) g.split } };
+
+    ghost invariant = { λ g. IfSome g.split (λ (s : SplitState). s.graphs ≡ length g.routes + 1) };
+}
+
+impl Graphs {
+    /// Graphs without entities, each with room for so many different terms. The hashes of ids and of terms are keyed by `keys`.
+    pub fn new(
+        alloc: Global,
+        keys: RandomState,
+        routes: Routes,
+        limit: u32,
+    ) -> Result<Graphs, OutOfMemory>
+        ensures { IfOk result (λ graphs. graphs ≡ record { routes = routes; entries = Some map.empty }) }
+    {
+        let split = Split::new(alloc, keys, routes.graphs(), limit)?;
+        Ok(Graphs {
+            routes,
+            split: Some(split),
+        })
+    }
+
+    /// The routes. It takes no memory.
+    pub fn routes(&self) -> &Routes
+        ensures { result.now ≡ self.now.routes }
+    {
+        &self.routes
+    }
+
+    /// Follows the application of an event, whose page is given back where it stored one: the entity has its triples in the graph that this
+    /// page is routed to, and in no other, and in none where the page was deleted. Graphs that followed the world before the application
+    /// follow the world after it, or are lost.
+    pub fn follow_application(&mut self, applied: &Applied, routed: Option<RoutedPage>)
+        requires { IsSound self.old.routes applied.now.outcome routed }
+        ensures routes { self.new.routes ≡ self.old.routes }
+        ensures follow { (known : Option Contents) (folder : List ℕ) (before after : WorldState) →
+            Applies known folder before.replay after.replay applied.now →
+            after.by_two ≡ by_two_after applied.now.outcome before.mapping applied.now.event.entity before.by_two → AreHolders after.by_two after.replay.played.records →
+            GivesPage self.old.routes before.mapping applied.now.event.entity applied.now.outcome (record_of after.replay.played.records applied.now.event.entity).held routed →
+            Follow self.old before → Follow self.new after }
+    {
+        let Some(split) = &mut self.split else {
+            return;
+        };
+        if apply(split, applied, routed).is_err() {
+            self.split = None;
+        }
+    }
+
+    /// Follows the mapping of an entity's page anew: these are its triples now, in the graph that it is in. Graphs that followed the world
+    /// before follow the world after it, or are lost.
+    pub fn follow_remapping(&mut self, id: EntityId, triples: &TripleTexts)
+        requires { AllByRecursion HasFitAndShortTerms triples.now }
+        ensures routes { self.new.routes ≡ self.old.routes }
+        ensures follow { (before : WorldState) → next_stale before ≡ Some id →
+            AreTriplesOf before.mapping id (record_of before.replay.played.records id).held triples.now → AreHolders (remapped before).by_two before.replay.played.records →
+            Follow self.old before → Follow self.new (remapped before) }
+    {
+        let Some(split) = &mut self.split else {
+            return;
+        };
+        if remap(split, id, triples).is_err() {
+            self.split = None;
+        }
+    }
+}
+
+// Follows the application of an event. What a graph has is stored in the world too, which has the same room, so it's never full.
+fn apply(
+    split: &mut Split,
+    applied: &Applied,
+    routed: Option<RoutedPage>,
+) -> Result<(), OutOfMemory>
+    requires { IsSoundFor split.old.graphs applied.now.outcome routed }
+    ensures entries { OnOk result (AreEntriesAfter applied.now.outcome applied.now.event.entity routed split.old.entries split.new.entries) }
+    ensures graphs { split.new.graphs ≡ split.old.graphs }
+{
+    match applied.outcome {
+        Outcome::Stored => match routed {
+            Some(page) => set(split, applied.event.entity, page.graph, &page.triples),
+            None => Ok(()),
+        },
+        Outcome::Dropped => {
+            split.clear(applied.event.entity);
+            Ok(())
+        }
+        Outcome::Same | Outcome::Sided(_) => Ok(()),
+    }
+}
+
+// Follows the mapping of a page anew.
+fn remap(split: &mut Split, id: EntityId, triples: &TripleTexts) -> Result<(), OutOfMemory>
+    requires { AllByRecursion HasFitAndShortTerms triples.now }
+    ensures entries { OnOk result (AreEntriesAnew (graph_of split.old.entries id) id triples.now split.old.entries split.new.entries) }
+    ensures graphs { split.new.graphs ≡ split.old.graphs }
+{
+    match split.graph_of(id) {
+        Some(graph) => set(split, id, graph, triples),
+        None => Ok(()),
+    }
+}
+
+// Sets the triples of an entity in a graph.
+fn set(
+    split: &mut Split,
+    id: EntityId,
+    graph: usize,
+    triples: &TripleTexts,
+) -> Result<(), OutOfMemory>
+    requires graph { graph < split.old.graphs }
+    requires fit { AllByRecursion HasFitAndShortTerms triples.now }
+    ensures entries { OnOk result (split.new.entries ≡ map.insert split.old.entries id (entry graph (sorted triple_cmp triples.now))) }
+    ensures graphs { split.new.graphs ≡ split.old.graphs }
+{
+    match split.set_texts(id, graph, triples) {
+        Ok(()) => Ok(()),
+        Err(_) => Err(OutOfMemory),
+    }
+}

@@ -1,0 +1,59 @@
+// Graphs that there may be: a replay that routes no page has none.
+
+ghost use Rattle.std.specs.Prelude.{◌≡◌, ℕ, List, Option, Some, IfSome, option_copied};
+ghost use Rattle.std.specs.List.{AllByRecursion};
+ghost use Rattle.rdf_term.specs.Fit.{HasFitAndShortTerms};
+ghost use Rattle.replay_model.specs.Records.{record_of};
+ghost use Rattle.revisions.specs.Revisions.{Contents};
+ghost use Rattle.world.specs.Applying.{Applies};
+ghost use Rattle.world.specs.Routed.{AreTriplesOf, GivesPage};
+ghost use Rattle.world.specs.WorldState.{AreHolders, WorldState, by_two_after, next_stale, remapped};
+ghost use Rattle.splitting.specs.Graphs.{IsSound, MayFollow, routes_of};
+
+use crate::graphs::Graphs;
+use entity_model::EntityId;
+use subgraph::Routes;
+use triple_texts::TripleTexts;
+use world::{Applied, RoutedPage};
+
+/// The routes of graphs, if there are graphs. It takes no memory.
+pub fn routes_of(graphs: &Option<Graphs>) -> Option<&Routes>
+    ensures { option_copied result ≡ routes_of graphs.now }
+{
+    match graphs {
+        Some(graphs) => Some(graphs.routes()),
+        None => None,
+    }
+}
+
+/// Graphs, if there are some, follow the application of an event.
+pub fn follow_application(
+    graphs: &mut Option<Graphs>,
+    applied: &Applied,
+    routed: Option<RoutedPage>,
+)
+    requires { IfSome (routes_of graphs.old) (λ routes. IsSound routes applied.now.outcome routed) }
+    ensures routes { routes_of graphs.new ≡ routes_of graphs.old }
+    ensures follow { (known : Option Contents) (folder : List ℕ) (before after : WorldState) →
+        Applies known folder before.replay after.replay applied.now →
+        after.by_two ≡ by_two_after applied.now.outcome before.mapping applied.now.event.entity before.by_two → AreHolders after.by_two after.replay.played.records →
+        IfSome (routes_of graphs.old) (λ routes. GivesPage routes before.mapping applied.now.event.entity applied.now.outcome (record_of after.replay.played.records applied.now.event.entity).held routed) →
+        MayFollow graphs.old before → MayFollow graphs.new after }
+{
+    if let Some(graphs) = graphs {
+        graphs.follow_application(applied, routed);
+    }
+}
+
+/// Graphs, if there are some, follow the mapping of an entity's page anew, which has these triples now.
+pub fn follow_remapping(graphs: &mut Option<Graphs>, id: EntityId, triples: &TripleTexts)
+    requires { AllByRecursion HasFitAndShortTerms triples.now }
+    ensures routes { routes_of graphs.new ≡ routes_of graphs.old }
+    ensures follow { (before : WorldState) → next_stale before ≡ Some id →
+        AreTriplesOf before.mapping id (record_of before.replay.played.records id).held triples.now → AreHolders (remapped before).by_two before.replay.played.records →
+        MayFollow graphs.old before → MayFollow graphs.new (remapped before) }
+{
+    if let Some(graphs) = graphs {
+        graphs.follow_remapping(id, triples);
+    }
+}
