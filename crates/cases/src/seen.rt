@@ -121,7 +121,7 @@ pub fn owners(alloc: Global, world: &World, given: &[u8]) -> Result<String> {
     Ok(lines)
 }
 
-// How many entities hold the triple with this text. What is stored has to agree.
+// How many entities hold the triple with this text. What is stored has to agree, and so has what each entity holds.
 fn owners_of(alloc: Global, world: &World, text: &str) -> Result<u64> {
     let triple = triple_in(alloc, text).context(format_args!("no triple, or no memory: {text}"))?;
     let count = world.owners(&triple);
@@ -129,7 +129,23 @@ fn owners_of(alloc: Global, world: &World, text: &str) -> Result<u64> {
     if stored != (count > 0) {
         bail!("what is stored doesn't agree with the owners of {text}");
     }
+    if holders(world, &triple).context("out of memory")? != count {
+        bail!("what the entities hold doesn't agree with the owners of {text}");
+    }
     Ok(count)
+}
+
+// How many entities have the triple in the set of what they hold; None where memory is refused.
+fn holders(world: &World, triple: &Triple) -> Option<u64> {
+    let ids = world.entities().ok()?;
+    let mut count: u64 = 0;
+    for id in ids.as_slice() {
+        let set = world.set_of(*id).ok()?;
+        if set.contains(triple) {
+            count = count.saturating_add(1);
+        }
+    }
+    Some(count)
 }
 
 // Whether the triple is in both sets: of all that is stored, and of what agrees with its object.
