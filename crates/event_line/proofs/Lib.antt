@@ -1,3 +1,4 @@
+pub mod CompactLines
 pub mod Reading
 pub mod TermReading
 pub mod Places

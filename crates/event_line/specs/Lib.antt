@@ -1,3 +1,4 @@
+pub mod Compact
 pub mod Line
 pub mod Query
 pub mod Time

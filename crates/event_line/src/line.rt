@@ -7,6 +7,7 @@ ghost use Rattle.event_line.specs.Line.{Answers, AnswersPart, data_of, delivery_
 ghost use Rattle.event_line.specs.declared.faults.DeliveryFault.TheVariants.{Bad as Refused, OutOfMemory as NoMemory};
 ghost use Rattle.event_line.specs.declared.faults.LineCause.TheVariants.{NotJson as NoJson};
 
+use crate::compact::compact_event;
 use crate::faults::{DeliveryFault, LineCause};
 use crate::query::query;
 use crate::time;
@@ -38,6 +39,9 @@ enum KindName {
 pub fn delivery(alloc: Global, line: &[u8]) -> Result<Delivery, DeliveryFault>
     ensures { Answers line.now result }
 {
+    if let Some(event) = compact_event(line) {
+        return Ok(Delivery::Event(event));
+    }
     let value = read_value(alloc, line)?;
     delivery_in(alloc, &value)
 }
