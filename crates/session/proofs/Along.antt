@@ -1,5 +1,5 @@
 -- One delivery more: what it adds to what deliveries make from a checkpoint on, and where it leads.
-use Rattle.std.proofs.Common.{◌≡◌, refl, sym, ◌∙◌, ap, ◌+◌, List, [], ◌∷◌, ◌++◌, append_assoc, append-nil, length, length-append, filter_map, fold, arith}
+use Rattle.std.proofs.Common.{◌≡◌, refl, sym, ◌∙◌, ap, ◌+◌, List, [], ◌∷◌, ◌++◌, append_assoc, append-nil, length, length-append, filter_map, arith}
 use Rattle.std.proofs.lemmas.List.Elements.{filter_map-append}
 use Rattle.std.proofs.lemmas.List.Sums.{fold_push}
 use Rattle.delivery.specs.declared.Delivery.{Delivery}

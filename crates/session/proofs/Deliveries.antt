@@ -3,7 +3,7 @@ use Rattle.std.proofs.Common.{refl, inl, inr, sym, subst, ap, ◌∙◌, ◌≡�
 use Rattle.wq_io.specs.Streams.{after_known}
 use Rattle.entity_model.specs.declared.event.Event.{Event}
 use Rattle.delivery.specs.declared.Delivery.{Delivery}
-use Rattle.delivery.specs.declared.Delivery.TheVariants.{Event as Told, Watermark, Mapping}
+use Rattle.delivery.specs.declared.Delivery.TheVariants.{Event as Told, Watermark, Ask, Mapping, Match}
 use Rattle.entity_model.specs.declared.id.EntityId.{EntityId}
 use Rattle.entity_model.specs.declared.mapping.MappingVersion.{MappingVersion}
 use Rattle.side_output.specs.declared.entry.Entry.{Entry}
@@ -88,6 +88,7 @@ delivered_open : (replies : Replies) (w : ReplayState) (d : Delivery) → (deliv
 delivered_open replies w (Told e) = open-taking w.buffer e
 delivered_open replies w (Watermark m) = refl
 delivered_open replies w (Ask q) = refl
+delivered_open replies w (Match q) = refl
 delivered_open replies w (Mapping v) = refl
 
 open_along : (replies : Replies) (c : Checkpoint) (ds : List Delivery) → (state_along replies c ds).buffer.closed ≡ c.state.buffer.closed

@@ -120,7 +120,9 @@ explained_first unfit known c w is none rises applied = record {
   replies = first_replies known;
   rises = rises;
   leads = λ others agree. after_due-none others w none ∙ is;
-  counts = λ others agree. ap length (fetches_due-none others w none);
+  counts = λ others agree.
+      let left : length (fetches_due others w) ≡ 0 = ap length (fetches_due-none others w none) in
+      omega (arith, left);
   honest = λ contents told q r. ap (λ given. first_replies given q r) told;
   fit = λ e r. first_fit known e r;
   failed_applied = applied;

@@ -1,9 +1,9 @@
 -- What stands where what was taken is printed and saved, wholly or not.
-use Rattle.std.proofs.Common.{refl, sym, subst, ◌∙◌, ap, inr, ◌≡◌, ℕ, ◌+◌, ◌-◌, ◌^◌, ◌<◌, Bool, true, false, List, [], ◌++◌, Option, Some, Ok, Err}
+use Rattle.std.proofs.Common.{refl, sym, subst, ◌∙◌, ap, inr, ◌≡◌, ℕ, ◌-◌, ◌^◌, ◌<◌, Bool, true, false, List, [], ◌++◌, Option, Some, Ok, Err}
 use Rattle.wq_io.specs.Streams.{after_known}
 use Rattle.delivery.specs.declared.Delivery.{Delivery}
 use Rattle.replay_model.specs.Records.{Bytes}
-use Rattle.replay_model.specs.Play.{Replies, played}
+use Rattle.replay_model.specs.Play.{Replies}
 use Rattle.replay_model.specs.Replies.{failed_events, source_replies}
 use Rattle.replay_model.specs.ReplayState.{ReplayState}
 use Rattle.replay_model.specs.Transcript.{Sections}
@@ -11,7 +11,6 @@ use Rattle.subgraph.specs.declared.routes.Route.{Route}
 use Rattle.transcript.specs.declared.write.Unwritten.{Unwritten}
 use Rattle.transcript.specs.declared.write.Unwritten.TheVariants.{WriteFault as NotWritten, OutOfMemory as Refused}
 use Rattle.transcript.specs.Printing.{IsCutShort, Output, Prints}
-use Rattle.patch_stream.specs.Stream.{changes}
 use Rattle.transcript.proofs.Parts.{after_twice}
 use Rattle.checkpoint.specs.declared.numbers.Numbers.{Numbers}
 use Rattle.session.specs.Answering.{closing_by, said_by}

@@ -124,15 +124,14 @@ start_of run before = start_in run.numbered before.stage
 abbrev pub world_at_start : Choices → WorldState
 world_at_start choices = record { replay = nothing_delivered_within choices.horizon; limit = max_terms_of choices; mapping = One; by_two = [] }
 
--- a run of these choices over a source with these contents, of which this is reported, with these routes, behind earlier runs that
--- reported so many
-abbrev pub run_behind : Numbers → Option (List Route) → Report → Option Contents → Choices → Run
-run_behind numbered routes report contents choices = record {
+-- the first run of these choices over a source with these contents, of which this is reported, with these routes
+abbrev pub run_of : Option (List Route) → Report → Option Contents → Choices → Run
+run_of routes report contents choices = record {
   choices = choices;
   environment = environment routes report contents (folder_of choices) (max_terms_of choices);
-  numbered = numbered;
+  numbered = no_numbers;
 }
 
--- the first of these runs
-abbrev pub run_of : Option (List Route) → Report → Option Contents → Choices → Run
-run_of routes report contents choices = run_behind no_numbers routes report contents choices
+-- the same run behind earlier ones that left these counts
+abbrev pub behind : Numbers → Run → Run
+behind numbered run = record { choices = run.choices; environment = run.environment; numbered = numbered }

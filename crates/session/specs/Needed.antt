@@ -1,5 +1,5 @@
 -- For how many different terms there must be room as a play goes on: at each page that a fetch gives, and at each that is mapped anew.
-use Rattle.std.specs.Prelude.{◌≡◌, ℕ, ◌≤◌, cond, true, false, List, [], ◌∷◌, ◌++◌, Option, Result, Ok, Err}
+use Rattle.std.specs.Prelude.{◌≡◌, ℕ, ◌≤◌, cond, List, [], ◌∷◌, ◌++◌, Result, Ok, Err}
 use Rattle.rising.specs.Rising.{Each}
 use Rattle.delivery.specs.declared.Delivery.{Delivery}
 use Rattle.delivery.specs.declared.Delivery.TheVariants.{Event as Told, Watermark, Ask, Mapping, Match}

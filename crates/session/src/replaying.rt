@@ -12,7 +12,7 @@ ghost use Rattle.world.specs.Meaning.{meaning};
 ghost use Rattle.session.specs.Answering.{closing_held};
 ghost use Rattle.session.specs.Counts.{HaveGoneOn};
 ghost use Rattle.session.specs.Headline.{Ending, HasPrinted, HasTakenAll, Stopped};
-ghost use Rattle.session.specs.Moment.{moment, run_behind, run_of, world_at_start};
+ghost use Rattle.session.specs.Moment.{behind, moment, run_of, world_at_start};
 ghost use Rattle.session.specs.Reading.{TakesByNeed};
 ghost use Rattle.session.specs.Remapping.{HoldsWithin, mapped_in};
 ghost use Rattle.session.specs.Sections.{sections_of};
@@ -78,10 +78,10 @@ pub fn replay_into<S: Source, R: Revisions, K: Sink, F: Sink>(
     requires world { world.old.replay ≡ nothing_delivered }
     requires fresh { IfSome graphs.old (λ g. g.entries ≡ Some map.empty) }
     requires few { (task.now.numbers.asks ≤ 2 ^ 63) × (task.now.numbers.matches ≤ 2 ^ 63) }
-    ensures ok { OnOk result (Ending (run_behind task.now.numbers (routes_of graphs.old) task.now.report (R.contents ports.old.revisions) task.now.options.now)
+    ensures ok { OnOk result (Ending (behind task.now.numbers (run_of (routes_of graphs.old) task.now.report (R.contents ports.old.revisions) task.now.options.now))
         (moment S.Source R.Revisions K.Sink F.Sink ports.old (world_at_start task.now.options.now))
         (moment S.Source R.Revisions K.Sink F.Sink ports.new world.new)) }
-    ensures err { IfErr result (λ stop. Stopped stop (run_behind task.now.numbers (routes_of graphs.old) task.now.report (R.contents ports.old.revisions) task.now.options.now)
+    ensures err { IfErr result (λ stop. Stopped stop (behind task.now.numbers (run_of (routes_of graphs.old) task.now.report (R.contents ports.old.revisions) task.now.options.now))
         (moment S.Source R.Revisions K.Sink F.Sink ports.old (world_at_start task.now.options.now))
         (moment S.Source R.Revisions K.Sink F.Sink ports.new world.new)) }
     ensures taken { IfSome (S.left ports.old.events) (λ bytes. TakesByNeed (max_bytes_of task.now.options.now) bytes (S.left ports.new.events)) }
@@ -128,10 +128,10 @@ fn replay_within<S: Source, R: Revisions, K: Sink, F: Sink>(
     requires limit { world.old.limit ≡ max_terms_of task.now.options.now }
     requires follow { MayFollow graphs.old world.old }
     requires held { HoldsWithin world.old.limit world.old }
-    ensures ok { OnOk result (Ending (run_behind task.now.numbers (routes_of graphs.old) task.now.report (R.contents ports.old.revisions) task.now.options.now)
+    ensures ok { OnOk result (Ending (behind task.now.numbers (run_of (routes_of graphs.old) task.now.report (R.contents ports.old.revisions) task.now.options.now))
         (moment S.Source R.Revisions K.Sink F.Sink ports.old world.old)
         (moment S.Source R.Revisions K.Sink F.Sink ports.new world.new)) }
-    ensures err { IfErr result (λ stop. Stopped stop (run_behind task.now.numbers (routes_of graphs.old) task.now.report (R.contents ports.old.revisions) task.now.options.now)
+    ensures err { IfErr result (λ stop. Stopped stop (behind task.now.numbers (run_of (routes_of graphs.old) task.now.report (R.contents ports.old.revisions) task.now.options.now))
         (moment S.Source R.Revisions K.Sink F.Sink ports.old world.old)
         (moment S.Source R.Revisions K.Sink F.Sink ports.new world.new)) }
     ensures taken { IfSome (S.left ports.old.events) (λ bytes. TakesByNeed (max_bytes_of task.now.options.now) bytes (S.left ports.new.events)) }
@@ -158,10 +158,10 @@ fn take_and_print<S: Source, R: Revisions, K: Sink, F: Sink>(
     requires limit { world.old.limit ≡ max_terms_of task.now.options.now }
     requires follow { MayFollow graphs.old world.old }
     requires held { HoldsWithin world.old.limit world.old }
-    ensures ok { IfOk result (λ numbers. HasPrinted (run_behind task.now.numbers (routes_of graphs.old) task.now.report (R.contents ports.old.revisions) task.now.options.now) numbers
+    ensures ok { IfOk result (λ numbers. HasPrinted (behind task.now.numbers (run_of (routes_of graphs.old) task.now.report (R.contents ports.old.revisions) task.now.options.now)) numbers
         (moment S.Source R.Revisions K.Sink F.Sink ports.old world.old)
         (moment S.Source R.Revisions K.Sink F.Sink ports.new world.new)) }
-    ensures err { IfErr result (λ stop. Stopped stop (run_behind task.now.numbers (routes_of graphs.old) task.now.report (R.contents ports.old.revisions) task.now.options.now)
+    ensures err { IfErr result (λ stop. Stopped stop (behind task.now.numbers (run_of (routes_of graphs.old) task.now.report (R.contents ports.old.revisions) task.now.options.now))
         (moment S.Source R.Revisions K.Sink F.Sink ports.old world.old)
         (moment S.Source R.Revisions K.Sink F.Sink ports.new world.new)) }
     ensures taken { IfSome (S.left ports.old.events) (λ bytes. TakesByNeed (max_bytes_of task.now.options.now) bytes (S.left ports.new.events)) }
@@ -221,10 +221,10 @@ fn take_all<S: Source, R: Revisions, K: Sink, F: Sink>(
     requires limit { world.old.limit ≡ max_terms_of task.now.options.now }
     requires follow { MayFollow graphs.old world.old }
     requires held { HoldsWithin world.old.limit world.old }
-    ensures ok { IfOk result (λ numbers. HasTakenAll (run_behind task.now.numbers (routes_of graphs.old) task.now.report (R.contents ports.old.revisions) task.now.options.now) numbers
+    ensures ok { IfOk result (λ numbers. HasTakenAll (behind task.now.numbers (run_of (routes_of graphs.old) task.now.report (R.contents ports.old.revisions) task.now.options.now)) numbers
         (moment S.Source R.Revisions K.Sink F.Sink ports.old world.old)
         (moment S.Source R.Revisions K.Sink F.Sink ports.new world.new)) }
-    ensures err { IfErr result (λ stop. Stopped stop (run_behind task.now.numbers (routes_of graphs.old) task.now.report (R.contents ports.old.revisions) task.now.options.now)
+    ensures err { IfErr result (λ stop. Stopped stop (behind task.now.numbers (run_of (routes_of graphs.old) task.now.report (R.contents ports.old.revisions) task.now.options.now))
         (moment S.Source R.Revisions K.Sink F.Sink ports.old world.old)
         (moment S.Source R.Revisions K.Sink F.Sink ports.new world.new)) }
     ensures taken { IfSome (S.left ports.old.events) (λ bytes. TakesByNeed (max_bytes_of task.now.options.now) bytes (S.left ports.new.events)) }

@@ -8,7 +8,7 @@ ghost use Rattle.splitting.specs.Graphs.{MayFollow, routes_of};
 ghost use Rattle.session.specs.declared.stop.Stop.TheVariants.{BadLine, OutOfMemory as Refused};
 ghost use Rattle.session.specs.Counts.{HaveGoneOn};
 ghost use Rattle.session.specs.Headline.{Stopped};
-ghost use Rattle.session.specs.Moment.{moment, run_behind};
+ghost use Rattle.session.specs.Moment.{behind, moment, run_of};
 ghost use Rattle.session.specs.Reading.{TakesByNeed};
 ghost use Rattle.session.specs.Remapping.{HoldsWithin, mapped_in};
 ghost use Rattle.session.specs.Stops.{HasTaken};
@@ -50,10 +50,10 @@ pub fn take_lines<S: Source, R: Revisions, K: Sink, F: Sink>(
     requires limit { world.old.limit ≡ max_terms_of task.now.options.now }
     requires follow { MayFollow graphs.old world.old }
     requires held { HoldsWithin world.old.limit world.old }
-    ensures ok { IfOk result (λ taken. HasTaken (run_behind task.now.numbers (routes_of graphs.old) task.now.report (R.contents ports.old.revisions) task.now.options.now) taken.reported taken.matched
+    ensures ok { IfOk result (λ taken. HasTaken (behind task.now.numbers (run_of (routes_of graphs.old) task.now.report (R.contents ports.old.revisions) task.now.options.now)) taken.reported taken.matched
         (moment S.Source R.Revisions K.Sink F.Sink ports.old world.old)
         (moment S.Source R.Revisions K.Sink F.Sink ports.new world.new)) }
-    ensures err { IfErr result (λ stop. Stopped stop (run_behind task.now.numbers (routes_of graphs.old) task.now.report (R.contents ports.old.revisions) task.now.options.now)
+    ensures err { IfErr result (λ stop. Stopped stop (behind task.now.numbers (run_of (routes_of graphs.old) task.now.report (R.contents ports.old.revisions) task.now.options.now))
         (moment S.Source R.Revisions K.Sink F.Sink ports.old world.old)
         (moment S.Source R.Revisions K.Sink F.Sink ports.new world.new)) }
     ensures taken { IfSome (S.left ports.old.events) (λ bytes. TakesByNeed (max_bytes_of task.now.options.now) bytes (S.left ports.new.events)) }

@@ -2,21 +2,21 @@
 use Rattle.std.proofs.Common.{◌∙◌, sym, inr}
 use Rattle.std.proofs.lemmas.Result.{err_from_is_err_and}
 use Rattle.splitting.specs.Graphs.{routes_of}
-use Rattle.session.specs.Moment.{Moment, Run, moment, run_behind, start_of}
+use Rattle.session.specs.Moment.{Moment, Run, behind, moment, run_of, start_of}
 use Rattle.session.proofs.Deliveries.{end_begun, end_taken}
 use Rattle.session.proofs.Ends.{halted, paused, replayed}
 use Rattle.session.proofs.replaying.take_all.Goals as goal
 
 pub returns-then-not-closes-clause-ok : goal.returns-then-not-closes-clause-ok
 returns-then-not-closes-clause-ok g c =
-    let run : Run = run_behind c.args.task.now.numbers (routes_of c.args.graphs.now) c.args.task.now.report (g.R.Revisions.contents c.args.ports.now.revisions) c.args.task.now.options.now in
+    let run : Run = behind c.args.task.now.numbers (run_of (routes_of c.args.graphs.now) c.args.task.now.report (g.R.Revisions.contents c.args.ports.now.revisions) c.args.task.now.options.now) in
     let before : Moment = moment g.S.Source g.R.Revisions g.K.Sink g.F.Sink c.args.ports.now c.args.world.now in
     let between : Moment = moment g.S.Source g.R.Revisions g.K.Sink g.F.Sink c.take_lines.new.ports c.take_lines.new.world in
     rw c.numbers.ensures (paused run before between _ _ (sym c.closes.ensures ∙ c.if-not-closes.true) c.in_ok-taken.ensures.ok)
 
 pub returns-clause-ok : goal.returns-clause-ok
 returns-clause-ok g c =
-    let run : Run = run_behind c.args.task.now.numbers (routes_of c.args.graphs.now) c.args.task.now.report (g.R.Revisions.contents c.args.ports.now.revisions) c.args.task.now.options.now in
+    let run : Run = behind c.args.task.now.numbers (run_of (routes_of c.args.graphs.now) c.args.task.now.report (g.R.Revisions.contents c.args.ports.now.revisions) c.args.task.now.options.now) in
     let before : Moment = moment g.S.Source g.R.Revisions g.K.Sink g.F.Sink c.args.ports.now c.args.world.now in
     let between : Moment = moment g.S.Source g.R.Revisions g.K.Sink g.F.Sink c.take_lines.new.ports c.take_lines.new.world in
     let taken = c.in_ok-taken.ensures.ok in
@@ -27,7 +27,7 @@ returns-clause-ok g c =
 
 pub returns-in_err-reported-clause-err : goal.returns-in_err-reported-clause-err
 returns-in_err-reported-clause-err g c =
-    let run : Run = run_behind c.args.task.now.numbers (routes_of c.args.graphs.now) c.args.task.now.report (g.R.Revisions.contents c.args.ports.now.revisions) c.args.task.now.options.now in
+    let run : Run = behind c.args.task.now.numbers (run_of (routes_of c.args.graphs.now) c.args.task.now.report (g.R.Revisions.contents c.args.ports.now.revisions) c.args.task.now.options.now) in
     let before : Moment = moment g.S.Source g.R.Revisions g.K.Sink g.F.Sink c.args.ports.now c.args.world.now in
     let between : Moment = moment g.S.Source g.R.Revisions g.K.Sink g.F.Sink c.take_lines.new.ports c.take_lines.new.world in
     let taken = c.in_ok-taken.ensures.ok in

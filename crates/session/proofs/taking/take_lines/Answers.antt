@@ -2,7 +2,7 @@
 use Rattle.std.proofs.Common.{refl, sym, ◌∙◌}
 use Rattle.std.proofs.lemmas.Result.{err_from_is_err_and}
 use Rattle.splitting.specs.Graphs.{routes_of}
-use Rattle.session.specs.Moment.{Run, moment, run_behind}
+use Rattle.session.specs.Moment.{Run, behind, moment, run_of}
 use Rattle.session.proofs.Deliveries.{rest_open}
 use Rattle.session.proofs.Ongoing.{delivered_on, none_gone, read_on}
 use Rattle.session.proofs.Progress.{delivery_stops, end_reached, fault_stops, line_stops, line_taken, nothing_begun, numbers_left, taken_on}
@@ -11,7 +11,7 @@ use Rattle.session.proofs.taking.take_lines.Goals as goal
 
 pub loop-line-init : goal.loop-line-init
 loop-line-init g c =
-    let run : Run = run_behind c.args.task.now.numbers (routes_of c.args.graphs.now) c.args.task.now.report (g.R.Revisions.contents c.args.ports.now.revisions) c.args.task.now.options.now in (
+    let run : Run = behind c.args.task.now.numbers (run_of (routes_of c.args.graphs.now) c.args.task.now.report (g.R.Revisions.contents c.args.ports.now.revisions) c.args.task.now.options.now) in (
       rw (c.new-lines.ensures, c.max_bytes.ensures.value, c.reported_before-reported.ensures) (nothing_begun run _ c.requires.stands),
       none_gone g.S.Source g.R.Revisions g.K.Sink g.F.Sink _,
       refl,
