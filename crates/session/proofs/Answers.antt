@@ -1,17 +1,12 @@
--- What a play says at one delivery more, and where every page is mapped by one version.
-use Rattle.std.proofs.Common.{◌≡◌, refl, ◌∙◌, ap, ℕ, suc, ◌+◌, List, [], ◌∷◌, ◌++◌, Option, None, Some, length, flat_map, append-nil}
-use Rattle.std.proofs.lemmas.List.Concat.{flat_map-append}
+-- What is said where every page is mapped by one version.
+use Rattle.std.proofs.Common.{◌≡◌, refl, ◌∙◌, ap, ℕ, suc, ◌+◌, List, Option, None, Some, length}
 use Rattle.rdf_term.specs.declared.triple.Triple.{Triple}
 use Rattle.rdf_term.specs.Pattern.{rows}
-use Rattle.delivery.specs.declared.Delivery.{Delivery}
 use Rattle.entity_model.specs.declared.mapping.MappingVersion.{MappingVersion}
-use Rattle.replay_model.specs.Acceptance.{arrivals}
-use Rattle.replay_model.specs.Play.{Played, Replies}
+use Rattle.replay_model.specs.Play.{Played}
 use Rattle.replay_model.specs.Records.{Records}
-use Rattle.replay_model.specs.Transcript.{Question, Sections, answer_said, answer_section, for_bindings, for_triples, question_of, said}
+use Rattle.replay_model.specs.Transcript.{Question, Sections, answer_section, for_bindings, for_triples}
 use Rattle.replay_model.specs.Versions.{all_by, meaning_by}
-use Rattle.replay_model.proofs.Arrivals.{arrivals-push}
-use Rattle.replay_model.proofs.Printing.{said-push}
 use Rattle.subgraph.specs.declared.routes.Route.{Route}
 use Rattle.subgraph.specs.Laws.{routed_union}
 use Rattle.subgraph.specs.Routes.{graph_name}
@@ -21,27 +16,9 @@ use Rattle.splitting.specs.Graphs.{routing_by}
 use Rattle.splitting.specs.Sections.{graph_answer, graph_section}
 use Rattle.splitting.proofs.Pieces.{below-same}
 use Rattle.splitting.proofs.Versions.{routed-all}
-use Rattle.session.specs.Answering.{answer_by, answer_held, answer_text, closing_by, closing_held, said_at_by, said_by}
+use Rattle.session.specs.Answering.{answer_held, answer_text, closing_by, closing_held}
 use Rattle.session.specs.Remapping.{Mapped, mapped_by}
 use Rattle.session.proofs.Versions.{all_held_by}
-
--- where there are no routes a play answers as one that has none
-one_answer : (h : Option ℕ) (replies : Replies) (before : List Delivery) (question : Option Question) → answer_said meaning h replies before question ≡ answer_by None h replies before question
-one_answer h replies before None = refl
-one_answer h replies before (Some question) = refl
-
--- what a play says at one delivery more
-pub said_by-push : (routes : Option (List Route)) (h : Option ℕ) (replies : Replies) (ds : List Delivery) (d : Delivery) → said_by routes h replies (ds ++ d ∷ []) ≡ said_by routes h replies ds ++ said_at_by routes h replies (record { before = ds; delivery = d })
-said_by-push None h replies ds d = said-push h meaning replies ds d ∙ ap (λ l. said meaning h replies ds ++ l) (one_answer h replies ds (question_of d))
-said_by-push (Some routes) h replies ds d =
-    ap (flat_map (said_at_by (Some routes) h replies)) (arrivals-push ds d)
-    ∙ flat_map-append (said_at_by (Some routes) h replies) (arrivals ds) (record { before = ds; delivery = d } ∷ [])
-    ∙ ap (λ l. said_by (Some routes) h replies ds ++ l) (append-nil (said_at_by (Some routes) h replies (record { before = ds; delivery = d })))
-
--- and at none
-pub said_by-none : (routes : Option (List Route)) (h : Option ℕ) (replies : Replies) → said_by routes h replies [] ≡ []
-said_by-none None h replies = refl
-said_by-none (Some routes) h replies = refl
 
 -- where every page is mapped by one version, an answer is that by this version
 pub answer_held_by : (routes : Option (List Route)) (asked matched : ℕ) (version : MappingVersion) (mapped : Mapped) (records : Records) (question : Question) → mapped ≡ mapped_by version records →

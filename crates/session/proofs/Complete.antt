@@ -19,7 +19,7 @@ use Rattle.entity_state.specs.Record.{blank}
 use Rattle.event_line.specs.declared.faults.LineCause.{LineCause}
 use Rattle.event_line.specs.declared.faults.LineCause.TheVariants.{LineLong}
 use Rattle.event_line.specs.Line.{delivery_of}
-use Rattle.replay_model.specs.Acceptance.{accepted, late, version_in_force}
+use Rattle.replay_model.specs.Acceptance.{accepted, late}
 use Rattle.replay_model.specs.Entries.{has_open_revision}
 use Rattle.replay_model.specs.Play.{Played, played}
 use Rattle.replay_model.specs.Records.{Bytes, Records, is_settled, record_of}
@@ -33,14 +33,15 @@ use Rattle.session.specs.declared.status.Status.{Status}
 use Rattle.session.specs.declared.status.Status.TheVariants.{Ok as Ended, BadWords, BadLine, ReadFault, WriteFault, TooLong, StoreFull, OutOfMemory}
 use Rattle.session.specs.Complete.{FindsDocument, IsStill, has_document, triples_in}
 use Rattle.session.specs.Headline.{Ending, Stopped}
-use Rattle.session.specs.Moment.{Moment, Run, horizon_at}
+use Rattle.session.specs.Moment.{IsFirst, Moment, Run, horizon_at, start_of}
+use Rattle.session.specs.Course.{version_at}
 use Rattle.session.specs.Reading.{AreDeliveries, IsPastLimit, IsRefusedLine, deliveries_of, line_delivers, onto_deliveries}
 use Rattle.session.specs.Remapping.{held_triples}
 use Rattle.session.specs.Stop.{stop_of}
 use Rattle.session.specs.declared.stop.Stop.TheVariants.{StoreFull as RoomPassed}
 use Rattle.session.specs.Taking.{judgement, replies_there}
-use Rattle.session.proofs.Ends.{none_failed}
-use Rattle.session.proofs.Printed.{state_played}
+use Rattle.session.proofs.Ends.{none_failed, none_named_first}
+use Rattle.session.proofs.FromNothing.{state_played}
 use Rattle.session.proofs.Finding.{none_named}
 use Rattle.session.proofs.Opening.{any_opened, settled_triples}
 use Rattle.session.proofs.Reading.{at_known}
@@ -110,7 +111,7 @@ none_refused {G} limit bytes ds before number cause are refused = ⊎_elim
     clash none = let never : Some ds ≡ None = sym are.delivered ∙ none in cc
 
 module _ (run : Run) (before now : Moment) (bytes : List ℕ) (ds : List Delivery) (known : before.input.left ≡ Some bytes) (are : AreDeliveries (max_bytes_of run.choices) bytes ds)
-    (reads : IsStill before.input.faults now.input.faults) (writes : IsStill before.stage.output.faults now.stage.output.faults) (saves : IsStill before.snapshot.faults now.snapshot.faults) (room : Stopped RoomPassed run before now → ⊥) where
+    (reads : IsStill before.input.faults now.input.faults) (writes : IsStill (start_of run before).output.faults now.stage.output.faults) (saves : IsStill before.snapshot.faults now.snapshot.faults) (room : Stopped RoomPassed run before now → ⊥) where
   pub ends_well : (status : Status) → (status ≡ BadWords → ⊥) → IfSome (stop_of status) (λ stop. Stopped stop run before now) → (status ≡ Ended) ⊎ (status ≡ OutOfMemory)
   ends_well Ended understood stopped = inl refl
   ends_well BadWords understood stopped = absurd (understood refl)
@@ -118,7 +119,7 @@ module _ (run : Run) (before now : Moment) (bytes : List ℕ) (ds : List Deliver
       none_refused (max_bytes_of run.choices) bytes ds stopped.deliveries number cause are
       (at_known before.input.left bytes (λ b. IsRefusedLine (max_bytes_of run.choices) b stopped.deliveries number cause) known stopped.bad)
   ends_well ReadFault understood stopped = not_risen before.input.faults now.input.faults reads stopped.0
-  ends_well WriteFault understood stopped = ⊎_elim (λ out. not_risen before.stage.output.faults now.stage.output.faults writes out.0) (λ file. not_risen before.snapshot.faults now.snapshot.faults saves file.0) stopped
+  ends_well WriteFault understood stopped = ⊎_elim (λ out. not_risen (start_of run before).output.faults now.stage.output.faults writes out.0) (λ file. not_risen before.snapshot.faults now.snapshot.faults saves file.0) stopped
   ends_well TooLong understood stopped =
       let past = at_known before.input.left bytes (λ b. max_bytes_of run.choices < length b) known (more before.input.left stopped.past) in
       absurd (omega (arith, past, are.within))
@@ -131,18 +132,18 @@ module _ (run : Run) (before now : Moment) (bytes : List ℕ) (ds : List Deliver
 
 -- ---- the world
 
-module _ (run : Run) (before now : Moment) (contents : ℕ → Option Bytes) (ending : Ending run before now) (known : run.environment.known ≡ Some contents) where
+module _ (run : Run) (before now : Moment) (contents : ℕ → Option Bytes) (first : IsFirst (start_of run before)) (ending : Ending run before now) (known : run.environment.known ≡ Some contents) where
   -- no fetch failed
-  none_failed_now : IsStill before.stage.counts.faults now.stage.counts.faults → failed_events now.stage.world.played.side ≡ []
+  none_failed_now : IsStill (start_of run before).counts.faults now.stage.counts.faults → failed_events now.stage.world.played.side ≡ []
   none_failed_now still =
-      none_failed (failed_events now.stage.world.played.side) before.stage.counts.faults now.stage.counts.faults ending.replayed.replay.played.counted.failed still.same still.below
+      none_failed (failed_events now.stage.world.played.side) _ before.stage.counts.faults now.stage.counts.faults ending.replayed.replay.played.counted.failed (none_named_first (start_of run before) first) still.same still.below
 
-  pub unsettled : IsStill before.stage.counts.faults now.stage.counts.faults → (x : EntityId) → is_settled (record_of now.stage.world.played.records x) ≡ false →
+  pub unsettled : IsStill (start_of run before).counts.faults now.stage.counts.faults → (x : EntityId) → is_settled (record_of now.stage.world.played.records x) ≡ false →
       (is_kept (record_of now.stage.world.played.records x).state.mode ≡ true) × (has_document judgement contents x (record_of now.stage.world.played.records x).state.rev ≡ false)
   unsettled still x isnt =
-      let told = subst (λ failed. Each (TellsWhatIsThere judgement contents failed) now.stage.world.played.side) (none_failed_now still) (ending.replayed.replay.names.there contents known) in
+      let told = subst (λ failed. Each (TellsWhatIsThere judgement contents failed) now.stage.world.played.side) (none_failed_now still) ((ending.replayed.replay.names first).there contents known) in
       any_opened judgement contents x (record_of now.stage.world.played.records x) now.stage.world.played.side told
-      (opened (has_open_revision now.stage.world.played.records now.stage.world.played.side x) (sym (ending.replayed.replay.holds.settled x) ∙ isnt))
+      (opened (has_open_revision now.stage.world.played.records now.stage.world.played.side x) (sym ((ending.replayed.replay.holds first).settled x) ∙ isnt))
     where
       opened : (b : Bool) → not b ≡ false → b ≡ true
       opened true is = refl
@@ -150,7 +151,7 @@ module _ (run : Run) (before now : Moment) (contents : ℕ → Option Bytes) (en
 
   pub settled_union : ((x : EntityId) → is_settled (record_of now.stage.world.played.records x) ≡ true) →
       held_triples now.stage.mapped now.stage.world.played.records
-      ≡ sorted triple_cmp (flat_map (λ entry. triples_in (meaning (version_in_force ending.replayed.deliveries)) contents entry.0 entry.1.state) (map.entries now.stage.world.played.records))
+      ≡ sorted triple_cmp (flat_map (λ entry. triples_in (meaning (version_at ending.replayed.deliveries (start_of run before))) contents entry.0 entry.1.state) (map.entries now.stage.world.played.records))
   settled_union all =
       all_held_by version now.stage.mapped records ending.replayed.replay.played.mapped
       ∙ ap (sorted triple_cmp) (
@@ -160,7 +161,7 @@ module _ (run : Run) (before now : Moment) (contents : ℕ → Option Bytes) (en
       )
     where
       version : MappingVersion
-      version = version_in_force ending.replayed.deliveries
+      version = version_at ending.replayed.deliveries (start_of run before)
 
       records : Records
       records = now.stage.world.played.records
@@ -168,12 +169,12 @@ module _ (run : Run) (before now : Moment) (contents : ℕ → Option Bytes) (en
       alike : (xs : List EntityId) → flat_map (λ x. triples_held (meaning version) x (record_of records x).held) xs ≡ flat_map (λ x. triples_in (meaning version) contents x (record_of records x).state) xs
       alike [] = refl
       alike (x ∷ xs) =
-          rw (settled_triples judgement contents (meaning version) x (record_of records x) (ending.replayed.replay.holds.there contents known x) (all x), alike xs) refl
+          rw (settled_triples judgement contents (meaning version) x (record_of records x) ((ending.replayed.replay.holds first).there contents known x) (all x), alike xs) refl
 
-  pub nothing_named : IsStill before.stage.counts.faults now.stage.counts.faults → late (horizon_at before.stage) ending.replayed.deliveries ≡ [] →
-      ((e : Event) → has event_cmp e (accepted (horizon_at before.stage) ending.replayed.deliveries) ≡ true → FindsDocument judgement contents e) → now.stage.world.played.side ≡ []
+  pub nothing_named : IsStill (start_of run before).counts.faults now.stage.counts.faults → late (horizon_at (start_of run before)) ending.replayed.deliveries ≡ [] →
+      ((e : Event) → has event_cmp e (accepted (horizon_at (start_of run before)) ending.replayed.deliveries) ≡ true → FindsDocument judgement contents e) → now.stage.world.played.side ≡ []
   nothing_named still none find =
       ap (λ (w : ReplayState). w.played.side) (ending.replayed.replay.played.source contents known)
-      ∙ ap (λ (p : Played). p.side) (state_played run.environment.routes (closes run.choices) ending.replayed.deliveries before.stage (replies_there contents now.stage.world))
-      ∙ ap (λ failed. (played (horizon_at before.stage) (closes run.choices) (source_replies judgement contents failed) ending.replayed.deliveries).side) (none_failed_now still)
-      ∙ none_named judgement contents (horizon_at before.stage) (closes run.choices) ending.replayed.deliveries none find
+      ∙ ap (λ (p : Played). p.side) (state_played run.environment.routes (closes run.choices) ending.replayed.deliveries (start_of run before) first (replies_there contents now.stage.world))
+      ∙ ap (λ failed. (played (horizon_at (start_of run before)) (closes run.choices) (source_replies judgement contents failed) ending.replayed.deliveries).side) (none_failed_now still)
+      ∙ none_named judgement contents (horizon_at (start_of run before)) (closes run.choices) ending.replayed.deliveries none find

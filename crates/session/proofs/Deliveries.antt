@@ -1,118 +1,124 @@
 -- What a delivery, and the end of the input, make of a world at rest.
-use Rattle.std.proofs.Common.{refl, inl, inr, sym, subst, ap, ◌∙◌, ◌≡◌, ℕ, ◌+◌, ◌≤◌, ℤ, false, List, [], ◌∷◌, ◌++◌, length, length-append, append-nil, Option, None, Some, Ok, Err, arith}
-use Rattle.std.specs.List.{filter_map}
-use Rattle.std.proofs.lemmas.List.Elements.{filter_map-append}
+use Rattle.std.proofs.Common.{refl, inl, inr, sym, subst, ap, ◌∙◌, ◌≡◌, ℕ, ◌+◌, ◌≤◌, ℤ, false, List, [], ◌∷◌, ◌++◌, length, append-nil, unwrap_or, None, Some, Ok, Err, arith}
 use Rattle.wq_io.specs.Streams.{after_known}
 use Rattle.entity_model.specs.declared.event.Event.{Event}
 use Rattle.delivery.specs.declared.Delivery.{Delivery}
-use Rattle.delivery.specs.declared.Delivery.TheVariants.{Event as Told, Watermark, Mapping}
+use Rattle.delivery.specs.declared.Delivery.TheVariants.{Event as Told, Watermark, Ask, Mapping, Match}
 use Rattle.entity_model.specs.declared.id.EntityId.{EntityId}
 use Rattle.entity_model.specs.declared.mapping.MappingVersion.{MappingVersion}
 use Rattle.side_output.specs.declared.entry.Entry.{Entry}
 use Rattle.reorder_buffer.specs.declared.taken.Taken.{Taken}
 use Rattle.reorder_buffer.specs.Buffered.{answer_to, first_due}
 use Rattle.replay_model.proofs.ToldContents.{Each-append}
-use Rattle.replay_model.specs.Acceptance.{mapping_of, version_in_force}
+use Rattle.replay_model.specs.Acceptance.{mapping_of}
 use Rattle.replay_model.specs.Explained.{AgreeOnApplied}
 use Rattle.replay_model.specs.Records.{Records}
 use Rattle.replay_model.specs.Versions.{all_by}
 use Rattle.replay_model.specs.Play.{Replies}
-use Rattle.replay_model.specs.ReplayState.{ReplayState, after_end, after_event, after_mark, entered, following, taken_entries}
-use Rattle.replay_model.specs.Transcript.{Question, for_triples, for_bindings, asking, asks, matches, pattern_of, question_of, shapes_of}
+use Rattle.replay_model.specs.Replies.{failed_events, missing_events}
+use Rattle.replay_model.specs.ReplayState.{ReplayState, after_end, after_event, after_mark, delivered, entered, taken_entries}
+use Rattle.replay_model.specs.Transcript.{Question, for_triples, for_bindings, asking, asks, matches, question_of}
 use Rattle.replay_model.proofs.Applied.{applied-end, applied-event, applied-mark}
-use Rattle.replay_model.proofs.Explaining.{Explained-ask, Explained-end, Explained-event, Explained-event_rests, Explained-is, Explained-mapping, Explained-mark, Explained-rests, ask_replies, end_replies, event_replies, mapping_replies, mark_replies}
+use Rattle.replay_model.proofs.Explaining.{Explained-is, Explained-rests}
 use Rattle.replay_model.proofs.Fetching.{failed-taken, missing-taken}
-use Rattle.replay_model.proofs.InForce.{version-kept, version-mapping}
+use Rattle.replay_parts.specs.Checkpoint.{Checkpoint, advanced, advanced_by}
 use Rattle.world.specs.Meaning.{meaning}
 use Rattle.session.specs.Counts.{SourceCounts, HasCounted, RoseBy}
 use Rattle.transcript.specs.declared.write.Unwritten.{Unwritten}
 use Rattle.transcript.specs.Printing.{Output}
 use Rattle.transcript.proofs.Parts.{after_twice}
-use Rattle.patch_stream.specs.Stream.{Step, changes, steps_anew, steps_at, steps_due, steps_of_play}
-use Rattle.session.specs.Answering.{answer_by, answer_held, answer_text, said_at_by, said_by}
+use Rattle.patch_stream.specs.Stream.{Step, changes, steps_anew, steps_due}
 use Rattle.session.specs.declared.report.Report.{Report}
 use Rattle.session.specs.declared.report.Report.TheVariants.{Answers, Changes}
 use Rattle.session.specs.declared.stop.Halt.{Halt}
 use Rattle.session.specs.declared.stop.Halt.TheVariants.{Unapplied as NotApplied}
 use Rattle.session.specs.declared.stop.Stop.TheVariants.{OutOfMemory}
 use Rattle.term_pool.specs.declared.fault.PoolFault.TheVariants.{OutOfMemory as Starved}
-use Rattle.session.specs.Course.{Course, course_after, course_begun, course_remapping, course_to_end, said_behind}
-use Rattle.session.specs.Moment.{Environment, Stage, with_mapped, with_output, with_world, horizon_at}
-use Rattle.session.specs.Needed.{HaveRoom, HaveRoomBefore, needed_anew, needed_at, needed_by_due, needed_in, needed_to_end}
+use Rattle.session.specs.Along.{along, state_along, steps_of_delivery}
+use Rattle.session.specs.Answering.{answer_by, answer_held, answer_of_delivery, answer_text, said_by}
+use Rattle.session.specs.Course.{Course, course_after, course_begun, course_remapping, course_to_end, led_to, said_behind, version_at}
+use Rattle.session.specs.Moment.{Beginning, Environment, Stage, with_mapped, with_output, with_world, standing}
+use Rattle.session.specs.Needed.{HaveRoom, HaveRoomBefore, needed_anew, needed_of_delivery, needed_by_due}
 use Rattle.session.specs.Remapping.{KeepsVersion, Mapped, mapped_by}
 use Rattle.session.specs.Report.{AnswersQuestion, HasAnswered, HasReported, TellsBy}
 use Rattle.session.specs.Stop.{stop_of_halt, stop_of_unwritten}
 use Rattle.session.specs.Taking.{AppliesDue, AtEnd, AtRest, CutsOff, IsHeldUp, IsWithin, Leads, RemapsPages, StaysWithin, judgement, turn}
 use Rattle.session.proofs.Due.{no_call, within}
-use Rattle.session.proofs.Needed.{all_met, due-none, first_met, needed-end, needed-push, needed-still, needed-watermark, none_left}
-use Rattle.session.proofs.Answers.{answer_held_by, said_by-push}
-use Rattle.session.proofs.Reports.{reported_still, steps-end, steps-none, steps-push, steps-still, steps-watermark}
-
--- one delivery more: how many questions were asked
-pub asks-push : (ds : List Delivery) (d : Delivery) → asks (ds ++ d ∷ []) ≡ asks ds + asks (d ∷ [])
-asks-push ds d = ap length (filter_map-append pattern_of ds (d ∷ [])) ∙ length-append (filter_map pattern_of ds) (filter_map pattern_of (d ∷ []))
-
--- and how many matches were delivered
-pub matches-push : (ds : List Delivery) (d : Delivery) → matches (ds ++ d ∷ []) ≡ matches ds + matches (d ∷ [])
-matches-push ds d = ap length (filter_map-append shapes_of ds (d ∷ [])) ∙ length-append (filter_map shapes_of ds) (filter_map shapes_of (d ∷ []))
+use Rattle.session.proofs.Along.{along-push, along-still, asked-along, asks-push, matched-along, version-along, version-push}
+use Rattle.session.proofs.Answers.{answer_held_by}
+use Rattle.session.proofs.Explaining.{along-asking, along-end, along-event, along-mapping, along-mark, asking_replies, end_replies, event_replies, event_rests, mapping_replies, mark_replies, open-taking}
+use Rattle.session.proofs.Needed.{all_met, due-none, first_met, needed-mapping, needed-watermark, none_left}
+use Rattle.session.proofs.Reports.{reported_still, steps-mapping, steps-none, steps-watermark}
 
 -- a question is the delivery that asks it, makes no step, needs no room and brings no version of the mapping
 pub question-asked : (q : Question) → question_of (asking q) ≡ Some q
 question-asked (for_triples pattern) = refl
 question-asked (for_bindings shapes) = refl
 
-asking-steps : (h : Option ℕ) (replies : Replies) (ds : List Delivery) (q : Question) → steps_at h replies (record { before = ds; delivery = asking q }) ≡ []
-asking-steps h replies ds (for_triples pattern) = refl
-asking-steps h replies ds (for_bindings shapes) = refl
+asking-steps : (replies : Replies) (c : Checkpoint) (q : Question) → steps_of_delivery replies c (asking q) ≡ []
+asking-steps replies c (for_triples pattern) = refl
+asking-steps replies c (for_bindings shapes) = refl
 
-asking-needs : (h : Option ℕ) (replies : Replies) (ds : List Delivery) (q : Question) → needed_at h replies (record { before = ds; delivery = asking q }) ≡ []
-asking-needs h replies ds (for_triples pattern) = refl
-asking-needs h replies ds (for_bindings shapes) = refl
+asking-needs : (replies : Replies) (c : Checkpoint) (q : Question) → needed_of_delivery replies c (asking q) ≡ []
+asking-needs replies c (for_triples pattern) = refl
+asking-needs replies c (for_bindings shapes) = refl
 
 asking-mapping : (q : Question) → mapping_of (asking q) ≡ None
 asking-mapping (for_triples pattern) = refl
 asking-mapping (for_bindings shapes) = refl
 
 -- a delivery that doesn't ask is no answer
-answered_still : (report : Report) (reported : ℕ) (ds : List Delivery) (d : Delivery) → asks (d ∷ []) ≡ 0 → HasAnswered report reported ds → HasAnswered report reported (ds ++ d ∷ [])
-answered_still Answers reported ds d none is = omega (arith, is, asks-push ds d, none)
-answered_still Changes reported ds d none is = tt
+answered_still : (report : Report) (reported : ℕ) (ds : List Delivery) (d : Delivery) (start : Beginning) → asks (d ∷ []) ≡ 0 → HasAnswered report reported ds start → HasAnswered report reported (ds ++ d ∷ []) start
+answered_still Answers reported ds d start none is = omega (arith, is, asks-push ds d, none)
+answered_still Changes reported ds d start none is = tt
 
 -- and neither is one that tells nothing where questions are answered
-answered_then : (report : Report) (reported reported_now : ℕ) (ds : List Delivery) (d : Delivery) → asks (d ∷ []) ≡ 0 → (report ≡ Answers → reported_now ≡ reported) → HasAnswered report reported ds → HasAnswered report reported_now (ds ++ d ∷ [])
-answered_then Answers reported reported_now ds d none same is = omega (arith, is, asks-push ds d, none, same refl)
-answered_then Changes reported reported_now ds d none same is = tt
+answered_then : (report : Report) (reported reported_now : ℕ) (ds : List Delivery) (d : Delivery) (start : Beginning) → asks (d ∷ []) ≡ 0 → (report ≡ Answers → reported_now ≡ reported) → HasAnswered report reported ds start →
+    HasAnswered report reported_now (ds ++ d ∷ []) start
+answered_then Answers reported reported_now ds d start none same is = omega (arith, is, asks-push ds d, none, same refl)
+answered_then Changes reported reported_now ds d start none same is = tt
 
 -- where questions are answered, so many were
-pub is_answer : (ds : List Delivery) (report : Report) (reported : ℕ) → HasAnswered report reported ds → report ≡ Answers → reported ≡ asks ds
-is_answer ds Answers reported is answers = is
-is_answer ds Changes reported is answers = cc
+pub is_answer : (ds : List Delivery) (start : Beginning) (report : Report) (reported : ℕ) → HasAnswered report reported ds start → report ≡ Answers → reported ≡ start.numbered.asks + asks ds
+is_answer ds start Answers reported is answers = is
+is_answer ds start Changes reported is answers = cc
 
-module _ (environment : Environment) (ds : List Delivery) (start : Stage) where
+-- a delivery closes nothing
+delivered_open : (replies : Replies) (w : ReplayState) (d : Delivery) → (delivered replies w d).buffer.closed ≡ w.buffer.closed
+delivered_open replies w (Told e) = open-taking w.buffer e
+delivered_open replies w (Watermark m) = refl
+delivered_open replies w (Ask q) = refl
+delivered_open replies w (Match q) = refl
+delivered_open replies w (Mapping v) = refl
+
+open_along : (replies : Replies) (c : Checkpoint) (ds : List Delivery) → (state_along replies c ds).buffer.closed ≡ c.state.buffer.closed
+open_along replies c [] = refl
+open_along replies c (d ∷ ds) = open_along replies (advanced replies c d) ds ∙ delivered_open replies c.state d
+
+module _ (environment : Environment) (ds : List Delivery) (start : Beginning) where
   -- where a delivery doesn't ask, what was said before it is said with it
-  silent : (d : Delivery) (replies : Replies) → said_at_by environment.routes (horizon_at start) replies (record { before = ds; delivery = d }) ≡ [] → said_behind environment.routes (ds ++ d ∷ []) start replies ≡ said_behind environment.routes ds start replies
-  silent d replies none =
-      ap (after_known start.output.bytes) (said_by-push environment.routes (horizon_at start) replies ds d ∙ ap (λ l. said_by environment.routes (horizon_at start) replies ds ++ l) none ∙ append-nil (said_by environment.routes (horizon_at start) replies ds))
+  silent : (d : Delivery) (replies : Replies) → answer_of_delivery environment.routes replies (advanced_by replies (standing start) ds) d ≡ [] → said_behind environment.routes (ds ++ d ∷ []) start replies ≡ said_behind environment.routes ds start replies
+  silent d replies none = ap (after_known start.output.bytes) (along-still (answer_of_delivery environment.routes) replies (standing start) ds d none)
 
   -- where no event is due, the steps so far are all of the play
-  all_steps : (now : Stage) (others : Replies) (first : List Step) → first_due now.world.buffer ≡ None → first ++ steps_due (version_in_force ds) others now.world ≡ steps_of_play (horizon_at start) others ds → first ≡ steps_of_play (horizon_at start) others ds
-  all_steps now others first none are = sym (append-nil first) ∙ ap (λ l. first ++ l) (sym (steps-none (version_in_force ds) others now.world none)) ∙ are
+  all_steps : (now : Stage) (others : Replies) (first : List Step) → first_due now.world.buffer ≡ None → first ++ steps_due (version_at ds start) others now.world ≡ along steps_of_delivery others (standing start) ds → first ≡ along steps_of_delivery others (standing start) ds
+  all_steps now others first none are = sym (append-nil first) ∙ ap (λ l. first ++ l) (sym (steps-none (version_at ds start) others now.world none)) ∙ are
 
   -- where a delivery makes no step and says nothing, what was reported before it is reported with it
   still_reported : (now then : Stage) (reported : ℕ) (d : Delivery) (others : Replies) → then.output ≡ now.output → first_due now.world.buffer ≡ None → first_due then.world.buffer ≡ None →
-      (environment.report ≡ Answers → said_at_by environment.routes (horizon_at start) others (record { before = ds; delivery = d }) ≡ []) → steps_at (horizon_at start) others (record { before = ds; delivery = d }) ≡ [] →
+      (environment.report ≡ Answers → answer_of_delivery environment.routes others (advanced_by others (standing start) ds) d ≡ []) → steps_of_delivery others (advanced_by others (standing start) ds) d ≡ [] →
       HasReported environment.report (course_after environment.routes ds start) reported start now others → HasReported environment.report (course_after environment.routes (ds ++ d ∷ []) start) reported start then others
   still_reported now then reported d others same rests rests_then says none =
       reported_still environment.report (course_after environment.routes ds start) (course_after environment.routes (ds ++ d ∷ []) start) reported start now then others same
       (λ answers. silent d others (says answers))
-      (λ changes first are. ap (λ l. first ++ l) (steps-none (version_in_force (ds ++ d ∷ [])) others then.world rests_then) ∙ append-nil first
-      ∙ all_steps now others first rests are ∙ sym (steps-still (horizon_at start) others ds d none))
+      (λ changes first are. ap (λ l. first ++ l) (steps-none (version_at (ds ++ d ∷ []) start) others then.world rests_then) ∙ append-nil first
+      ∙ all_steps now others first rests are ∙ sym (along-still steps_of_delivery others (standing start) ds d none))
 
   -- an event that is taken is no fetch
-  counted_taking : (now : SourceCounts) (made : ℕ) (side : List Entry) (answer : Taken) (e : Event) → HasCounted start.counts now made side → HasCounted start.counts now made (side ++ taken_entries answer e)
+  counted_taking : (now : SourceCounts) (made : ℕ) (side : List Entry) (answer : Taken) (e : Event) → HasCounted start.counts now start.world.played.side made side → HasCounted start.counts now start.world.played.side made (side ++ taken_entries answer e)
   counted_taking now made side answer e counted =
-      let Failed : List Event → Type 0 = λ es. RoseBy (length es) start.counts.faults now.faults in
-      let Missing : List Event → Type 0 = λ es. RoseBy (length es) start.counts.misses now.misses in
+      let Failed : List Event → Type 0 = λ es. RoseBy (length es) start.counts.faults (length (failed_events start.world.played.side) + now.faults) in
+      let Missing : List Event → Type 0 = λ es. RoseBy (length es) start.counts.misses (length (missing_events start.world.played.side) + now.misses) in
       record {
         calls = counted.calls;
         failed = subst Failed (sym (failed-taken side answer e)) counted.failed;
@@ -120,52 +126,55 @@ module _ (environment : Environment) (ds : List Delivery) (start : Stage) where
       }
 
   -- a world at rest is where the play is, with all replies that agree on what was applied
-  rest_is : (now : Stage) (reported : ℕ) (at_rest : AtRest environment ds reported start now) (others : Replies) → AgreeOnApplied now.world at_rest.leads.explained.replies others → now.world ≡ following (horizon_at start) others ds
+  rest_is : (now : Stage) (reported : ℕ) (at_rest : AtRest environment ds reported start now) (others : Replies) → AgreeOnApplied now.world at_rest.leads.explained.replies others → now.world ≡ led_to ds start others
   rest_is now reported at_rest =
       Explained-rests judgement environment.known (course_after environment.routes ds start).state (course_after environment.routes ds start).fetched at_rest.leads.made now.world at_rest.leads.explained at_rest.rests
 
   -- there was room for all that the play needs
-  rest_room : (now : Stage) (reported : ℕ) (at_rest : AtRest environment ds reported start now) (others : Replies) → AgreeOnApplied now.world at_rest.leads.explained.replies others → HaveRoom environment.limit (needed_in (horizon_at start) others ds)
+  rest_room : (now : Stage) (reported : ℕ) (at_rest : AtRest environment ds reported start now) (others : Replies) → AgreeOnApplied now.world at_rest.leads.explained.replies others → HaveRoom environment.limit (along needed_of_delivery others (standing start) ds)
   rest_room now reported at_rest others agree =
-      all_met environment.limit (needed_by_due (version_in_force ds) others now.world) (needed_in (horizon_at start) others ds) (due-none (version_in_force ds) others now.world at_rest.rests) (at_rest.leads.roomed others agree)
+      all_met environment.limit (needed_by_due (version_at ds start) others now.world) (along needed_of_delivery others (standing start) ds) (due-none (version_at ds start) others now.world at_rest.rests) (at_rest.leads.roomed others agree)
 
   -- and so it is behind a delivery that needs none, where no event is due
-  still_room : (d : Delivery) (others : Replies) (world : ReplayState) → first_due world.buffer ≡ None → needed_at (horizon_at start) others (record { before = ds; delivery = d }) ≡ [] →
-      HaveRoom environment.limit (needed_in (horizon_at start) others ds) →
-      HaveRoomBefore environment.limit (needed_by_due (version_in_force (ds ++ d ∷ [])) others world) (needed_in (horizon_at start) others (ds ++ d ∷ []))
+  still_room : (d : Delivery) (others : Replies) (world : ReplayState) → first_due world.buffer ≡ None → needed_of_delivery others (advanced_by others (standing start) ds) d ≡ [] →
+      HaveRoom environment.limit (along needed_of_delivery others (standing start) ds) →
+      HaveRoomBefore environment.limit (needed_by_due (version_at (ds ++ d ∷ []) start) others world) (along needed_of_delivery others (standing start) (ds ++ d ∷ []))
   still_room d others world rests none have =
-      none_left environment.limit (needed_by_due (version_in_force (ds ++ d ∷ [])) others world) (needed_in (horizon_at start) others (ds ++ d ∷ [])) (due-none (version_in_force (ds ++ d ∷ [])) others world rests)
-      (subst (HaveRoom environment.limit) (sym (needed-still (horizon_at start) others ds d none)) have)
+      none_left environment.limit (needed_by_due (version_at (ds ++ d ∷ []) start) others world) (along needed_of_delivery others (standing start) (ds ++ d ∷ [])) (due-none (version_at (ds ++ d ∷ []) start) others world rests)
+      (subst (HaveRoom environment.limit) (sym (along-still needed_of_delivery others (standing start) ds d none)) have)
 
   -- where a delivery brings no version, every page is mapped by the version in force after it too
-  still_mapped : (before now : Records) (d : Delivery) → mapping_of d ≡ None → (old new : Mapped) → KeepsVersion old new before now → old ≡ mapped_by (version_in_force ds) before → new ≡ mapped_by (version_in_force (ds ++ d ∷ [])) now
-  still_mapped before now d none old new keeps is = keeps (version_in_force ds) is ∙ ap (λ v. mapped_by v now) (sym (version-kept ds d none))
+  still_mapped : (before now : Records) (d : Delivery) → mapping_of d ≡ None → (old new : Mapped) → KeepsVersion old new before now → old ≡ mapped_by (version_at ds start) before → new ≡ mapped_by (version_at (ds ++ d ∷ []) start) now
+  still_mapped before now d none old new keeps is = keeps (version_at ds start) is ∙ ap (λ v. mapped_by v now) (sym (version-push start.mapped.version ds d ∙ ap (λ o. unwrap_or o (version_at ds start)) none))
 
   -- a world at rest isn't closed
   pub rest_open : (now : Stage) (reported : ℕ) → AtRest environment ds reported start now → now.world.buffer.closed ≡ false
   rest_open now reported at_rest =
       ap (λ (w : ReplayState). w.buffer.closed)
       (Explained-is judgement environment.known (course_after environment.routes ds start).state (course_after environment.routes ds start).fetched at_rest.leads.made now.world at_rest.leads.explained at_rest.rests)
+      ∙ open_along at_rest.leads.explained.replies (standing start) ds
+      ∙ at_rest.begun
 
   -- an event is taken
   pub event_taken : (now : Stage) (reported : ℕ) (e : Event) → AtRest environment ds reported start now → AtRest environment (ds ++ Told e ∷ []) reported start (with_world now (after_event now.world e))
   event_taken now reported e at_rest =
-      let rests : first_due (after_event now.world e).buffer ≡ None = Explained-event_rests judgement environment.known (horizon_at start) ds at_rest.leads.made now.world at_rest.leads.explained at_rest.rests e in
+      let rests : first_due (after_event now.world e).buffer ≡ None = event_rests judgement environment.known (standing start) ds at_rest.leads.made now.world at_rest.leads.explained at_rest.rests (rest_open now reported at_rest) e in
       record {
         leads = record {
           made = at_rest.leads.made;
-          explained = Explained-event judgement environment.known (horizon_at start) ds at_rest.leads.made now.world at_rest.leads.explained at_rest.rests e;
+          explained = along-event judgement environment.known (standing start) ds at_rest.leads.made now.world at_rest.leads.explained at_rest.rests (rest_open now reported at_rest) e;
           roomed = λ others agree. still_room (Told e) others (after_event now.world e) rests refl
               (rest_room now reported at_rest others
-              (λ q r h. agree q r (applied-event now.world e q (rest_open now reported at_rest) ∙ h) ∙ ap (λ (replies : Replies). replies q r) (event_replies judgement environment.known (horizon_at start) ds at_rest.leads.made now.world at_rest.leads.explained at_rest.rests e)));
+              (λ q r h. agree q r (applied-event now.world e q (rest_open now reported at_rest) ∙ h) ∙ ap (λ (replies : Replies). replies q r) (event_replies judgement environment.known (standing start) ds at_rest.leads.made now.world at_rest.leads.explained at_rest.rests (rest_open now reported at_rest) e)));
           counted = counted_taking now.counts at_rest.leads.made now.world.played.side (answer_to now.world.buffer e) e at_rest.leads.counted;
           documents = at_rest.leads.documents;
           says = λ others agree. still_reported now (with_world now (after_event now.world e)) reported (Told e) others refl at_rest.rests rests (λ answers. refl) refl (at_rest.leads.says others
-              (λ q r h. agree q r (applied-event now.world e q (rest_open now reported at_rest) ∙ h) ∙ ap (λ (replies : Replies). replies q r) (event_replies judgement environment.known (horizon_at start) ds at_rest.leads.made now.world at_rest.leads.explained at_rest.rests e)));
+              (λ q r h. agree q r (applied-event now.world e q (rest_open now reported at_rest) ∙ h) ∙ ap (λ (replies : Replies). replies q r) (event_replies judgement environment.known (standing start) ds at_rest.leads.made now.world at_rest.leads.explained at_rest.rests (rest_open now reported at_rest) e)));
         };
-        answered = answered_still environment.report reported ds (Told e) refl at_rest.answered;
+        answered = answered_still environment.report reported ds (Told e) start refl at_rest.answered;
         mapped = still_mapped now.world.played.records now.world.played.records (Told e) refl now.mapped now.mapped (λ version is. is) at_rest.mapped;
         rests = rests;
+        begun = at_rest.begun;
         later = at_rest.later;
       }
 
@@ -175,76 +184,75 @@ module _ (environment : Environment) (ds : List Delivery) (start : Stage) where
 
   -- a watermark is taken: there was room for all but what it makes due
   mark_room : (now : Stage) (reported : ℕ) (m : ℤ) (at_rest : AtRest environment ds reported start now) (others : Replies) → AgreeOnApplied now.world at_rest.leads.explained.replies others →
-      HaveRoomBefore environment.limit (needed_by_due (version_in_force (ds ++ Watermark m ∷ [])) others (after_mark now.world m)) (needed_in (horizon_at start) others (ds ++ Watermark m ∷ []))
+      HaveRoomBefore environment.limit (needed_by_due (version_at (ds ++ Watermark m ∷ []) start) others (after_mark now.world m)) (along needed_of_delivery others (standing start) (ds ++ Watermark m ∷ []))
   mark_room now reported m at_rest others agree =
-      let first : List ℕ = needed_in (horizon_at start) others ds in
-      first_met environment.limit (needed_by_due (version_in_force (ds ++ Watermark m ∷ [])) others (after_mark now.world m)) (needed_in (horizon_at start) others (ds ++ Watermark m ∷ [])) first
-      (needed-watermark (horizon_at start) others ds m
-      ∙ ap (λ w. first ++ needed_by_due (version_in_force ds) others (after_mark w m)) (sym (rest_is now reported at_rest others agree))
-      ∙ ap (λ v. first ++ needed_by_due v others (after_mark now.world m)) (sym (version-kept ds (Watermark m) refl)))
+      let first : List ℕ = along needed_of_delivery others (standing start) ds in
+      first_met environment.limit (needed_by_due (version_at (ds ++ Watermark m ∷ []) start) others (after_mark now.world m)) (along needed_of_delivery others (standing start) (ds ++ Watermark m ∷ [])) first
+      (needed-watermark others (standing start) ds m
+      ∙ ap (λ w. first ++ needed_by_due (version_at ds start) others (after_mark w m)) (sym (rest_is now reported at_rest others agree))
+      ∙ ap (λ v. first ++ needed_by_due v others (after_mark now.world m)) (sym (version-push start.mapped.version ds (Watermark m))))
       (rest_room now reported at_rest others agree)
 
   -- what was reported is reported of the play with it, whose further steps are those that it makes due
   mark_reported : (now : Stage) (reported : ℕ) (m : ℤ) (at_rest : AtRest environment ds reported start now) (others : Replies) → AgreeOnApplied now.world at_rest.leads.explained.replies others →
       HasReported environment.report (course_of_mark m) reported start (with_world now (after_mark now.world m)) others
   mark_reported now reported m at_rest others agree =
-      let all : List Step = steps_of_play (horizon_at start) others ds in
-      let v : MappingVersion = version_in_force (ds ++ Watermark m ∷ []) in
+      let all : List Step = along steps_of_delivery others (standing start) ds in
+      let v : MappingVersion = version_at (ds ++ Watermark m ∷ []) start in
       reported_still environment.report (course_after environment.routes ds start) (course_of_mark m) reported start now (with_world now (after_mark now.world m)) others refl (λ answers. refl)
       (λ changes first are. ap (λ l. l ++ steps_due v others (after_mark now.world m)) (all_steps now others first at_rest.rests are)
-      ∙ ap (λ u. all ++ steps_due u others (after_mark now.world m)) (version-kept ds (Watermark m) refl)
-      ∙ ap (λ w. all ++ steps_due (version_in_force ds) others (after_mark w m)) (rest_is now reported at_rest others agree)
-      ∙ sym (steps-watermark (horizon_at start) others ds m))
+      ∙ ap (λ u. all ++ steps_due u others (after_mark now.world m)) (version-push start.mapped.version ds (Watermark m))
+      ∙ ap (λ w. all ++ steps_due (version_at ds start) others (after_mark w m)) (rest_is now reported at_rest others agree)
+      ∙ sym (steps-watermark others (standing start) ds m))
       (at_rest.leads.says others agree)
 
   -- the end is taken: there was room for all but what waits
   end_room : (now : Stage) (reported : ℕ) (at_rest : AtRest environment ds reported start now) (others : Replies) → AgreeOnApplied now.world at_rest.leads.explained.replies others →
-      HaveRoomBefore environment.limit (needed_by_due (version_in_force ds) others (after_end now.world)) (needed_to_end (horizon_at start) others ds)
+      HaveRoomBefore environment.limit (needed_by_due (version_at ds start) others (after_end now.world)) (along needed_of_delivery others (standing start) ds ++ needed_by_due (version_at ds start) others (after_end (led_to ds start others)))
   end_room now reported at_rest others agree =
-      let first : List ℕ = needed_in (horizon_at start) others ds in
-      first_met environment.limit (needed_by_due (version_in_force ds) others (after_end now.world)) (needed_to_end (horizon_at start) others ds) first
-      (needed-end (horizon_at start) others ds ∙ ap (λ w. first ++ needed_by_due (version_in_force ds) others (after_end w)) (sym (rest_is now reported at_rest others agree)))
+      let first : List ℕ = along needed_of_delivery others (standing start) ds in
+      first_met environment.limit (needed_by_due (version_at ds start) others (after_end now.world)) (along needed_of_delivery others (standing start) ds ++ needed_by_due (version_at ds start) others (after_end (led_to ds start others))) first
+      (ap (λ w. first ++ needed_by_due (version_at ds start) others (after_end w)) (sym (rest_is now reported at_rest others agree)))
       (rest_room now reported at_rest others agree)
 
   -- what was reported is reported of the play to the end, whose further steps are those of what waits
   end_reported : (now : Stage) (reported : ℕ) (at_rest : AtRest environment ds reported start now) (others : Replies) → AgreeOnApplied now.world at_rest.leads.explained.replies others →
       HasReported environment.report (course_to_end environment.routes ds start) reported start (with_world now (after_end now.world)) others
   end_reported now reported at_rest others agree =
-      let all : List Step = steps_of_play (horizon_at start) others ds in
+      let all : List Step = along steps_of_delivery others (standing start) ds in
       reported_still environment.report (course_after environment.routes ds start) (course_to_end environment.routes ds start) reported start now (with_world now (after_end now.world)) others refl (λ answers. refl)
-      (λ changes first are. ap (λ l. l ++ steps_due (version_in_force ds) others (after_end now.world)) (all_steps now others first at_rest.rests are)
-      ∙ ap (λ w. all ++ steps_due (version_in_force ds) others (after_end w)) (rest_is now reported at_rest others agree)
-      ∙ sym (steps-end (horizon_at start) others ds))
+      (λ changes first are. ap (λ l. l ++ steps_due (version_at ds start) others (after_end now.world)) (all_steps now others first at_rest.rests are)
+      ∙ ap (λ w. all ++ steps_due (version_at ds start) others (after_end w)) (rest_is now reported at_rest others agree))
       (at_rest.leads.says others agree)
 
   -- a watermark is taken: the world leads to the play with it
   abbrev mark_leads : (now : Stage) (reported : ℕ) (m : ℤ) → AtRest environment ds reported start now → Leads environment (course_of_mark m) reported start (with_world now (after_mark now.world m))
   mark_leads now reported m at_rest = record {
     made = at_rest.leads.made;
-    explained = Explained-mark judgement environment.known (horizon_at start) ds at_rest.leads.made now.world at_rest.leads.explained at_rest.rests m;
+    explained = along-mark judgement environment.known (standing start) ds at_rest.leads.made now.world at_rest.leads.explained at_rest.rests m;
     roomed = λ others agree. mark_room now reported m at_rest others
-        (λ q r h. agree q r (applied-mark now.world m q h) ∙ ap (λ (replies : Replies). replies q r) (mark_replies judgement environment.known (horizon_at start) ds at_rest.leads.made now.world at_rest.leads.explained at_rest.rests m));
+        (λ q r h. agree q r (applied-mark now.world m q h) ∙ ap (λ (replies : Replies). replies q r) (mark_replies judgement environment.known (standing start) ds at_rest.leads.made now.world at_rest.leads.explained at_rest.rests m));
     counted = at_rest.leads.counted;
     documents = at_rest.leads.documents;
     says = λ others agree. mark_reported now reported m at_rest others
-        (λ q r h. agree q r (applied-mark now.world m q h) ∙ ap (λ (replies : Replies). replies q r) (mark_replies judgement environment.known (horizon_at start) ds at_rest.leads.made now.world at_rest.leads.explained at_rest.rests m));
+        (λ q r h. agree q r (applied-mark now.world m q h) ∙ ap (λ (replies : Replies). replies q r) (mark_replies judgement environment.known (standing start) ds at_rest.leads.made now.world at_rest.leads.explained at_rest.rests m));
   }
 
   -- the end is taken: the world leads to the play to the end
   abbrev end_leads : (now : Stage) (reported : ℕ) → AtRest environment ds reported start now → Leads environment (course_to_end environment.routes ds start) reported start (with_world now (after_end now.world))
   end_leads now reported at_rest = record {
     made = at_rest.leads.made;
-    explained = Explained-end judgement environment.known (horizon_at start) ds at_rest.leads.made now.world at_rest.leads.explained at_rest.rests;
+    explained = along-end judgement environment.known (standing start) ds at_rest.leads.made now.world at_rest.leads.explained at_rest.rests;
     roomed = λ others agree. end_room now reported at_rest others
-        (λ q r h. agree q r (applied-end now.world q h) ∙ ap (λ (replies : Replies). replies q r) (end_replies judgement environment.known (horizon_at start) ds at_rest.leads.made now.world at_rest.leads.explained at_rest.rests));
+        (λ q r h. agree q r (applied-end now.world q h) ∙ ap (λ (replies : Replies). replies q r) (end_replies judgement environment.known (standing start) ds at_rest.leads.made now.world at_rest.leads.explained at_rest.rests));
     counted = at_rest.leads.counted;
     documents = at_rest.leads.documents;
     says = λ others agree. end_reported now reported at_rest others
-        (λ q r h. agree q r (applied-end now.world q h) ∙ ap (λ (replies : Replies). replies q r) (end_replies judgement environment.known (horizon_at start) ds at_rest.leads.made now.world at_rest.leads.explained at_rest.rests));
+        (λ q r h. agree q r (applied-end now.world q h) ∙ ap (λ (replies : Replies). replies q r) (end_replies judgement environment.known (standing start) ds at_rest.leads.made now.world at_rest.leads.explained at_rest.rests));
   }
 
   -- every page is mapped by the version in force with the watermark
-  mark_mapped : (now : Stage) (reported : ℕ) (m : ℤ) → AtRest environment ds reported start now → now.mapped ≡ mapped_by (version_in_force (ds ++ Watermark m ∷ [])) now.world.played.records
+  mark_mapped : (now : Stage) (reported : ℕ) (m : ℤ) → AtRest environment ds reported start now → now.mapped ≡ mapped_by (version_at (ds ++ Watermark m ∷ []) start) now.world.played.records
   mark_mapped now reported m at_rest = still_mapped now.world.played.records now.world.played.records (Watermark m) refl now.mapped now.mapped (λ version is. is) at_rest.mapped
 
   -- a watermark is taken, and what is due is applied
@@ -262,8 +270,9 @@ module _ (environment : Environment) (ds : List Delivery) (start : Stage) where
               (λ answers. silent (Watermark m) others refl) (λ changes first are. are) (there.says others agree);
           roomed = there.roomed;
         };
-        answered = answered_then environment.report reported reported_now ds (Watermark m) refl applies.answered at_rest.answered;
+        answered = answered_then environment.report reported reported_now ds (Watermark m) start refl applies.answered at_rest.answered;
         rests = applies.rests;
+        begun = at_rest.begun;
         mapped = still_mapped now.world.played.records then.world.played.records (Watermark m) refl now.mapped then.mapped keeps at_rest.mapped;
         later = omega (arith, at_rest.later, more);
       }
@@ -274,71 +283,74 @@ module _ (environment : Environment) (ds : List Delivery) (start : Stage) where
   end_taken now then reported reported_now applies keeps more at_rest = record {
     leads = applies.leads (course_to_end environment.routes ds start) start at_rest.mapped (end_leads now reported at_rest);
     rests = applies.rests;
-    mapped = keeps (version_in_force ds) at_rest.mapped;
+    mapped = keeps (version_at ds start) at_rest.mapped;
     later = omega (arith, at_rest.later, more);
   }
 
   -- a world at rest is where its play is
-  pub rest_within : (now : Stage) (reported : ℕ) → AtRest environment ds reported start now → IsWithin (NotApplied Starved) environment (course_begun environment.routes ds None start) (λ replies. following (horizon_at start) replies ds) start now
+  pub rest_within : (now : Stage) (reported : ℕ) → AtRest environment ds reported start now → IsWithin (NotApplied Starved) environment (course_begun environment.routes ds None start) (λ replies. led_to ds start replies) start now
   rest_within now reported at_rest =
-      let There : List Delivery → Type 0 = λ l. IsWithin (NotApplied Starved) environment (record (course_after environment.routes l start) { bytes = said_behind environment.routes ds start }) (λ replies. following (horizon_at start) replies ds) start now in
-      subst There (sym (append-nil ds)) (within Starved environment (course_after environment.routes ds start) (λ replies. following (horizon_at start) replies ds) reported start now now.counts (no_call now.counts) (record { leads = at_rest.leads; steps = 0; is = rest_is now reported at_rest }))
+      let There : List Delivery → Type 0 = λ l. IsWithin (NotApplied Starved) environment (record (course_after environment.routes l start) { bytes = said_behind environment.routes ds start }) (λ replies. led_to ds start replies) start now in
+      subst There (sym (append-nil ds)) (within Starved environment (course_after environment.routes ds start) (λ replies. led_to ds start replies) reported start now now.counts (no_call now.counts) (record { leads = at_rest.leads; steps = 0; is = rest_is now reported at_rest }))
 
   -- a watermark is taken, and some of what is due is applied
   pub mark_begun : (halt : Halt) (now then : Stage) (reported : ℕ) (m : ℤ) → StaysWithin halt environment reported (with_world now (after_mark now.world m)) then → AtRest environment ds reported start now →
-      IsWithin halt environment (course_of_mark m) (λ replies. entered (following (horizon_at start) replies ds) (Watermark m)) start then
+      IsWithin halt environment (course_of_mark m) (λ replies. entered (led_to ds start replies) (Watermark m)) start then
   mark_begun halt now then reported m stays at_rest =
-      stays (course_of_mark m) (λ replies. entered (following (horizon_at start) replies ds) (Watermark m)) start (mark_mapped now reported m at_rest) (record {
+      stays (course_of_mark m) (λ replies. entered (led_to ds start replies) (Watermark m)) start (mark_mapped now reported m at_rest) (record {
         leads = mark_leads now reported m at_rest;
         steps = 0;
         is = λ others agree. ap (λ w. after_mark w m) (rest_is now reported at_rest others
-            (λ q r h. agree q r (applied-mark now.world m q h) ∙ ap (λ (replies : Replies). replies q r) (mark_replies judgement environment.known (horizon_at start) ds at_rest.leads.made now.world at_rest.leads.explained at_rest.rests m)));
+            (λ q r h. agree q r (applied-mark now.world m q h) ∙ ap (λ (replies : Replies). replies q r) (mark_replies judgement environment.known (standing start) ds at_rest.leads.made now.world at_rest.leads.explained at_rest.rests m)));
       })
 
   -- the end is taken, and some of what waits is applied
   pub end_begun : (halt : Halt) (now then : Stage) (reported : ℕ) → StaysWithin halt environment reported (with_world now (after_end now.world)) then → AtRest environment ds reported start now →
-      IsWithin halt environment (course_to_end environment.routes ds start) (λ replies. after_end (following (horizon_at start) replies ds)) start then
+      IsWithin halt environment (course_to_end environment.routes ds start) (λ replies. after_end (led_to ds start replies)) start then
   end_begun halt now then reported stays at_rest =
-      stays (course_to_end environment.routes ds start) (λ replies. after_end (following (horizon_at start) replies ds)) start at_rest.mapped (record {
+      stays (course_to_end environment.routes ds start) (λ replies. after_end (led_to ds start replies)) start at_rest.mapped (record {
         leads = end_leads now reported at_rest;
         steps = 0;
         is = λ others agree. ap after_end (rest_is now reported at_rest others
-            (λ q r h. agree q r (applied-end now.world q h) ∙ ap (λ (replies : Replies). replies q r) (end_replies judgement environment.known (horizon_at start) ds at_rest.leads.made now.world at_rest.leads.explained at_rest.rests)));
+            (λ q r h. agree q r (applied-end now.world q h) ∙ ap (λ (replies : Replies). replies q r) (end_replies judgement environment.known (standing start) ds at_rest.leads.made now.world at_rest.leads.explained at_rest.rests)));
       })
 
   -- the answer of a world at rest is that of its play
-  answer_is : (now : Stage) (q : Question) (reported matched : ℕ) (at_rest : AtRest environment ds reported start now) (others : Replies) → AgreeOnApplied now.world at_rest.leads.explained.replies others → reported ≡ asks ds → matched ≡ matches ds →
-      answer_held environment.routes reported matched now.mapped now.world.played.records q ≡ said_at_by environment.routes (horizon_at start) others (record { before = ds; delivery = asking q })
+  answer_is : (now : Stage) (q : Question) (reported matched : ℕ) (at_rest : AtRest environment ds reported start now) (others : Replies) → AgreeOnApplied now.world at_rest.leads.explained.replies others →
+      reported ≡ start.numbered.asks + asks ds → matched ≡ start.numbered.matches + matches ds →
+      answer_held environment.routes reported matched now.mapped now.world.played.records q ≡ answer_of_delivery environment.routes others (advanced_by others (standing start) ds) (asking q)
   answer_is now q reported matched at_rest others agree asked counted =
-      ap (λ n. answer_held environment.routes n matched now.mapped now.world.played.records q) asked
-      ∙ ap (λ n. answer_held environment.routes (asks ds) n now.mapped now.world.played.records q) counted
-      ∙ answer_held_by environment.routes (asks ds) (matches ds) (version_in_force ds) now.mapped now.world.played.records q at_rest.mapped
-      ∙ ap (λ (w : ReplayState). answer_text environment.routes (asks ds) (matches ds) (meaning (version_in_force ds)) w.played.records q) (rest_is now reported at_rest others agree)
-      ∙ ap (answer_by environment.routes (horizon_at start) others ds) (sym (question-asked q))
+      let c : Checkpoint = advanced_by others (standing start) ds in
+      answer_held_by environment.routes reported matched (version_at ds start) now.mapped now.world.played.records q at_rest.mapped
+      ∙ ap (λ n. answer_text environment.routes n matched (meaning (version_at ds start)) now.world.played.records q) (asked ∙ sym (asked-along others (standing start) ds))
+      ∙ ap (λ n. answer_text environment.routes c.asked n (meaning (version_at ds start)) now.world.played.records q) (counted ∙ sym (matched-along others (standing start) ds))
+      ∙ ap (λ v. answer_text environment.routes c.asked c.matched (meaning v) now.world.played.records q) (sym (version-along others (standing start) ds))
+      ∙ ap (λ (w : ReplayState). answer_text environment.routes c.asked c.matched (meaning c.version) w.played.records q) (rest_is now reported at_rest others agree)
+      ∙ ap (answer_by environment.routes c) (sym (question-asked q))
 
   -- a question is answered where questions are, and passed over where changes are reported
   ask_reported : (report : Report) (now : Stage) (q : Question) (reported matched reported_now : ℕ) (out : Output) (others : Replies) → report ≡ environment.report → first_due now.world.buffer ≡ None →
       AnswersQuestion report reported q (answer_held environment.routes reported matched now.mapped now.world.played.records q) now.output out (Ok reported_now) →
-      (report ≡ Answers → answer_held environment.routes reported matched now.mapped now.world.played.records q ≡ said_at_by environment.routes (horizon_at start) others (record { before = ds; delivery = asking q })) →
+      (report ≡ Answers → answer_held environment.routes reported matched now.mapped now.world.played.records q ≡ answer_of_delivery environment.routes others (advanced_by others (standing start) ds) (asking q)) →
       HasReported report (course_after environment.routes ds start) reported start now others → HasReported report (course_after environment.routes (ds ++ asking q ∷ []) start) reported_now start (with_output now out) others
   ask_reported Answers now q reported matched reported_now out others is rests answers said_there x =
       let answer : List ℕ = answer_held environment.routes reported matched now.mapped now.world.played.records q in
       answers.1.outcome
       ∙ ap (λ b. after_known b answer) x
-      ∙ after_twice start.output.bytes (said_by environment.routes (horizon_at start) others ds) answer
-      ∙ ap (λ l. after_known start.output.bytes (said_by environment.routes (horizon_at start) others ds ++ l)) (said_there refl)
-      ∙ ap (after_known start.output.bytes) (sym (said_by-push environment.routes (horizon_at start) others ds (asking q)))
+      ∙ after_twice start.output.bytes (said_by environment.routes others (standing start) ds) answer
+      ∙ ap (λ l. after_known start.output.bytes (said_by environment.routes others (standing start) ds ++ l)) (said_there refl)
+      ∙ ap (after_known start.output.bytes) (sym (along-push (answer_of_delivery environment.routes) others (standing start) ds (asking q)))
   ask_reported Changes now q reported matched reported_now out others is rests answers said_there x =
       let passed : HasReported Changes (course_after environment.routes (ds ++ asking q ∷ []) start) reported start (with_output now out) others = record {
         steps = x.steps;
-        are = ap (λ l. x.steps ++ l) (steps-none (version_in_force (ds ++ asking q ∷ [])) others now.world rests) ∙ append-nil x.steps
-            ∙ all_steps now others x.steps rests x.are ∙ sym (steps-still (horizon_at start) others ds (asking q) (asking-steps (horizon_at start) others ds q));
+        are = ap (λ l. x.steps ++ l) (steps-none (version_at (ds ++ asking q ∷ []) start) others now.world rests) ∙ append-nil x.steps
+            ∙ all_steps now others x.steps rests x.are ∙ sym (along-still steps_of_delivery others (standing start) ds (asking q) (asking-steps others (advanced_by others (standing start) ds) q));
         counted = x.counted;
         bytes = ap (λ (o : Output). o.bytes) answers.1 ∙ x.bytes;
       } in
       subst (λ n. HasReported Changes (course_after environment.routes (ds ++ asking q ∷ []) start) n start (with_output now out) others) (sym answers.0) passed
 
-  ask_answered : (report : Report) (q : Question) (reported reported_now : ℕ) (text : List ℕ) (old out : Output) → AnswersQuestion report reported q text old out (Ok reported_now) → HasAnswered report reported ds → HasAnswered report reported_now (ds ++ asking q ∷ [])
+  ask_answered : (report : Report) (q : Question) (reported reported_now : ℕ) (text : List ℕ) (old out : Output) → AnswersQuestion report reported q text old out (Ok reported_now) → HasAnswered report reported ds start → HasAnswered report reported_now (ds ++ asking q ∷ []) start
   ask_answered Answers q reported reported_now text old out answers is = omega (arith, answers.0, is, asks-push ds (asking q))
   ask_answered Changes q reported reported_now text old out answers is = tt
 
@@ -347,24 +359,25 @@ module _ (environment : Environment) (ds : List Delivery) (start : Stage) where
   ask_later Changes q reported reported_now text old out answers = rw answers.1 (omega arith)
 
   pub ask_taken : (now : Stage) (q : Question) (reported matched reported_now : ℕ) (out : Output) → AnswersQuestion environment.report reported q (answer_held environment.routes reported matched now.mapped now.world.played.records q) now.output out (Ok reported_now) →
-      matched ≡ matches ds → AtRest environment ds reported start now → AtRest environment (ds ++ asking q ∷ []) reported_now start (with_output now out)
+      matched ≡ start.numbered.matches + matches ds → AtRest environment ds reported start now → AtRest environment (ds ++ asking q ∷ []) reported_now start (with_output now out)
   ask_taken now q reported matched reported_now out answers counted at_rest = record {
     leads = record {
       made = at_rest.leads.made;
-      explained = Explained-ask judgement environment.known (horizon_at start) ds at_rest.leads.made now.world at_rest.leads.explained at_rest.rests q;
-      roomed = λ others agree. still_room (asking q) others now.world at_rest.rests (asking-needs (horizon_at start) others ds q) (rest_room now reported at_rest others
-          (λ e r h. agree e r h ∙ ap (λ (replies : Replies). replies e r) (ask_replies judgement environment.known (horizon_at start) ds at_rest.leads.made now.world at_rest.leads.explained at_rest.rests q)));
+      explained = along-asking judgement environment.known (standing start) ds at_rest.leads.made now.world at_rest.leads.explained at_rest.rests q;
+      roomed = λ others agree. still_room (asking q) others now.world at_rest.rests (asking-needs others (advanced_by others (standing start) ds) q) (rest_room now reported at_rest others
+          (λ e r h. agree e r h ∙ ap (λ (replies : Replies). replies e r) (asking_replies judgement environment.known (standing start) ds at_rest.leads.made now.world at_rest.leads.explained at_rest.rests q)));
       counted = at_rest.leads.counted;
       documents = at_rest.leads.documents;
       says = λ others agree.
           let before : AgreeOnApplied now.world at_rest.leads.explained.replies others =
-          λ e r h. agree e r h ∙ ap (λ (replies : Replies). replies e r) (ask_replies judgement environment.known (horizon_at start) ds at_rest.leads.made now.world at_rest.leads.explained at_rest.rests q) in
+          λ e r h. agree e r h ∙ ap (λ (replies : Replies). replies e r) (asking_replies judgement environment.known (standing start) ds at_rest.leads.made now.world at_rest.leads.explained at_rest.rests q) in
           ask_reported environment.report now q reported matched reported_now out others refl at_rest.rests answers
-          (λ asked. answer_is now q reported matched at_rest others before (is_answer ds environment.report reported at_rest.answered asked) counted)
+          (λ asked. answer_is now q reported matched at_rest others before (is_answer ds start environment.report reported at_rest.answered asked) counted)
           (at_rest.leads.says others before);
     };
     answered = ask_answered environment.report q reported reported_now _ now.output out answers at_rest.answered;
     rests = at_rest.rests;
+    begun = at_rest.begun;
     mapped = still_mapped now.world.played.records now.world.played.records (asking q) (asking-mapping q) now.mapped now.mapped (λ version is. is) at_rest.mapped;
     later = omega (arith, at_rest.later, ask_later environment.report q reported reported_now _ now.output out answers);
   }
@@ -372,19 +385,19 @@ module _ (environment : Environment) (ds : List Delivery) (start : Stage) where
   -- another version of the mapping comes into force, by which every page is mapped: there was room for this too
   mapping_room : (now : Stage) (reported : ℕ) (v : MappingVersion) (at_rest : AtRest environment ds reported start now) → HaveRoom environment.limit (needed_anew now.world.played.records (record { version = v; by_two = now.mapped.by_two })) →
       (others : Replies) → AgreeOnApplied now.world at_rest.leads.explained.replies others →
-      HaveRoomBefore environment.limit (needed_by_due (version_in_force (ds ++ Mapping v ∷ [])) others now.world) (needed_in (horizon_at start) others (ds ++ Mapping v ∷ []))
+      HaveRoomBefore environment.limit (needed_by_due (version_at (ds ++ Mapping v ∷ []) start) others now.world) (along needed_of_delivery others (standing start) (ds ++ Mapping v ∷ []))
   mapping_room now reported v at_rest have others agree =
       let Roomed : List EntityId → Type 0 = λ by_two. HaveRoom environment.limit (needed_anew now.world.played.records (record { version = v; by_two = by_two })) in
-      let by_version : Roomed (all_by (version_in_force ds) now.world.played.records) = subst Roomed (ap (λ (m : Mapped). m.by_two) at_rest.mapped) have in
-      let anew : HaveRoom environment.limit (needed_at (horizon_at start) others (record { before = ds; delivery = Mapping v })) =
-      subst (λ (w : ReplayState). HaveRoom environment.limit (needed_anew w.played.records (record { version = v; by_two = all_by (version_in_force ds) w.played.records }))) (rest_is now reported at_rest others agree) by_version in
-      none_left environment.limit (needed_by_due (version_in_force (ds ++ Mapping v ∷ [])) others now.world) (needed_in (horizon_at start) others (ds ++ Mapping v ∷ []))
-      (due-none (version_in_force (ds ++ Mapping v ∷ [])) others now.world at_rest.rests)
-      (subst (HaveRoom environment.limit) (sym (needed-push (horizon_at start) others ds (Mapping v))) (Each-append (λ n. n ≤ environment.limit) _ _ (rest_room now reported at_rest others agree) anew))
+      let by_version : Roomed (all_by (version_at ds start) now.world.played.records) = subst Roomed (ap (λ (m : Mapped). m.by_two) at_rest.mapped) have in
+      let anew : HaveRoom environment.limit (needed_anew (led_to ds start others).played.records (record { version = v; by_two = all_by (version_at ds start) (led_to ds start others).played.records })) =
+      subst (λ (w : ReplayState). HaveRoom environment.limit (needed_anew w.played.records (record { version = v; by_two = all_by (version_at ds start) w.played.records }))) (rest_is now reported at_rest others agree) by_version in
+      none_left environment.limit (needed_by_due (version_at (ds ++ Mapping v ∷ []) start) others now.world) (along needed_of_delivery others (standing start) (ds ++ Mapping v ∷ []))
+      (due-none (version_at (ds ++ Mapping v ∷ []) start) others now.world at_rest.rests)
+      (subst (HaveRoom environment.limit) (sym (needed-mapping others (standing start) ds v)) (Each-append (λ n. n ≤ environment.limit) _ _ (rest_room now reported at_rest others agree) anew))
 
   -- its pages are told where changes are reported
   mapping_reported : (report : Report) (now : Stage) (v : MappingVersion) (reported reported_now : ℕ) (mapped : Mapped) (out : Output) (others : Replies) → first_due now.world.buffer ≡ None →
-      now.mapped ≡ mapped_by (version_in_force ds) now.world.played.records → now.world ≡ following (horizon_at start) others ds →
+      now.mapped ≡ mapped_by (version_at ds start) now.world.played.records → now.world ≡ led_to ds start others →
       TellsBy report reported (steps_anew v now.world.played.records now.mapped.by_two) reported_now now.output out →
       HasReported report (course_after environment.routes ds start) reported start now others → HasReported report (course_after environment.routes (ds ++ Mapping v ∷ []) start) reported_now start (with_mapped (with_output now out) mapped) others
   mapping_reported Answers now v reported reported_now mapped out others rests is_mapped is tells x = ap (λ (o : Output). o.bytes) tells.1 ∙ x ∙ sym (silent (Mapping v) others refl)
@@ -392,13 +405,13 @@ module _ (environment : Environment) (ds : List Delivery) (start : Stage) where
       let anew : List Step = steps_anew v now.world.played.records now.mapped.by_two in
       record {
         steps = x.steps ++ anew;
-        are = ap (λ l. (x.steps ++ anew) ++ l) (steps-none (version_in_force (ds ++ Mapping v ∷ [])) others now.world rests) ∙ append-nil (x.steps ++ anew)
+        are = ap (λ l. (x.steps ++ anew) ++ l) (steps-none (version_at (ds ++ Mapping v ∷ []) start) others now.world rests) ∙ append-nil (x.steps ++ anew)
             ∙ ap (λ l. l ++ anew) (all_steps now others x.steps rests x.are)
-            ∙ ap (λ (m : Mapped). steps_of_play (horizon_at start) others ds ++ steps_anew v now.world.played.records m.by_two) is_mapped
-            ∙ ap (λ (w : ReplayState). steps_of_play (horizon_at start) others ds ++ steps_anew v w.played.records (all_by (version_in_force ds) w.played.records)) is
-            ∙ sym (steps-push (horizon_at start) others ds (Mapping v));
-        counted = tells.counted x.steps x.counted;
-        bytes = tells.bytes x.steps start.output.bytes x.counted x.bytes;
+            ∙ ap (λ (m : Mapped). along steps_of_delivery others (standing start) ds ++ steps_anew v now.world.played.records m.by_two) is_mapped
+            ∙ ap (λ (w : ReplayState). along steps_of_delivery others (standing start) ds ++ steps_anew v w.played.records (all_by (version_at ds start) w.played.records)) is
+            ∙ sym (steps-mapping others (standing start) ds v);
+        counted = tells.counted start.numbered.patches x.steps x.counted;
+        bytes = tells.bytes start.numbered.patches x.steps start.output.bytes x.counted x.bytes;
       }
 
   mapping_answered : (report : Report) (reported reported_now : ℕ) (steps : List Step) (old out : Output) → TellsBy report reported steps reported_now old out → report ≡ Answers → reported_now ≡ reported
@@ -413,19 +426,20 @@ module _ (environment : Environment) (ds : List Delivery) (start : Stage) where
   mapping_taken now mapped v reported reported_now out is have tells more at_rest = record {
     leads = record {
       made = at_rest.leads.made;
-      explained = Explained-mapping judgement environment.known (horizon_at start) ds at_rest.leads.made now.world at_rest.leads.explained at_rest.rests v;
+      explained = along-mapping judgement environment.known (standing start) ds at_rest.leads.made now.world at_rest.leads.explained at_rest.rests v;
       roomed = λ others agree. mapping_room now reported v at_rest have others
-          (λ q r h. agree q r h ∙ ap (λ (replies : Replies). replies q r) (mapping_replies judgement environment.known (horizon_at start) ds at_rest.leads.made now.world at_rest.leads.explained at_rest.rests v));
+          (λ q r h. agree q r h ∙ ap (λ (replies : Replies). replies q r) (mapping_replies judgement environment.known (standing start) ds at_rest.leads.made now.world at_rest.leads.explained at_rest.rests v));
       counted = at_rest.leads.counted;
       documents = at_rest.leads.documents;
       says = λ others agree.
           let before : AgreeOnApplied now.world at_rest.leads.explained.replies others =
-          λ q r h. agree q r h ∙ ap (λ (replies : Replies). replies q r) (mapping_replies judgement environment.known (horizon_at start) ds at_rest.leads.made now.world at_rest.leads.explained at_rest.rests v) in
+          λ q r h. agree q r h ∙ ap (λ (replies : Replies). replies q r) (mapping_replies judgement environment.known (standing start) ds at_rest.leads.made now.world at_rest.leads.explained at_rest.rests v) in
           mapping_reported environment.report now v reported reported_now mapped out others at_rest.rests at_rest.mapped (rest_is now reported at_rest others before) tells (at_rest.leads.says others before);
     };
-    answered = answered_then environment.report reported reported_now ds (Mapping v) refl (mapping_answered environment.report reported reported_now _ now.output out tells) at_rest.answered;
+    answered = answered_then environment.report reported reported_now ds (Mapping v) start refl (mapping_answered environment.report reported reported_now _ now.output out tells) at_rest.answered;
     rests = at_rest.rests;
-    mapped = is ∙ ap (λ version. mapped_by version now.world.played.records) (sym (version-mapping ds v));
+    begun = at_rest.begun;
+    mapped = is ∙ ap (λ version. mapped_by version now.world.played.records) (sym (version-push start.mapped.version ds (Mapping v)));
     later = omega (arith, at_rest.later, more);
   }
 
@@ -436,9 +450,9 @@ module _ (environment : Environment) (ds : List Delivery) (start : Stage) where
   remapping_reported Answers now reported reported_now pages mapped out others rests tells x = ap (λ (o : Output). o.bytes) tells.1 ∙ x
   remapping_reported Changes now reported reported_now pages mapped out others rests tells x = record {
     steps = x.steps ++ pages;
-    are = ap (λ l. (x.steps ++ pages) ++ l) (steps-none (version_in_force ds) others now.world rests) ∙ append-nil (x.steps ++ pages) ∙ ap (λ l. l ++ pages) (all_steps now others x.steps rests x.are);
-    counted = tells.counted x.steps x.counted;
-    bytes = tells.bytes x.steps start.output.bytes x.counted x.bytes;
+    are = ap (λ l. (x.steps ++ pages) ++ l) (steps-none (version_at ds start) others now.world rests) ∙ append-nil (x.steps ++ pages) ∙ ap (λ l. l ++ pages) (all_steps now others x.steps rests x.are);
+    counted = tells.counted start.numbered.patches x.steps x.counted;
+    bytes = tells.bytes start.numbered.patches x.steps start.output.bytes x.counted x.bytes;
   }
 
   abbrev pub remapping_leads : (now : Stage) (reported reported_now : ℕ) (pages : List Step) (mapped : Mapped) (out : Output) → TellsBy environment.report reported pages reported_now now.output out → AtRest environment ds reported start now →
@@ -454,12 +468,12 @@ module _ (environment : Environment) (ds : List Delivery) (start : Stage) where
 
   -- how many records there are then
   remapping_many : (report : Report) (now : Stage) (reported reported_now : ℕ) (pages : List Step) (out : Output) (others : Replies) → first_due now.world.buffer ≡ None →
-      TellsBy report reported pages reported_now now.output out → HasReported report (course_after environment.routes ds start) reported start now others → report ≡ Changes → reported_now ≡ changes (steps_of_play (horizon_at start) others ds ++ pages)
+      TellsBy report reported pages reported_now now.output out → HasReported report (course_after environment.routes ds start) reported start now others → report ≡ Changes → reported_now ≡ start.numbered.patches + changes (along steps_of_delivery others (standing start) ds ++ pages)
   remapping_many Answers now reported reported_now pages out others rests tells x told = cc
-  remapping_many Changes now reported reported_now pages out others rests tells x told = tells.counted x.steps x.counted ∙ ap (λ l. changes (l ++ pages)) (all_steps now others x.steps rests x.are)
+  remapping_many Changes now reported reported_now pages out others rests tells x told = tells.counted start.numbered.patches x.steps x.counted ∙ ap (λ l. start.numbered.patches + changes (l ++ pages)) (all_steps now others x.steps rests x.are)
 
   pub remapping_counted : (now : Stage) (reported reported_now : ℕ) (pages : List Step) (out : Output) → TellsBy environment.report reported pages reported_now now.output out → (at_rest : AtRest environment ds reported start now) →
-      environment.report ≡ Changes → reported_now ≡ changes (steps_of_play (horizon_at start) at_rest.leads.explained.replies ds ++ pages)
+      environment.report ≡ Changes → reported_now ≡ start.numbered.patches + changes (along steps_of_delivery at_rest.leads.explained.replies (standing start) ds ++ pages)
   remapping_counted now reported reported_now pages out tells at_rest told =
       remapping_many environment.report now reported reported_now pages out at_rest.leads.explained.replies at_rest.rests tells (at_rest.leads.says at_rest.leads.explained.replies (λ q r h. refl)) told
 

@@ -8,11 +8,11 @@ use Rattle.entity_model.specs.declared.mapping.MappingVersion.{MappingVersion}
 use Rattle.entity_model.specs.declared.mapping.MappingVersion.TheVariants.{One}
 use Rattle.reorder_buffer.specs.Buffered.{first_due}
 use Rattle.reorder_buffer.specs.declared.taken.Taken.{Taken}
-use Rattle.replay_model.specs.Acceptance.{mapping_of, version_in_force}
+use Rattle.replay_model.specs.Acceptance.{mapping_of}
 use Rattle.replay_model.specs.Explained.{revision_wanted}
 use Rattle.replay_model.specs.Play.{Replies}
 use Rattle.replay_model.specs.Replies.{failed_events, source_replies}
-use Rattle.replay_model.specs.ReplayState.{ReplayState, after_end, after_some, entered, following, following_to_end, nothing_delivered}
+use Rattle.replay_model.specs.ReplayState.{ReplayState, after_end, after_some, entered, following, following_to_end, nothing_delivered, nothing_delivered_within}
 use Rattle.replay_model.specs.Transcript.{Question, for_triples, for_bindings, asking, asks, matches, question_of}
 use Rattle.world.specs.WorldState.{WorldState}
 use Rattle.transcript.specs.Printing.{Output}
@@ -27,19 +27,22 @@ use Rattle.drill_replay.proofs.Versions.{drill_by_first, part_asks_none, part_br
 use Rattle.session.specs.declared.drill_playing.DrillRun.{DrillRun}
 use Rattle.session.specs.declared.stop.Stop.{Stop}
 use Rattle.session.specs.declared.stop.Stop.TheVariants.{OutOfMemory as Refused}
+use Rattle.checkpoint.specs.declared.numbers.Numbers.{Numbers}
 use Rattle.session.specs.declared.report.Report.TheVariants.{Answers}
 use Rattle.session.specs.declared.stop.Halt.{Halt}
 use Rattle.session.specs.declared.stop.Halt.TheVariants.{Unapplied as NotApplied, Untold}
 use Rattle.term_pool.specs.declared.fault.PoolFault.TheVariants.{Full, OutOfMemory}
 use Rattle.session.specs.Counts.{HasCountedAt, RoseBy}
-use Rattle.session.specs.Course.{Course, course_after, course_begun, course_to_end}
+use Rattle.session.specs.Course.{Course, course_after, course_begun, course_to_end, led_to, version_at}
 use Rattle.session.specs.DrillPlaying.{HasTakenFirst, LeavesDrill, drill_environment, drill_stage, told_of}
-use Rattle.session.specs.Moment.{Stage, environment, with_world}
+use Rattle.session.specs.Moment.{Beginning, IsFirst, Stage, environment, no_numbers, start_in, with_world}
 use Rattle.session.specs.Remapping.{HasNoRoom, HoldsWithin, KeepsVersion, Mapped, mapped_by, mapped_in}
 use Rattle.session.specs.Stop.{stop_of_halt}
 use Rattle.session.specs.Taking.{AppliesDue, AtEnd, AtRest, CutsOff, IsFull, IsHeldUp, IsUntaken, IsWithin, Leads, StaysWithin, TakesDelivery, TakesInPart, judgement, replies_there, turn}
-use Rattle.session.proofs.Deliveries.{asks-push, end_begun, end_taken, matches-push}
-use Rattle.session.proofs.Ends.{is_played}
+use Rattle.session.proofs.Along.{asks-push, matches-push}
+use Rattle.session.proofs.Deliveries.{end_begun, end_taken}
+use Rattle.session.proofs.Ends.{is_played, none_named_first}
+use Rattle.session.proofs.FromNothing.{ended_first, led_first, version_first}
 use Rattle.session.proofs.Progress.{nothing_taken}
 use Rattle.std.specs.FinMap.{len-empty}
 use Rattle.replay_model.specs.Play.{nothing_played}
@@ -49,13 +52,16 @@ use Rattle.drill_replay.proofs.Drills.{rest_of}
 -- ---- where the world is
 
 -- no fetch failed where none was counted
-none_failed : (failed : List Event) (before now : ℕ) → RoseBy (length failed) before now → now ≡ 0 → failed ≡ []
-none_failed [] before now rose still = refl
-none_failed (e ∷ es) before now rose still =
-    let below : now < 2 ^ 64 - 1 = omega (arith, still) in
-    absurd (omega (arith, rose below, still))
+none_failed : (failed : List Event) (named before now : ℕ) → RoseBy (length failed) before (named + now) → named ≡ 0 → now ≡ 0 → failed ≡ []
+none_failed [] named before now rose none still = refl
+none_failed (e ∷ es) named before now rose none still =
+    let below : named + now < 2 ^ 64 - 1 = omega (arith, none, still) in
+    absurd (omega (arith, rose below, none, still))
 
-module _ (size : ℕ) (start now : Stage) (nothing : start.world ≡ nothing_delivered) (still : now.counts.faults ≡ 0) where
+module _ (size : ℕ) (start : Beginning) (now : Stage) (nothing : IsFirst start × (start.world ≡ nothing_delivered)) (still : now.counts.faults ≡ 0) where
+  none_named : length (failed_events start.world.played.side) ≡ 0
+  none_named = none_named_first start nothing.0
+
   replies_are : failed_events now.world.played.side ≡ [] → replies_there (contents_of size) now.world ≡ replies_of size
   replies_are none = ap (source_replies judgement (contents_of size)) none
 
@@ -63,25 +69,29 @@ module _ (size : ℕ) (start now : Stage) (nothing : start.world ≡ nothing_del
   course_is : (course : Course) (reported : ℕ) → Leads (drill_environment size) course reported start now → first_due now.world.buffer ≡ None → now.mapped ≡ mapped_by course.version now.world.played.records → now.world ≡ course.state (replies_of size)
   course_is course reported leads rests mapped =
       let play = is_played (drill_environment size) course reported start now leads rests mapped in
-      play.source (contents_of size) refl ∙ ap course.state (replies_are (none_failed _ _ _ play.counted.failed still))
+      play.source (contents_of size) refl ∙ ap course.state (replies_are (none_failed _ _ _ _ play.counted.failed none_named still))
 
   pub after_is : (ds : List Delivery) → AtRest (drill_environment size) ds 0 start now → now.world ≡ following None (replies_of size) ds
   after_is ds at_rest =
-      course_is (course_after None ds start) 0 at_rest.leads at_rest.rests at_rest.mapped ∙ ap (λ (w : ReplayState). following w.buffer.horizon (replies_of size) ds) nothing
+      course_is (course_after None ds start) 0 at_rest.leads at_rest.rests at_rest.mapped ∙ led_first start nothing.0 (replies_of size) ds ∙ ap (λ (w : ReplayState). following w.buffer.horizon (replies_of size) ds) nothing.1
 
   pub end_is : (ds : List Delivery) (reported : ℕ) → AtEnd (drill_environment size) ds reported start now → now.world ≡ following_to_end None (replies_of size) ds
   end_is ds reported at_end =
-      course_is (course_to_end None ds start) reported at_end.leads at_end.rests at_end.mapped ∙ ap (λ (w : ReplayState). following_to_end w.buffer.horizon (replies_of size) ds) nothing
+      course_is (course_to_end None ds start) reported at_end.leads at_end.rests at_end.mapped ∙ ended_first start nothing.0 (replies_of size) ds ∙ ap (λ (w : ReplayState). following_to_end w.buffer.horizon (replies_of size) ds) nothing.1
 
-  unapplied_none : (halt : Halt) (made : ℕ) → HasCountedAt halt start.counts now.counts made now.world.played.side → failed_events now.world.played.side ≡ []
-  unapplied_none (NotApplied Full) made counted = none_failed _ _ _ counted.failed still
-  unapplied_none (Untold why) made counted = none_failed _ _ _ counted.failed still
-  unapplied_none (NotApplied OutOfMemory) made counted = ⊎_elim (λ same. none_failed _ _ _ same.failed still) (λ more. none_failed _ _ _ more.failed still) counted
+  unapplied_none : (halt : Halt) (made : ℕ) → HasCountedAt halt start.counts now.counts start.world.played.side made now.world.played.side → failed_events now.world.played.side ≡ []
+  unapplied_none (NotApplied Full) made counted = none_failed _ _ _ _ counted.failed none_named still
+  unapplied_none (Untold why) made counted = none_failed _ _ _ _ counted.failed none_named still
+  unapplied_none (NotApplied OutOfMemory) made counted = ⊎_elim (λ same. none_failed _ _ _ _ same.failed none_named still) (λ more. none_failed _ _ _ _ more.failed none_named still) counted
 
   -- and where some due events were applied, it is within its play
   pub within_is : (halt : Halt) (course : Course) (begun : Replies → ReplayState) (x : IsWithin halt (drill_environment size) course begun start now) → now.world ≡ after_some (replies_of size) x.steps (begun (replies_of size))
   within_is halt course begun x =
       x.source (contents_of size) refl ∙ ap (λ (replies : Replies). after_some replies x.steps (begun replies)) (replies_are (unapplied_none halt x.made x.counted))
+
+-- where a first run begins without a horizon, these deliveries lead where their play does
+led_nothing : (size : ℕ) (ds : List Delivery) (start : Beginning) → IsFirst start → start.world ≡ nothing_delivered → led_to ds start (replies_of size) ≡ following None (replies_of size) ds
+led_nothing size ds start first nothing = led_first start first (replies_of size) ds ∙ ap (λ (w : ReplayState). following w.buffer.horizon (replies_of size) ds) nothing
 
 -- there is room for each page that is due
 full_never : (size : ℕ) (world : ReplayState) (mapped : Mapped) → IsSize size → HasBegun size world → mapped ≡ mapped_by One world.played.records → IsFull (drill_environment size) world mapped → ⊥
@@ -125,6 +135,10 @@ module _ (run : DrillRun) (ds after : List Delivery) (d : Delivery) (all : drill
   none_before : 0 ≡ matches ds
   none_before = omega (arith, matches_none, matches-push ds d)
 
+  -- none was delivered before
+  none_matched : (start : Beginning) → IsFirst start → 0 ≡ start.numbered.matches + matches ds
+  none_matched start first = omega (arith, none_before, ap (λ (n : Numbers). n.matches) first.numbered)
+
   -- it is no question
   pub silent : question_of d ≡ None
   silent = no_question_in d (omega (arith, asks_none, asks-push ds d)) (omega (arith, matches_none, matches-push ds d))
@@ -149,7 +163,7 @@ module _ (run : DrillRun) (ds after : List Delivery) (d : Delivery) (all : drill
     before = drill_stage run.pages out world
 
     stands : world.replay ≡ following None (replies_of run.size) ds
-    stands = after_is run.size taken.start before taken.nothing refl ds taken.at_rest
+    stands = after_is run.size taken.start before (taken.first, taken.nothing) refl ds taken.at_rest
 
     -- it is taken and counted
     pub next_taken : (pages_now : Source) (counts_now : DrillCounts) (answer : Option Taken) (reported_now : ℕ) (out_now : Output) (world_now : WorldState) → told_of pages_now.size ≡ told_of run.pages.size →
@@ -157,9 +171,10 @@ module _ (run : DrillRun) (ds after : List Delivery) (d : Delivery) (all : drill
         world_now.limit ≡ world.limit → (HoldsWithin world.limit world → HoldsWithin world.limit world_now) → HasTakenFirst (record run { pages = pages_now; counts = counts_now }) (ds ++ d ∷ []) out_now world_now
     next_taken pages_now counts_now answer reported_now out_now world_now told takes answered counted limit held = record {
       start = taken.start;
+      first = taken.first;
       nothing = taken.nothing;
       told = told ∙ taken.told;
-      at_rest = still_none (subst (λ s. TakesDelivery s (turn 0 0 d) reported_now before (drill_stage pages_now out_now world_now)) environment_is takes ds taken.start none_before taken.at_rest);
+      at_rest = still_none (subst (λ s. TakesDelivery s (turn 0 0 d) reported_now before (drill_stage pages_now out_now world_now)) environment_is takes ds taken.start (none_matched taken.start taken.first) taken.at_rest);
       counted = subst (λ c. Counted (ds ++ d ∷ []) c)
           (sym (counted ∙ ap (λ (a : Option Taken). with_answer a run.counts) (answered ∙ ap (λ (w : ReplayState). answer_of w.buffer d) stands)))
           (counted-next (replies_of run.size) ds d run.counts taken.counted);
@@ -170,16 +185,16 @@ module _ (run : DrillRun) (ds after : List Delivery) (d : Delivery) (all : drill
         -- nothing is answered
         still_none : AtRest (drill_environment run.size) (ds ++ d ∷ []) reported_now taken.start (drill_stage pages_now out_now world_now) → AtRest (drill_environment run.size) (ds ++ d ∷ []) 0 taken.start (drill_stage pages_now out_now world_now)
         still_none at_rest =
-            let none : reported_now ≡ 0 = at_rest.answered ∙ sym asks_none in
+            let none : reported_now ≡ 0 = omega (arith, at_rest.answered, ap (λ (n : Numbers). n.asks) taken.first.numbered, asks_none) in
             subst (λ n. AtRest (drill_environment run.size) (ds ++ d ∷ []) n taken.start (drill_stage pages_now out_now world_now)) none at_rest
 
     module _ (pages_now : Source) (out_now : Output) (world_now : WorldState) where
       abbrev pub now : Stage
       now = drill_stage pages_now out_now world_now
 
-      in_part : (halt : Halt) → IsUntaken halt before now ⊎ IsWithin halt (drill_environment run.size) (course_begun None ds (Some d) taken.start) (λ replies. entered (following taken.start.world.buffer.horizon replies ds) d) taken.start now →
+      in_part : (halt : Halt) → IsUntaken halt before now ⊎ IsWithin halt (drill_environment run.size) (course_begun None ds (Some d) taken.start) (λ replies. entered (led_to ds taken.start replies) d) taken.start now →
           (world_now.replay ≡ following None (replies_of run.size) ds) ⊎ ((steps : ℕ) × (world_now.replay ≡ after_some (replies_of run.size) steps (entered (following None (replies_of run.size) ds) d)))
-      in_part halt part = ⊎_elim (λ none. inl (untaken halt none)) (λ some. inr (some.steps, within_is run.size taken.start now taken.nothing refl halt _ _ some ∙ ap (λ (w : ReplayState). after_some (replies_of run.size) some.steps (entered (following w.buffer.horizon (replies_of run.size) ds) d)) taken.nothing)) part
+      in_part halt part = ⊎_elim (λ none. inl (untaken halt none)) (λ some. inr (some.steps, within_is run.size taken.start now (taken.first, taken.nothing) refl halt _ _ some ∙ ap (λ w. after_some (replies_of run.size) some.steps (entered w d)) (led_nothing run.size ds taken.start taken.first taken.nothing))) part
         where
           untaken : (halt : Halt) → IsUntaken halt before now → world_now.replay ≡ following None (replies_of run.size) ds
           untaken (NotApplied Full) never = absurd never
@@ -203,10 +218,10 @@ module _ (run : DrillRun) (ds after : List Delivery) (d : Delivery) (all : drill
           at = in_part halt (x.world ds taken.start taken.at_rest)
 
           mapped : mapped_in world_now ≡ mapped_by One world_now.replay.played.records
-          mapped = x.mapped (version_in_force ds) taken.at_rest.mapped ∙ ap (λ v. mapped_by v world_now.replay.played.records) (part_by_first run.size ds (d ∷ after) all)
+          mapped = x.mapped (version_at ds taken.start) taken.at_rest.mapped ∙ ap (λ v. mapped_by v world_now.replay.played.records) (version_first taken.start taken.first (replies_of run.size) ds ∙ part_by_first run.size ds (d ∷ after) all)
 
           by : (halt : Halt) → IsHeldUp halt (drill_environment run.size) out now →
-              IsUntaken halt before now ⊎ IsWithin halt (drill_environment run.size) (course_begun None ds (Some d) taken.start) (λ replies. entered (following taken.start.world.buffer.horizon replies ds) d) taken.start now → stop_of_halt halt ≡ Refused
+              IsUntaken halt before now ⊎ IsWithin halt (drill_environment run.size) (course_begun None ds (Some d) taken.start) (λ replies. entered (led_to ds taken.start replies) d) taken.start now → stop_of_halt halt ≡ Refused
           by (NotApplied Full) full part = absurd (full_never run.size world_now.replay (mapped_in world_now) is_size (begun at) mapped full)
           by (NotApplied OutOfMemory) held_up part = refl
           by (Untold why) held_up part = absurd (⊎_elim (λ never. never) (λ within. within.says) part)
@@ -233,7 +248,7 @@ part_at_rest run ds out world taken = inl (record {
   before = ds;
   after = [];
   all = sym (append-nil ds);
-  is = after_is run.size taken.start (drill_stage run.pages out world) taken.nothing refl ds taken.at_rest;
+  is = after_is run.size taken.start (drill_stage run.pages out world) (taken.first, taken.nothing) refl ds taken.at_rest;
 })
 
 -- what it leaves
@@ -248,7 +263,7 @@ leaves_halted size ds d stop world world_now halted limit within same held = rec
 -- what a drill leaves at rest
 pub leaves_at_rest : (run : DrillRun) (ds after : List Delivery) (out : Output) (world : WorldState) → drill run.size ≡ ds ++ after → HasTakenFirst run ds out world → LeavesDrill world
 leaves_at_rest run ds after out world all taken = record {
-  first = by_first world (taken.at_rest.mapped ∙ ap (λ v. mapped_by v world.replay.played.records) (part_by_first run.size ds after all));
+  first = by_first world (taken.at_rest.mapped ∙ ap (λ v. mapped_by v world.replay.played.records) (version_first taken.start taken.first (replies_of run.size) ds ∙ part_by_first run.size ds after all));
   limit = taken.limit;
   held = taken.held;
 }
@@ -257,7 +272,8 @@ leaves_at_rest run ds after out world all taken = record {
 pub starts : (run : DrillRun) (out : Output) (world : WorldState) → told_of run.pages.size ≡ told_of run.size → run.counts ≡ record { deliveries = 0; accepted = 0; late = 0 } → world.replay ≡ nothing_delivered → IsByFirst world →
     world.limit ≡ 20000000 → HasTakenFirst run (drill 0) out world
 starts run out world told zero is first limit = record {
-  start = drill_stage run.pages out world;
+  start = start_in no_numbers (drill_stage run.pages out world);
+  first = record { world = is ∙ ap (λ (w : ReplayState). nothing_delivered_within w.buffer.horizon) (sym is); mapping = first.0; numbered = refl };
   nothing = is;
   told = told;
   at_rest = rw (is, first.0, first.1) (nothing_taken (drill_environment run.size) None out _);
@@ -303,7 +319,7 @@ module _ (run : DrillRun) (folder : List ℕ) (out : Output) (world : WorldState
   stage_now = drill_stage pages_now out_now world_now
 
   pub end_first : KeepsVersion (mapped_in world) (mapped_in world_now) world.replay.played.records world_now.replay.played.records → mapped_in world_now ≡ mapped_by One world_now.replay.played.records
-  end_first keeps = keeps (version_in_force (drill run.size)) taken.at_rest.mapped ∙ ap (λ v. mapped_by v world_now.replay.played.records) (drill_by_first run.size)
+  end_first keeps = keeps (version_at (drill run.size) taken.start) taken.at_rest.mapped ∙ ap (λ v. mapped_by v world_now.replay.played.records) (version_first taken.start taken.first (replies_of run.size) (drill run.size) ∙ drill_by_first run.size)
 
   -- and it leaves this
   pub leaves_end : KeepsVersion (mapped_in world) (mapped_in world_now) world.replay.played.records world_now.replay.played.records → world_now.limit ≡ world.limit → HoldsWithin world.limit world_now → LeavesDrill world_now
@@ -317,12 +333,12 @@ module _ (run : DrillRun) (folder : List ℕ) (out : Output) (world : WorldState
   pub end_reached : (reported_now : ℕ) → AppliesDue (environment None Answers (told_of run.pages.size) folder world.limit) 0 reported_now (with_world stage_before (after_end world.replay)) stage_now →
       KeepsVersion (mapped_in world) (mapped_in world_now) world.replay.played.records world_now.replay.played.records → out.faults ≤ out_now.faults → world_now.replay ≡ drilled run.size
   end_reached reported_now applies keeps more =
-      end_is run.size taken.start stage_now taken.nothing refl (drill run.size) reported_now
+      end_is run.size taken.start stage_now (taken.first, taken.nothing) refl (drill run.size) reported_now
       (end_taken (drill_environment run.size) (drill run.size) taken.start stage_before stage_now 0 reported_now
       (subst (λ s. AppliesDue s 0 reported_now (with_world stage_before (after_end world.replay)) stage_now) environment_at_end applies) keeps more taken.at_rest)
 
   end_within : (halt : Halt) → StaysWithin halt (environment None Answers (told_of run.pages.size) folder world.limit) 0 (with_world stage_before (after_end world.replay)) stage_now →
-      IsWithin halt (drill_environment run.size) (course_to_end None (drill run.size) taken.start) (λ replies. after_end (following taken.start.world.buffer.horizon replies (drill run.size))) taken.start stage_now
+      IsWithin halt (drill_environment run.size) (course_to_end None (drill run.size) taken.start) (λ replies. after_end (led_to (drill run.size) taken.start replies)) taken.start stage_now
   end_within halt stays =
       end_begun (drill_environment run.size) (drill run.size) taken.start halt stage_before stage_now 0
       (subst (λ s. StaysWithin halt s 0 (with_world stage_before (after_end world.replay)) stage_now) environment_at_end stays) taken.at_rest
@@ -333,8 +349,8 @@ module _ (run : DrillRun) (folder : List ℕ) (out : Output) (world : WorldState
       let within = end_within halt stays in
       record {
         steps = within.steps;
-        is = within_is run.size taken.start stage_now taken.nothing refl halt _ _ within
-            ∙ ap (λ (w : ReplayState). after_some (replies_of run.size) within.steps (after_end (following w.buffer.horizon (replies_of run.size) (drill run.size)))) taken.nothing;
+        is = within_is run.size taken.start stage_now (taken.first, taken.nothing) refl halt _ _ within
+            ∙ ap (λ w. after_some (replies_of run.size) within.steps (after_end w)) (led_nothing run.size (drill run.size) taken.start taken.first taken.nothing);
       }
 
   -- for want of memory alone

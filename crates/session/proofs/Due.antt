@@ -40,7 +40,7 @@ use Rattle.session.specs.declared.stop.Halt.TheVariants.{Unapplied as NotApplied
 use Rattle.term_pool.specs.declared.fault.PoolFault.{PoolFault as StoreFault}
 use Rattle.term_pool.specs.declared.fault.PoolFault.TheVariants.{Full, OutOfMemory}
 use Rattle.revisions.specs.declared.revisions.Revisions.{Ghosts as RevisionsOf}
-use Rattle.session.specs.Moment.{Environment, Stage, onward, environment, stage_in, with_mapped, with_world}
+use Rattle.session.specs.Moment.{Beginning, Environment, Stage, onward, environment, stage_in, with_mapped, with_world}
 use Rattle.session.specs.Needed.{HaveRoom, HaveRoomBefore, needed_by, needed_by_due, needed_for}
 use Rattle.session.specs.Remapping.{HasNoRoom, KeepsVersion, Mapped, held_triples, mapped_by, mapped_in}
 use Rattle.session.specs.Report.{HasReported, HasReportedAt, TellsStepBy}
@@ -51,7 +51,7 @@ use Rattle.session.proofs.Versions.{all_held_by}
 
 -- events are applied and told: the world leads where it led, where every page was mapped by the version of the play
 pub record Goes (environment : Environment) (reported reported_now : ℕ) (before now : Stage) : Type 0 where
-  pub leads : (course : Course) (begun : Replies → ReplayState) (start : Stage) → before.mapped ≡ mapped_by course.version before.world.played.records → IsUnderWay environment course begun reported start before → IsUnderWay environment course begun reported_now start now
+  pub leads : (course : Course) (begun : Replies → ReplayState) (start : Beginning) → before.mapped ≡ mapped_by course.version before.world.played.records → IsUnderWay environment course begun reported start before → IsUnderWay environment course begun reported_now start now
   pub answered : environment.report ≡ Answers → reported_now ≡ reported
 
 -- the counts after an application, as its outcome shows
@@ -112,15 +112,16 @@ risen_by-more : (made count : ℕ) (fetching : Bool) → cond fetching (counted 
 risen_by-more made count true = omega arith
 risen_by-more made count false = ap (λ n. max count (min n (2 ^ 64 - 1))) (omega arith)
 
--- a count that rose twice
-pub rose_twice : (m n first before now : ℕ) → RoseBy m first before → RoseBy n before now → before ≤ now → RoseBy (m + n) first now
-rose_twice m n first before now rose then_rose more = λ below.
-    let earlier : before < 2 ^ 64 - 1 = omega arith in
-    omega (arith, rose earlier, then_rose below)
+-- a count that rose twice, where so many were named before
+pub rose_twice : (named m n first before now : ℕ) → RoseBy m first (named + before) → RoseBy n before now → before ≤ now → RoseBy (m + n) first (named + now)
+rose_twice named m n first before now rose then_rose more = λ below.
+    let earlier : named + before < 2 ^ 64 - 1 = omega arith in
+    let later : now < 2 ^ 64 - 1 = omega arith in
+    omega (arith, rose earlier, then_rose later)
 
-counted_applying : (contents : Option Contents) (folder : List ℕ) (start before now : SourceCounts) (made : ℕ) (old new : ReplayState) (applied : Applied) → Applies contents folder old new applied →
-    Rises applied.outcome before now → HasCounted start before made old.played.side → HasCounted start now (made + cond (is_fetching old applied.event) 1 0) new.played.side
-counted_applying contents folder start before now made old new applied a rises so_far =
+counted_applying : (contents : Option Contents) (folder : List ℕ) (start before now : SourceCounts) (first : List Entry) (made : ℕ) (old new : ReplayState) (applied : Applied) → Applies contents folder old new applied →
+    Rises applied.outcome before now → HasCounted start before first made old.played.side → HasCounted start now first (made + cond (is_fetching old applied.event) 1 0) new.played.side
+counted_applying contents folder start before now first made old new applied a rises so_far =
     let e : Event = applied.event in
     let fetching : Bool = is_fetching old e in
     let deleting : Bool = is_deleted (state_after (record_of old.played.records e.entity).state e).mode in
@@ -130,14 +131,14 @@ counted_applying contents folder start before now made old new applied a rises s
     ap (λ (w : ReplayState). length (missing_events w.played.side)) a.new_is ∙ ap length (missing-applying (λ q r. a.reply) old e) ∙ length-append (missing_events old.played.side) (cond fetching (missing_of e a.reply) []) in
     let Shown : Outcome → Type 0 = λ outcome. IsShown outcome before.misses now.misses before.faults now.faults in
     let shown : IsShown (outcome_by fetching deleting a.reply) before.misses now.misses before.faults now.faults = subst Shown a.outcome rises.shown in
-    let Failed_by : ℕ → Type 0 = λ n. RoseBy n start.faults now.faults in
-    let Missing_by : ℕ → Type 0 = λ n. RoseBy n start.misses now.misses in
+    let Failed_by : ℕ → Type 0 = λ n. RoseBy n start.faults (length (failed_events first) + now.faults) in
+    let Missing_by : ℕ → Type 0 = λ n. RoseBy n start.misses (length (missing_events first) + now.misses) in
     record {
       calls =
           rises.calls ∙ ap (λ outcome. calls_after outcome before.calls) a.outcome ∙ calls_by fetching deleting a.reply before.calls
           ∙ ap (λ n. cond fetching (counted n) n) so_far.calls ∙ risen_by-more made start.calls fetching;
-      failed = subst Failed_by (sym failed_now) (rose_twice _ _ start.faults before.faults now.faults so_far.failed (failed_shown fetching deleting a.reply e _ _ _ _ shown rises.more_faults) rises.more_faults);
-      missing = subst Missing_by (sym missing_now) (rose_twice _ _ start.misses before.misses now.misses so_far.missing (missing_shown fetching deleting a.reply e _ _ _ _ shown rises.more_misses) rises.more_misses);
+      failed = subst Failed_by (sym failed_now) (rose_twice (length (failed_events first)) _ _ start.faults before.faults now.faults so_far.failed (failed_shown fetching deleting a.reply e _ _ _ _ shown rises.more_faults) rises.more_faults);
+      missing = subst Missing_by (sym missing_now) (rose_twice (length (missing_events first)) _ _ start.misses before.misses now.misses so_far.missing (missing_shown fetching deleting a.reply e _ _ _ _ shown rises.more_misses) rises.more_misses);
     }
 
 -- a reply that gives bytes gives a document
@@ -150,10 +151,10 @@ abbrev pub step_between : Stage → Stage → Step
 step_between before now = step (held_triples before.mapped before.world.played.records) (held_triples now.mapped now.world.played.records)
 
 -- what a play has right after the least due event was applied, but for what is reported of it
-pub record LeadsOn (environment : Environment) (course : Course) (reported : ℕ) (start before now : Stage) (x : Leads environment course reported start before) : Type 0 where
+pub record LeadsOn (environment : Environment) (course : Course) (reported : ℕ) (start : Beginning) (before now : Stage) (x : Leads environment course reported start before) : Type 0 where
   pub made : ℕ
   pub explained : Explained judgement environment.known course.state course.fetched made now.world
-  pub counted : HasCounted start.counts now.counts made now.world.played.side
+  pub counted : HasCounted start.counts now.counts start.world.played.side made now.world.played.side
   pub documents : HoldsDocuments now.world
   pub agree_before : (others : Replies) → AgreeOnApplied now.world explained.replies others → AgreeOnApplied before.world x.explained.replies others
   pub is_next : (others : Replies) → AgreeOnApplied now.world explained.replies others → now.world ≡ after_next others before.world
@@ -171,7 +172,7 @@ pub record IsApplied (contents : Option Contents) (folder : List ℕ) (limit : �
 
 -- the world still leads to its play, one application further
 applies-on : (routes : Option (List Route)) (report : Report) (contents : Option Contents) (folder : List ℕ) (limit : ℕ) (before now : Stage) → IsApplied contents folder limit before now →
-    (course : Course) (reported : ℕ) (start : Stage) → before.mapped ≡ mapped_by course.version before.world.played.records →
+    (course : Course) (reported : ℕ) (start : Beginning) → before.mapped ≡ mapped_by course.version before.world.played.records →
     (x : Leads (environment routes report contents folder limit) course reported start before) → LeadsOn (environment routes report contents folder limit) course reported start before now x
 applies-on routes report contents folder limit before now is course reported start is_mapped x =
     let known : Option (ℕ → Option Bytes) = (environment routes report contents folder limit).known in
@@ -185,12 +186,12 @@ applies-on routes report contents folder limit before now is course reported sta
     (reply_gives contents folder e.entity _ a.reply a.is_reply) in
     let same : (others : Replies) → AgreeOnApplied (next_by old e a.reply) next.explained.replies others → next_by old e a.reply ≡ after_applying others old (Some e) =
     λ others agree. next.is_next others agree ∙ ap (after_applying others old) a.due in
-    let Counted : ReplayState → Type 0 = λ w. HasCounted start.counts now.counts made w.played.side in
+    let Counted : ReplayState → Type 0 = λ w. HasCounted start.counts now.counts start.world.played.side made w.played.side in
     let There : ReplayState → Type 0 = λ w. LeadsOn (environment routes report contents folder limit) course reported start before (with_world now w) x in
     let there : There (next_by old e a.reply) = record {
       made = made;
       explained = next.explained;
-      counted = subst Counted a.new_is (counted_applying contents folder start.counts before.counts now.counts x.made old now.world is.applied a is.rises x.counted);
+      counted = subst Counted a.new_is (counted_applying contents folder start.counts before.counts now.counts start.world.played.side x.made old now.world is.applied a is.rises x.counted);
       documents = documents-apply judgement e a.reply (reply_gives contents folder e.entity _ a.reply a.is_reply) old.played x.documents;
       agree_before = next.agree_before;
       is_next = next.is_next;
@@ -249,11 +250,12 @@ pub gone-on : {R : Type 0} (members : RevisionsOf R) (old between new : R) → H
 gone-on members old between new x y = record { known = y.known ∙ x.known; faults = omega (arith, x.faults, y.faults); misses = omega (arith, x.misses, y.misses); most = y.most ∙ x.most }
 
 -- the counts of a source rise, and its calls by so many fetches
-counted_on : (start now last : SourceCounts) (made more : ℕ) (side : List Entry) → last.calls ≡ risen_by more start.calls → now.faults ≤ last.faults → now.misses ≤ last.misses → HasCounted start now made side → HasCounted start last more side
-counted_on start now last made more side calls faults misses so_far = record {
+counted_on : (start now last : SourceCounts) (first : List Entry) (made more : ℕ) (side : List Entry) → last.calls ≡ risen_by more start.calls → now.faults ≤ last.faults → now.misses ≤ last.misses → HasCounted start now first made side →
+    HasCounted start last first more side
+counted_on start now last first made more side calls faults misses so_far = record {
   calls = calls;
-  failed = λ below. let earlier : now.faults < 2 ^ 64 - 1 = omega arith in omega (arith, so_far.failed earlier);
-  missing = λ below. let earlier : now.misses < 2 ^ 64 - 1 = omega arith in omega (arith, so_far.missing earlier);
+  failed = λ below. let earlier : length (failed_events first) + now.faults < 2 ^ 64 - 1 = omega arith in omega (arith, so_far.failed earlier);
+  missing = λ below. let earlier : length (missing_events first) + now.misses < 2 ^ 64 - 1 = omega arith in omega (arith, so_far.missing earlier);
 }
 
 -- the calls after a call that applied nothing: where there was no room one fetch was made, and where memory was refused at most one
@@ -267,15 +269,16 @@ pub record Lasts (why : StoreFault) (before now : SourceCounts) : Type 0 where
   pub faults : before.faults ≤ now.faults
   pub misses : before.misses ≤ now.misses
 
-counted_once : (start before now : SourceCounts) (made : ℕ) (side : List Entry) → now.calls ≡ counted before.calls → before.faults ≤ now.faults → before.misses ≤ now.misses → HasCounted start before made side → HasCounted start now (made + 1) side
-counted_once start before now made side one faults misses so_far =
-    counted_on start before now made (made + 1) side (one ∙ ap counted so_far.calls ∙ risen_by-more made start.calls true) faults misses so_far
+counted_once : (start before now : SourceCounts) (first : List Entry) (made : ℕ) (side : List Entry) → now.calls ≡ counted before.calls → before.faults ≤ now.faults → before.misses ≤ now.misses → HasCounted start before first made side →
+    HasCounted start now first (made + 1) side
+counted_once start before now first made side one faults misses so_far =
+    counted_on start before now first made (made + 1) side (one ∙ ap counted so_far.calls ∙ risen_by-more made start.calls true) faults misses so_far
 
-counted_last : (why : StoreFault) (start before now : SourceCounts) (made : ℕ) (side : List Entry) → Lasts why before now → HasCounted start before made side → HasCountedUnapplied why start now made side
-counted_last Full start before now made side last so_far = counted_once start before now made side last.calls last.faults last.misses so_far
-counted_last OutOfMemory start before now made side last so_far = ⊎_elim
-    (λ same. inl (counted_on start before now made made side (same ∙ so_far.calls) last.faults last.misses so_far))
-    (λ one. inr (counted_once start before now made side one last.faults last.misses so_far))
+counted_last : (why : StoreFault) (start before now : SourceCounts) (first : List Entry) (made : ℕ) (side : List Entry) → Lasts why before now → HasCounted start before first made side → HasCountedUnapplied why start now first made side
+counted_last Full start before now first made side last so_far = counted_once start before now first made side last.calls last.faults last.misses so_far
+counted_last OutOfMemory start before now first made side last so_far = ⊎_elim
+    (λ same. inl (counted_on start before now first made made side (same ∙ so_far.calls) last.faults last.misses so_far))
+    (λ one. inr (counted_once start before now first made side one last.faults last.misses so_far))
     last.calls
 
 -- no call was made
@@ -291,7 +294,7 @@ none_due environment reported reported_now before out now last world new goes ca
       record {
         made = there.made;
         explained = there.explained;
-        counted = counted_on start.counts now last _ _ _ (calls ∙ there.counted.calls) faults misses there.counted;
+        counted = counted_on start.counts now last start.world.played.side _ _ _ (calls ∙ there.counted.calls) faults misses there.counted;
         documents = there.documents;
         says = λ others agree. reported_still environment.report course course reported_now start (stage_in out now world) (stage_in out last world) others refl (λ answers. refl) (λ changes first is. is) (there.says others agree);
         roomed = there.roomed;
@@ -301,7 +304,7 @@ none_due environment reported reported_now before out now last world new goes ca
 })
 
 -- a world that is under way in a play is where some of its due events were applied, after a call that applied nothing too
-pub within : (why : StoreFault) (environment : Environment) (course : Course) (begun : Replies → ReplayState) (reported : ℕ) (start now : Stage) (counts : SourceCounts) → Lasts why now.counts counts → IsUnderWay environment course begun reported start now →
+pub within : (why : StoreFault) (environment : Environment) (course : Course) (begun : Replies → ReplayState) (reported : ℕ) (start : Beginning) (now : Stage) (counts : SourceCounts) → Lasts why now.counts counts → IsUnderWay environment course begun reported start now →
     IsWithin (NotApplied why) environment course begun start (onward now counts now.world)
 within why environment course begun reported start now counts last under_way =
     let honest : (contents : ℕ → Option Bytes) → environment.known ≡ Some contents → AgreeOnApplied now.world under_way.leads.explained.replies (replies_there contents now.world) =
@@ -322,11 +325,11 @@ within why environment course begun reported start now counts last under_way =
       made = under_way.leads.made;
       fetched = under_way.leads.explained.counts under_way.leads.explained.replies (λ q r h. refl);
       source_fetched = λ contents is. under_way.leads.explained.counts (replies_there contents now.world) (honest contents is);
-      counted = counted_last why start.counts now.counts counts under_way.leads.made now.world.played.side last under_way.leads.counted;
+      counted = counted_last why start.counts now.counts counts start.world.played.side under_way.leads.made now.world.played.side last under_way.leads.counted;
     }
 
 -- an event was applied, and isn't told wholly
-within_untold : (routes : Option (List Route)) (report : Report) (why : Unwritten) (contents : Option Contents) (folder : List ℕ) (limit : ℕ) (course : Course) (begun : Replies → ReplayState) (reported : ℕ) (start before now : Stage) →
+within_untold : (routes : Option (List Route)) (report : Report) (why : Unwritten) (contents : Option Contents) (folder : List ℕ) (limit : ℕ) (course : Course) (begun : Replies → ReplayState) (reported : ℕ) (start : Beginning) (before now : Stage) →
     (u : IsUnderWay (environment routes report contents folder limit) course begun reported start before) → LeadsOn (environment routes report contents folder limit) course reported start before now u.leads →
     TellsStepBy report reported (step_between before now) before.output now.output (Err why) → IsWithin (Untold why) (environment routes report contents folder limit) course begun start now
 within_untold routes report why contents folder limit course begun reported start before now u on tells =
@@ -354,7 +357,7 @@ within_untold routes report why contents folder limit course begun reported star
     }
 
 -- it is so whatever the versions are by which the pages are mapped
-pub within_mapped : (why : StoreFault) (environment : Environment) (course : Course) (begun : Replies → ReplayState) (start now : Stage) (mapped : Mapped) → IsWithin (NotApplied why) environment course begun start now →
+pub within_mapped : (why : StoreFault) (environment : Environment) (course : Course) (begun : Replies → ReplayState) (start : Beginning) (now : Stage) (mapped : Mapped) → IsWithin (NotApplied why) environment course begun start now →
     IsWithin (NotApplied why) environment course begun start (with_mapped now mapped)
 within_mapped why environment course begun start now mapped x =
     let says : (reported : ℕ) (others : Replies) → HasReported environment.report course reported start now others → HasReported environment.report course reported start (with_mapped now mapped) others =

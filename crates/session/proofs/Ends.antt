@@ -1,12 +1,12 @@
 -- What a world at rest and at the end shows.
-use Rattle.std.proofs.Common.{refl, sym, subst, ◌∙◌, ap, inl, inr, ◌≡◌, ℕ, ◌-◌, ◌^◌, ◌<◌, ◌≤◌, length, arith, Bool, true, false, not, List, [], ◌∷◌, ◌++◌, append-nil, Option, None, Some, IfSome, Result, Err}
+use Rattle.std.proofs.Common.{refl, sym, subst, ◌∙◌, ap, inl, inr, ◌≡◌, ℕ, ◌+◌, ◌-◌, ◌^◌, ◌<◌, ◌≤◌, length, arith, Bool, true, false, not, List, [], ◌∷◌, ◌++◌, append-nil, Option, None, Some, IfSome, Result, Err}
 use Rattle.rising.specs.Rising.{Each}
 use Rattle.wq_io.specs.Streams.{IsAtEnd, Rose}
 use Rattle.entity_model.specs.declared.event.Event.{Event}
 use Rattle.entity_state.specs.State.{is_kept}
 use Rattle.delivery.specs.declared.Delivery.{Delivery}
 use Rattle.reorder_buffer.specs.Buffered.{first_due}
-use Rattle.replay_model.specs.Acceptance.{due, known, late, version_in_force}
+use Rattle.replay_model.specs.Acceptance.{due, known, late}
 use Rattle.replay_model.specs.Entries.{has_open_revision, late_events}
 use Rattle.replay_model.specs.Fate.{events_of, fate, in_order}
 use Rattle.replay_model.specs.Records.{Bytes, Records, is_settled, record_of}
@@ -27,9 +27,9 @@ use Rattle.transcript.specs.declared.write.Unwritten.TheVariants.{WriteFault as 
 use Rattle.transcript.specs.Printing.{Output, Prints}
 use Rattle.patch_stream.specs.Stream.{changes}
 use Rattle.session.specs.Counts.{RoseBy, HasCounted}
-use Rattle.session.specs.Course.{Course, course_after, course_ended, course_to_end}
+use Rattle.session.specs.Course.{Course, course_after, course_ended, course_to_end, version_at}
 use Rattle.session.specs.Headline.{BrokenOff, HasFates, HasReplayed, HasTakenAll, HoldsRightly, IsInterrupted, IsPlayed, IsReplayed, NamesRightly, StandsAtMapping, StandsAtPage, Stopped}
-use Rattle.session.specs.Moment.{Moment, Run, Environment, Stage, with_output, horizon_at}
+use Rattle.session.specs.Moment.{Beginning, IsFirst, Moment, Run, Environment, Stage, horizon_at, start_of, with_output}
 use Rattle.session.specs.Reading.{AreDeliveries}
 use Rattle.session.specs.Remapping.{IsLeftStale, Mapped, mapped_by}
 use Rattle.session.specs.Sections.{sections_of}
@@ -49,12 +49,13 @@ use Rattle.term_pool.specs.declared.fault.PoolFault.{PoolFault as StoreFault}
 use Rattle.term_pool.specs.declared.fault.PoolFault.TheVariants.{Full as NoRoom, OutOfMemory as Starved}
 use Rattle.session.specs.Taking.{AtEnd, HoldsDocuments, IsHeldUp, IsLeft, Leads, judgement, replies_there}
 use Rattle.words.specs.Options.{closes, max_bytes_of}
+use Rattle.session.proofs.FromNothing.{ended_first, led_first}
 use Rattle.session.proofs.Needed.{all_met, due-none}
 use Rattle.session.proofs.Reports.{all_reported, steps-none}
 use Rattle.session.proofs.Answers.{closing_held_by}
 
 -- where no event is due, a world that leads to a play is played
-abbrev pub is_played : (environment : Environment) (course : Course) (reported : ℕ) (start now : Stage) → Leads environment course reported start now → first_due now.world.buffer ≡ None → now.mapped ≡ mapped_by course.version now.world.played.records →
+abbrev pub is_played : (environment : Environment) (course : Course) (reported : ℕ) (start : Beginning) (now : Stage) → Leads environment course reported start now → first_due now.world.buffer ≡ None → now.mapped ≡ mapped_by course.version now.world.played.records →
     IsPlayed environment course start now
 is_played environment course reported start now x rests mapped = record {
   replies = x.explained.replies;
@@ -64,14 +65,14 @@ is_played environment course reported start now x rests mapped = record {
   roomed = all_met environment.limit _ _ (due-none course.version x.explained.replies now.world rests) (x.roomed x.explained.replies (λ q r h. refl));
   documents = x.documents;
   mapped = mapped;
-  counted = subst (λ (n : ℕ). HasCounted start.counts now.counts n now.world.played.side) (Explained-fetches judgement environment.known course.state course.fetched x.made now.world x.explained rests) x.counted;
+  counted = subst (λ (n : ℕ). HasCounted start.counts now.counts start.world.played.side n now.world.played.side) (Explained-fetches judgement environment.known course.state course.fetched x.made now.world x.explained rests) x.counted;
   source = Explained-source judgement environment.known course.state course.fetched x.made now.world x.explained rests;
   source_says = λ contents is.
       all_reported environment.report course reported start now (replies_there contents now.world) rests (x.says (replies_there contents now.world) (λ q r h. sym (x.explained.honest contents is q r)));
   source_roomed = λ contents is.
       all_met environment.limit _ _ (due-none course.version (replies_there contents now.world) now.world rests) (x.roomed (replies_there contents now.world) (λ q r h. sym (x.explained.honest contents is q r)));
   source_counted = λ contents is.
-      subst (λ (n : ℕ). HasCounted start.counts now.counts n now.world.played.side) (Explained-source_fetches judgement environment.known course.state course.fetched x.made now.world x.explained rests contents is) x.counted;
+      subst (λ (n : ℕ). HasCounted start.counts now.counts start.world.played.side n now.world.played.side) (Explained-source_fetches judgement environment.known course.state course.fetched x.made now.world x.explained rests contents is) x.counted;
 }
 
 fates : (closed : Bool) (hz : Option ℕ) (ds : List Delivery) (world : ReplayState) (replies : Replies) → played hz closed replies ds ≡ world.played → HasFates closed hz ds world
@@ -105,59 +106,62 @@ module _ (environment : Environment) (closed : Bool) (hz : Option ℕ) (ds : Lis
   }
 
 -- where a play of deliveries leads, the world has the states, holds and names what it should
-abbrev is_replayed : (environment : Environment) (course : Course) (ds : List Delivery) (start now : Stage) → ((replies : Replies) → played (horizon_at start) course.closed replies ds ≡ (course.state replies).played) →
+abbrev is_replayed : (environment : Environment) (course : Course) (ds : List Delivery) (start : Beginning) (now : Stage) →
+    (IsFirst start → (replies : Replies) → played (horizon_at start) course.closed replies ds ≡ (course.state replies).played) →
     IsPlayed environment course start now → IsReplayed environment course ds start now
-is_replayed environment course ds start now leads play =
-    let whole : played (horizon_at start) course.closed play.replies ds ≡ now.world.played = leads play.replies ∙ ap (λ (w : ReplayState). w.played) (sym play.is) in
-    let source : (contents : ℕ → Option Bytes) → environment.known ≡ Some contents → played (horizon_at start) course.closed (replies_there contents now.world) ds ≡ now.world.played =
-    λ contents is. leads (replies_there contents now.world) ∙ ap (λ (w : ReplayState). w.played) (sym (play.source contents is)) in
-    record {
-      played = play;
-      fates = fates course.closed (horizon_at start) ds now.world play.replies whole;
-      holds = holds environment course.closed (horizon_at start) ds now.world play.replies whole source play.documents;
-      names = names environment course.closed (horizon_at start) ds now.world play.replies whole source;
-    }
+is_replayed environment course ds start now leads play = record {
+  played = play;
+  fates = λ first. fates course.closed (horizon_at start) ds now.world play.replies (whole first);
+  holds = λ first. holds environment course.closed (horizon_at start) ds now.world play.replies (whole first) (source first) play.documents;
+  names = λ first. names environment course.closed (horizon_at start) ds now.world play.replies (whole first) (source first);
+}
+  where
+    whole : IsFirst start → played (horizon_at start) course.closed play.replies ds ≡ now.world.played
+    whole first = leads first play.replies ∙ ap (λ (w : ReplayState). w.played) (sym play.is)
+
+    source : IsFirst start → (contents : ℕ → Option Bytes) → environment.known ≡ Some contents → played (horizon_at start) course.closed (replies_there contents now.world) ds ≡ now.world.played
+    source first contents is = leads first (replies_there contents now.world) ∙ ap (λ (w : ReplayState). w.played) (sym (play.source contents is))
 
 -- where the input ends the deliveries, and they were taken with the end, they were replayed
 pub replayed : (run : Run) (before now : Moment) (ds : List Delivery) (reported : ℕ) → closes run.choices ≡ true → IsAtEnd now.input.left → IfSome before.input.left (λ bytes. AreDeliveries (max_bytes_of run.choices) bytes ds) →
-    AtEnd run.environment ds reported before.stage now.stage → (numbers : Numbers) → HasTakenAll run numbers before now
+    AtEnd run.environment ds reported (start_of run before) now.stage → (numbers : Numbers) → HasTakenAll run numbers before now
 replayed run before now ds reported closed read are at_end numbers =
-    let Replay : Bool → Type 0 = λ b. IsReplayed run.environment (course_ended run.environment.routes b ds before.stage) ds before.stage now.stage in
+    let Replay : Bool → Type 0 = λ b. IsReplayed run.environment (course_ended run.environment.routes b ds (start_of run before)) ds (start_of run before) now.stage in
     record {
       replayed = record {
         deliveries = ds;
         read = read;
         are = are;
-        replay = subst Replay (sym closed) (is_replayed run.environment (course_to_end run.environment.routes ds before.stage) ds before.stage now.stage (λ replies. refl)
-            (is_played run.environment (course_to_end run.environment.routes ds before.stage) reported before.stage now.stage at_end.leads at_end.rests at_end.mapped));
+        replay = subst Replay (sym closed) (is_replayed run.environment (course_to_end run.environment.routes ds (start_of run before)) ds (start_of run before) now.stage (λ first replies. ap (λ (w : ReplayState). w.played) (sym (ended_first (start_of run before) first replies ds)))
+            (is_played run.environment (course_to_end run.environment.routes ds (start_of run before)) reported (start_of run before) now.stage at_end.leads at_end.rests at_end.mapped));
       };
       counted = λ open_still. let never : true ≡ false = sym closed ∙ open_still in cc;
     }
 
 -- what the counts are of a play where no event is due
-numbers_are : (report : Report) (course : Course) (ds : List Delivery) (reported matched : ℕ) (start now : Stage) (replies : Replies) → first_due now.world.buffer ≡ None → HasAnswered report reported ds → HasReported report course reported start now replies →
-    matched ≡ matches ds → numbers_after report reported matched ≡ numbers_of report course.steps ds replies
+numbers_are : (report : Report) (course : Course) (ds : List Delivery) (reported matched : ℕ) (start : Beginning) (now : Stage) (replies : Replies) → first_due now.world.buffer ≡ None → HasAnswered report reported ds start →
+    HasReported report course reported start now replies → matched ≡ start.numbered.matches + matches ds → numbers_after start.numbered report reported matched ≡ numbers_of report course.steps ds start replies
 numbers_are Answers course ds reported matched start now replies none answered says matches_are =
-    ap (λ n. numbers_after Answers n matched) answered ∙ ap (λ m. numbers_after Answers (asks ds) m) matches_are
-numbers_are Changes course ds reported matched start now replies none answered says matches_are = ap (λ n. numbers_after Changes n 0) (told_are)
+    ap (λ n. numbers_after start.numbered Answers n matched) answered ∙ ap (λ m. numbers_after start.numbered Answers (start.numbered.asks + asks ds) m) matches_are
+numbers_are Changes course ds reported matched start now replies none answered says matches_are = ap (λ n. numbers_after start.numbered Changes n matched) told_are
   where
-    told_are : reported ≡ changes (course.steps replies)
-    told_are = says.counted ∙ ap changes (sym (append-nil says.steps) ∙ ap (λ l. says.steps ++ l) (sym (steps-none course.version replies now.world none)) ∙ says.are)
+    told_are : reported ≡ start.numbered.patches + changes (course.steps replies)
+    told_are = says.counted ∙ ap (λ l. start.numbered.patches + changes l) (sym (append-nil says.steps) ∙ ap (λ l. says.steps ++ l) (sym (steps-none course.version replies now.world none)) ∙ says.are)
 
 -- the deliveries were taken, and there may be more
 record Paused (run : Run) (closed : Bool) (numbers : Numbers) (ds : List Delivery) (before now : Moment) : Type 0 where
-  replay : IsReplayed run.environment (course_ended run.environment.routes closed ds before.stage) ds before.stage now.stage
-  counted : numbers ≡ numbers_of run.environment.report (course_ended run.environment.routes closed ds before.stage).steps ds replay.played.replies
+  replay : IsReplayed run.environment (course_ended run.environment.routes closed ds (start_of run before)) ds (start_of run before) now.stage
+  counted : numbers ≡ numbers_of run.environment.report (course_ended run.environment.routes closed ds (start_of run before)).steps ds (start_of run before) replay.played.replies
 
-pub paused : (run : Run) (before now : Moment) (reported matched : ℕ) → closes run.choices ≡ false → HasTaken run reported matched before now → HasTakenAll run (numbers_after run.environment.report reported matched) before now
+pub paused : (run : Run) (before now : Moment) (reported matched : ℕ) → closes run.choices ≡ false → HasTaken run reported matched before now → HasTakenAll run (numbers_after run.numbered run.environment.report reported matched) before now
 paused run before now reported matched open_still taken =
-    let numbers : Numbers = numbers_after run.environment.report reported matched in
+    let numbers : Numbers = numbers_after run.numbered run.environment.report reported matched in
     let ds : List Delivery = taken.deliveries in
-    let course : Course = course_after run.environment.routes ds before.stage in
+    let course : Course = course_after run.environment.routes ds (start_of run before) in
     let here : Paused run false numbers ds before now = record {
-      replay = is_replayed run.environment course ds before.stage now.stage (λ replies. refl)
-          (is_played run.environment course reported before.stage now.stage taken.at_rest.leads taken.at_rest.rests taken.at_rest.mapped);
-      counted = numbers_are run.environment.report course ds reported matched before.stage now.stage taken.at_rest.leads.explained.replies taken.at_rest.rests taken.at_rest.answered
+      replay = is_replayed run.environment course ds (start_of run before) now.stage (λ first replies. ap (λ (w : ReplayState). w.played) (sym (led_first (start_of run before) first replies ds)))
+          (is_played run.environment course reported (start_of run before) now.stage taken.at_rest.leads taken.at_rest.rests taken.at_rest.mapped);
+      counted = numbers_are run.environment.report course ds reported matched (start_of run before) now.stage taken.at_rest.leads.explained.replies taken.at_rest.rests taken.at_rest.answered
           (taken.at_rest.leads.says taken.at_rest.leads.explained.replies (λ q r h. refl)) taken.matched_are;
     } in
     let there = subst (λ b. Paused run b numbers ds before now) (sym open_still) here in
@@ -166,10 +170,16 @@ paused run before now reported matched open_still taken =
       counted = λ same. there.counted;
     }
 
--- no fetch failed where the count of faults stands still below its last value
-pub none_failed : (failed : List Event) (before now : ℕ) → RoseBy (length failed) before now → now ≡ before → now < 2 ^ 64 - 1 → failed ≡ []
-none_failed [] before now rose same below = refl
-none_failed (e ∷ es) before now rose same below = absurd (omega (arith, rose below))
+-- no fetch failed where none was named before and the count of faults stands still below its last value
+pub none_failed : (failed : List Event) (named before now : ℕ) → RoseBy (length failed) before (named + now) → named ≡ 0 → now ≡ before → now < 2 ^ 64 - 1 → failed ≡ []
+none_failed [] named before now rose none same below = refl
+none_failed (e ∷ es) named before now rose none same below =
+    let there : named + now < 2 ^ 64 - 1 = omega arith in
+    absurd (omega (arith, rose there))
+
+-- where nothing was delivered before, none was named
+pub none_named_first : (start : Beginning) → IsFirst start → length (failed_events start.world.played.side) ≡ 0
+none_named_first start first = ap (λ (w : ReplayState). length (failed_events w.played.side)) first.world
 
 -- what is printed at the end was printed, by the version of the mapping that is in force
 pub prints_asked : (routes : Option (List Route)) (version : MappingVersion) (sections : Sections) (mapped : Mapped) (p : Played) (old new : Output) (result : Result (Unit {0}) Unwritten) → mapped ≡ mapped_by version p.records →
@@ -206,7 +216,7 @@ page_untold Refused run before now limit records between earlier rose stands = i
 
 -- the sections weren't all written
 pub broken_off : (why : Unwritten) (run : Run) (before now : Moment) (out : Output) → run.environment.report ≡ Answers → (replayed : HasReplayed run before now) → before.stage.output.faults ≤ now.stage.output.faults →
-    Prints (closing_by run.environment.routes (version_in_force replayed.deliveries) (sections_of run.choices) now.stage.world.played) now.stage.output out (Err why) → Stopped (stop_of_unwritten why) run before (record now { stage = with_output now.stage out })
+    Prints (closing_by run.environment.routes (version_at replayed.deliveries (start_of run before)) (sections_of run.choices) now.stage.world.played) now.stage.output out (Err why) → Stopped (stop_of_unwritten why) run before (record now { stage = with_output now.stage out })
 broken_off why run before now out answers replayed earlier prints =
     let broken : BrokenOff why run before (record now { stage = with_output now.stage out }) = record { answers = answers; between = now.stage.output; replayed = replayed; cut_short = prints.outcome } in
     interrupted why run before (record now { stage = with_output now.stage out }) now.stage.output earlier (λ fault. (prints.outcome.failed fault).1) (inl (inr broken))

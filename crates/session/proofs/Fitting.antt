@@ -13,7 +13,7 @@ use Rattle.entity_model.specs.declared.id.EntityId.{EntityId}
 use Rattle.entity_model.specs.declared.mapping.MappingVersion.{MappingVersion}
 use Rattle.entity_model.specs.declared.mapping.MappingVersion.TheVariants.{One, Two}
 use Rattle.entity_model.specs.EntityId.{entity_cmp}
-use Rattle.replay_model.specs.Acceptance.{events, version_in_force}
+use Rattle.replay_model.specs.Acceptance.{events}
 use Rattle.replay_model.specs.Explained.{revision_wanted}
 use Rattle.replay_model.specs.Play.{Replies}
 use Rattle.replay_model.specs.Records.{Bytes, Records}
@@ -29,7 +29,9 @@ use Rattle.term_pool.specs.declared.fault.PoolFault.TheVariants.{Full as NoRoom}
 use Rattle.told_pages.specs.Told.{terms_there, versions_told}
 use Rattle.told_pages.proofs.Fits.{ByTwoTold, fits}
 use Rattle.session.specs.Headline.{StandsAtMapping, Stopped}
-use Rattle.session.specs.Moment.{Moment, Run, horizon_at}
+use Rattle.session.specs.Course.{led_to, version_at}
+use Rattle.session.proofs.FromNothing.{led_first, version_first}
+use Rattle.session.specs.Moment.{IsFirst, Moment, Run, horizon_at, start_of}
 use Rattle.session.specs.Reading.{AreDeliveries}
 use Rattle.session.specs.Remapping.{HasNoRoom, IsFullOfStale, Mapped, mapped_by, next_stale_in, remapped_some}
 use Rattle.session.specs.Stops.{StopsAtEnd, StopsWithin}
@@ -75,7 +77,7 @@ no_number : (a b c : ℕ) → a < b → b ≤ c → c ≤ a → ⊥
 no_number a b c over within enough = omega (arith, over, within, enough)
 
 module _ (run : Run) (before now : Moment) (bytes : List ℕ) (ds : List Delivery) (contents : ℕ → Option Bytes) (left : before.input.left ≡ Some bytes) (are : AreDeliveries (max_bytes_of run.choices) bytes ds)
-    (known : run.environment.known ≡ Some contents) where
+    (known : run.environment.known ≡ Some contents) (begins : IsFirst (start_of run before)) where
   abbrev replies : Replies
   replies = replies_there contents now.stage.world
 
@@ -90,9 +92,14 @@ module _ (run : Run) (before now : Moment) (bytes : List ℕ) (ds : List Deliver
     named : WorldNamed contents (events ds) now.stage.world
     mapped : MappedTold ds now.stage.mapped
 
-  one_version : (first : List Delivery) → Begins ds first → now.stage.mapped ≡ mapped_by (version_in_force first) records → MappedTold ds now.stage.mapped
-  one_version first b is =
-      subst (MappedTold ds) (sym is) (record { version = begins-in_force ds first b; by_two = all_told ds (version_in_force first) records (begins-in_force ds first b) })
+  told_first : (first : List Delivery) → Begins ds first → In (version_at first (start_of run before)) (versions_told ds)
+  told_first first b = subst (λ v. In v (versions_told ds)) (sym (version_first (start_of run before) begins replies first)) (begins-in_force ds first b)
+
+  one_version : (first : List Delivery) → Begins ds first → now.stage.mapped ≡ mapped_by (version_at first (start_of run before)) records → MappedTold ds now.stage.mapped
+  one_version first b is = subst (MappedTold ds) (sym is) (record { version = told_first first b; by_two = all_told ds (version_at first (start_of run before)) records (told_first first b) })
+
+  led : (first : List Delivery) → led_to first (start_of run before) replies ≡ following (horizon_at (start_of run before)) replies first
+  led first = led_first (start_of run before) begins replies first
 
   brought_within : StopsWithin (NotApplied NoRoom) run before now → Brought
   brought_within s =
@@ -100,7 +107,8 @@ module _ (run : Run) (before now : Moment) (bytes : List ℕ) (ds : List Deliver
       record {
         named = subst (WorldNamed contents (events ds)) (sym (s.within.source contents known))
             (some_named contents (events ds) replies gives s.within.steps _
-            (perhaps_named contents (events ds) replies gives (horizon_at before.stage) s.deliveries s.last (begins-events ds (s.deliveries ++ option_to_list s.last) b)));
+            (subst (λ w. WorldNamed contents (events ds) (entered_perhaps w s.last)) (sym (led s.deliveries))
+            (perhaps_named contents (events ds) replies gives (horizon_at (start_of run before)) s.deliveries s.last (begins-events ds (s.deliveries ++ option_to_list s.last) b))));
         mapped = one_version s.deliveries (begins-fewer ds s.deliveries (option_to_list s.last) b) s.mapped;
       }
 
@@ -113,8 +121,9 @@ module _ (run : Run) (before now : Moment) (bytes : List ℕ) (ds : List Deliver
       record {
         named = subst (WorldNamed contents (events ds)) (sym (s.within.source contents known))
             (some_named contents (events ds) replies gives s.within.steps _
-            (end_named contents (events ds) replies gives (following (horizon_at before.stage) replies s.deliveries)
-            (following_named contents (events ds) replies gives (horizon_at before.stage) s.deliveries (begins-events ds s.deliveries b))));
+            (end_named contents (events ds) replies gives (led_to s.deliveries (start_of run before) replies)
+            (subst (WorldNamed contents (events ds)) (sym (led s.deliveries))
+            (following_named contents (events ds) replies gives (horizon_at (start_of run before)) s.deliveries (begins-events ds s.deliveries b)))));
         mapped = one_version s.deliveries b s.mapped;
       }
 
@@ -124,10 +133,11 @@ module _ (run : Run) (before now : Moment) (bytes : List ℕ) (ds : List Deliver
       let fewer_ones = begins-fewer ds s.deliveries (Mapping s.version ∷ []) b in
       record {
         named = subst (WorldNamed contents (events ds)) (sym (s.played.source contents known))
-            (following_named contents (events ds) replies gives (horizon_at before.stage) s.deliveries (begins-events ds s.deliveries fewer_ones));
+            (subst (WorldNamed contents (events ds)) (sym (led s.deliveries))
+            (following_named contents (events ds) replies gives (horizon_at (start_of run before)) s.deliveries (begins-events ds s.deliveries fewer_ones)));
         mapped = subst (MappedTold ds) (sym s.mapped) (some_told ds s.steps records _ (record {
           version = begins-mapping ds s.deliveries s.version b;
-          by_two = all_told ds (version_in_force s.deliveries) records (begins-in_force ds s.deliveries fewer_ones);
+          by_two = all_told ds (version_at s.deliveries (start_of run before)) records (told_first s.deliveries fewer_ones);
         }));
       }
 

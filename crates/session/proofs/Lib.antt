@@ -1,3 +1,4 @@
+mod Along
 mod Answers
 mod Beginnings
 mod Complete
@@ -6,9 +7,11 @@ mod DrillPlaying
 mod Drills
 mod Due
 mod Ends
+mod Explaining
 mod Finding
 mod Fitting
 mod Followed
+mod FromNothing
 mod Needed
 mod Ongoing
 mod Opening

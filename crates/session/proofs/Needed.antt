@@ -4,13 +4,12 @@ use Rattle.std.specs.Ordering.{eq_by_cmp}
 use Rattle.std.specs.Set.{remove_key}
 use Rattle.std.proofs.lemmas.Cmp.{tied_itself}
 use Rattle.std.proofs.lemmas.List.{append_cancel_left}
-use Rattle.std.proofs.lemmas.List.Concat.{flat_map-append}
 use Rattle.rising.specs.Rising.{IsRising}
 use Rattle.rising.proofs.FirstPassing.{filter-first, filter-none}
 use Rattle.rdf_term.specs.declared.triple.Triple.{Triple}
 use Rattle.rdf_term.specs.Order.{triple_cmp}
 use Rattle.delivery.specs.declared.Delivery.{Delivery}
-use Rattle.delivery.specs.declared.Delivery.TheVariants.{Watermark}
+use Rattle.delivery.specs.declared.Delivery.TheVariants.{Watermark, Mapping}
 use Rattle.entity_model.specs.declared.event.Event.{Event}
 use Rattle.entity_model.specs.declared.id.EntityId.{EntityId}
 use Rattle.entity_model.specs.declared.mapping.MappingVersion.{MappingVersion}
@@ -24,16 +23,13 @@ use Rattle.side_output.specs.declared.entry.Entry.TheVariants.{Late, Revision}
 use Rattle.revisions.specs.Revisions.{Contents}
 use Rattle.reorder_buffer.specs.Watermarks.{is_due}
 use Rattle.reorder_buffer.specs.Buffered.{first_due}
-use Rattle.replay_model.specs.Acceptance.{arrivals, version_in_force}
 use Rattle.replay_model.specs.Explained.{is_fetching, revision_wanted}
-use Rattle.replay_model.specs.Play.{Replies, entry_of, held_after_fetch, play, record_after}
+use Rattle.replay_model.specs.Play.{Replies, entry_of, held_after_fetch, record_after}
 use Rattle.replay_model.specs.Records.{Bytes, Records, record_of}
-use Rattle.replay_model.specs.ReplayState.{ReplayState, after_applying, after_end, after_mark, following}
+use Rattle.replay_model.specs.ReplayState.{ReplayState, after_applying, after_mark}
 use Rattle.replay_model.specs.Union.{triples_held}
 use Rattle.replay_model.specs.Versions.{all_by, meaning_by, with_version}
-use Rattle.replay_model.proofs.Arrivals.{arrivals-push}
 use Rattle.replay_model.proofs.Explaining.{next_by}
-use Rattle.replay_model.proofs.Following.{newly_due-end, newly_due-watermark}
 use Rattle.replay_model.proofs.RecordOf.{record-after}
 use Rattle.replay_model.proofs.ToldContents.{Each-append}
 use Rattle.replay_model.proofs.Versions.{union-all}
@@ -46,8 +42,11 @@ use Rattle.world.specs.Meaning.{meaning}
 use Rattle.world.specs.Roomed.{room_with}
 use Rattle.world.specs.WorldState.{WorldState, first_of, next_stale, remapped, stale, stale_by, triples_anew, triples_of, with_version_of}
 use Rattle.world.proofs.ByVersion.{stale_remapped}
-use Rattle.session.specs.Needed.{HaveRoom, HaveRoomBefore, needed_anew, needed_at, needed_by, needed_by_all, needed_by_due, needed_by_pages, needed_for, needed_in, needed_to_end}
+use Rattle.replay_parts.specs.Checkpoint.{Checkpoint}
+use Rattle.session.specs.Along.{along, state_along, version_since}
+use Rattle.session.specs.Needed.{HaveRoom, HaveRoomBefore, needed_anew, needed_of_delivery, needed_by, needed_by_all, needed_by_due, needed_by_pages, needed_for}
 use Rattle.session.specs.Remapping.{Mapped, mapped_by, mapped_in}
+use Rattle.session.proofs.Along.{along-push, version-along}
 
 -- ---- needs and a limit
 
@@ -85,23 +84,21 @@ module _ (version : MappingVersion) (replies : Replies) (w : ReplayState) where
 
 -- ---- deliveries
 
-module _ (hz : Option ℕ) (replies : Replies) (ds : List Delivery) where
-  pub needed-push : (d : Delivery) → needed_in hz replies (ds ++ d ∷ []) ≡ needed_in hz replies ds ++ needed_at hz replies (record { before = ds; delivery = d })
-  needed-push d =
-      ap (flat_map (needed_at hz replies)) (arrivals-push ds d)
-      ∙ flat_map-append (needed_at hz replies) (arrivals ds) (record { before = ds; delivery = d } ∷ [])
-      ∙ ap (λ l. needed_in hz replies ds ++ l) (append-nil (needed_at hz replies (record { before = ds; delivery = d })))
-
-  -- a delivery that applies and remaps nothing
-  pub needed-still : (d : Delivery) → needed_at hz replies (record { before = ds; delivery = d }) ≡ [] → needed_in hz replies (ds ++ d ∷ []) ≡ needed_in hz replies ds
-  needed-still d none = needed-push d ∙ ap (λ l. needed_in hz replies ds ++ l) none ∙ append-nil (needed_in hz replies ds)
-
-  pub needed-watermark : (m : ℤ) → needed_in hz replies (ds ++ Watermark m ∷ []) ≡ needed_in hz replies ds ++ needed_by_due (version_in_force ds) replies (after_mark (following hz replies ds) m)
+module _ (replies : Replies) (c : Checkpoint) (ds : List Delivery) where
+  pub needed-watermark : (m : ℤ) → along needed_of_delivery replies c (ds ++ Watermark m ∷ []) ≡ along needed_of_delivery replies c ds ++ needed_by_due (version_since c.version ds) replies (after_mark (state_along replies c ds) m)
   needed-watermark m =
-      needed-push (Watermark m) ∙ ap (λ es. needed_in hz replies ds ++ needed_by_all (version_in_force ds) replies (play hz replies ds) es) (newly_due-watermark hz ds m)
+      along-push needed_of_delivery replies c ds (Watermark m)
+      ∙ ap (λ v. along needed_of_delivery replies c ds ++ needed_by_due v replies (after_mark (state_along replies c ds) m)) (version-along replies c ds)
 
-  pub needed-end : needed_to_end hz replies ds ≡ needed_in hz replies ds ++ needed_by_due (version_in_force ds) replies (after_end (following hz replies ds))
-  needed-end = ap (λ es. needed_in hz replies ds ++ needed_by_all (version_in_force ds) replies (play hz replies ds) es) (newly_due-end hz ds)
+  -- the records where these deliveries lead
+  abbrev led_records : Records
+  led_records = (state_along replies c ds).played.records
+
+  pub needed-mapping : (v : MappingVersion) →
+      along needed_of_delivery replies c (ds ++ Mapping v ∷ []) ≡ along needed_of_delivery replies c ds ++ needed_anew led_records (record { version = v; by_two = all_by (version_since c.version ds) led_records })
+  needed-mapping v =
+      along-push needed_of_delivery replies c ds (Mapping v)
+      ∙ ap (λ u. along needed_of_delivery replies c ds ++ needed_anew led_records (record { version = v; by_two = all_by u led_records })) (version-along replies c ds)
 
 -- ---- one due event is applied
 

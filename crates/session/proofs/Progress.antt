@@ -1,5 +1,5 @@
 -- How far the taking of lines has come, and what follows where it goes on, stops or ends.
-use Rattle.std.proofs.Common.{refl, sym, subst, ◌∙◌, ap, inl, ⊎_elim, ◌≡◌, ◌⊎◌, ℕ, ◌+◌, ◌^◌, ◌<◌, ◌≤◌, true, false, List, [], ◌∷◌, ◌++◌, length, filter, Option, None, Some, IfSome, Ok, Err, arith, append-nil}
+use Rattle.std.proofs.Common.{refl, sym, subst, ◌∙◌, ap, inl, ⊎_elim, ◌≡◌, ◌⊎◌, ℕ, ◌+◌, ◌^◌, ◌<◌, ◌≤◌, true, false, List, [], ◌∷◌, ◌++◌, length, Option, None, Some, IfSome, Ok, Err, arith, append-nil}
 use Rattle.wq_io.specs.Streams.{IsAtEnd, LastRead}
 use Rattle.wq_io.specs.Lines.{HasCause, IsSound, Leaves, ReadsAsNeeded, Reading, fresh, longest_line, unread}
 use Rattle.wq_io.specs.declared.lines.LineFault.{LineFault}
@@ -7,7 +7,6 @@ use Rattle.wq_io.specs.declared.lines.LineFault.TheVariants.{ReadFault as NotRea
 use Rattle.entity_model.specs.declared.id.EntityId.{EntityId}
 use Rattle.entity_model.specs.declared.mapping.MappingVersion.{MappingVersion}
 use Rattle.entity_model.specs.declared.mapping.MappingVersion.TheVariants.{One}
-use Rattle.replay_model.specs.Acceptance.{version_in_force}
 use Rattle.replay_model.specs.Versions.{all_by}
 use Rattle.delivery.specs.declared.Delivery.{Delivery}
 use Rattle.delivery.specs.declared.Delivery.TheVariants.{Event as Told, Watermark, Ask, Mapping, Match}
@@ -17,21 +16,21 @@ use Rattle.entity_state.specs.declared.record.Record.{Record}
 use Rattle.replay_model.specs.Play.{Replies}
 use Rattle.replay_model.specs.Records.{Bytes, Records}
 use Rattle.replay_model.specs.Replies.{HoldsDocument}
-use Rattle.replay_model.specs.ReplayState.{ReplayState, following, nothing_delivered_within}
+use Rattle.replay_model.specs.ReplayState.{ReplayState, nothing_delivered_within}
+use Rattle.rising.proofs.Bools.{clash}
+use Rattle.reorder_buffer.specs.Buffered.{first_due}
 use Rattle.replay_model.specs.Transcript.{asks, matches}
-use Rattle.wq_io.specs.Streams.{after_known}
 use Rattle.world.specs.Meaning.{meaning}
-use Rattle.replay_model.proofs.Explaining.{Explained-start}
 use Rattle.replay_model.proofs.FetchCounts.{risen_by-none}
 use Rattle.replay_model.proofs.RecordOf.{record_of-empty}
 use Rattle.transcript.specs.declared.write.Unwritten.{Unwritten}
 use Rattle.transcript.specs.Printing.{IsCutShort, Output}
 use Rattle.transcript.proofs.Parts.{after_nothing}
 use Rattle.replica.specs.Record.{record_text}
-use Rattle.reorder_buffer.specs.Watermarks.{is_due}
-use Rattle.patch_stream.specs.Stream.{Step, changes, record_of_step, steps_anew, steps_applied, steps_of_play}
-use Rattle.subgraph.specs.declared.routes.Route.{Route}
+use Rattle.patch_stream.specs.Stream.{Step, changes, record_of_step, steps_anew}
 use Rattle.session.specs.Answering.{answer_held, answer_text}
+use Rattle.checkpoint.specs.declared.numbers.Numbers.{Numbers}
+use Rattle.subgraph.specs.declared.routes.Route.{Route}
 use Rattle.session.specs.declared.report.Report.{Report}
 use Rattle.session.specs.declared.report.Report.TheVariants.{Answers, Changes}
 use Rattle.session.specs.declared.stop.Halt.{Halt}
@@ -40,67 +39,75 @@ use Rattle.session.specs.declared.stop.Stop.{Stop}
 use Rattle.session.specs.declared.stop.Stop.TheVariants.{BadLine, OutOfMemory}
 use Rattle.term_pool.specs.declared.fault.PoolFault.TheVariants.{Full as NoRoom, OutOfMemory as Starved}
 use Rattle.session.specs.Counts.{SourceCounts}
-use Rattle.session.specs.Course.{course_after, course_begun, course_remapping}
+use Rattle.session.specs.Along.{along, steps_of_delivery}
+use Rattle.session.specs.Course.{course_after, course_begun, course_remapping, led_to, version_at}
 use Rattle.session.specs.Headline.{IsPlayed, IsPlayedAfter, StandsAtPage, StandsAtQuestion, Stopped}
 use Rattle.following.specs.Input.{Input}
-use Rattle.session.specs.Moment.{Moment, Run, Environment, Stage, horizon_at, onward, with_mapped, with_output}
+use Rattle.session.specs.Moment.{Beginning, Moment, Run, Environment, Stage, no_numbers, onward, standing, start_in, start_of, with_mapped, with_output}
 use Rattle.session.specs.Needed.{HaveRoomBefore, needed_anew}
 use Rattle.session.specs.Reading.{AreFirst, HasRead, TakesByNeed}
 use Rattle.session.specs.Remapping.{IsLeftStale, Mapped, mapped_by, remapped_some}
-use Rattle.session.specs.Report.{BreaksOffBy, HasAnswered, HasNumberLeft, HasReported, TellsBy}
+use Rattle.session.specs.Report.{BreaksOffBy, HasAnswered, HasNumberLeft, HasReported, TellsBy, reported_before}
 use Rattle.session.specs.Stop.{stop_of_fault, stop_of_halt}
 use Rattle.session.specs.Stops.{HasTaken, StopsWithin}
-use Rattle.session.specs.Taking.{AnswersInPart, AtRest, CutsOff, IsUntaken, IsWithin, RemapsInPart, RemapsPages, TakesDelivery, TakesInPart, judgement, turn}
+use Rattle.session.specs.Taking.{AnswersInPart, AtRest, CutsOff, IsStanding, IsUntaken, IsWithin, RemapsInPart, RemapsPages, TakesDelivery, TakesInPart, judgement, turn}
 use Rattle.words.specs.Options.{max_bytes_of}
-use Rattle.session.proofs.Deliveries.{asks-push, matches-push, is_answer, remapping_counted, remapping_leads, rest_within}
+use Rattle.session.proofs.Along.{asks-push, matches-push}
+use Rattle.session.proofs.Explaining.{explained_first}
+use Rattle.session.proofs.Needed.{due-none}
+use Rattle.session.proofs.Reports.{steps-none}
+use Rattle.session.proofs.Deliveries.{is_answer, remapping_counted, remapping_leads, rest_within}
 use Rattle.session.proofs.Due.{within_mapped}
 use Rattle.session.proofs.Ends.{halted, interrupted, is_played, left_stale, page_untold, rose_since}
-use Rattle.session.proofs.Answers.{answer_held_by, said_by-none}
+use Rattle.session.proofs.Answers.{answer_held_by}
 use Rattle.session.proofs.Reading.{HasLimits, IsNextLine, all_read, as_many, bad_line, first_lines, first_with, nothing_first, nothing_read, nothing_taken_of, over_long, past_limit, read_more, takes_on, whole_read}
 
--- where questions are answered, no more were than lines were read
-abbrev pub FewAnswers : Report → ℕ → ℕ → Type 0
-FewAnswers Answers reported given = reported ≤ given
-FewAnswers Changes reported given = Unit {0}
+-- where questions are answered, no more were since the run began than lines were read
+abbrev pub FewAnswers : Report → Numbers → ℕ → ℕ → Type 0
+FewAnswers Answers numbered reported given = reported ≤ numbered.asks + given
+FewAnswers Changes numbered reported given = Unit {0}
 
--- the lines so far were read, the world has taken them, so many asks were answered or records written, and so many of the lines are matches
+-- the lines so far were read, the world has taken them, so many asks were answered or records written, and so many matches were delivered,
+-- with those of earlier runs
 pub record Progress (run : Run) (before now : Moment) (reader : Reading) (reported matched : ℕ) : Type 0 where
   pub deliveries : List Delivery
   pub read : HasRead before.input.left reader now.input.left deliveries
   pub taken : IfSome before.input.left (λ bytes. TakesByNeed (max_bytes_of run.choices) bytes now.input.left)
-  pub at_rest : AtRest run.environment deliveries reported before.stage now.stage
+  pub at_rest : AtRest run.environment deliveries reported (start_of run before) now.stage
   pub earlier : before.input.faults ≤ now.input.faults
-  pub few : FewAnswers run.environment.report reported reader.given
-  pub counted : matched ≡ matches deliveries
-  pub few_matched : matched ≤ reader.given
+  pub few : FewAnswers run.environment.report run.numbered reported reader.given
+  pub counted : matched ≡ run.numbered.matches + matches deliveries
+  pub few_matched : matched ≤ run.numbered.matches + reader.given
   pub max : HasLimits (max_bytes_of run.choices) reader
   pub sound : IsSound reader
   pub going : reader.failed ≡ false
   pub ended : reader.ended ≡ true → IsAtEnd now.input.left
 
 -- nothing is reported before the first delivery
-nothing_reported : (routes : Option (List Route)) (report : Report) (s : Stage) (others : Replies) → s.world.buffer.waiting ≡ [] → HasReported report (course_after routes [] s) 0 s s others
-nothing_reported routes Answers s others none = sym (ap (after_known s.output.bytes) (said_by-none routes (horizon_at s) others) ∙ after_nothing s.output.bytes)
-nothing_reported routes Changes s others none = record {
+nothing_reported : (routes : Option (List Route)) (report : Report) (numbered : Numbers) (s : Stage) (others : Replies) → first_due s.world.buffer ≡ None →
+    HasReported report (course_after routes [] (start_in numbered s)) (reported_before report numbered) (start_in numbered s) s others
+nothing_reported routes Answers numbered s others none = sym (after_nothing s.output.bytes)
+nothing_reported routes Changes numbered s others none = record {
   steps = [];
-  are = ap (λ es. steps_applied One others s.world.played (filter (is_due s.world.buffer.closed s.world.buffer.mark) es)) none;
-  counted = refl;
+  are = steps-none s.mapped.version others s.world none;
+  counted = omega arith;
   bytes = sym (after_nothing s.output.bytes);
 }
 
-none_answered : (report : Report) → HasAnswered report 0 []
-none_answered Answers = refl
-none_answered Changes = tt
+none_answered : (report : Report) (start : Beginning) → HasAnswered report (reported_before report start.numbered) [] start
+none_answered Answers start = omega arith
+none_answered Changes start = tt
 
-no_answers : (report : Report) (given : ℕ) → FewAnswers report 0 given
-no_answers Answers given = omega arith
-no_answers Changes given = tt
+no_answers : (report : Report) (numbered : Numbers) (given : ℕ) → FewAnswers report numbered (reported_before report numbered) given
+no_answers Answers numbered given = omega arith
+no_answers Changes numbered given = tt
 
 -- and there is a number for one more
-pub numbers_left : (report : Report) (reported matched : ℕ) (reader : Reading) {limit : ℕ} → FewAnswers report reported reader.given → matched ≤ reader.given → IsSound reader → HasLimits limit reader → limit ≤ 2 ^ 40 → HasNumberLeft report reported matched
-numbers_left Answers reported matched reader few few_matched sound limits bounded =
-    (omega (arith, few, sound.counted, sound.bounded, sound.within, limits.bytes, bounded), omega (arith, few_matched, sound.counted, sound.bounded, sound.within, limits.bytes, bounded))
-numbers_left Changes reported matched reader few few_matched sound limits bounded = tt
+pub numbers_left : (report : Report) (numbered : Numbers) (reported matched : ℕ) (reader : Reading) {limit : ℕ} → numbered.asks ≤ 2 ^ 63 → numbered.matches ≤ 2 ^ 63 → FewAnswers report numbered reported reader.given →
+    matched ≤ numbered.matches + reader.given → IsSound reader → HasLimits limit reader → limit ≤ 2 ^ 40 → HasNumberLeft report reported matched
+numbers_left Answers numbered reported matched reader few_asks few_matches few few_matched sound limits bounded =
+    (omega (arith, few_asks, few, sound.counted, sound.bounded, sound.within, limits.bytes, bounded), omega (arith, few_matches, few_matched, sound.counted, sound.bounded, sound.within, limits.bytes, bounded))
+numbers_left Changes numbered reported matched reader few_asks few_matches few few_matched sound limits bounded = tt
 
 -- a delivery is one match at most
 pub one_match : (d : Delivery) → matches (d ∷ []) ≤ 1
@@ -111,40 +118,53 @@ one_match (Mapping v) = omega arith
 one_match (Match q) = omega arith
 
 -- the count of matches goes on
-pub match_counted : (matched : ℕ) (d : Delivery) (reader : Reading) {limit : ℕ} → matched ≤ reader.given → IsSound reader → HasLimits limit reader → limit ≤ 2 ^ 40 → matched + matches (d ∷ []) < 2 ^ 64
-match_counted matched d reader few sound limits bounded = omega (arith, few, one_match d, sound.counted, sound.bounded, sound.within, limits.bytes, bounded)
+pub match_counted : (numbered : Numbers) (matched : ℕ) (d : Delivery) (reader : Reading) {limit : ℕ} → numbered.matches ≤ 2 ^ 63 → matched ≤ numbered.matches + reader.given → IsSound reader → HasLimits limit reader → limit ≤ 2 ^ 40 →
+    matched + matches (d ∷ []) < 2 ^ 64
+match_counted numbered matched d reader few_matches few sound limits bounded = omega (arith, few_matches, few, one_match d, sound.counted, sound.bounded, sound.within, limits.bytes, bounded)
 
--- before the first delivery a world is at rest
-pub nothing_taken : (environment : Environment) (h : Option ℕ) (output : Output) (counts : SourceCounts) → let s : Stage = record { output = output; counts = counts; world = nothing_delivered_within h; mapped = record { version = One; by_two = [] } } in AtRest environment [] 0 s s
-nothing_taken environment h output counts = record {
+-- before the first delivery a world that stands between two is at rest
+pub nothing_taken_from : (environment : Environment) (numbered : Numbers) (s : Stage) → IsStanding s.world s.mapped → AtRest environment [] (reported_before environment.report numbered) (start_in numbered s) s
+nothing_taken_from environment numbered s stands = record {
   leads = record {
     made = 0;
-    explained = Explained-start judgement environment.known h;
-    counted = record { calls = sym (risen_by-none counts.calls); failed = λ below. omega arith; missing = λ below. omega arith };
-    documents = λ x. subst (λ (r : Record Bytes). HoldsDocument judgement x r.held) (sym (record_of-empty x)) tt;
-    says = λ others agree. nothing_reported environment.routes environment.report _ others refl;
-    roomed = λ others agree. record { met = []; are = refl; have_room = tt };
+    explained = explained_first judgement environment.known (standing (start_in numbered s)) s.world refl stands.rests stands.rises stands.applied;
+    counted = record { calls = sym (risen_by-none s.counts.calls); failed = λ below. omega arith; missing = λ below. omega arith };
+    documents = stands.documents;
+    says = λ others agree. nothing_reported environment.routes environment.report numbered s others stands.rests;
+    roomed = λ others agree. record { met = []; are = due-none s.mapped.version others s.world stands.rests; have_room = tt };
   };
-  answered = none_answered environment.report;
-  rests = refl;
-  mapped = refl;
+  answered = none_answered environment.report (start_in numbered s);
+  rests = stands.rests;
+  begun = stands.open_still;
+  mapped = stands.by_one;
   later = omega arith;
 }
 
--- a moment before the first delivery
-abbrev pub at_start : Option ℕ → Input → Output → SourceCounts → Output → Moment
-at_start h input output counts snapshot = record { input = input; snapshot = snapshot; stage = record { output = output; counts = counts; world = nothing_delivered_within h; mapped = record { version = One; by_two = [] } } }
+-- the world before the first delivery of all is such a world
+pub nothing_stands : (h : Option ℕ) → IsStanding (nothing_delivered_within h) (record { version = One; by_two = [] })
+nothing_stands h = record {
+  open_still = refl;
+  rests = refl;
+  rises = tt;
+  by_one = refl;
+  documents = λ x. subst (λ (r : Record Bytes). HoldsDocument judgement x r.held) (sym (record_of-empty x)) tt;
+  applied = λ e h. clash h refl;
+}
+
+pub nothing_taken : (environment : Environment) (h : Option ℕ) (output : Output) (counts : SourceCounts) → let s : Stage = record { output = output; counts = counts; world = nothing_delivered_within h; mapped = record { version = One; by_two = [] } } in AtRest environment [] (reported_before environment.report no_numbers) (start_in no_numbers s) s
+nothing_taken environment h output counts = nothing_taken_from environment no_numbers _ (nothing_stands h)
 
 -- before the first line
-pub nothing_begun : (run : Run) (h : Option ℕ) (input : Input) (output : Output) (counts : SourceCounts) (snapshot : Output) → Progress run (at_start h input output counts snapshot) (at_start h input output counts snapshot) (fresh (max_bytes_of run.choices) longest_line) 0 0
-nothing_begun run h input output counts snapshot = record {
+pub nothing_begun : (run : Run) (before : Moment) → IsStanding before.stage.world before.stage.mapped →
+    Progress run before before (fresh (max_bytes_of run.choices) longest_line) (reported_before run.environment.report run.numbered) run.numbered.matches
+nothing_begun run before stands = record {
   deliveries = [];
-  read = nothing_read (max_bytes_of run.choices) input.left;
-  taken = nothing_taken_of (max_bytes_of run.choices) input.left;
-  at_rest = nothing_taken run.environment h output counts;
+  read = nothing_read (max_bytes_of run.choices) before.input.left;
+  taken = nothing_taken_of (max_bytes_of run.choices) before.input.left;
+  at_rest = nothing_taken_from run.environment run.numbered before.stage stands;
   earlier = omega arith;
-  few = no_answers run.environment.report 0;
-  counted = refl;
+  few = no_answers run.environment.report run.numbered 0;
+  counted = omega arith;
   few_matched = omega arith;
   max = record { bytes = refl; line = refl };
   sound = record { within = omega arith; counted = omega arith; bounded = omega arith; buffered = omega arith };
@@ -153,21 +173,20 @@ nothing_begun run h input output counts snapshot = record {
 }
 
 -- memory was refused before the first line
-pub starved_at_once : (run : Run) (h : Option ℕ) (input : Input) (output : Output) (counts : SourceCounts) (snapshot : Output) → Stopped OutOfMemory run (at_start h input output counts snapshot) (at_start h input output counts snapshot)
-starved_at_once run h input output counts snapshot =
-    let start : Stage = record { output = output; counts = counts; world = nothing_delivered_within h; mapped = record { version = One; by_two = [] } } in
-    let stands : StopsWithin (NotApplied Starved) run (at_start h input output counts snapshot) (at_start h input output counts snapshot) = record {
+pub starved_at_once : (run : Run) (before : Moment) → IsStanding before.stage.world before.stage.mapped → Stopped OutOfMemory run before before
+starved_at_once run before stands =
+    let stops : StopsWithin (NotApplied Starved) run before before = record {
       deliveries = [];
       last = None;
-      within = rest_within run.environment [] start start 0 (nothing_taken run.environment h output counts);
-      mapped = refl;
-      first = nothing_first (max_bytes_of run.choices) input.left;
+      within = rest_within run.environment [] (start_of run before) before.stage (reported_before run.environment.report run.numbered) (nothing_taken_from run.environment run.numbered before.stage stands);
+      mapped = stands.by_one;
+      first = nothing_first (max_bytes_of run.choices) before.input.left;
     } in
-    inl (inl (inl (inl stands)))
+    inl (inl (inl (inl stops)))
 
 module _ (run : Run) (before now : Moment) (reader : Reading) (reported matched : ℕ) (so_far : Progress run before now reader reported matched) where
-  played : IsPlayedAfter run.environment so_far.deliveries before.stage now.stage
-  played = is_played run.environment (course_after run.environment.routes so_far.deliveries before.stage) reported before.stage now.stage so_far.at_rest.leads so_far.at_rest.rests so_far.at_rest.mapped
+  played : IsPlayedAfter run.environment so_far.deliveries (start_of run before) now.stage
+  played = is_played run.environment (course_after run.environment.routes so_far.deliveries (start_of run before)) reported (start_of run before) now.stage so_far.at_rest.leads so_far.at_rest.rests so_far.at_rest.mapped
 
   -- what was taken, after a call of the reader, whatever it answered
   pub taken_on : (next : Reading) (left_next : Option (List ℕ)) (last last_next : Option LastRead) → ReadsAsNeeded reader next now.input.left left_next last last_next →
@@ -188,7 +207,7 @@ module _ (run : Run) (before now : Moment) (reader : Reading) (reported matched 
   stands next input last last_next reads = record {
     deliveries = so_far.deliveries;
     last = None;
-    within = rest_within run.environment so_far.deliveries before.stage now.stage reported so_far.at_rest;
+    within = rest_within run.environment so_far.deliveries (start_of run before) now.stage reported so_far.at_rest;
     mapped = so_far.at_rest.mapped;
     first = first_still next input.left last last_next reads;
   }
@@ -240,11 +259,11 @@ module _ (run : Run) (before now : Moment) (reader : Reading) (reported matched 
 
       -- what was played before stands with a stage in which nothing else changed but the output
       played_still : after.stage.world ≡ now.stage.world → after.stage.counts ≡ now.stage.counts → (mapped : Mapped) → mapped ≡ now.stage.mapped →
-          IsPlayedAfter run.environment so_far.deliveries before.stage (with_mapped (onward now.stage after.stage.counts after.stage.world) mapped)
+          IsPlayedAfter run.environment so_far.deliveries (start_of run before) (with_mapped (onward now.stage after.stage.counts after.stage.world) mapped)
       played_still world counts mapped same =
-          subst (λ m. IsPlayedAfter run.environment so_far.deliveries before.stage (with_mapped (onward now.stage after.stage.counts after.stage.world) m)) (sym same)
-          (subst (λ w. IsPlayedAfter run.environment so_far.deliveries before.stage (onward now.stage after.stage.counts w)) (sym world)
-          (subst (λ c. IsPlayedAfter run.environment so_far.deliveries before.stage (onward now.stage c now.stage.world)) (sym counts) played))
+          subst (λ m. IsPlayedAfter run.environment so_far.deliveries (start_of run before) (with_mapped (onward now.stage after.stage.counts after.stage.world) m)) (sym same)
+          (subst (λ w. IsPlayedAfter run.environment so_far.deliveries (start_of run before) (onward now.stage after.stage.counts w)) (sym world)
+          (subst (λ c. IsPlayedAfter run.environment so_far.deliveries (start_of run before) (onward now.stage c now.stage.world)) (sym counts) played))
 
       -- a question that isn't answered wholly stops the taking
       at_question : (why : Unwritten) → AnswersInPart why run.environment (turn reported matched d) now.stage after.stage → StandsAtQuestion why run before after
@@ -258,10 +277,12 @@ module _ (run : Run) (before now : Moment) (reader : Reading) (reported matched 
             played = played_still in_part.world in_part.counts after.stage.mapped in_part.mapped;
             cut_short = subst CutShort
                 (ap (λ n. answer_held run.environment.routes n matched now.stage.mapped now.stage.world.played.records in_part.question)
-                (is_answer so_far.deliveries run.environment.report reported so_far.at_rest.answered in_part.answers)
-                ∙ ap (λ n. answer_held run.environment.routes (asks so_far.deliveries) n now.stage.mapped now.stage.world.played.records in_part.question) so_far.counted
-                ∙ answer_held_by run.environment.routes (asks so_far.deliveries) (matches so_far.deliveries) (version_in_force so_far.deliveries) now.stage.mapped now.stage.world.played.records in_part.question so_far.at_rest.mapped
-                ∙ ap (λ (w : ReplayState). answer_text run.environment.routes (asks so_far.deliveries) (matches so_far.deliveries) (meaning (version_in_force so_far.deliveries)) w.played.records in_part.question) (sym in_part.world))
+                (is_answer so_far.deliveries (start_of run before) run.environment.report reported so_far.at_rest.answered in_part.answers)
+                ∙ ap (λ n. answer_held run.environment.routes (run.numbered.asks + asks so_far.deliveries) n now.stage.mapped now.stage.world.played.records in_part.question) so_far.counted
+                ∙ answer_held_by run.environment.routes (run.numbered.asks + asks so_far.deliveries) (run.numbered.matches + matches so_far.deliveries) (version_at so_far.deliveries (start_of run before)) now.stage.mapped now.stage.world.played.records
+                in_part.question so_far.at_rest.mapped
+                ∙ ap (λ (w : ReplayState). answer_text run.environment.routes (run.numbered.asks + asks so_far.deliveries) (run.numbered.matches + matches so_far.deliveries) (meaning (version_at so_far.deliveries (start_of run before)))
+                w.played.records in_part.question) (sym in_part.world))
                 in_part.cut_short;
             first = subst (λ q. AreFirst (max_bytes_of run.choices) before.input.left after.input.left (so_far.deliveries ++ q ∷ [])) in_part.is first;
           }
@@ -269,23 +290,23 @@ module _ (run : Run) (before now : Moment) (reader : Reading) (reported matched 
       -- a delivery wasn't taken wholly
       starves : (halt : Halt) → TakesInPart halt run.environment (turn reported matched d) now.stage after.stage → StopsWithin halt run before after
       starves halt in_part =
-          let mapped = in_part.mapped (version_in_force so_far.deliveries) so_far.at_rest.mapped in
+          let mapped = in_part.mapped (version_at so_far.deliveries (start_of run before)) so_far.at_rest.mapped in
           ⊎_elim
           (untaken halt mapped)
           (λ begun. record { deliveries = so_far.deliveries; last = Some d; within = begun; mapped = mapped; first = first })
-          (in_part.world so_far.deliveries before.stage so_far.at_rest)
+          (in_part.world so_far.deliveries (start_of run before) so_far.at_rest)
         where
           Within : Stage → Type 0
-          Within s = IsWithin (NotApplied Starved) run.environment (course_begun run.environment.routes so_far.deliveries None before.stage) (λ replies. following (horizon_at before.stage) replies so_far.deliveries) before.stage s
+          Within s = IsWithin (NotApplied Starved) run.environment (course_begun run.environment.routes so_far.deliveries None (start_of run before)) (λ replies. led_to so_far.deliveries (start_of run before) replies) (start_of run before) s
 
           still : after.stage.world ≡ now.stage.world → after.stage.counts ≡ now.stage.counts → after.stage.output ≡ now.stage.output → Within after.stage
           still world counts output =
               subst (λ o. Within (with_output after.stage o)) (sym output)
               (subst (λ w. Within (with_mapped (onward now.stage after.stage.counts w) after.stage.mapped)) (sym world)
               (subst (λ c. Within (with_mapped (onward now.stage c now.stage.world) after.stage.mapped)) (sym counts)
-              (within_mapped Starved _ _ _ _ now.stage after.stage.mapped (rest_within run.environment so_far.deliveries before.stage now.stage reported so_far.at_rest))))
+              (within_mapped Starved _ _ _ _ now.stage after.stage.mapped (rest_within run.environment so_far.deliveries (start_of run before) now.stage reported so_far.at_rest))))
 
-          untaken : (halt : Halt) → after.stage.mapped ≡ mapped_by (version_in_force so_far.deliveries) after.stage.world.played.records → IsUntaken halt now.stage after.stage → StopsWithin halt run before after
+          untaken : (halt : Halt) → after.stage.mapped ≡ mapped_by (version_at so_far.deliveries (start_of run before)) after.stage.world.played.records → IsUntaken halt now.stage after.stage → StopsWithin halt run before after
           untaken (NotApplied NoRoom) mapped never = absurd never
           untaken (NotApplied Starved) mapped same = record {
             deliveries = so_far.deliveries;
@@ -301,7 +322,7 @@ module _ (run : Run) (before now : Moment) (reader : Reading) (reported matched 
       remaps halt in_part = by halt in_part.remaps
         where
           v : MappingVersion
-          v = version_in_force so_far.deliveries
+          v = version_at so_far.deliveries (start_of run before)
 
           records : Records
           records = after.stage.world.played.records
@@ -309,16 +330,16 @@ module _ (run : Run) (before now : Moment) (reader : Reading) (reported matched 
           -- the play of the deliveries, and of pages behind them that are told, of which these are all records
           Played : List Step → ℕ → Output → SourceCounts → ReplayState → Type 0
           Played pages n out c w =
-              (p : IsPlayed run.environment (course_remapping run.environment.routes pages so_far.deliveries before.stage) before.stage (record { output = out; counts = c; world = w; mapped = mapped_by v w.played.records }))
-              × (run.environment.report ≡ Changes → n ≡ changes (steps_of_play (horizon_at before.stage) p.replies so_far.deliveries ++ pages))
+              (p : IsPlayed run.environment (course_remapping run.environment.routes pages so_far.deliveries (start_of run before)) (start_of run before) (record { output = out; counts = c; world = w; mapped = mapped_by v w.played.records }))
+              × (run.environment.report ≡ Changes → n ≡ run.numbered.patches + changes (along steps_of_delivery p.replies (standing (start_of run before)) so_far.deliveries ++ pages))
 
           played_with : (pages : List Step) (n : ℕ) (out : Output) → TellsBy run.environment.report reported pages n now.stage.output out → Played pages n out after.stage.counts after.stage.world
           played_with pages n out tells =
               subst (λ c. Played pages n out c after.stage.world) (sym in_part.counts)
               (subst (λ w. Played pages n out now.stage.counts w) (sym in_part.world) (
-                is_played run.environment (course_remapping run.environment.routes pages so_far.deliveries before.stage) n before.stage (with_mapped (with_output now.stage out) (mapped_by v now.stage.world.played.records))
-                    (remapping_leads run.environment so_far.deliveries before.stage now.stage reported n pages (mapped_by v now.stage.world.played.records) out tells so_far.at_rest) so_far.at_rest.rests refl,
-                remapping_counted run.environment so_far.deliveries before.stage now.stage reported n pages out tells so_far.at_rest,
+                is_played run.environment (course_remapping run.environment.routes pages so_far.deliveries (start_of run before)) n (start_of run before) (with_mapped (with_output now.stage out) (mapped_by v now.stage.world.played.records))
+                    (remapping_leads run.environment so_far.deliveries (start_of run before) now.stage reported n pages (mapped_by v now.stage.world.played.records) out tells so_far.at_rest) so_far.at_rest.rests refl,
+                remapping_counted run.environment so_far.deliveries (start_of run before) now.stage reported n pages out tells so_far.at_rest,
               ))
 
           start : ReplayState → List EntityId → Mapped
@@ -403,7 +424,7 @@ module _ (run : Run) (before now : Moment) (reader : Reading) (reported matched 
       pub line_taken : (reported_now : ℕ) → now.input.faults ≤ after.input.faults → next.given ≡ reader.given + 1 → (next.ended ≡ true → IsAtEnd after.input.left) →
           TakesDelivery run.environment (turn reported matched d) reported_now now.stage after.stage → Progress run before after next reported_now (matched + matches (d ∷ []))
       line_taken reported_now later given ended takes =
-          let at_rest = takes so_far.deliveries before.stage so_far.counted so_far.at_rest in
+          let at_rest = takes so_far.deliveries (start_of run before) so_far.counted so_far.at_rest in
           record {
             deliveries = so_far.deliveries ++ d ∷ [];
             taken = taken_on next after.input.left last last_next is.reads;
@@ -426,6 +447,6 @@ module _ (run : Run) (before now : Moment) (reader : Reading) (reported matched 
           one (Mapping v) = omega arith
           one (Match q) = omega arith
 
-          few_more : (report : Report) → HasAnswered report reported so_far.deliveries → HasAnswered report reported_now (so_far.deliveries ++ d ∷ []) → FewAnswers report reported reader.given → FewAnswers report reported_now next.given
+          few_more : (report : Report) → HasAnswered report reported so_far.deliveries (start_of run before) → HasAnswered report reported_now (so_far.deliveries ++ d ∷ []) (start_of run before) → FewAnswers report run.numbered reported reader.given → FewAnswers report run.numbered reported_now next.given
           few_more Answers was is few = omega (arith, was, is, few, given, asks-push so_far.deliveries d, one d)
           few_more Changes was is few = tt

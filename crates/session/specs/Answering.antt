@@ -1,14 +1,13 @@
 -- How questions are answered, and what is printed at the end: of all that is held together, or of each graph, where pages are routed.
-use Rattle.std.specs.Prelude.{ℕ, ◌+◌, List, [], Option, None, Some, flat_map}
+use Rattle.std.specs.Prelude.{ℕ, ◌+◌, List, [], Option, None, Some}
 use Rattle.rdf_term.specs.declared.triple.Triple.{Triple}
 use Rattle.rdf_term.specs.Order.{triple_cmp}
 use Rattle.rdf_term.specs.Pattern.{rows}
 use Rattle.delivery.specs.declared.Delivery.{Delivery}
 use Rattle.entity_model.specs.declared.mapping.MappingVersion.{MappingVersion}
-use Rattle.replay_model.specs.Acceptance.{Arrival, arrivals, version_in_force}
-use Rattle.replay_model.specs.Play.{Played, Replies, play}
+use Rattle.replay_model.specs.Play.{Played, Replies}
 use Rattle.replay_model.specs.Records.{Records}
-use Rattle.replay_model.specs.Transcript.{Question, Sections, answer_section, asks, closing_text, for_bindings, for_triples, matches, question_of, said}
+use Rattle.replay_model.specs.Transcript.{Question, Sections, answer_section, closing_text, for_bindings, for_triples, question_of}
 use Rattle.replay_model.specs.Union.{Meaning, union}
 use Rattle.replay_model.specs.Versions.{meaning_by}
 use Rattle.subgraph.specs.declared.routes.Route.{Route}
@@ -17,6 +16,8 @@ use Rattle.world.specs.Meaning.{meaning}
 use Rattle.transcript.specs.Sections.{closing_of}
 use Rattle.splitting.specs.Graphs.{routing_by}
 use Rattle.splitting.specs.Sections.{graph_answers, graph_sections}
+use Rattle.replay_parts.specs.Checkpoint.{Checkpoint}
+use Rattle.session.specs.Along.{along}
 use Rattle.session.specs.Remapping.{Mapped}
 
 -- the answer to a question over these triples of each graph, where so many asks were answered before it: each graph answers an ask, and a
@@ -35,18 +36,18 @@ answer_text (Some known) asked matched m records question = answer_of_graphs kno
 abbrev pub answer_held : Option (List Route) → ℕ → ℕ → Mapped → Records → Question → List ℕ
 answer_held routes asked matched mapped records question = answer_text routes asked matched (meaning_by meaning mapped.by_two) records question
 
--- what a play says at a delivery: the answer, if it is a question
-abbrev pub answer_by : Option (List Route) → Option ℕ → Replies → List Delivery → Option Question → List ℕ
-answer_by routes h replies before None = []
-answer_by routes h replies before (Some question) = answer_text routes (asks before) (matches before) (meaning (version_in_force before)) (play h replies before).records question
+-- the answer to a question that is asked at a checkpoint, if one is
+abbrev pub answer_by : Option (List Route) → Checkpoint → Option Question → List ℕ
+answer_by routes c None = []
+answer_by routes c (Some question) = answer_text routes c.asked c.matched (meaning c.version) c.state.played.records question
 
-abbrev pub said_at_by : Option (List Route) → Option ℕ → Replies → Arrival → List ℕ
-said_at_by routes h replies a = answer_by routes h replies a.before (question_of a.delivery)
+-- the answer to a delivery, if it asks
+abbrev pub answer_of_delivery : Option (List Route) → Replies → Checkpoint → Delivery → List ℕ
+answer_of_delivery routes replies c d = answer_by routes c (question_of d)
 
--- what a play says at the deliveries
-abbrev pub said_by : Option (List Route) → Option ℕ → Replies → List Delivery → List ℕ
-said_by None h replies ds = said meaning h replies ds
-said_by (Some known) h replies ds = flat_map (said_at_by (Some known) h replies) (arrivals ds)
+-- what is said at the deliveries, from a checkpoint on
+abbrev pub said_by : Option (List Route) → Replies → Checkpoint → List Delivery → List ℕ
+said_by routes replies c ds = along (answer_of_delivery routes) replies c ds
 
 -- what is printed after the end, where this version is in force: the sections that are asked for, or the triples of each graph
 abbrev pub closing_by : Option (List Route) → MappingVersion → Sections → Played → List ℕ

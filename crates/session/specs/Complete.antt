@@ -11,7 +11,7 @@ use Rattle.replay_model.specs.Union.{Meaning}
 use Rattle.told_pages.specs.Told.{keeps_page, triples_there}
 use Rattle.patch_stream.specs.Stream.{Step}
 use Rattle.session.specs.Headline.{Ending, course_of}
-use Rattle.session.specs.Moment.{Moment, Run}
+use Rattle.session.specs.Moment.{Moment, Run, start_of}
 
 -- a count of 64 bits didn't rise, and says so: it is below its last value
 pub record IsStill (before now : ℕ) : Type 0 where
@@ -33,4 +33,4 @@ triples_in meaning contents x s = cond (is_kept s.mode) (triples_there meaning c
 -- the steps of a run that ended well: those of its play, with the end of the deliveries where the input ends them. Where changes are
 -- reported, the output has their records
 abbrev pub steps_made : (run : Run) (before now : Moment) → Ending run before now → List Step
-steps_made run before now ending = (course_of run ending.replayed.deliveries before.stage).steps ending.replayed.replay.played.replies
+steps_made run before now ending = (course_of run ending.replayed.deliveries (start_of run before)).steps ending.replayed.replay.played.replies

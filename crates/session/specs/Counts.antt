@@ -27,22 +27,22 @@ abbrev pub RoseBy : ℕ → ℕ → ℕ → Type 0
 RoseBy n before now = now < 2 ^ 64 - 1 → before + n ≤ now
 
 -- the calls rose by the fetches that were made, as far as 64 bits count them; the faults rose at least by the failed
--- fetches that the side output names, and the misses by the missing revisions
-pub record HasCounted (start now : SourceCounts) (made : ℕ) (side : List Entry) : Type 0 where
+-- fetches that the side output names and didn't name before, and so did the misses by the missing revisions
+pub record HasCounted (start now : SourceCounts) (before : List Entry) (made : ℕ) (side : List Entry) : Type 0 where
   pub calls : now.calls ≡ risen_by made start.calls
-  pub failed : RoseBy (length (failed_events side)) start.faults now.faults
-  pub missing : RoseBy (length (missing_events side)) start.misses now.misses
+  pub failed : RoseBy (length (failed_events side)) start.faults (length (failed_events before) + now.faults)
+  pub missing : RoseBy (length (missing_events side)) start.misses (length (missing_events before) + now.misses)
 
 -- the same where an event wasn't applied: for want of room one fetch more was made, which gave its page, and for want of memory
 -- perhaps one more
-abbrev pub HasCountedUnapplied : StoreFault → SourceCounts → SourceCounts → ℕ → List Entry → Type 0
-HasCountedUnapplied Full start now made side = HasCounted start now (made + 1) side
-HasCountedUnapplied OutOfMemory start now made side = HasCounted start now made side ⊎ HasCounted start now (made + 1) side
+abbrev pub HasCountedUnapplied : StoreFault → SourceCounts → SourceCounts → List Entry → ℕ → List Entry → Type 0
+HasCountedUnapplied Full start now before made side = HasCounted start now before (made + 1) side
+HasCountedUnapplied OutOfMemory start now before made side = HasCounted start now before made side ⊎ HasCounted start now before (made + 1) side
 
 -- the same where a delivery wasn't taken wholly; an event that was applied and wasn't told is counted like any other
-abbrev pub HasCountedAt : Halt → SourceCounts → SourceCounts → ℕ → List Entry → Type 0
-HasCountedAt (NotApplied why) start now made side = HasCountedUnapplied why start now made side
-HasCountedAt (Untold why) start now made side = HasCounted start now made side
+abbrev pub HasCountedAt : Halt → SourceCounts → SourceCounts → List Entry → ℕ → List Entry → Type 0
+HasCountedAt (NotApplied why) start now before made side = HasCountedUnapplied why start now before made side
+HasCountedAt (Untold why) start now before made side = HasCounted start now before made side
 
 -- a source was asked further: its contents and the most calls that ever fail are the same, and no count of what went wrong fell
 pub record HasGoneOn {R : Type 0} (members : RevisionsOf R) (old new : R) : Type 0 where

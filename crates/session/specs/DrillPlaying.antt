@@ -10,7 +10,7 @@ use Rattle.drill.specs.Source.{Source}
 use Rattle.drill_replay.specs.Playing.{Counted, IsByFirst}
 use Rattle.session.specs.declared.drill_playing.DrillRun.{DrillRun}
 use Rattle.session.specs.declared.report.Report.TheVariants.{Answers}
-use Rattle.session.specs.Moment.{Environment, Stage}
+use Rattle.session.specs.Moment.{Beginning, Environment, IsFirst, Stage}
 use Rattle.session.specs.Remapping.{HoldsWithin, mapped_in}
 use Rattle.session.specs.Taking.{AtRest}
 
@@ -28,7 +28,8 @@ drill_stage pages out world = record { output = out; counts = record { calls = p
 
 -- a drill has taken these deliveries, from an empty world on, and has counted them
 pub record HasTakenFirst (run : DrillRun) (ds : List Delivery) (out : Output) (world : WorldState) : Type 0 where
-  pub start : Stage
+  pub start : Beginning
+  pub first : IsFirst start
   pub nothing : start.world ≡ nothing_delivered
   pub told : told_of run.pages.size ≡ told_of run.size
   pub at_rest : AtRest (drill_environment run.size) ds 0 start (drill_stage run.pages out world)

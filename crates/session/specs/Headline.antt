@@ -10,7 +10,7 @@ use Rattle.delivery.specs.declared.Delivery.{Delivery}
 use Rattle.delivery.specs.declared.Delivery.TheVariants.{Mapping}
 use Rattle.entity_model.specs.declared.mapping.MappingVersion.{MappingVersion}
 use Rattle.event_line.specs.declared.faults.LineCause.{LineCause}
-use Rattle.replay_model.specs.Acceptance.{due, known, late, version_in_force}
+use Rattle.replay_model.specs.Acceptance.{due, known, late}
 use Rattle.replay_model.specs.Entries.{has_open_revision, is_open_late, late_events}
 use Rattle.replay_model.specs.Fate.{events_of, fate, in_order}
 use Rattle.replay_model.specs.Records.{Bytes, is_settled, record_of}
@@ -24,7 +24,7 @@ use Rattle.transcript.specs.declared.write.Unwritten.{Unwritten}
 use Rattle.transcript.specs.declared.write.Unwritten.TheVariants.{WriteFault as NotWritten, OutOfMemory as Refused}
 use Rattle.transcript.specs.Printing.{IsCutShort, Output}
 use Rattle.replica.specs.Record.{record_text}
-use Rattle.patch_stream.specs.Stream.{Step, changes, is_change, record_of_step, steps_anew, steps_of_play}
+use Rattle.patch_stream.specs.Stream.{Step, changes, is_change, record_of_step, steps_anew}
 use Rattle.checkpoint.specs.declared.numbers.Numbers.{Numbers}
 use Rattle.words.specs.Options.{closes, max_bytes_of}
 use Rattle.session.specs.declared.report.Report.TheVariants.{Answers, Changes}
@@ -35,8 +35,8 @@ use Rattle.session.specs.declared.stop.Stop.TheVariants.{BadLine, ReadFault, Wri
 use Rattle.term_pool.specs.declared.fault.PoolFault.TheVariants.{Full as NoRoom, OutOfMemory as Starved}
 use Rattle.session.specs.Answering.{answer_text, closing_by}
 use Rattle.session.specs.Counts.{HasCounted}
-use Rattle.session.specs.Course.{Course, course_after, course_ended, course_printed, course_remapping}
-use Rattle.session.specs.Moment.{Moment, Run, Environment, Stage, with_mapped, with_output, horizon_at}
+use Rattle.session.specs.Course.{Course, course_after, course_ended, course_printed, course_remapping, version_at}
+use Rattle.session.specs.Moment.{Beginning, IsFirst, Moment, Run, Environment, Stage, horizon_at, start_of, with_mapped, with_output}
 use Rattle.session.specs.Needed.{HaveRoom, HaveRoomBefore, needed_anew}
 use Rattle.session.specs.Reading.{AreDeliveries, AreFirst, AreWhole, IsPastLimit, IsRefusedLine, TakesByNeed}
 use Rattle.session.specs.Remapping.{IsFullOfStale, mapped_by, remapped_some}
@@ -51,7 +51,7 @@ use Rattle.session.specs.Taking.{HoldsDocuments, IsFull, judgement, replies_ther
 -- reported of the play, there was room for each page that a fetch gave or that was mapped anew, with all that was held then, and the counts of the
 -- source rose by these fetches; what is held are documents of their entities, each mapped by the version in force; where it is known
 -- what the source has, the replies are those of what is there, but for the events whose fetches failed, which the side output names
-pub record IsPlayed (environment : Environment) (course : Course) (start now : Stage) : Type 0 where
+pub record IsPlayed (environment : Environment) (course : Course) (start : Beginning) (now : Stage) : Type 0 where
   pub replies : Replies
   pub fit : (e : Event) (r : ℕ) → GivesDocument judgement e.entity (replies e r)
   pub is : now.world ≡ course.state replies
@@ -59,15 +59,15 @@ pub record IsPlayed (environment : Environment) (course : Course) (start now : S
   pub roomed : HaveRoom environment.limit (course.needed replies)
   pub documents : HoldsDocuments now.world
   pub mapped : now.mapped ≡ mapped_by course.version now.world.played.records
-  pub counted : HasCounted start.counts now.counts (length (course.fetched replies)) now.world.played.side
+  pub counted : HasCounted start.counts now.counts start.world.played.side (length (course.fetched replies)) now.world.played.side
   pub source : (contents : ℕ → Option Bytes) → environment.known ≡ Some contents → now.world ≡ course.state (replies_there contents now.world)
   pub source_says : (contents : ℕ → Option Bytes) → environment.known ≡ Some contents → now.output.bytes ≡ bytes_of environment.report course start (replies_there contents now.world)
   pub source_roomed : (contents : ℕ → Option Bytes) → environment.known ≡ Some contents → HaveRoom environment.limit (course.needed (replies_there contents now.world))
   pub source_counted : (contents : ℕ → Option Bytes) → environment.known ≡ Some contents →
-      HasCounted start.counts now.counts (length (course.fetched (replies_there contents now.world))) now.world.played.side
+      HasCounted start.counts now.counts start.world.played.side (length (course.fetched (replies_there contents now.world))) now.world.played.side
 
 -- the world has taken these deliveries, and the answers to their questions were printed, or the records of their changes, and nothing else
-abbrev pub IsPlayedAfter : Environment → List Delivery → Stage → Stage → Type 0
+abbrev pub IsPlayedAfter : Environment → List Delivery → Beginning → Stage → Type 0
 IsPlayedAfter environment ds start now = IsPlayed environment (course_after environment.routes ds start) start now
 
 -- the states: each is the fate of the entity's due events in their order; where no late event of the entity is open,
@@ -90,26 +90,28 @@ pub record NamesRightly (environment : Environment) (h : Option ℕ) (ds : List 
   pub late_ones : late_events world.played.side ≡ late h ds
   pub there : (contents : ℕ → Option Bytes) → environment.known ≡ Some contents → Each (TellsWhatIsThere judgement contents (failed_events world.played.side)) world.played.side
 
--- a play of these deliveries: the world is where it leads, and has the states, holds and names what it should
-pub record IsReplayed (environment : Environment) (course : Course) (ds : List Delivery) (start now : Stage) : Type 0 where
+-- a play of these deliveries: the world is where it leads; and where nothing was delivered before, the world has the states, holds and names
+-- what it should
+pub record IsReplayed (environment : Environment) (course : Course) (ds : List Delivery) (start : Beginning) (now : Stage) : Type 0 where
   pub played : IsPlayed environment course start now
-  pub fates : HasFates course.closed (horizon_at start) ds now.world
-  pub holds : HoldsRightly environment now.world
-  pub names : NamesRightly environment (horizon_at start) ds now.world
+  pub fates : IsFirst start → HasFates course.closed (horizon_at start) ds now.world
+  pub holds : IsFirst start → HoldsRightly environment now.world
+  pub names : IsFirst start → NamesRightly environment (horizon_at start) ds now.world
 
--- where no fetch failed, the world and what was printed are those of the course with the replies of what is there
-pub record IsFunction (environment : Environment) (course : Course) (start now : Stage) : Type 0 where
-  pub world_is : (contents : ℕ → Option Bytes) → environment.known ≡ Some contents → now.counts.faults ≡ start.counts.faults → now.counts.faults < 2 ^ 64 - 1 →
+-- where nothing was delivered before and no fetch failed, the world and what was printed are those of the course with the replies of what is
+-- there
+pub record IsFunction (environment : Environment) (course : Course) (start : Beginning) (now : Stage) : Type 0 where
+  pub world_is : IsFirst start → (contents : ℕ → Option Bytes) → environment.known ≡ Some contents → now.counts.faults ≡ start.counts.faults → now.counts.faults < 2 ^ 64 - 1 →
       now.world ≡ course.state (source_replies judgement contents [])
-  pub output_is : (contents : ℕ → Option Bytes) → environment.known ≡ Some contents → now.counts.faults ≡ start.counts.faults → now.counts.faults < 2 ^ 64 - 1 →
+  pub output_is : IsFirst start → (contents : ℕ → Option Bytes) → environment.known ≡ Some contents → now.counts.faults ≡ start.counts.faults → now.counts.faults < 2 ^ 64 - 1 →
       now.output.bytes ≡ bytes_of environment.report course start (source_replies judgement contents [])
 
 -- the whole input was read, its lines are deliveries, and they were replayed; the output has what this play of them says
-pub record Replayed (run : Run) (course : List Delivery → Stage → Course) (before now : Moment) : Type 0 where
+pub record Replayed (run : Run) (course : List Delivery → Beginning → Course) (before now : Moment) : Type 0 where
   pub deliveries : List Delivery
   pub read : IsAtEnd now.input.left
   pub are : IfSome before.input.left (λ bytes. AreDeliveries (max_bytes_of run.choices) bytes deliveries)
-  pub replay : IsReplayed run.environment (course deliveries before.stage) deliveries before.stage now.stage
+  pub replay : IsReplayed run.environment (course deliveries (start_of run before)) deliveries (start_of run before) now.stage
 
 -- the whole input was replayed, to the end of the deliveries if it is that, and the answers were printed, or the records of its changes, and
 -- nothing else
@@ -120,32 +122,32 @@ HasReplayed run before now = Replayed run (course_ended run.environment.routes (
 pub record HasTakenAll (run : Run) (numbers : Numbers) (before now : Moment) : Type 0 where
   pub replayed : HasReplayed run before now
   pub counted : closes run.choices ≡ false →
-      numbers ≡ numbers_of run.environment.report (course_ended run.environment.routes (closes run.choices) replayed.deliveries before.stage).steps replayed.deliveries replayed.replay.played.replies
+      numbers ≡ numbers_of run.environment.report (course_ended run.environment.routes (closes run.choices) replayed.deliveries (start_of run before)).steps replayed.deliveries (start_of run before) replayed.replay.played.replies
 
 -- the play of these deliveries that a run makes, with the sections that it prints
-abbrev pub course_of : Run → List Delivery → Stage → Course
+abbrev pub course_of : Run → List Delivery → Beginning → Course
 course_of run ds start = course_printed run.environment.routes (closes run.choices) (sections_of run.choices) ds start
 
 -- the input was replayed, and the output has the answers and the sections of the play, or the records of its changes; where the world is
 -- saved, these are the counts of what was reported
 pub record HasPrinted (run : Run) (numbers : Numbers) (before now : Moment) : Type 0 where
   pub replayed : Replayed run (course_of run) before now
-  pub function : IsFunction run.environment (course_of run replayed.deliveries before.stage) before.stage now.stage
-  pub counted : closes run.choices ≡ false → numbers ≡ numbers_of run.environment.report (course_of run replayed.deliveries before.stage).steps replayed.deliveries replayed.replay.played.replies
+  pub function : IsFunction run.environment (course_of run replayed.deliveries (start_of run before)) (start_of run before) now.stage
+  pub counted : closes run.choices ≡ false → numbers ≡ numbers_of run.environment.report (course_of run replayed.deliveries (start_of run before)).steps replayed.deliveries (start_of run before) replayed.replay.played.replies
 
 -- all that a run leaves that ended well: the input was replayed and what is reported of it was printed, and where the world is saved, its
 -- snapshot was written
 pub record Ending (run : Run) (before now : Moment) : Type 0 where
   pub replayed : Replayed run (course_of run) before now
-  pub function : IsFunction run.environment (course_of run replayed.deliveries before.stage) before.stage now.stage
+  pub function : IsFunction run.environment (course_of run replayed.deliveries (start_of run before)) (start_of run before) now.stage
   pub saved : HasSaved (closes run.choices)
-      (snapshot_text (numbers_of run.environment.report (course_of run replayed.deliveries before.stage).steps replayed.deliveries replayed.replay.played.replies) now.stage)
+      (snapshot_text (numbers_of run.environment.report (course_of run replayed.deliveries (start_of run before)).steps replayed.deliveries (start_of run before) replayed.replay.played.replies) now.stage)
       before.snapshot now.snapshot
 
 -- the counts that a later run goes on with
 abbrev pub numbers_saved : {run : Run} {before now : Moment} → Ending run before now → Numbers
 numbers_saved {run} {before} ending =
-    numbers_of run.environment.report (course_of run ending.replayed.deliveries before.stage).steps ending.replayed.deliveries ending.replayed.replay.played.replies
+    numbers_of run.environment.report (course_of run ending.replayed.deliveries (start_of run before)).steps ending.replayed.deliveries (start_of run before) ending.replayed.replay.played.replies
 
 -- what a run leaves that stopped while it wrote the snapshot: the input was replayed and what is reported of it was printed, and a prefix of
 -- the snapshot was written, and nothing else; where a write failed, not all of it
@@ -161,24 +163,24 @@ pub record BrokenOff (why : Unwritten) (run : Run) (before now : Moment) : Type 
   pub answers : run.environment.report ≡ Answers
   pub between : Output
   pub replayed : HasReplayed run before (record now { stage = with_output now.stage between })
-  pub cut_short : IsCutShort why (closing_by run.environment.routes (version_in_force replayed.deliveries) (sections_of run.choices) now.stage.world.played) between now.stage.output
+  pub cut_short : IsCutShort why (closing_by run.environment.routes (version_at replayed.deliveries (start_of run before)) (sections_of run.choices) now.stage.world.played) between now.stage.output
 
 -- the world has taken the deliveries of all whole lines of the bytes that were read before a read failed
 pub record StandsAfter (run : Run) (before now : Moment) : Type 0 where
   pub deliveries : List Delivery
-  pub played : IsPlayedAfter run.environment deliveries before.stage now.stage
+  pub played : IsPlayedAfter run.environment deliveries (start_of run before) now.stage
   pub whole : AreWhole (max_bytes_of run.choices) before.input.left now.input.left deliveries
 
 -- the world has taken the deliveries before the line in which the input goes past the limit
 pub record StandsAtLimit (run : Run) (before now : Moment) : Type 0 where
   pub deliveries : List Delivery
-  pub played : IsPlayedAfter run.environment deliveries before.stage now.stage
+  pub played : IsPlayedAfter run.environment deliveries (start_of run before) now.stage
   pub past : IfSome before.input.left (λ bytes. IsPastLimit (max_bytes_of run.choices) bytes deliveries)
 
 -- the world has taken the deliveries before the line with this number, which is refused: each line before it was one
 pub record StandsBeforeLine (number : ℕ) (cause : LineCause) (run : Run) (before now : Moment) : Type 0 where
   pub deliveries : List Delivery
-  pub played : IsPlayedAfter run.environment deliveries before.stage now.stage
+  pub played : IsPlayedAfter run.environment deliveries (start_of run before) now.stage
   pub counted : number ≡ length deliveries + 1
   pub bad : IfSome before.input.left (λ bytes. IsRefusedLine (max_bytes_of run.choices) bytes deliveries number cause)
 
@@ -189,8 +191,8 @@ pub record StandsAtQuestion (why : Unwritten) (run : Run) (before now : Moment) 
   pub deliveries : List Delivery
   pub question : Question
   pub between : Output
-  pub played : IsPlayedAfter run.environment deliveries before.stage (with_output now.stage between)
-  pub cut_short : IsCutShort why (answer_text run.environment.routes (asks deliveries) (matches deliveries) (meaning (version_in_force deliveries)) now.stage.world.played.records question) between now.stage.output
+  pub played : IsPlayedAfter run.environment deliveries (start_of run before) (with_output now.stage between)
+  pub cut_short : IsCutShort why (answer_text run.environment.routes (run.numbered.asks + asks deliveries) (run.numbered.matches + matches deliveries) (meaning (version_at deliveries (start_of run before))) now.stage.world.played.records question) between now.stage.output
   pub first : AreFirst (max_bytes_of run.choices) before.input.left now.input.left (deliveries ++ asking question ∷ [])
 
 -- the world has taken the deliveries before a line that changes the mapping, every page being mapped by the version that was in force
@@ -202,11 +204,11 @@ pub record StandsAtMapping (run : Run) (before now : Moment) : Type 0 where
   pub steps : ℕ
   pub pages : List Step
   pub are : pages ++ steps_anew version now.stage.world.played.records now.stage.mapped.by_two
-      ≡ steps_anew version now.stage.world.played.records (all_by (version_in_force deliveries) now.stage.world.played.records)
-  pub played : IsPlayed run.environment (course_remapping run.environment.routes pages deliveries before.stage) before.stage (with_mapped now.stage (mapped_by (version_in_force deliveries) now.stage.world.played.records))
-  pub mapped : now.stage.mapped ≡ remapped_some steps now.stage.world.played.records (record { version = version; by_two = all_by (version_in_force deliveries) now.stage.world.played.records })
+      ≡ steps_anew version now.stage.world.played.records (all_by (version_at deliveries (start_of run before)) now.stage.world.played.records)
+  pub played : IsPlayed run.environment (course_remapping run.environment.routes pages deliveries (start_of run before)) (start_of run before) (with_mapped now.stage (mapped_by (version_at deliveries (start_of run before)) now.stage.world.played.records))
+  pub mapped : now.stage.mapped ≡ remapped_some steps now.stage.world.played.records (record { version = version; by_two = all_by (version_at deliveries (start_of run before)) now.stage.world.played.records })
   pub roomed : HaveRoomBefore run.environment.limit (needed_anew now.stage.world.played.records now.stage.mapped)
-      (needed_anew now.stage.world.played.records (record { version = version; by_two = all_by (version_in_force deliveries) now.stage.world.played.records }))
+      (needed_anew now.stage.world.played.records (record { version = version; by_two = all_by (version_at deliveries (start_of run before)) now.stage.world.played.records }))
   pub first : AreFirst (max_bytes_of run.choices) before.input.left now.input.left (deliveries ++ Mapping version ∷ [])
 
 -- the same right after the last of these pages, whose record wasn't written wholly behind what is reported of the deliveries and of the
@@ -219,15 +221,15 @@ pub record StandsAtPage (why : Unwritten) (run : Run) (before now : Moment) : Ty
   pub pages : List Step
   pub last : Step
   pub are : (pages ++ last ∷ []) ++ steps_anew version now.stage.world.played.records now.stage.mapped.by_two
-      ≡ steps_anew version now.stage.world.played.records (all_by (version_in_force deliveries) now.stage.world.played.records)
+      ≡ steps_anew version now.stage.world.played.records (all_by (version_at deliveries (start_of run before)) now.stage.world.played.records)
   pub differs : is_change last ≡ true
   pub between : Output
-  pub played : IsPlayed run.environment (course_remapping run.environment.routes pages deliveries before.stage) before.stage
-      (with_output (with_mapped now.stage (mapped_by (version_in_force deliveries) now.stage.world.played.records)) between)
-  pub mapped : now.stage.mapped ≡ remapped_some steps now.stage.world.played.records (record { version = version; by_two = all_by (version_in_force deliveries) now.stage.world.played.records })
+  pub played : IsPlayed run.environment (course_remapping run.environment.routes pages deliveries (start_of run before)) (start_of run before)
+      (with_output (with_mapped now.stage (mapped_by (version_at deliveries (start_of run before)) now.stage.world.played.records)) between)
+  pub mapped : now.stage.mapped ≡ remapped_some steps now.stage.world.played.records (record { version = version; by_two = all_by (version_at deliveries (start_of run before)) now.stage.world.played.records })
   pub roomed : HaveRoomBefore run.environment.limit (needed_anew now.stage.world.played.records now.stage.mapped)
-      (needed_anew now.stage.world.played.records (record { version = version; by_two = all_by (version_in_force deliveries) now.stage.world.played.records }))
-  pub cut_short : IsCutShort why (record_text (record_of_step (changes (steps_of_play (horizon_at before.stage) played.replies deliveries ++ pages) + 1) last)) between now.stage.output
+      (needed_anew now.stage.world.played.records (record { version = version; by_two = all_by (version_at deliveries (start_of run before)) now.stage.world.played.records }))
+  pub cut_short : IsCutShort why (record_text (record_of_step (run.numbered.patches + changes ((course_after run.environment.routes deliveries (start_of run before)).steps played.replies ++ pages) + 1) last)) between now.stage.output
   pub first : AreFirst (max_bytes_of run.choices) before.input.left now.input.left (deliveries ++ Mapping version ∷ [])
 
 -- what a run leaves that stopped while it printed: in the answer to a question, or in the sections; or in the record of an application,

@@ -1,3 +1,4 @@
+pub mod Along
 pub mod Answering
 pub mod Complete
 pub mod Counts

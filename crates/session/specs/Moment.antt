@@ -1,5 +1,5 @@
 -- A run, and what stands at a moment of it.
-use Rattle.std.specs.Prelude.{ℕ, List, [], Option}
+use Rattle.std.specs.Prelude.{◌≡◌, ℕ, List, [], Option}
 use Rattle.std.specs.Option.{option_map}
 use Rattle.wq_io.specs.declared.source.Source.{Ghosts as SourceOf}
 use Rattle.wq_io.specs.declared.sink.Sink.{Ghosts as SinkOf}
@@ -8,9 +8,11 @@ use Rattle.revisions.specs.Revisions.{Contents}
 use Rattle.entity_model.specs.declared.mapping.MappingVersion.TheVariants.{One}
 use Rattle.replay_model.specs.Records.{Bytes}
 use Rattle.replay_model.specs.ReplayState.{ReplayState, nothing_delivered_within}
+use Rattle.replay_parts.specs.Checkpoint.{Checkpoint}
 use Rattle.world.specs.WorldState.{WorldState}
 use Rattle.transcript.specs.Printing.{Output, output}
 use Rattle.following.specs.Input.{Input, input}
+use Rattle.checkpoint.specs.declared.numbers.Numbers.{Numbers}
 use Rattle.session.specs.declared.ports.Ports.{Ports}
 use Rattle.session.specs.declared.report.Report.{Report}
 use Rattle.subgraph.specs.declared.routes.Route.{Route}
@@ -46,9 +48,35 @@ stage_in out counts world = record { output = out; counts = counts; world = worl
 abbrev pub stage : {R K : Type 0} → RevisionsOf R → SinkOf K → R → K → WorldState → Stage
 stage source sink revisions out world = stage_in (output sink out) (counts source revisions) world
 
+-- before the first run nothing was reported
+abbrev pub no_numbers : Numbers
+no_numbers = record { asks = 0; matches = 0; patches = 0 }
+
+-- where a run begins: a stage, and how many asks and matches earlier runs have answered, and how many records of changes they wrote
+pub record Beginning : Type 0 where
+  pub output : Output
+  pub counts : SourceCounts
+  pub world : ReplayState
+  pub mapped : Mapped
+  pub numbered : Numbers
+
+-- a run begins at this stage, where so many were reported
+abbrev pub start_in : Numbers → Stage → Beginning
+start_in numbered s = record { output = s.output; counts = s.counts; world = s.world; mapped = s.mapped; numbered = numbered }
+
+-- what deliveries go on from
+abbrev pub standing : Beginning → Checkpoint
+standing start = record { state = start.world; version = start.mapped.version; asked = start.numbered.asks; matched = start.numbered.matches }
+
 -- the horizon of the world, if it has one
-abbrev pub horizon_at : Stage → Option ℕ
-horizon_at s = s.world.buffer.horizon
+abbrev pub horizon_at : Beginning → Option ℕ
+horizon_at start = start.world.buffer.horizon
+
+-- nothing was delivered before the run
+pub record IsFirst (start : Beginning) : Type 0 where
+  pub world : start.world ≡ nothing_delivered_within (horizon_at start)
+  pub mapping : start.mapped.version ≡ One
+  pub numbered : start.numbered ≡ no_numbers
 
 -- the stage with these counts and this world
 abbrev pub onward : Stage → SourceCounts → ReplayState → Stage
@@ -80,16 +108,30 @@ moment events source sink file ports world = record {
   snapshot = output file ports.snapshot;
 }
 
--- a run: what was chosen, and what deliveries are taken under
+-- a run: what was chosen, what deliveries are taken under, and how many asks and matches earlier runs have answered, and how many records
+-- of changes they wrote
 pub record Run : Type 0 where
   pub choices : Choices
   pub environment : Environment
+  pub numbered : Numbers
+
+-- where a run begins
+abbrev pub start_of : Run → Moment → Beginning
+start_of run before = start_in run.numbered before.stage
 
 -- the world that a run of these choices begins with: empty, with the horizon and the limit that were chosen, and with the first
 -- version of the mapping
 abbrev pub world_at_start : Choices → WorldState
 world_at_start choices = record { replay = nothing_delivered_within choices.horizon; limit = max_terms_of choices; mapping = One; by_two = [] }
 
--- the run of these choices over a source with these contents, of which this is reported, with these routes
+-- the first run of these choices over a source with these contents, of which this is reported, with these routes
 abbrev pub run_of : Option (List Route) → Report → Option Contents → Choices → Run
-run_of routes report contents choices = record { choices = choices; environment = environment routes report contents (folder_of choices) (max_terms_of choices) }
+run_of routes report contents choices = record {
+  choices = choices;
+  environment = environment routes report contents (folder_of choices) (max_terms_of choices);
+  numbered = no_numbers;
+}
+
+-- the same run behind earlier ones that left these counts
+abbrev pub behind : Numbers → Run → Run
+behind numbered run = record { choices = run.choices; environment = run.environment; numbered = numbered }

@@ -1,8 +1,8 @@
 -- For how many different terms there must be room as a play goes on: at each page that a fetch gives, and at each that is mapped anew.
-use Rattle.std.specs.Prelude.{◌≡◌, ℕ, ◌≤◌, cond, true, false, List, [], ◌∷◌, ◌++◌, flat_map, Option, Result, Ok, Err}
+use Rattle.std.specs.Prelude.{◌≡◌, ℕ, ◌≤◌, cond, List, [], ◌∷◌, ◌++◌, Result, Ok, Err}
 use Rattle.rising.specs.Rising.{Each}
 use Rattle.delivery.specs.declared.Delivery.{Delivery}
-use Rattle.delivery.specs.declared.Delivery.TheVariants.{Watermark, Mapping}
+use Rattle.delivery.specs.declared.Delivery.TheVariants.{Event as Told, Watermark, Ask, Mapping, Match}
 use Rattle.entity_model.specs.declared.event.Event.{Event}
 use Rattle.entity_model.specs.declared.id.EntityId.{EntityId}
 use Rattle.entity_model.specs.declared.mapping.MappingVersion.{MappingVersion}
@@ -10,10 +10,10 @@ use Rattle.entity_state.specs.declared.record.Record.{Record}
 use Rattle.entity_state.specs.Record.{held_revision, wants}
 use Rattle.entity_state.specs.State.{state_after}
 use Rattle.side_output.specs.declared.entry.Cause.{Cause}
-use Rattle.replay_model.specs.Acceptance.{Arrival, arrivals, version_in_force}
-use Rattle.replay_model.specs.Play.{Played, Replies, apply, newly_due, play}
+use Rattle.replay_model.specs.Play.{Played, Replies, apply}
 use Rattle.replay_model.specs.Records.{Bytes, Records, record_of}
-use Rattle.replay_model.specs.ReplayState.{ReplayState, due_now}
+use Rattle.replay_model.specs.ReplayState.{ReplayState, after_mark, due_now}
+use Rattle.replay_parts.specs.Checkpoint.{Checkpoint}
 use Rattle.replay_model.specs.Union.{triples_held}
 use Rattle.replay_model.specs.Versions.{all_by, meaning_by, with_version}
 use Rattle.world.specs.Meaning.{meaning}
@@ -71,20 +71,11 @@ needed_anew records mapped = needed_by_pages mapped.version records mapped.by_tw
 
 -- ---- a play
 
--- at a delivery: a watermark applies what is due now, by the version in force before it, and a line that brings a version maps by it all
--- that is held, which is mapped by the version in force before
-abbrev pub needed_at : Option ℕ → Replies → Arrival → List ℕ
-needed_at h replies a = by a.delivery
-  where
-    by : Delivery → List ℕ
-    by (Watermark w) = needed_by_all (version_in_force a.before) replies (play h replies a.before) (newly_due h a.before false (a.before ++ a.delivery ∷ []))
-    by (Mapping v) = needed_anew (play h replies a.before).records (record { version = v; by_two = all_by (version_in_force a.before) (play h replies a.before).records })
-    by _ = []
-
--- at deliveries, in their order
-abbrev pub needed_in : Option ℕ → Replies → List Delivery → List ℕ
-needed_in h replies ds = flat_map (needed_at h replies) (arrivals ds)
-
--- at deliveries and at the end of the input, which applies all that waits
-abbrev pub needed_to_end : Option ℕ → Replies → List Delivery → List ℕ
-needed_to_end h replies ds = needed_in h replies ds ++ needed_by_all (version_in_force ds) replies (play h replies ds) (newly_due h ds true ds)
+-- at a delivery: a watermark applies what it makes due, by the version in force, and a line that brings a version maps by it all that is
+-- held, which is mapped by the version in force before
+abbrev pub needed_of_delivery : Replies → Checkpoint → Delivery → List ℕ
+needed_of_delivery replies c (Told e) = []
+needed_of_delivery replies c (Watermark m) = needed_by_due c.version replies (after_mark c.state m)
+needed_of_delivery replies c (Ask q) = []
+needed_of_delivery replies c (Match q) = []
+needed_of_delivery replies c (Mapping v) = needed_anew c.state.played.records (record { version = v; by_two = all_by c.version c.state.played.records })

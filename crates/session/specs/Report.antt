@@ -9,61 +9,68 @@ use Rattle.replica.specs.Record.{record_text}
 use Rattle.delivery.specs.declared.Delivery.{Delivery}
 use Rattle.transcript.specs.declared.write.Unwritten.{Unwritten}
 use Rattle.transcript.specs.Printing.{IsCutShort, Output, Prints}
-use Rattle.patch_stream.specs.Stream.{Step, TellsStep, changes, is_change, record_of_step, steps_due, stream_text}
+use Rattle.patch_stream.specs.Stream.{Step, TellsStep, changes, is_change, record_of_step, steps_due}
+use Rattle.checkpoint.specs.declared.numbers.Numbers.{Numbers}
 use Rattle.session.specs.declared.report.Report.{Report}
 use Rattle.session.specs.declared.report.Report.TheVariants.{Answers, Changes}
 use Rattle.session.specs.declared.stop.Halt.{Halt}
 use Rattle.session.specs.declared.stop.Halt.TheVariants.{Unapplied, Untold}
+use Rattle.session.specs.Along.{stream_text_from}
 use Rattle.session.specs.Course.{Course}
-use Rattle.session.specs.Moment.{Stage}
+use Rattle.session.specs.Moment.{Beginning, Stage}
 
 -- whether an application and a remapping tell their change
 abbrev pub telling_of : Report → Telling
 telling_of Answers = Nothing
 telling_of Changes = Change
 
+-- how many asks were answered or records written by earlier runs
+abbrev pub reported_before : Report → Numbers → ℕ
+reported_before Answers numbered = numbered.asks
+reported_before Changes numbered = numbered.patches
+
 -- where questions are answered, there is a number for one more answer to an ask, and for one more to a match
 abbrev pub HasNumberLeft : Report → ℕ → ℕ → Type 0
 HasNumberLeft Answers reported matched = (reported < 2 ^ 64 - 1) × (matched < 2 ^ 64 - 1)
 HasNumberLeft Changes reported matched = ⊤
 
--- where questions are answered, so many asks were
-abbrev pub HasAnswered : Report → ℕ → List Delivery → Type 0
-HasAnswered Answers reported ds = reported ≡ asks ds
-HasAnswered Changes reported ds = ⊤
+-- where questions are answered, so many asks were, with those of earlier runs
+abbrev pub HasAnswered : Report → ℕ → List Delivery → Beginning → Type 0
+HasAnswered Answers reported ds start = reported ≡ start.numbered.asks + asks ds
+HasAnswered Changes reported ds start = ⊤
 
 -- the bytes of an output that has what is reported of a whole play
-abbrev pub bytes_of : Report → Course → Stage → Replies → Option (List ℕ)
+abbrev pub bytes_of : Report → Course → Beginning → Replies → Option (List ℕ)
 bytes_of Answers course start replies = course.bytes replies
-bytes_of Changes course start replies = after_known start.output.bytes (stream_text (course.steps replies))
+bytes_of Changes course start replies = after_known start.output.bytes (stream_text_from start.numbered.patches (course.steps replies))
 
 -- ---- how far the report of a play has come
 
 -- the output has the records of the steps that were made so far, so many; those of due events are still to be made
-pub record HasTold (course : Course) (reported : ℕ) (start now : Stage) (replies : Replies) : Type 0 where
+pub record HasTold (course : Course) (reported : ℕ) (start : Beginning) (now : Stage) (replies : Replies) : Type 0 where
   pub steps : List Step
   pub are : steps ++ steps_due course.version replies now.world ≡ course.steps replies
-  pub counted : reported ≡ changes steps
-  pub bytes : now.output.bytes ≡ after_known start.output.bytes (stream_text steps)
+  pub counted : reported ≡ start.numbered.patches + changes steps
+  pub bytes : now.output.bytes ≡ after_known start.output.bytes (stream_text_from start.numbered.patches steps)
 
 -- the last step that was made changed what is stored, and its record wasn't written wholly behind those of the steps before it: a prefix of
 -- it was, and nothing else; where a write failed, not all of it
-pub record HasBrokenOff (why : Unwritten) (course : Course) (start now : Stage) (replies : Replies) : Type 0 where
+pub record HasBrokenOff (why : Unwritten) (course : Course) (start : Beginning) (now : Stage) (replies : Replies) : Type 0 where
   pub steps : List Step
   pub last : Step
   pub are : (steps ++ last ∷ []) ++ steps_due course.version replies now.world ≡ course.steps replies
   pub differs : is_change last ≡ true
   pub between : Output
-  pub bytes : between.bytes ≡ after_known start.output.bytes (stream_text steps)
-  pub cut_short : IsCutShort why (record_text (record_of_step (changes steps + 1) last)) between now.output
+  pub bytes : between.bytes ≡ after_known start.output.bytes (stream_text_from start.numbered.patches steps)
+  pub cut_short : IsCutShort why (record_text (record_of_step (start.numbered.patches + changes steps + 1) last)) between now.output
 
 -- what is reported of a play so far, which is so many answers or records, is written
-abbrev pub HasReported : Report → Course → ℕ → Stage → Stage → Replies → Type 0
+abbrev pub HasReported : Report → Course → ℕ → Beginning → Stage → Replies → Type 0
 HasReported Answers course reported start now replies = now.output.bytes ≡ course.bytes replies
 HasReported Changes course reported start now replies = HasTold course reported start now replies
 
 -- the same where a delivery wasn't taken wholly, but for the last record where that is why
-abbrev pub HasReportedAt : Halt → Report → Course → Stage → Stage → Replies → Type 0
+abbrev pub HasReportedAt : Halt → Report → Course → Beginning → Stage → Replies → Type 0
 HasReportedAt (Unapplied why) report course start now replies = (reported : ℕ) × HasReported report course reported start now replies
 HasReportedAt (Untold why) Answers course start now replies = ⊥
 HasReportedAt (Untold why) Changes course start now replies = HasBrokenOff why course start now replies
@@ -87,8 +94,9 @@ TellsStepBy Changes reported s old new result = TellsStep reported s old new res
 
 -- the records of these steps were written behind so many, and so many are written then
 pub record HasToldSteps (told : ℕ) (steps : List Step) (told_now : ℕ) (old new : Option (List ℕ)) : Type 0 where
-  pub counted : (earlier : List Step) → told ≡ changes earlier → told_now ≡ changes (earlier ++ steps)
-  pub bytes : (earlier : List Step) (start : Option (List ℕ)) → told ≡ changes earlier → old ≡ after_known start (stream_text earlier) → new ≡ after_known start (stream_text (earlier ++ steps))
+  pub counted : (numbered : ℕ) (earlier : List Step) → told ≡ numbered + changes earlier → told_now ≡ numbered + changes (earlier ++ steps)
+  pub bytes : (numbered : ℕ) (earlier : List Step) (start : Option (List ℕ)) → told ≡ numbered + changes earlier → old ≡ after_known start (stream_text_from numbered earlier) →
+      new ≡ after_known start (stream_text_from numbered (earlier ++ steps))
 
 -- where changes are reported; else nothing is written
 abbrev pub TellsBy : Report → ℕ → List Step → ℕ → Output → Output → Type 0

@@ -1,5 +1,5 @@
 -- What is saved of a world at the end of an input.
-use Rattle.std.specs.Prelude.{◌≡◌, ℕ, Bool, true, false, List}
+use Rattle.std.specs.Prelude.{◌≡◌, ℕ, ◌+◌, Bool, true, false, List}
 use Rattle.wq_io.specs.Streams.{after_known}
 use Rattle.delivery.specs.declared.Delivery.{Delivery}
 use Rattle.replay_model.specs.Play.{Replies}
@@ -11,17 +11,19 @@ use Rattle.snapshot.specs.Whole.{Saved}
 use Rattle.checkpoint.specs.declared.numbers.Numbers.{Numbers}
 use Rattle.session.specs.declared.report.Report.{Report}
 use Rattle.session.specs.declared.report.Report.TheVariants.{Answers, Changes}
-use Rattle.session.specs.Moment.{Stage}
+use Rattle.session.specs.Moment.{Beginning, Stage}
 
--- the counts that a later run goes on with, where so many asks were answered or records written, and so many matches were delivered
-abbrev pub numbers_after : Report → ℕ → ℕ → Numbers
-numbers_after Answers reported matched = record { asks = reported; matches = matched; patches = 0 }
-numbers_after Changes reported matched = record { asks = 0; matches = 0; patches = reported }
+-- the counts that a later run goes on with, where earlier runs left these, so many asks were answered or records written, and so many
+-- matches were delivered
+abbrev pub numbers_after : Numbers → Report → ℕ → ℕ → Numbers
+numbers_after earlier Answers reported matched = record { asks = reported; matches = matched; patches = earlier.patches }
+numbers_after earlier Changes reported matched = record { asks = earlier.asks; matches = earlier.matches; patches = reported }
 
--- how many questions of these deliveries were answered, or how many records of changes these steps give
-abbrev pub numbers_of : Report → (Replies → List Step) → List Delivery → Replies → Numbers
-numbers_of Answers steps ds replies = numbers_after Answers (asks ds) (matches ds)
-numbers_of Changes steps ds replies = numbers_after Changes (changes (steps replies)) 0
+-- how many questions were answered, with these deliveries and those of earlier runs, or how many records of changes were written, with
+-- those of these steps
+abbrev pub numbers_of : Report → (Replies → List Step) → List Delivery → Beginning → Replies → Numbers
+numbers_of Answers steps ds start replies = numbers_after start.numbered Answers (start.numbered.asks + asks ds) (start.numbered.matches + matches ds)
+numbers_of Changes steps ds start replies = numbers_after start.numbered Changes (start.numbered.patches + changes (steps replies)) start.numbered.matches
 
 -- what is saved of a stage with these counts
 abbrev pub saved_at : Stage → Numbers → Saved

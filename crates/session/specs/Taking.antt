@@ -1,19 +1,20 @@
 -- How far a world has come in a play while deliveries are taken, and what the taking of one delivery leaves.
-use Rattle.std.specs.Prelude.{◌≡◌, true, ◌⊎◌, ⊤, ℕ, ◌≤◌, ◌+◌, List, [], ◌∷◌, ◌++◌, length, Option, None, Some}
+use Rattle.std.specs.Prelude.{◌≡◌, true, false, ◌⊎◌, ⊤, ℕ, ◌≤◌, ◌+◌, List, [], ◌∷◌, ◌++◌, length, Option, None, Some}
 use Rattle.wq_io.specs.Streams.{Rose}
 use Rattle.entity_model.specs.declared.id.EntityId.{EntityId}
 use Rattle.entity_json.specs.Document.{unfit_of}
 use Rattle.entity_model.specs.declared.event.Event.{Event}
+use Rattle.entity_model.specs.Event.{event_cmp}
+use Rattle.rising.specs.Rising.{IsRising, has}
 use Rattle.delivery.specs.declared.Delivery.{Delivery}
 use Rattle.delivery.specs.declared.Delivery.TheVariants.{Mapping}
 use Rattle.entity_model.specs.declared.mapping.MappingVersion.{MappingVersion}
 use Rattle.reorder_buffer.specs.Buffered.{first_due}
-use Rattle.replay_model.specs.Acceptance.{version_in_force}
 use Rattle.replay_model.specs.Records.{Bytes, Records, record_of}
 use Rattle.replay_model.specs.Play.{Replies}
 use Rattle.replay_model.specs.Replies.{GivesDocument, HoldsDocument, Judgement, failed_events, source_replies}
-use Rattle.replay_model.specs.ReplayState.{ReplayState, after_some, entered, fetches_due, following}
-use Rattle.replay_model.specs.Explained.{AgreeOnApplied, Explained, is_fetching, revision_wanted}
+use Rattle.replay_model.specs.ReplayState.{ReplayState, after_some, entered, fetches_due}
+use Rattle.replay_model.specs.Explained.{AgreeOnApplied, Explained, is_applied, is_fetching, revision_wanted}
 use Rattle.replay_model.specs.Transcript.{Question, asking, matches}
 use Rattle.transcript.specs.declared.write.Unwritten.{Unwritten}
 use Rattle.transcript.specs.declared.write.Unwritten.TheVariants.{WriteFault, OutOfMemory as NoMemory}
@@ -27,8 +28,8 @@ use Rattle.session.specs.declared.stop.Halt.TheVariants.{Unapplied, Untold}
 use Rattle.term_pool.specs.declared.fault.PoolFault.TheVariants.{Full, OutOfMemory}
 use Rattle.session.specs.Answering.{answer_held}
 use Rattle.session.specs.Counts.{HasCounted, HasCountedAt}
-use Rattle.session.specs.Course.{Course, course_after, course_begun, course_to_end}
-use Rattle.session.specs.Moment.{Environment, Stage, horizon_at}
+use Rattle.session.specs.Course.{Course, course_after, course_begun, course_to_end, led_to, version_at}
+use Rattle.session.specs.Moment.{Beginning, Environment, Stage}
 use Rattle.session.specs.Needed.{HaveRoomBefore, needed_anew, needed_by_due}
 use Rattle.session.specs.Remapping.{HasNoRoom, IsLeftStale, KeepsVersion, Mapped, mapped_by, remapped_some}
 use Rattle.session.specs.Report.{BreaksOffBy, HasAnswered, HasReported, HasReportedAt, TellsBy}
@@ -49,17 +50,17 @@ replies_there contents world = source_replies judgement contents (failed_events 
 -- the world leads to a play with some replies, the counts rose with what was fetched for it so far, and what is held are
 -- documents; with all replies that agree with these on what was applied the output has what is reported of the play so far, and there was room for all
 -- that the play needs but what due events have still to bring
-pub record Leads (environment : Environment) (course : Course) (reported : ℕ) (start now : Stage) : Type 0 where
+pub record Leads (environment : Environment) (course : Course) (reported : ℕ) (start : Beginning) (now : Stage) : Type 0 where
   pub made : ℕ
   pub explained : Explained judgement environment.known course.state course.fetched made now.world
-  pub counted : HasCounted start.counts now.counts made now.world.played.side
+  pub counted : HasCounted start.counts now.counts start.world.played.side made now.world.played.side
   pub documents : HoldsDocuments now.world
   pub says : (others : Replies) → AgreeOnApplied now.world explained.replies others → HasReported environment.report course reported start now others
   pub roomed : (others : Replies) → AgreeOnApplied now.world explained.replies others → HaveRoomBefore environment.limit (needed_by_due course.version others now.world) (course.needed others)
 
 -- the world leads to a play with some replies, and is so many applications of due events after where the play begins them,
 -- the least first
-pub record IsUnderWay (environment : Environment) (course : Course) (begun : Replies → ReplayState) (reported : ℕ) (start now : Stage) : Type 0 where
+pub record IsUnderWay (environment : Environment) (course : Course) (begun : Replies → ReplayState) (reported : ℕ) (start : Beginning) (now : Stage) : Type 0 where
   pub leads : Leads environment course reported start now
   pub steps : ℕ
   pub is : (others : Replies) → AgreeOnApplied now.world leads.explained.replies others → now.world ≡ after_some others steps (begun others)
@@ -69,7 +70,7 @@ pub record IsUnderWay (environment : Environment) (course : Course) (begun : Rep
 -- replies of what is there and of the events whose fetches failed. The counts rose by the play's fetches without those that due
 -- events have still to make, and by the first of these where there was no room for what it gave; where memory was refused, perhaps.
 -- There was room for all that the play needs but what due events have still to bring
-pub record IsWithin (halt : Halt) (environment : Environment) (course : Course) (begun : Replies → ReplayState) (start now : Stage) : Type 0 where
+pub record IsWithin (halt : Halt) (environment : Environment) (course : Course) (begun : Replies → ReplayState) (start : Beginning) (now : Stage) : Type 0 where
   pub steps : ℕ
   pub replies : Replies
   pub fit : (e : Event) (r : ℕ) → GivesDocument judgement e.entity (replies e r)
@@ -86,33 +87,44 @@ pub record IsWithin (halt : Halt) (environment : Environment) (course : Course) 
   pub fetched : made + length (fetches_due replies now.world) ≡ length (course.fetched replies)
   pub source_fetched : (contents : ℕ → Option Bytes) → environment.known ≡ Some contents →
       made + length (fetches_due (replies_there contents now.world) now.world) ≡ length (course.fetched (replies_there contents now.world))
-  pub counted : HasCountedAt halt start.counts now.counts made now.world.played.side
+  pub counted : HasCountedAt halt start.counts now.counts start.world.played.side made now.world.played.side
 
 -- right after a delivery, if there is one, is taken, before what it makes due is applied
 abbrev pub entered_perhaps : ReplayState → Option Delivery → ReplayState
 entered_perhaps w None = w
 entered_perhaps w (Some d) = entered w d
 
+-- a world that stands between two deliveries, whatever was delivered before: more may come, none is due, those that wait are in order,
+-- every page is a document and mapped by the version in force, and each event whose fetch failed was applied
+pub record IsStanding (world : ReplayState) (mapped : Mapped) : Type 0 where
+  pub open_still : world.buffer.closed ≡ false
+  pub rests : first_due world.buffer ≡ None
+  pub rises : IsRising event_cmp world.buffer.waiting
+  pub by_one : mapped ≡ mapped_by mapped.version world.played.records
+  pub documents : HoldsDocuments world
+  pub applied : (e : Event) → has event_cmp e (failed_events world.played.side) ≡ true → is_applied world e ≡ true
+
 -- the world has taken these deliveries, and no event is due: with some replies, it is where a replay of them leads, and the
 -- output has what is reported of this replay, so many answers or records; and every page is mapped by the version in force
-pub record AtRest (environment : Environment) (ds : List Delivery) (reported : ℕ) (start now : Stage) : Type 0 where
+pub record AtRest (environment : Environment) (ds : List Delivery) (reported : ℕ) (start : Beginning) (now : Stage) : Type 0 where
   pub leads : Leads environment (course_after environment.routes ds start) reported start now
-  pub answered : HasAnswered environment.report reported ds
+  pub answered : HasAnswered environment.report reported ds start
   pub rests : first_due now.world.buffer ≡ None
-  pub mapped : now.mapped ≡ mapped_by (version_in_force ds) now.world.played.records
+  pub begun : start.world.buffer.closed ≡ false
+  pub mapped : now.mapped ≡ mapped_by (version_at ds start) now.world.played.records
   pub later : start.output.faults ≤ now.output.faults
 
 -- the world has taken these deliveries and the end of the input, no event is due, and every page is mapped by the version in force
-pub record AtEnd (environment : Environment) (ds : List Delivery) (reported : ℕ) (start now : Stage) : Type 0 where
+pub record AtEnd (environment : Environment) (ds : List Delivery) (reported : ℕ) (start : Beginning) (now : Stage) : Type 0 where
   pub leads : Leads environment (course_to_end environment.routes ds start) reported start now
   pub rests : first_due now.world.buffer ≡ None
-  pub mapped : now.mapped ≡ mapped_by (version_in_force ds) now.world.played.records
+  pub mapped : now.mapped ≡ mapped_by (version_at ds start) now.world.played.records
   pub later : start.output.faults ≤ now.output.faults
 
 -- all due events were applied: where the world led to a play, by whose version every page was mapped, it does so now; so many answers or
 -- records were written before, and so many now
 pub record AppliesDue (environment : Environment) (reported reported_now : ℕ) (before now : Stage) : Type 0 where
-  pub leads : (course : Course) (start : Stage) → before.mapped ≡ mapped_by course.version before.world.played.records →
+  pub leads : (course : Course) (start : Beginning) → before.mapped ≡ mapped_by course.version before.world.played.records →
       Leads environment course reported start before → Leads environment course reported_now start now
   pub rests : first_due now.world.buffer ≡ None
   pub answered : environment.report ≡ Answers → reported_now ≡ reported
@@ -137,7 +149,7 @@ IsHeldUp (Untold NoMemory) environment old now = ⊤
 -- a due event wasn't applied, or not told: where the world was under way in a play, by whose version every page was mapped, it is so still
 abbrev pub StaysWithin : Halt → Environment → ℕ → Stage → Stage → Type 0
 StaysWithin halt environment reported before now =
-    (course : Course) (begun : Replies → ReplayState) (start : Stage) → before.mapped ≡ mapped_by course.version before.world.played.records →
+    (course : Course) (begun : Replies → ReplayState) (start : Beginning) → before.mapped ≡ mapped_by course.version before.world.played.records →
     IsUnderWay environment course begun reported start before → IsWithin halt environment course begun start now
 
 -- a delivery, how many asks were answered or records written before it, and how many matches were delivered
@@ -153,7 +165,7 @@ turn reported matched delivery = record { reported = reported; matched = matched
 -- a world that was at rest is at rest with one delivery more, from whichever stage it began; so many answers or records are written then
 abbrev pub TakesDelivery : Environment → Turn → ℕ → Stage → Stage → Type 0
 TakesDelivery environment t reported_now before now =
-    (ds : List Delivery) (start : Stage) → t.matched ≡ matches ds → AtRest environment ds t.reported start before → AtRest environment (ds ++ t.delivery ∷ []) reported_now start now
+    (ds : List Delivery) (start : Beginning) → t.matched ≡ start.numbered.matches + matches ds → AtRest environment ds t.reported start before → AtRest environment (ds ++ t.delivery ∷ []) reported_now start now
 
 -- a question was answered, but not all was written: the world and the counts are as they were
 pub record AnswersInPart (why : Unwritten) (environment : Environment) (t : Turn) (before now : Stage) : Type 0 where
@@ -176,9 +188,9 @@ IsUntaken (Untold why) before now = ⊥
 pub record TakesInPart (halt : Halt) (environment : Environment) (t : Turn) (before now : Stage) : Type 0 where
   pub held_up : IsHeldUp halt environment before.output now
   pub mapped : KeepsVersion before.mapped now.mapped before.world.played.records now.world.played.records
-  pub world : (ds : List Delivery) (start : Stage) → AtRest environment ds t.reported start before →
+  pub world : (ds : List Delivery) (start : Beginning) → AtRest environment ds t.reported start before →
       IsUntaken halt before now
-      ⊎ IsWithin halt environment (course_begun environment.routes ds (Some t.delivery) start) (λ replies. entered (following (horizon_at start) replies ds) t.delivery) start now
+      ⊎ IsWithin halt environment (course_begun environment.routes ds (Some t.delivery) start) (λ replies. entered (led_to ds start replies) t.delivery) start now
 
 -- why not all pages were mapped anew, or the last one isn't told
 abbrev pub IsLeft : Halt → ℕ → Records → Mapped → Output → Output → Type 0

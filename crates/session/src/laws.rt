@@ -11,6 +11,9 @@ ghost use Rattle.entity_model.specs.declared.id.EntityId.{EntityId};
 ghost use Rattle.entity_model.specs.Event.{event_cmp};
 ghost use Rattle.entity_state.specs.State.{is_kept};
 ghost use Rattle.replay_model.specs.Acceptance.{accepted, late, version_in_force};
+ghost use Rattle.replay_model.specs.Play.{Replies, fetches, fetches_to_end};
+ghost use Rattle.replay_model.specs.ReplayState.{ended, following, following_to_end};
+ghost use Rattle.replay_model.specs.Transcript.{said};
 ghost use Rattle.replay_model.specs.Records.{Bytes, is_settled, record_of};
 ghost use Rattle.world.specs.Meaning.{meaning};
 ghost use Rattle.snapshot.specs.File.{IsFitSaved, saved_in_bytes};
@@ -18,16 +21,20 @@ ghost use Rattle.triple_store.specs.Room.{distinct};
 ghost use Rattle.wq_io.specs.Streams.{after_known};
 ghost use Rattle.replica.specs.declared.record.PatchRecord.{PatchRecord};
 ghost use Rattle.patch_stream.specs.Laws.{AreOfStream, HasWritableSides};
-ghost use Rattle.patch_stream.specs.Stream.{changes, stream, stream_text};
+ghost use Rattle.patch_stream.specs.Stream.{Step, changes, steps_of_play, steps_to_end, stream, stream_text};
+ghost use Rattle.subgraph.specs.declared.routes.Route.{Route};
 ghost use Rattle.words.specs.Options.{FollowChoices, closes, follow_max_bytes_of, max_bytes_of};
 ghost use Rattle.following.specs.Following.{Ending as Followed, FollowMoment, replica_text};
 ghost use Rattle.following.specs.Reading.{AreRecords};
 ghost use Rattle.session.specs.declared.status.Status.{Status};
 ghost use Rattle.session.specs.declared.stop.Stop.{Stop};
 ghost use Rattle.told_pages.specs.Told.{terms_there};
+ghost use Rattle.session.specs.Along.{along, fetches_of_delivery, steps_of_delivery, stream_text_from};
+ghost use Rattle.session.specs.Answering.{said_by};
+ghost use Rattle.session.specs.Course.{course_to_end, led_to, version_at};
 ghost use Rattle.session.specs.Complete.{FindsDocument, IsStill, has_document, steps_made, triples_in};
 ghost use Rattle.session.specs.Headline.{Ending, Stopped, numbers_saved};
-ghost use Rattle.session.specs.Moment.{Moment, Run, horizon_at};
+ghost use Rattle.session.specs.Moment.{Beginning, IsFirst, Moment, Run, horizon_at, standing, start_of};
 ghost use Rattle.session.specs.Reading.{AreDeliveries};
 ghost use Rattle.session.specs.Saving.{saved_at};
 ghost use Rattle.session.specs.Stop.{stop_of};
@@ -49,79 +56,98 @@ pub fn good_input_is_replayed()
         (status ≡ Status.Ok) ⊎ (status ≡ Status.OutOfMemory) }
 {}
 
-/// A replay over told contents never stops for want of room where the different terms of all pages that its input may bring are no
+/// The first replay over told contents never stops for want of room where the different terms of all pages that its input may bring are no
 /// more than the limit. These are the pages at the revisions of all delivered edits, undeletions and reconciliations as kept, where a
 /// document of the entity is there, by the first version of the mapping and by each that a line brings.
 pub fn told_pages_have_room()
     ensures { (run : Run) (before now : Moment) (contents : ℕ → Option Bytes) (bytes : List ℕ) (ds : List Delivery) →
-        Stopped Stop.StoreFull run before now → before.input.left ≡ Some bytes → AreDeliveries (max_bytes_of run.choices) bytes ds →
+        IsFirst (start_of run before) → Stopped Stop.StoreFull run before now → before.input.left ≡ Some bytes → AreDeliveries (max_bytes_of run.choices) bytes ds →
         run.environment.known ≡ Some contents → distinct (terms_there contents ds) ≤ run.environment.limit → ⊥ }
 {}
 
-/// A replay over told contents, with its answers or its changes, ends well, or for want of memory, where the words are understood, each
+/// The first replay over told contents, with its answers or its changes, ends well, or for want of memory, where the words are understood, each
 /// line of the input is a delivery, the input is within the limit, no read and no write fails, and the different terms of all pages that
 /// the input may bring are no more than the limit.
 pub fn fitting_input_is_replayed()
     ensures { (run : Run) (before now : Moment) (status : Status) (contents : ℕ → Option Bytes) (bytes : List ℕ) (ds : List Delivery) →
-        (status ≡ Status.BadWords → ⊥) → IfSome (stop_of status) (λ stop. Stopped stop run before now) →
+        IsFirst (start_of run before) → (status ≡ Status.BadWords → ⊥) → IfSome (stop_of status) (λ stop. Stopped stop run before now) →
         before.input.left ≡ Some bytes → AreDeliveries (max_bytes_of run.choices) bytes ds →
         IsStill before.input.faults now.input.faults → IsStill before.stage.output.faults now.stage.output.faults → IsStill before.snapshot.faults now.snapshot.faults →
         run.environment.known ≡ Some contents → distinct (terms_there contents ds) ≤ run.environment.limit →
         (status ≡ Status.Ok) ⊎ (status ≡ Status.OutOfMemory) }
 {}
 
-/// After a replay that ended well over told contents, and whose fetches didn't fail, each entity that isn't settled is kept at a
+/// After the first replay, if it ended well over told contents, and whose fetches didn't fail, each entity that isn't settled is kept at a
 /// revision where nothing is, or no document of it.
 pub fn unsettled_pages_have_no_document()
-    ensures { (run : Run) (before now : Moment) (contents : ℕ → Option Bytes) →
+    ensures { (run : Run) (before now : Moment) (contents : ℕ → Option Bytes) → IsFirst (start_of run before) →
         Ending run before now → run.environment.known ≡ Some contents → IsStill before.stage.counts.faults now.stage.counts.faults →
         (x : EntityId) → is_settled (record_of now.stage.world.played.records x) ≡ false →
         (is_kept (record_of now.stage.world.played.records x).state.mode ≡ true)
         × (has_document judgement contents x (record_of now.stage.world.played.records x).state.rev ≡ false) }
 {}
 
-/// After a replay that ended well over told contents, and that left each entity settled, the triples of all that is held are those
+/// After the first replay, if it ended well over told contents, and that left each entity settled, the triples of all that is held are those
 /// that the kept revisions mean, as the source has them, by the version of the mapping that is in force at the end.
 pub fn settled_pages_are_the_union()
-    ensures { (run : Run) (before now : Moment) (contents : ℕ → Option Bytes) → (ending : Ending run before now) →
+    ensures { (run : Run) (before now : Moment) (contents : ℕ → Option Bytes) → IsFirst (start_of run before) → (ending : Ending run before now) →
         run.environment.known ≡ Some contents →
         ((x : EntityId) → is_settled (record_of now.stage.world.played.records x) ≡ true) →
         held_triples now.stage.mapped now.stage.world.played.records
-        ≡ sorted triple_cmp (flat_map (λ entry. triples_in (meaning (version_in_force ending.replayed.deliveries)) contents entry.0 entry.1.state)
+        ≡ sorted triple_cmp (flat_map (λ entry. triples_in (meaning (version_at ending.replayed.deliveries (start_of run before))) contents entry.0 entry.1.state)
         (map.entries now.stage.world.played.records)) }
 {}
 
-/// After a replay that ended well over told contents, and whose fetches didn't fail, the side output is empty where no delivery is late
+/// After the first replay, if it ended well over told contents, and whose fetches didn't fail, the side output is empty where no delivery is late
 /// and each accepted event that may say that its page is there finds a document at its revision.
 pub fn found_pages_leave_no_entries()
-    ensures { (run : Run) (before now : Moment) (contents : ℕ → Option Bytes) → (ending : Ending run before now) →
+    ensures { (run : Run) (before now : Moment) (contents : ℕ → Option Bytes) → IsFirst (start_of run before) → (ending : Ending run before now) →
         run.environment.known ≡ Some contents → IsStill before.stage.counts.faults now.stage.counts.faults →
-        late (horizon_at before.stage) ending.replayed.deliveries ≡ [] →
-        ((e : Event) → has event_cmp e (accepted (horizon_at before.stage) ending.replayed.deliveries) ≡ true → FindsDocument judgement contents e) →
+        late (horizon_at (start_of run before)) ending.replayed.deliveries ≡ [] →
+        ((e : Event) → has event_cmp e (accepted (horizon_at (start_of run before)) ending.replayed.deliveries) ≡ true → FindsDocument judgement contents e) →
         now.stage.world.played.side ≡ [] }
 {}
 
-/// A follower that ended well over the records of a run's stream, in any order, each of them once or more, printed that all of them were
+/// What the deliveries make of a first run, from its beginning on, is what a replay of them makes: where it leads, with the end of the
+/// deliveries or without it, what it fetches, what it answers, its steps and their stream, and the version that is in force then.
+pub fn first_runs_are_whole_replays()
+    ensures state { (start : Beginning) → IsFirst start → (replies : Replies) (ds : List Delivery) → led_to ds start replies ≡ following (horizon_at start) replies ds }
+    ensures the_end { (start : Beginning) → IsFirst start → (replies : Replies) (ds : List Delivery) → ended replies (led_to ds start replies) ≡ following_to_end (horizon_at start) replies ds }
+    ensures version { (start : Beginning) → IsFirst start → (replies : Replies) (ds : List Delivery) → version_at ds start ≡ version_in_force ds }
+    ensures fetches { (start : Beginning) → IsFirst start → (replies : Replies) (ds : List Delivery) →
+        along fetches_of_delivery replies (standing start) ds ≡ fetches (horizon_at start) replies ds }
+    ensures fetches_to_end { (start : Beginning) → IsFirst start → (replies : Replies) (ds : List Delivery) (routes : Option (List Route)) →
+        (course_to_end routes ds start).fetched replies ≡ fetches_to_end (horizon_at start) replies ds }
+    ensures said { (start : Beginning) → IsFirst start → (replies : Replies) (ds : List Delivery) →
+        said_by None replies (standing start) ds ≡ said meaning (horizon_at start) replies ds }
+    ensures steps { (start : Beginning) → IsFirst start → (replies : Replies) (ds : List Delivery) →
+        along steps_of_delivery replies (standing start) ds ≡ steps_of_play (horizon_at start) replies ds }
+    ensures steps_to_end { (start : Beginning) → IsFirst start → (replies : Replies) (ds : List Delivery) (routes : Option (List Route)) →
+        (course_to_end routes ds start).steps replies ≡ steps_to_end (horizon_at start) replies ds }
+    ensures stream { (start : Beginning) → IsFirst start → (steps : List Step) → stream_text_from start.numbered.patches steps ≡ stream_text steps }
+{}
+
+/// A follower that ended well over the records of a first run's stream, in any order, each of them once or more, printed that all of them were
 /// applied, and, where it is asked for, the triples of all that was held at the end of the run.
 pub fn followers_have_what_was_held()
-    ensures { (run : Run) (start end : Moment) (ended : Ending run start end) (choices : FollowChoices) (before now : FollowMoment) (bytes : List ℕ) (items : List PatchRecord) →
+    ensures { (run : Run) (start end : Moment) → IsFirst (start_of run start) → (ended : Ending run start end) (choices : FollowChoices) (before now : FollowMoment) (bytes : List ℕ) (items : List PatchRecord) →
         Followed choices before now → before.input.left ≡ Some bytes → AreRecords (follow_max_bytes_of choices) bytes items None →
         AreOfStream (steps_made run start end ended) items →
         now.output.bytes ≡ after_known before.output.bytes
         (replica_text choices.export (changes (steps_made run start end ended)) (held_triples end.stage.mapped end.stage.world.played.records)) }
 {}
 
-/// The number of each record of a run's stream fits 64 bits where its input tells its bytes, and may have no more than 4,294,967,295.
+/// The number of each record of a first run's stream fits 64 bits where its input tells its bytes, and may have no more than 4,294,967,295.
 pub fn numbers_of_a_run_fit()
-    ensures { (run : Run) (start end : Moment) (ended : Ending run start end) (bytes : List ℕ) (item : PatchRecord) →
+    ensures { (run : Run) (start end : Moment) → IsFirst (start_of run start) → (ended : Ending run start end) (bytes : List ℕ) (item : PatchRecord) →
         start.input.left ≡ Some bytes → max_bytes_of run.choices ≤ 4294967295 → In item (stream (steps_made run start end ended)) → item.number < 2 ^ 64 }
 {}
 
-/// What a run writes of its stream are the records that a follower reads of it, within any limit that the text fits, where the run's input
+/// What a first run writes of its stream are the records that a follower reads of it, within any limit that the text fits, where the run's input
 /// tells its bytes and may have no more than 4,294,967,295, and what is stored before and after each step has terms of UTF-8, and as many
 /// triples as 64 bits count.
 pub fn written_streams_are_records()
-    ensures { (run : Run) (start end : Moment) (ended : Ending run start end) (bytes : List ℕ) (limit : ℕ) →
+    ensures { (run : Run) (start end : Moment) → IsFirst (start_of run start) → (ended : Ending run start end) (bytes : List ℕ) (limit : ℕ) →
         start.input.left ≡ Some bytes → max_bytes_of run.choices ≤ 4294967295 → Each HasWritableSides (steps_made run start end ended) →
         length (stream_text (steps_made run start end ended)) ≤ limit →
         AreRecords limit (stream_text (steps_made run start end ended)) (stream (steps_made run start end ended)) None
@@ -131,7 +157,7 @@ pub fn written_streams_are_records()
 /// Where a replay ended well that saves its world, the bytes that were written are read back as this world, by the version in force, with
 /// the number of its answers or of its records; so a loading of them gives the world back. The numbers in it have to fit 64 bits.
 pub fn a_saved_replay_is_read_back()
-    ensures { (run : Run) (before now : Moment) (ending : Ending run before now) → closes run.choices ≡ false → before.snapshot.bytes ≡ Some [] →
+    ensures { (run : Run) (before now : Moment) → IsFirst (start_of run before) → (ending : Ending run before now) → closes run.choices ≡ false → before.snapshot.bytes ≡ Some [] →
         IsFitSaved (saved_at now.stage (numbers_saved ending)) →
         IfSome now.snapshot.bytes (λ bytes. saved_in_bytes bytes ≡ Some (saved_at now.stage (numbers_saved ending))) }
 {

@@ -1,9 +1,9 @@
 // A replay: the lines of the input, the end, what is printed then, where it answers questions, and the snapshot of the world.
 
-ghost use Rattle.std.specs.Prelude.{◌≡◌, None, Some, IfErr, IfOk, IfSome, OnOk};
+ghost use Rattle.std.specs.Prelude.{◌≡◌, ◌≤◌, ◌^◌, None, Some, IfErr, IfOk, IfSome, OnOk};
 ghost use Rattle.std.specs.FinMap as map;
 ghost use Rattle.drill_replay.specs.Playing.{IsByFirst};
-ghost use Rattle.replay_model.specs.ReplayState.{nothing_delivered, nothing_delivered_within};
+ghost use Rattle.replay_model.specs.ReplayState.{nothing_delivered};
 ghost use Rattle.replay_model.specs.Versions.{meaning_by};
 ghost use Rattle.splitting.specs.Graphs.{MayFollow, routes_of};
 ghost use Rattle.transcript.specs.Printing.{Prints, output};
@@ -12,10 +12,11 @@ ghost use Rattle.world.specs.Meaning.{meaning};
 ghost use Rattle.session.specs.Answering.{closing_held};
 ghost use Rattle.session.specs.Counts.{HaveGoneOn};
 ghost use Rattle.session.specs.Headline.{Ending, HasPrinted, HasTakenAll, Stopped};
-ghost use Rattle.session.specs.Moment.{moment, run_of, world_at_start};
+ghost use Rattle.session.specs.Moment.{behind, moment, run_of, world_at_start};
 ghost use Rattle.session.specs.Reading.{TakesByNeed};
-ghost use Rattle.session.specs.Remapping.{HoldsWithin};
+ghost use Rattle.session.specs.Remapping.{HoldsWithin, mapped_in};
 ghost use Rattle.session.specs.Sections.{sections_of};
+ghost use Rattle.session.specs.Taking.{IsStanding};
 ghost use Rattle.words.specs.Options.{max_bytes_of, max_terms_of};
 
 use crate::context::Context;
@@ -25,7 +26,7 @@ use crate::remapping::begin_by_first;
 use crate::report::Report;
 use crate::stop::Stop;
 use crate::taking::take_lines;
-use crate::task::Task;
+use crate::task::{NOTHING_REPORTED, Task};
 use checkpoint::{Numbers, save};
 use revisions::Revisions;
 use splitting::Graphs;
@@ -59,6 +60,7 @@ pub fn replay<S: Source, R: Revisions, K: Sink, F: Sink>(
         alloc,
         options,
         report,
+        numbers: NOTHING_REPORTED,
     };
     replay_into(&task, ports, world, &mut None)
 }
@@ -75,10 +77,11 @@ pub fn replay_into<S: Source, R: Revisions, K: Sink, F: Sink>(
 ) -> Result<(), Stop>
     requires world { world.old.replay ≡ nothing_delivered }
     requires fresh { IfSome graphs.old (λ g. g.entries ≡ Some map.empty) }
-    ensures ok { OnOk result (Ending (run_of (routes_of graphs.old) task.now.report (R.contents ports.old.revisions) task.now.options.now)
+    requires few { (task.now.numbers.asks ≤ 2 ^ 63) × (task.now.numbers.matches ≤ 2 ^ 63) }
+    ensures ok { OnOk result (Ending (behind task.now.numbers (run_of (routes_of graphs.old) task.now.report (R.contents ports.old.revisions) task.now.options.now))
         (moment S.Source R.Revisions K.Sink F.Sink ports.old (world_at_start task.now.options.now))
         (moment S.Source R.Revisions K.Sink F.Sink ports.new world.new)) }
-    ensures err { IfErr result (λ stop. Stopped stop (run_of (routes_of graphs.old) task.now.report (R.contents ports.old.revisions) task.now.options.now)
+    ensures err { IfErr result (λ stop. Stopped stop (behind task.now.numbers (run_of (routes_of graphs.old) task.now.report (R.contents ports.old.revisions) task.now.options.now))
         (moment S.Source R.Revisions K.Sink F.Sink ports.old (world_at_start task.now.options.now))
         (moment S.Source R.Revisions K.Sink F.Sink ports.new world.new)) }
     ensures taken { IfSome (S.left ports.old.events) (λ bytes. TakesByNeed (max_bytes_of task.now.options.now) bytes (S.left ports.new.events)) }
@@ -120,12 +123,15 @@ fn replay_within<S: Source, R: Revisions, K: Sink, F: Sink>(
     world: &mut World,
     graphs: &mut Option<Graphs>,
 ) -> Result<(), Stop>
-    requires world { world.old ≡ world_at_start task.now.options.now }
+    requires stands { IsStanding world.old.replay (mapped_in world.old) }
+    requires few { (task.now.numbers.asks ≤ 2 ^ 63) × (task.now.numbers.matches ≤ 2 ^ 63) }
+    requires limit { world.old.limit ≡ max_terms_of task.now.options.now }
     requires follow { MayFollow graphs.old world.old }
-    ensures ok { OnOk result (Ending (run_of (routes_of graphs.old) task.now.report (R.contents ports.old.revisions) task.now.options.now)
+    requires held { HoldsWithin world.old.limit world.old }
+    ensures ok { OnOk result (Ending (behind task.now.numbers (run_of (routes_of graphs.old) task.now.report (R.contents ports.old.revisions) task.now.options.now))
         (moment S.Source R.Revisions K.Sink F.Sink ports.old world.old)
         (moment S.Source R.Revisions K.Sink F.Sink ports.new world.new)) }
-    ensures err { IfErr result (λ stop. Stopped stop (run_of (routes_of graphs.old) task.now.report (R.contents ports.old.revisions) task.now.options.now)
+    ensures err { IfErr result (λ stop. Stopped stop (behind task.now.numbers (run_of (routes_of graphs.old) task.now.report (R.contents ports.old.revisions) task.now.options.now))
         (moment S.Source R.Revisions K.Sink F.Sink ports.old world.old)
         (moment S.Source R.Revisions K.Sink F.Sink ports.new world.new)) }
     ensures taken { IfSome (S.left ports.old.events) (λ bytes. TakesByNeed (max_bytes_of task.now.options.now) bytes (S.left ports.new.events)) }
@@ -147,15 +153,15 @@ fn take_and_print<S: Source, R: Revisions, K: Sink, F: Sink>(
     world: &mut World,
     graphs: &mut Option<Graphs>,
 ) -> Result<Numbers, Stop>
-    requires world { world.old.replay ≡ nothing_delivered_within world.old.replay.buffer.horizon }
-    requires first { IsByFirst world.old }
+    requires stands { IsStanding world.old.replay (mapped_in world.old) }
+    requires few { (task.now.numbers.asks ≤ 2 ^ 63) × (task.now.numbers.matches ≤ 2 ^ 63) }
     requires limit { world.old.limit ≡ max_terms_of task.now.options.now }
     requires follow { MayFollow graphs.old world.old }
     requires held { HoldsWithin world.old.limit world.old }
-    ensures ok { IfOk result (λ numbers. HasPrinted (run_of (routes_of graphs.old) task.now.report (R.contents ports.old.revisions) task.now.options.now) numbers
+    ensures ok { IfOk result (λ numbers. HasPrinted (behind task.now.numbers (run_of (routes_of graphs.old) task.now.report (R.contents ports.old.revisions) task.now.options.now)) numbers
         (moment S.Source R.Revisions K.Sink F.Sink ports.old world.old)
         (moment S.Source R.Revisions K.Sink F.Sink ports.new world.new)) }
-    ensures err { IfErr result (λ stop. Stopped stop (run_of (routes_of graphs.old) task.now.report (R.contents ports.old.revisions) task.now.options.now)
+    ensures err { IfErr result (λ stop. Stopped stop (behind task.now.numbers (run_of (routes_of graphs.old) task.now.report (R.contents ports.old.revisions) task.now.options.now))
         (moment S.Source R.Revisions K.Sink F.Sink ports.old world.old)
         (moment S.Source R.Revisions K.Sink F.Sink ports.new world.new)) }
     ensures taken { IfSome (S.left ports.old.events) (λ bytes. TakesByNeed (max_bytes_of task.now.options.now) bytes (S.left ports.new.events)) }
@@ -210,15 +216,15 @@ fn take_all<S: Source, R: Revisions, K: Sink, F: Sink>(
     world: &mut World,
     graphs: &mut Option<Graphs>,
 ) -> Result<Numbers, Stop>
-    requires world { world.old.replay ≡ nothing_delivered_within world.old.replay.buffer.horizon }
-    requires first { IsByFirst world.old }
+    requires stands { IsStanding world.old.replay (mapped_in world.old) }
+    requires few { (task.now.numbers.asks ≤ 2 ^ 63) × (task.now.numbers.matches ≤ 2 ^ 63) }
     requires limit { world.old.limit ≡ max_terms_of task.now.options.now }
     requires follow { MayFollow graphs.old world.old }
     requires held { HoldsWithin world.old.limit world.old }
-    ensures ok { IfOk result (λ numbers. HasTakenAll (run_of (routes_of graphs.old) task.now.report (R.contents ports.old.revisions) task.now.options.now) numbers
+    ensures ok { IfOk result (λ numbers. HasTakenAll (behind task.now.numbers (run_of (routes_of graphs.old) task.now.report (R.contents ports.old.revisions) task.now.options.now)) numbers
         (moment S.Source R.Revisions K.Sink F.Sink ports.old world.old)
         (moment S.Source R.Revisions K.Sink F.Sink ports.new world.new)) }
-    ensures err { IfErr result (λ stop. Stopped stop (run_of (routes_of graphs.old) task.now.report (R.contents ports.old.revisions) task.now.options.now)
+    ensures err { IfErr result (λ stop. Stopped stop (behind task.now.numbers (run_of (routes_of graphs.old) task.now.report (R.contents ports.old.revisions) task.now.options.now))
         (moment S.Source R.Revisions K.Sink F.Sink ports.old world.old)
         (moment S.Source R.Revisions K.Sink F.Sink ports.new world.new)) }
     ensures taken { IfSome (S.left ports.old.events) (λ bytes. TakesByNeed (max_bytes_of task.now.options.now) bytes (S.left ports.new.events)) }
@@ -231,7 +237,10 @@ fn take_all<S: Source, R: Revisions, K: Sink, F: Sink>(
 {
     let taken = take_lines(task, ports, world, graphs)?;
     if !task.options.closes() {
-        return Ok(task.report.numbers(taken.reported, taken.matched));
+        return Ok(
+            task.report
+                .numbers(task.numbers, taken.reported, taken.matched),
+        );
     }
     let context = Context {
         alloc: task.alloc,
@@ -247,5 +256,5 @@ fn take_all<S: Source, R: Revisions, K: Sink, F: Sink>(
         world,
         graphs,
     )?;
-    Ok(task.report.numbers(reported, taken.matched))
+    Ok(task.report.numbers(task.numbers, reported, taken.matched))
 }

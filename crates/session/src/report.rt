@@ -1,7 +1,7 @@
 // What a run reports of the deliveries that it takes.
 
 ghost use Rattle.std.specs.Prelude.{◌≡◌};
-ghost use Rattle.session.specs.Report.{telling_of};
+ghost use Rattle.session.specs.Report.{reported_before, telling_of};
 ghost use Rattle.session.specs.Saving.{numbers_after};
 
 use checkpoint::Numbers;
@@ -27,19 +27,30 @@ impl Report {
         }
     }
 
-    // The counts that a later run goes on with, where so many asks were answered or records written, and so many matches were delivered.
-    pub fn numbers(self, reported: u64, matched: u64) -> Numbers
-        ensures { result ≡ numbers_after self reported matched }
+    // How many asks were answered or records written by earlier runs, which left these counts.
+    pub fn reported_before(self, earlier: Numbers) -> u64
+        ensures { result ≡ reported_before self earlier }
+    {
+        match self {
+            Report::Answers => earlier.asks,
+            Report::Changes => earlier.patches,
+        }
+    }
+
+    // The counts that a later run goes on with, where earlier runs left these, so many asks were answered or records written, and so many
+    // matches were delivered.
+    pub fn numbers(self, earlier: Numbers, reported: u64, matched: u64) -> Numbers
+        ensures { result ≡ numbers_after earlier self reported matched }
     {
         match self {
             Report::Answers => Numbers {
                 asks: reported,
                 matches: matched,
-                patches: 0,
+                patches: earlier.patches,
             },
             Report::Changes => Numbers {
-                asks: 0,
-                matches: 0,
+                asks: earlier.asks,
+                matches: earlier.matches,
                 patches: reported,
             },
         }

@@ -17,7 +17,7 @@ use crate::ports::Ports;
 use crate::replaying::{begin, replay_into};
 use crate::report::Report;
 use crate::status::Status;
-use crate::task::Task;
+use crate::task::{NOTHING_REPORTED, Task};
 use rdf_term::OutOfMemory;
 use revisions::Revisions;
 use splitting::Graphs;
@@ -94,6 +94,7 @@ fn replay_by<S: Source, R: Revisions, K: Sink, F: Sink>(
         alloc,
         options,
         report: Report::Answers,
+        numbers: NOTHING_REPORTED,
     };
     match replay_into(&task, ports, world, &mut Some(graphs)) {
         Ok(()) => Status::Ok,

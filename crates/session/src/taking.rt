@@ -1,8 +1,6 @@
 // The lines of the input are taken one by one.
 
-ghost use Rattle.std.specs.Prelude.{◌≡◌, ◌⊎◌, ◌∷◌, [], Ok, Err, IfErr, IfOk, IfSome, OnOk};
-ghost use Rattle.drill_replay.specs.Playing.{IsByFirst};
-ghost use Rattle.replay_model.specs.ReplayState.{nothing_delivered_within};
+ghost use Rattle.std.specs.Prelude.{◌≡◌, ◌≤◌, ◌^◌, ◌⊎◌, ◌∷◌, [], Ok, Err, IfErr, IfOk, IfSome, OnOk};
 ghost use Rattle.replay_model.specs.Transcript.{matches};
 ghost use Rattle.event_line.specs.declared.faults.LineCause.{LineCause};
 ghost use Rattle.event_line.specs.Line.{delivery_of};
@@ -10,10 +8,11 @@ ghost use Rattle.splitting.specs.Graphs.{MayFollow, routes_of};
 ghost use Rattle.session.specs.declared.stop.Stop.TheVariants.{BadLine, OutOfMemory as Refused};
 ghost use Rattle.session.specs.Counts.{HaveGoneOn};
 ghost use Rattle.session.specs.Headline.{Stopped};
-ghost use Rattle.session.specs.Moment.{moment, run_of};
+ghost use Rattle.session.specs.Moment.{behind, moment, run_of};
 ghost use Rattle.session.specs.Reading.{TakesByNeed};
-ghost use Rattle.session.specs.Remapping.{HoldsWithin};
+ghost use Rattle.session.specs.Remapping.{HoldsWithin, mapped_in};
 ghost use Rattle.session.specs.Stops.{HasTaken};
+ghost use Rattle.session.specs.Taking.{IsStanding};
 ghost use Rattle.words.specs.Options.{max_bytes_of, max_terms_of};
 
 use crate::context::{Context, Incoming};
@@ -29,7 +28,8 @@ use std::alloc::Global;
 use world::World;
 use wq_io::{Lines, Sink, Source};
 
-// What was taken of an input: how many asks were answered or records written, and how many matches were delivered.
+// What was taken of an input: how many asks were answered or records written, and how many matches were delivered, with those of earlier
+// runs.
 #[derive(Clone, Copy)]
 pub struct LinesTaken {
     pub reported: u64,
@@ -38,22 +38,22 @@ pub struct LinesTaken {
 
 // Takes all lines of the input; after each watermark all due events are applied before the next line is taken, and each
 // question is answered at once; at a change of the mapping all that is held is mapped anew before the next line is taken. Says how many
-// answers or records are written then, and how many of the lines are matches.
+// asks were answered or records written then, and how many matches were delivered, with those of earlier runs.
 pub fn take_lines<S: Source, R: Revisions, K: Sink, F: Sink>(
     task: &Task<'_>,
     ports: &mut Ports<S, R, K, F>,
     world: &mut World,
     graphs: &mut Option<Graphs>,
 ) -> Result<LinesTaken, Stop>
-    requires world { world.old.replay ≡ nothing_delivered_within world.old.replay.buffer.horizon }
-    requires first { IsByFirst world.old }
+    requires stands { IsStanding world.old.replay (mapped_in world.old) }
+    requires few { (task.now.numbers.asks ≤ 2 ^ 63) × (task.now.numbers.matches ≤ 2 ^ 63) }
     requires limit { world.old.limit ≡ max_terms_of task.now.options.now }
     requires follow { MayFollow graphs.old world.old }
     requires held { HoldsWithin world.old.limit world.old }
-    ensures ok { IfOk result (λ taken. HasTaken (run_of (routes_of graphs.old) task.now.report (R.contents ports.old.revisions) task.now.options.now) taken.reported taken.matched
+    ensures ok { IfOk result (λ taken. HasTaken (behind task.now.numbers (run_of (routes_of graphs.old) task.now.report (R.contents ports.old.revisions) task.now.options.now)) taken.reported taken.matched
         (moment S.Source R.Revisions K.Sink F.Sink ports.old world.old)
         (moment S.Source R.Revisions K.Sink F.Sink ports.new world.new)) }
-    ensures err { IfErr result (λ stop. Stopped stop (run_of (routes_of graphs.old) task.now.report (R.contents ports.old.revisions) task.now.options.now)
+    ensures err { IfErr result (λ stop. Stopped stop (behind task.now.numbers (run_of (routes_of graphs.old) task.now.report (R.contents ports.old.revisions) task.now.options.now))
         (moment S.Source R.Revisions K.Sink F.Sink ports.old world.old)
         (moment S.Source R.Revisions K.Sink F.Sink ports.new world.new)) }
     ensures taken { IfSome (S.left ports.old.events) (λ bytes. TakesByNeed (max_bytes_of task.now.options.now) bytes (S.left ports.new.events)) }
@@ -67,8 +67,8 @@ pub fn take_lines<S: Source, R: Revisions, K: Sink, F: Sink>(
     let folder = task.options.folder();
     let mut lines = Lines::new(task.options.max_bytes());
     let mut line = Vec::new(task.alloc);
-    let mut reported = 0;
-    let mut matched = 0;
+    let mut reported = task.report.reported_before(task.numbers);
+    let mut matched = task.numbers.matches;
     while let Some(number) = lines.next(&mut ports.events, &mut line)? {
         let delivery = read_delivery(task.alloc, line.as_slice(), number)?;
         let context = Context {

@@ -3,4 +3,4 @@ use Rattle.session.proofs.Complete.{settled_union}
 use Rattle.session.proofs.laws.settled_pages_are_the_union.Goals as goal
 
 pub returns : goal.returns
-returns c = λ run before now contents ending known. settled_union run before now contents ending known
+returns c = λ run before now contents first ending known. settled_union run before now contents first ending known

@@ -1,45 +1,29 @@
--- The world at the start; the end, with a snapshot or without one.
-use Rattle.std.proofs.Common.{refl, ◌∙◌, sym, ap}
-use Rattle.std.specs.FinMap.{len-empty}
+-- The end, with a snapshot or without one.
+use Rattle.std.proofs.Common.{◌∙◌, sym, ap}
 use Rattle.std.proofs.lemmas.Result.{err_from_is_err_and}
-use Rattle.replay_model.specs.Play.{nothing_played}
 use Rattle.splitting.specs.Graphs.{routes_of}
 use Rattle.transcript.specs.Printing.{output}
-use Rattle.world.specs.WorldState.{WorldState}
-use Rattle.world.proofs.Rooming.{nothing_held}
-use Rattle.session.specs.Moment.{Moment, Run, moment, run_of}
+use Rattle.session.specs.Moment.{Moment, Run, behind, moment, run_of}
 use Rattle.session.proofs.Printed.{ending_closed, ending_saved, unsaved}
 use Rattle.session.proofs.replaying.replay_within.Goals as goal
 
-pub take_and_print-requires-clause-world : goal.take_and_print-requires-clause-world
-take_and_print-requires-clause-world g c = rw c.requires.world refl
-
-pub take_and_print-requires-clause-first : goal.take_and_print-requires-clause-first
-take_and_print-requires-clause-first g c = rw c.requires.world (refl, refl)
-
-pub take_and_print-requires-clause-limit : goal.take_and_print-requires-clause-limit
-take_and_print-requires-clause-limit g c = ap (λ (w : WorldState). w.limit) c.requires.world
-
-pub take_and_print-requires-clause-held : goal.take_and_print-requires-clause-held
-take_and_print-requires-clause-held g c = rw c.requires.world (nothing_held _ nothing_played.records _ (len-empty _ _))
-
 pub returns-then-closes-clause-ok : goal.returns-then-closes-clause-ok
 returns-then-closes-clause-ok g c =
-    let run : Run = run_of (routes_of c.args.graphs.now) c.args.task.now.report (g.R.Revisions.contents c.args.ports.now.revisions) c.args.task.now.options.now in
+    let run : Run = behind c.args.task.now.numbers (run_of (routes_of c.args.graphs.now) c.args.task.now.report (g.R.Revisions.contents c.args.ports.now.revisions) c.args.task.now.options.now) in
     let before : Moment = moment g.S.Source g.R.Revisions g.K.Sink g.F.Sink c.args.ports.now c.args.world.now in
     let between : Moment = moment g.S.Source g.R.Revisions g.K.Sink g.F.Sink c.take_and_print.new.ports c.take_and_print.new.world in
     ending_closed run _ before between (sym c.closes.ensures ∙ c.if-closes.true) (ap (output g.F.Sink) c.in_ok-numbers.ensures.snapshot) c.in_ok-numbers.ensures.ok
 
 pub returns-clause-ok : goal.returns-clause-ok
 returns-clause-ok g c =
-    let run : Run = run_of (routes_of c.args.graphs.now) c.args.task.now.report (g.R.Revisions.contents c.args.ports.now.revisions) c.args.task.now.options.now in
+    let run : Run = behind c.args.task.now.numbers (run_of (routes_of c.args.graphs.now) c.args.task.now.report (g.R.Revisions.contents c.args.ports.now.revisions) c.args.task.now.options.now) in
     let before : Moment = moment g.S.Source g.R.Revisions g.K.Sink g.F.Sink c.args.ports.now c.args.world.now in
     let between : Moment = moment g.S.Source g.R.Revisions g.K.Sink g.F.Sink c.take_and_print.new.ports c.take_and_print.new.world in
     ending_saved run _ before between _ (sym c.closes.ensures ∙ c.if-closes.false) (ap (output g.F.Sink) c.in_ok-numbers.ensures.snapshot) c.in_ok-numbers.ensures.ok c.in_ok-save.ensures
 
 pub returns-in_err-save-clause-err : goal.returns-in_err-save-clause-err
 returns-in_err-save-clause-err g c =
-    let run : Run = run_of (routes_of c.args.graphs.now) c.args.task.now.report (g.R.Revisions.contents c.args.ports.now.revisions) c.args.task.now.options.now in
+    let run : Run = behind c.args.task.now.numbers (run_of (routes_of c.args.graphs.now) c.args.task.now.report (g.R.Revisions.contents c.args.ports.now.revisions) c.args.task.now.options.now) in
     let before : Moment = moment g.S.Source g.R.Revisions g.K.Sink g.F.Sink c.args.ports.now c.args.world.now in
     let between : Moment = moment g.S.Source g.R.Revisions g.K.Sink g.F.Sink c.take_and_print.new.ports c.take_and_print.new.world in
     let p = err_from_is_err_and c.from_residual-in_err-save.result c.from_residual-in_err-save.ensures.1 in

@@ -2,21 +2,18 @@
 use Rattle.std.proofs.Common.{Some, inr, refl}
 use Rattle.std.specs.FinMap.{len-empty}
 use Rattle.replay_model.specs.Play.{nothing_played}
-use Rattle.following.specs.Input.{input}
-use Rattle.transcript.specs.Printing.{output}
 use Rattle.words.specs.Options.{max_bytes_of}
 use Rattle.world.proofs.Rooming.{nothing_held}
 use Rattle.session.specs.declared.report.Report.TheVariants.{Answers}
-use Rattle.session.specs.Counts.{counts}
-use Rattle.session.specs.Moment.{run_of}
-use Rattle.session.proofs.Progress.{starved_at_once}
+use Rattle.session.specs.Moment.{moment, run_of, world_at_start}
+use Rattle.session.proofs.Progress.{nothing_stands, starved_at_once}
 use Rattle.session.proofs.Reading.{nothing_taken_of}
 use Rattle.session.proofs.split.split.Goals as goal
 
 pub returns-in-Err-clause-ending : goal.returns-in-Err-clause-ending
 returns-in-Err-clause-ending g c = rw (c.begin.ensures, c.replay-asked.ensures) (λ routes are. record {
-  outcome = starved_at_once (run_of (Some routes) Answers (g.R.Revisions.contents c.args.ports.now.revisions) c.args.options.now.replay) c.args.options.now.replay.horizon (input g.S.Source c.args.ports.now.events)
-      (output g.K.Sink c.args.ports.now.out) (counts g.R.Revisions c.args.ports.now.revisions) (output g.F.Sink c.args.ports.now.snapshot);
+  outcome = starved_at_once (run_of (Some routes) Answers (g.R.Revisions.contents c.args.ports.now.revisions) c.args.options.now.replay) (moment g.S.Source g.R.Revisions g.K.Sink g.F.Sink c.args.ports.now (world_at_start c.args.options.now.replay))
+      (nothing_stands c.args.options.now.replay.horizon);
   taken = nothing_taken_of (max_bytes_of c.args.options.now.replay) (g.S.Source.left c.args.ports.now.events);
 })
 

@@ -2,7 +2,7 @@
 use Rattle.std.proofs.Common.{refl, sym, ◌∙◌}
 use Rattle.std.proofs.lemmas.Result.{err_from_is_err_and}
 use Rattle.splitting.specs.Graphs.{routes_of}
-use Rattle.session.specs.Moment.{Run, moment, run_of}
+use Rattle.session.specs.Moment.{Run, behind, moment, run_of}
 use Rattle.session.proofs.Deliveries.{rest_open}
 use Rattle.session.proofs.Ongoing.{delivered_on, none_gone, read_on}
 use Rattle.session.proofs.Progress.{delivery_stops, end_reached, fault_stops, line_stops, line_taken, nothing_begun, numbers_left, taken_on}
@@ -11,8 +11,8 @@ use Rattle.session.proofs.taking.take_lines.Goals as goal
 
 pub loop-line-init : goal.loop-line-init
 loop-line-init g c =
-    let run : Run = run_of (routes_of c.args.graphs.now) c.args.task.now.report (g.R.Revisions.contents c.args.ports.now.revisions) c.args.task.now.options.now in (
-      rw (c.new-lines.ensures, c.max_bytes.ensures.value, c.requires.world, c.requires.first.0, c.requires.first.1) (nothing_begun run _ _ _ _ _),
+    let run : Run = behind c.args.task.now.numbers (run_of (routes_of c.args.graphs.now) c.args.task.now.report (g.R.Revisions.contents c.args.ports.now.revisions) c.args.task.now.options.now) in (
+      rw (c.new-lines.ensures, c.max_bytes.ensures.value, c.reported_before-reported.ensures) (nothing_begun run _ c.requires.stands),
       none_gone g.S.Source g.R.Revisions g.K.Sink g.F.Sink _,
       refl,
       c.requires.held,
@@ -70,7 +70,9 @@ loop-line-preserved g c =
     )
 
 pub deliver-requires-clause-number : goal.deliver-requires-clause-number
-deliver-requires-clause-number g c = numbers_left c.args.task.now.report c.loop-line.reported c.loop-line.matched c.loop-line.lines c.loop-line.invariant.0.few c.loop-line.invariant.0.few_matched c.loop-line.invariant.0.sound c.loop-line.invariant.0.max (rw c.max_bytes.ensures.value at c.max_bytes.ensures.bounded)
+deliver-requires-clause-number g c =
+    numbers_left c.args.task.now.report c.args.task.now.numbers c.loop-line.reported c.loop-line.matched c.loop-line.lines c.requires.few.0 c.requires.few.1 c.loop-line.invariant.0.few c.loop-line.invariant.0.few_matched
+    c.loop-line.invariant.0.sound c.loop-line.invariant.0.max (rw c.max_bytes.ensures.value at c.max_bytes.ensures.bounded)
 
 pub returns-clause-ok : goal.returns-clause-ok
 returns-clause-ok g c =

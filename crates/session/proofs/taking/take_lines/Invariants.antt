@@ -3,13 +3,13 @@ use Rattle.std.proofs.Common.{◌≡◌, ◌-◌}
 use Rattle.splitting.specs.Graphs.{MayFollow, routes_of}
 use Rattle.session.specs.Remapping.{HoldsWithin}
 use Rattle.session.specs.Counts.{HaveGoneOn}
-use Rattle.session.specs.Moment.{moment, run_of}
+use Rattle.session.specs.Moment.{behind, moment, run_of}
 use Rattle.session.proofs.Progress.{Progress}
 use Rattle.session.proofs.taking.take_lines.Given as goal
 
 abbrev pub invariant-loop-line : goal.invariant-loop-line
 invariant-loop-line g l =
-    Progress (run_of (routes_of l.fn.graphs) l.task.report (g.R.Revisions.contents l.fn.ports.revisions) l.task.options.now)
+    Progress (behind l.task.numbers (run_of (routes_of l.fn.graphs) l.task.report (g.R.Revisions.contents l.fn.ports.revisions) l.task.options.now))
     (moment g.S.Source g.R.Revisions g.K.Sink g.F.Sink l.fn.ports l.fn.world)
     (moment g.S.Source g.R.Revisions g.K.Sink g.F.Sink l.ports l.world) l.lines l.reported l.matched
     × HaveGoneOn g.S.Source g.R.Revisions g.K.Sink g.F.Sink l.fn.ports l.ports

@@ -1,9 +1,9 @@
 -- The deliveries of the item are taken and counted, one after the other.
-use Rattle.std.proofs.Common.{refl, ◌≡◌, ◌∙◌, ◌+◌, ◌*◌, ◌++◌, [], ◌∷◌, suc, take, drop, sym, subst, append-nil, arith}
+use Rattle.std.proofs.Common.{refl, length, ◌≡◌, ◌∙◌, ◌≤◌, ◌+◌, ◌*◌, ◌++◌, [], ◌∷◌, suc, take, drop, sym, subst, append-nil, arith}
 use Rattle.transcript.specs.Printing.{output}
 use Rattle.drill.specs.Drill.{IsSize, item_deliveries, drill}
 use Rattle.drill_replay.specs.Playing.{IsPartOf}
-use Rattle.drill_replay.proofs.Drills.{part_in}
+use Rattle.drill_replay.proofs.Drills.{few_deliveries, part_in}
 use Rattle.drill_replay.proofs.Taking.{cut, few_more, one_more, whole}
 use Rattle.session.specs.DrillPlaying.{HasTakenFirst}
 use Rattle.session.proofs.Deliveries.{rest_open}
@@ -29,6 +29,17 @@ loop-delivery-init g c = record {
 
 pub deliver-requires-clause-open : goal.deliver-requires-clause-open
 deliver-requires-clause-open g c = rest_open _ _ _ _ _ c.loop-delivery.invariant.taken.at_rest
+
+-- there are at most six deliveries of an item, and at most 200,000 items
+pub add-requires : goal.add-requires
+add-requires g c =
+    let are : c.as_slice-delivery-items.result.now ≡ item_deliveries (c.args.done + 1) = c.as_slice-delivery-items.ensures ∙ c.in_ok-list.ensures in
+    let six : length c.as_slice-delivery-items.result.now ≤ 6 = rw are (few_deliveries (c.args.done + 1)) in
+    let few = c.loop-delivery.invariant.few in (
+      omega (arith, few.0, six, c.requires.size.1, c.requires.next, c.loop-delivery-test.true),
+      omega (arith, few.1, six, c.requires.size.1, c.requires.next, c.loop-delivery-test.true),
+      omega (arith, few.2, six, c.requires.size.1, c.requires.next, c.loop-delivery-test.true),
+    )
 
 pub refused-requires : goal.refused-requires
 refused-requires g c =
