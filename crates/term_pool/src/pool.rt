@@ -157,15 +157,16 @@ impl Pool {
         }
     }
 
-    /// Does what `intern_text` does. The slot of this number is tried first, which costs no hash; a wrong one changes nothing.
-    pub fn intern_text_near(
+    /// Does what `intern_text` does. Where the slot with this text is known it is used, without a look at the text.
+    pub fn intern_known(
         &mut self,
         region: &mut Region,
         text: &[u8],
-        near: Option<u32>,
+        known: Option<u32>,
     ) -> Result<Slot, PoolFault>
         requires lies { LiesIn self.old region.old }
         requires canonical { IsCanonical text.now }
+        requires known { IfSome known (λ number. text_in_slot self.old region.old number ≡ Some text.now) }
         ensures lies { LiesIn self.new region.new }
         ensures ok { IfOk result (λ slot. Interned self.old region.old self.new region.new slot.number text.now) }
         ensures first { IfOk result (λ slot. IsNowhere self.old region.old text.now → count_at self.new slot.number ≡ 1) }
@@ -175,9 +176,9 @@ impl Pool {
         ensures beside { KeepsBeside self.old region.old self.new region.new }
         ensures limit { self.new.limit ≡ self.old.limit }
     {
-        match self.find_near(region, text, near) {
-            Some(slot) => match raise(&mut self.slots, slot.number) {
-                Ok(()) => Ok(slot),
+        match known {
+            Some(number) => match raise(&mut self.slots, number) {
+                Ok(()) => Ok(Slot { number }),
                 Err(OutOfMemory) => Err(PoolFault::OutOfMemory),
             },
             None => self.intern_text(region, text),
@@ -212,19 +213,6 @@ impl Pool {
                 region.read(&place) == text
             }
             None => false,
-        }
-    }
-
-    // The slot of this number, where it has this text.
-    fn find_near(&self, region: &Region, text: &[u8], near: Option<u32>) -> Option<Slot>
-        requires { LiesIn self.now region.now }
-        ensures found { IfSome result (λ slot. text_in_slot self.now region.now slot.number ≡ Some text.now) }
-    {
-        let number = near?;
-        if self.has_text(region, number, text) {
-            Some(Slot { number })
-        } else {
-            None
         }
     }
 

@@ -6,6 +6,7 @@ pub mod Exchanged
 pub mod Held
 pub mod Imaged
 pub mod Keyed
+pub mod Known
 pub mod Laid
 pub mod Lines
 pub mod Listed

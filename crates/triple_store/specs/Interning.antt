@@ -1,5 +1,5 @@
 -- What it is to use the terms of a triple once more or once less.
-use Rattle.std.specs.Prelude.{◌≡◌, ℕ, ◌+◌, ◌<◌, true, List, Some}
+use Rattle.std.specs.Prelude.{◌≡◌, ℕ, ◌+◌, ◌-◌, ◌<◌, true, List, Option, Some, IfSome, slice_get}
 use Rattle.rising.specs.Rising.{has}
 use Rattle.rdf_term.specs.declared.term.Term.{Term}
 use Rattle.rdf_term.specs.Order.{term_cmp}
@@ -8,7 +8,10 @@ use Rattle.text_region.specs.Region.{Texts}
 use Rattle.term_pool.specs.declared.pool.Pool.{Pool}
 use Rattle.term_pool.specs.Pool.{count_at, text_in_slot}
 use Rattle.slot_index.specs.declared.key.Key.{Key}
+use Rattle.rdf_term.specs.declared.triple.Triple.{Triple}
+use Rattle.rdf_term.specs.Text.{term_text}
 use Rattle.triple_texts.specs.declared.triple_text.TripleText.{TripleText}
+use Rattle.triple_store.specs.declared.interning.Hints.{Hints}
 use Rattle.triple_store.specs.Slots.{HasTexts, uses}
 
 -- each slot keeps the text that it has
@@ -29,3 +32,17 @@ pub record ReleasesTriple (old : Pool) (before : Texts) (new : Pool) (after : Te
 -- the list has the term of each slot
 pub record HasTermsOf (pool : Pool) (texts : Texts) (terms : List Term) : Type 0 where
   pub each : (slot : ℕ) (text : List ℕ) → text_in_slot pool texts slot ≡ Some text → has term_cmp (undo text) terms ≡ true
+
+-- the slots that are known have the texts of the triple's terms
+pub record AreHints (pool : Pool) (texts : Texts) (hints : Hints) (of : TripleText) : Type 0 where
+  pub subject : IfSome hints.subject (λ slot. text_in_slot pool texts slot ≡ Some of.subject.now)
+  pub predicate : IfSome hints.predicate (λ slot. text_in_slot pool texts slot ≡ Some of.predicate.now)
+  pub object : IfSome hints.object (λ slot. text_in_slot pool texts slot ≡ Some of.object.now)
+
+-- the first slot has the subject of the triple before an index
+pub record IsOfTripleBefore (pool : Pool) (texts : Texts) (key : Key) (triples : List Triple) (index : ℕ) : Type 0 where
+  pub has : (triple : Triple) → 0 < index → slice_get triples (index - 1) ≡ Some triple → text_in_slot pool texts key.first ≡ Some (term_text triple.subject)
+
+-- the slot, where one is known, has the subject of the triple at an index
+abbrev pub IsOfSubject : Pool → Texts → Option ℕ → List Triple → ℕ → Type 0
+IsOfSubject pool texts known triples index = (triple : Triple) → slice_get triples index ≡ Some triple → IfSome known (λ slot. text_in_slot pool texts slot ≡ Some (term_text triple.subject))

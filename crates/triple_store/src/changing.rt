@@ -9,6 +9,7 @@ ghost use Rattle.term_pool.specs.Pool.{IsNowhere, LiesIn, text_in_slot};
 ghost use Rattle.slot_index.specs.declared.key.Key.{Key as TheKey};
 ghost use Rattle.triple_store.specs.Costs.{Costs};
 ghost use Rattle.triple_store.specs.Counts.{count_of, lowered, raised};
+ghost use Rattle.triple_store.specs.Interning.{AreHints};
 ghost use Rattle.triple_store.specs.Room.{distinct, terms_of};
 ghost use Rattle.triple_store.specs.Slots.{HasCanonicalTexts, HasTermsIn, HasTexts, IsAllOf, triple_at, triple_of};
 ghost use Rattle.triple_store.specs.Stored.{HasKey, IsStored, KeepsKeys, beside, counts_in, is_key, limit_of};
@@ -24,18 +25,21 @@ use text_region::Region;
 use triple_texts::TripleText;
 
 impl Catalog {
-    // The triple of slots with these texts, where each of them is there; the triple need not be stored. Subject and
-    // predicate are tried first in the slots that they have in a triple near by, since triples that follow each other mostly
-    // share one of them. Where one isn't there, the slots of those before it. Takes no memory.
+    // The triple of slots with these texts, where each of them is there; the triple need not be stored. The slot of the subject may be
+    // known. Else subject and predicate are tried first in the slots that they have in a triple near by, since triples that follow
+    // each other mostly share one of them. Where one isn't there, the slots of those before it. Takes no memory.
     pub(crate) fn find_key(
         &self,
         region: &Region,
         texts: &TripleText<'_>,
+        known: Option<u32>,
         near: Option<Key>,
     ) -> Result<Key, Hints>
-        requires { IsStored self.now region.now }
+        requires stored { IsStored self.now region.now }
+        requires known { IfSome known (λ slot. text_in_slot self.now.pool region.now slot ≡ Some texts.now.subject.now) }
         ensures found { IfOk result (λ key. HasTexts self.now.pool region.now key texts.now) }
         ensures nowhere { IfErr result (λ _. (key : TheKey) → HasTexts self.now.pool region.now key texts.now → ⊥) }
+        ensures hints { IfErr result (λ hints. AreHints self.now.pool region.now hints texts.now) }
     {
         let mut hints = Hints {
             subject: None,
@@ -43,7 +47,8 @@ impl Catalog {
             object: None,
         };
         let near_subject = near.map(|key| key.first);
-        let Some(subject) = find_near(&self.pool, region, texts.subject, near_subject) else {
+        let Some(subject) = find_known(&self.pool, region, texts.subject, known, near_subject)
+        else {
             return Err(hints);
         };
         hints.subject = Some(subject);
@@ -62,12 +67,20 @@ impl Catalog {
         })
     }
 
-    // Whether the three slots have these texts, which costs no look-up.
-    pub(crate) fn has_texts(&self, region: &Region, key: Key, texts: &TripleText<'_>) -> bool
-        requires { IsStored self.now region.now }
+    // Whether the three slots have these texts, which costs no look-up. The slot of the subject may be known: then its text isn't
+    // looked at.
+    pub(crate) fn has_texts(
+        &self,
+        region: &Region,
+        key: Key,
+        texts: &TripleText<'_>,
+        known: Option<u32>,
+    ) -> bool
+        requires stored { IsStored self.now region.now }
+        requires known { IfSome known (λ slot. text_in_slot self.now.pool region.now slot ≡ Some texts.now.subject.now) }
         ensures { IsTrue result → HasTexts self.now.pool region.now key texts.now }
     {
-        self.pool.has_text(region, key.first, texts.subject)
+        has_known(&self.pool, region, key.first, texts.subject, known)
             && self.pool.has_text(region, key.second, texts.predicate)
             && self.pool.has_text(region, key.third, texts.object)
     }
@@ -83,6 +96,7 @@ impl Catalog {
     ) -> Result<Key, StoreFault>
         requires stored { IsStored self.old region.old }
         requires canonical { HasCanonicalTexts texts.now }
+        requires hints { AreHints self.old.pool region.old hints texts.now }
         requires countable { count_of (counts_in self.old region.old) (triple_of texts.now) < 18446744073709551615 }
         ensures stored { IsStored self.new region.new }
         ensures ok { OnOk result (counts_in self.new region.new ≡ raised (counts_in self.old region.old) (triple_of texts.now)) }
@@ -141,4 +155,35 @@ fn find_near(pool: &Pool, region: &Region, text: &[u8], near: Option<u32>) -> Op
     }
     let slot = pool.find_text(region, text)?;
     Some(slot.number)
+}
+
+// The slot with this text: the one that is known, or else one is tried first.
+fn find_known(
+    pool: &Pool,
+    region: &Region,
+    text: &[u8],
+    known: Option<u32>,
+    near: Option<u32>,
+) -> Option<u32>
+    requires lies { LiesIn pool.now region.now }
+    requires known { IfSome known (λ slot. text_in_slot pool.now region.now slot ≡ Some text.now) }
+    ensures found { IfSome result (λ slot. text_in_slot pool.now region.now slot ≡ Some text.now) }
+    ensures nowhere { IfNone result (IsNowhere pool.now region.now text.now) }
+{
+    match known {
+        Some(slot) => Some(slot),
+        None => find_near(pool, region, text, near),
+    }
+}
+
+// Whether the slot has this text: where a slot with it is known, whether it is this one.
+fn has_known(pool: &Pool, region: &Region, number: u32, text: &[u8], known: Option<u32>) -> bool
+    requires lies { LiesIn pool.now region.now }
+    requires known { IfSome known (λ slot. text_in_slot pool.now region.now slot ≡ Some text.now) }
+    ensures { IsTrue result → text_in_slot pool.now region.now number ≡ Some text.now }
+{
+    match known {
+        Some(slot) => slot == number,
+        None => pool.has_text(region, number, text),
+    }
 }

@@ -1,6 +1,6 @@
 // Triples of one owner in the place of others.
 
-ghost use Rattle.std.specs.Prelude.{◌≡◌, ◌+◌, ◌<◌, ◌≤◌, ◌++◌, true, false, List, [], length, take, vec_len, vec_capacity, Err, IfSome, IfErr, IfOk, IsOk, OnOk, OnErr};
+ghost use Rattle.std.specs.Prelude.{◌≡◌, ◌+◌, ◌<◌, ◌≤◌, true, List, [], length, take, vec_len, vec_capacity, Err, IfOk, IsOk, OnOk, OnErr};
 ghost use Rattle.std.specs.FinMap as map;
 ghost use Rattle.std.specs.List.{AllByRecursion};
 ghost use Rattle.rising.specs.Rising.{IsRising, has};
@@ -14,14 +14,13 @@ ghost use Rattle.triple_store.specs.Costs.{Costs};
 ghost use Rattle.triple_store.specs.Counts.{Exchanges, count_of};
 ghost use Rattle.triple_store.specs.Moves.{TakesIn};
 ghost use Rattle.triple_store.specs.Room.{room_for};
-ghost use Rattle.triple_store.specs.Slots.{HasTexts};
 ghost use Rattle.triple_store.specs.Stored.{AreKeysOf, IsStored, KeepsKeys, beside, counts_in, is_key, limit_of};
 ghost use Rattle.triple_store.specs.Telling.{TellsIf, if_told};
 
 use crate::StoreFault;
 use crate::catalog::Catalog;
-use crate::interning::Hints;
-use crate::keys::{KeySlices, Keys, NOWHERE, in_order, narrowed};
+use crate::finding::{Near, known_subject};
+use crate::keys::{KeySlices, Keys, NOWHERE, in_order};
 use crate::telling::{Exchange, Sides, Telling};
 use block_index::Steps;
 use rdf_term::OutOfMemory;
@@ -30,29 +29,7 @@ use std::alloc::Global;
 use std::collections::BTreeSet;
 use std::sync::ledger::Ledger;
 use text_region::Region;
-use triple_texts::{TripleText, TripleTexts};
-
-// How many indices of the walk are tried for the next triple: a triple or two may be gone.
-const TRIED: usize = 3;
-
-// How far ahead in the walk an index is looked for, which was found by a search.
-const AHEAD: usize = 64;
-
-// Where a triple is looked for first: among the keys that the owner had, from an index of their walk on, and in the slots of the key before it.
-#[derive(Clone, Copy)]
-struct Near<'a> {
-    last: Option<Key>,
-    old: KeySlices<'a>,
-    next: usize,
-}
-
-// A key that is at hand, its index among the old ones where it was found there, and where the walk goes on.
-#[derive(Clone, Copy)]
-struct Found {
-    key: Key,
-    old_index: u32,
-    next: usize,
-}
+use triple_texts::TripleTexts;
 
 // The keys that the owner had, and its triples from now on.
 #[derive(Clone, Copy)]
@@ -177,18 +154,23 @@ impl Catalog {
         ensures cost { Costs (map.len self.old.index) (map.len self.new.index) (length swap.entry.new.now) 0 steps.old steps.new }
     {
         let mut added = BTreeSet::new(self.alloc);
+        let mut last = None;
         let mut next = 0;
         for index in 0..swap.new.len() {
             let texts = swap.new.get(index);
+            let subject = known_subject(&self.pool, region, swap.new, index, last);
+            let old = swap.old;
             let near = Near {
-                last: met.keys.last().copied(),
-                old: swap.old,
+                subject,
+                last,
+                old,
                 next,
             };
             let hints = match self.find_held(region, &texts, near, &added) {
                 Ok(found) => {
                     met.keys.push_reserved(found.key);
                     met.old_indices.push_reserved(found.old_index);
+                    last = Some(found.key);
                     next = found.next;
                     continue;
                 }
@@ -200,83 +182,12 @@ impl Catalog {
             };
             met.keys.push_reserved(key);
             met.old_indices.push_reserved(NOWHERE);
+            last = Some(key);
             if added.insert(key).is_err() {
                 return Err(StoreFault::OutOfMemory);
             }
         }
         Ok(())
-    }
-
-    // The key of the triple with these texts, where it is among the old ones or those that were added, and else the
-    // slots of its terms that are there.
-    fn find_held(
-        &self,
-        region: &Region,
-        texts: &TripleText<'_>,
-        near: Near<'_>,
-        added: &BTreeSet<Key>,
-    ) -> Result<Found, Hints>
-        requires stored { IsStored self.now region.now }
-        requires rising { IsRising key_cmp near.old.rising.now }
-        ensures texts { IfOk result (λ found. HasTexts self.now.pool region.now found.key texts.now) }
-        ensures held { IfOk result (λ found. has key_cmp found.key (near.entry.old.rising.now ++ added.now.keys) ≡ true) }
-        ensures none { IfErr result (λ _. (key : TheKey) → HasTexts self.now.pool region.now key texts.now → has key_cmp key (near.entry.old.rising.now ++ added.now.keys) ≡ false) }
-    {
-        if let Some(found) = self.find_again(region, texts, near) {
-            return Ok(found);
-        }
-        let key = match self.find_key(region, texts, near.last) {
-            Ok(key) => key,
-            Err(hints) => return Err(hints),
-        };
-        let next = near.next;
-        if let Ok(old_index) = near.old.rising.binary_search(&key) {
-            let old_index = narrowed(old_index);
-            let next = behind(near.old.walk, next, old_index);
-            return Ok(Found {
-                key,
-                old_index,
-                next,
-            });
-        }
-        if added.contains(&key) {
-            let old_index = NOWHERE;
-            Ok(Found {
-                key,
-                old_index,
-                next,
-            })
-        } else {
-            Err(Hints {
-                subject: Some(key.first),
-                predicate: Some(key.second),
-                object: Some(key.third),
-            })
-        }
-    }
-
-    // The key of the triple with these texts, where the walk that the old keys have comes to it next. What stays mostly comes
-    // in the order in which it came before, so this saves most look-ups.
-    fn find_again(&self, region: &Region, texts: &TripleText<'_>, near: Near<'_>) -> Option<Found>
-        requires stored { IsStored self.now region.now }
-        ensures texts { IfSome result (λ found. HasTexts self.now.pool region.now found.key texts.now) }
-        ensures there { IfSome result (λ found. has key_cmp found.key near.entry.old.rising.now ≡ true) }
-    {
-        for past in 0..TRIED {
-            let at = near.next.saturating_add(past);
-            let old_index = *near.old.walk.get(at)?;
-            let Some(key) = near.old.rising.get(old_index as usize) else {
-                continue;
-            };
-            if self.has_texts(region, *key, texts) {
-                return Some(Found {
-                    key: *key,
-                    old_index,
-                    next: at.saturating_add(1),
-                });
-            }
-        }
-        None
     }
 }
 
@@ -292,15 +203,4 @@ fn no_keys_met(alloc: Global, room: usize) -> Result<Met, OutOfMemory>
         keys: Vec::with_capacity(alloc, room)?,
         old_indices: Vec::with_capacity(alloc, room)?,
     })
-}
-
-// Where the walk goes on behind an index that it comes to soon. A hint alone: where it doesn't, it goes on where it stood.
-fn behind(walk: &[u32], next: usize, old_index: u32) -> usize {
-    for past in 0..AHEAD {
-        let at = next.saturating_add(past);
-        if walk.get(at) == Some(&old_index) {
-            return at.saturating_add(1);
-        }
-    }
-    next
 }

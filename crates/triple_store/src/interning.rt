@@ -4,7 +4,7 @@ ghost use Rattle.std.specs.Prelude.{◌≡◌, ℕ, ◌<◌, ◌≤◌, List, Er
 ghost use Rattle.rdf_term.specs.declared.term.Term.{Term};
 ghost use Rattle.text_region.specs.Region.{Texts};
 ghost use Rattle.term_pool.specs.Pool.{LiesIn, KeepsBeside, SameSlots, count_at};
-ghost use Rattle.triple_store.specs.Interning.{HasTermsOf, InternsTriple, ReleasesTriple};
+ghost use Rattle.triple_store.specs.Interning.{AreHints, HasTermsOf, InternsTriple, ReleasesTriple};
 ghost use Rattle.triple_store.specs.Room.{distinct, terms_of};
 ghost use Rattle.triple_store.specs.Slots.{HasCanonicalTexts, IsAllOf, triple_of, uses};
 
@@ -14,7 +14,7 @@ use term_pool::{Pool, Slot};
 use text_region::Region;
 use triple_texts::TripleText;
 
-// The slots in which the terms of a triple are looked for first. A wrong one changes nothing.
+// The slots of the terms of a triple, as far as they are known.
 #[derive(Clone, Copy)]
 pub(crate) struct Hints {
     pub(crate) subject: Option<u32>,
@@ -32,6 +32,7 @@ pub(crate) fn intern_triple(
 ) -> Result<Key, StoreFault>
     requires lies { LiesIn pool.old region.old }
     requires canonical { HasCanonicalTexts texts.now }
+    requires hints { AreHints pool.old region.old hints texts.now }
     ensures lies { LiesIn pool.new region.new }
     ensures ok { IfOk result (λ key. InternsTriple pool.old region.old pool.new region.new key texts.now) }
     ensures err { OnErr result (SameSlots pool.old region.old pool.new region.new) }
@@ -39,18 +40,18 @@ pub(crate) fn intern_triple(
     ensures beside { KeepsBeside pool.old region.old pool.new region.new }
     ensures limit { pool.new.limit ≡ pool.old.limit }
 {
-    let subject = match pool.intern_text_near(region, texts.subject, hints.subject) {
+    let subject = match pool.intern_known(region, texts.subject, hints.subject) {
         Ok(slot) => slot,
         Err(refused) => return Err(refused),
     };
-    let predicate = match pool.intern_text_near(region, texts.predicate, hints.predicate) {
+    let predicate = match pool.intern_known(region, texts.predicate, hints.predicate) {
         Ok(slot) => slot,
         Err(refused) => {
             pool.release(region, subject);
             return Err(refused);
         }
     };
-    let object = match pool.intern_text_near(region, texts.object, hints.object) {
+    let object = match pool.intern_known(region, texts.object, hints.object) {
         Ok(slot) => slot,
         Err(refused) => {
             pool.release(region, predicate);

@@ -1,8 +1,10 @@
 -- What is appended to a buffer leaves the triples before it, and makes one more.
-use Rattle.std.proofs.Common.{◌≡◌, ℕ, ◌+◌, ◌≤◌, List, [], ◌∷◌, ◌++◌, length, take, drop, map, refl, sym, ap, subst, ◌∙◌, arith}
+use Rattle.std.proofs.Common.{◌≡◌, ℕ, ◌-◌, ◌<◌, ◌≤◌, List, [], ◌∷◌, ◌++◌, length, take, drop, map, get_or, refl, sym, ap, subst, ◌∙◌, arith}
+use Rattle.std.specs.Prelude.{option_map}
+use Rattle.std.proofs.lemmas.Option.{slice_get-map, slice_get_read}
 use Rattle.std.specs.List.{AllByRecursion}
 use Rattle.std.proofs.Math.Seq.{drop-append_seam, take-append_seam}
-use Rattle.std.proofs.lemmas.List.{append-nil, take-append-drop, take-append-le, drop-append-le, length-drop, length-append}
+use Rattle.std.proofs.lemmas.List.{append-nil, take-append-drop, take-append-le, drop-append-le, length-drop, length-append, length-map}
 use Rattle.rdf_term.specs.declared.term.Term.{Term}
 use Rattle.rdf_term.specs.declared.triple.Triple.{Triple}
 use Rattle.rdf_term.specs.Text.{term_text}
@@ -11,6 +13,7 @@ use Rattle.rdf_term.proofs.Texts.{undo-term_text}
 use Rattle.triple_texts.specs.declared.span.Span.{Span}
 use Rattle.triple_texts.specs.declared.triple_spans.TripleSpans.{TripleSpans}
 use Rattle.triple_texts.specs.Spans.{AreSpansOf, IsSpanOf, LieIn, span_end, text_in, triple_in}
+use Rattle.triple_texts.specs.Texts.{RepeatsSubject}
 
 -- a buffer that begins with another is that one with more
 longer : (before after : List ℕ) → take (length before) after ≡ before → after ≡ before ++ drop (length before) after
@@ -117,3 +120,16 @@ module _ (before after : List ℕ) (triple : Triple) (spans : TripleSpans) (kept
       let is = longer before after kept in
       let there = subst (λ (bytes : List ℕ). LieIn bytes spans) is (lies_there after triple spans its) in
       rw pushed (subst (λ (bytes : List ℕ). AllByRecursion (LieIn bytes) (all_spans ++ spans ∷ [])) (sym is) (lie_more before rest all_spans spans all there))
+
+-- two triples whose subjects lie at one place have one subject
+pub repeats : (bytes : List ℕ) (all_spans : List TripleSpans) (index before : ℕ) (this that : TripleSpans) → index < length (map (triple_in bytes) all_spans) → (1 ≤ index) × (before ≡ index - 1) → this ≡ get_or all_spans index this → that ≡ get_or all_spans before that → this.subject ≡ that.subject → RepeatsSubject (map (triple_in bytes) all_spans) index
+repeats bytes all_spans index before this that low prior is_this is_that same =
+    let within : index < length all_spans = omega (arith, length-map all_spans (triple_in bytes)) in
+    record {
+      later = omega arith;
+      before = triple_in bytes that;
+      this = triple_in bytes this;
+      is_before = slice_get-map (triple_in bytes) all_spans (index - 1) ∙ ap (option_map (triple_in bytes)) (slice_get_read all_spans (length all_spans) (index - 1) that refl (omega arith) (is_that ∙ ap (λ n. get_or all_spans n that) prior.1));
+      is_this = slice_get-map (triple_in bytes) all_spans index ∙ ap (option_map (triple_in bytes)) (slice_get_read all_spans (length all_spans) index this refl within is_this);
+      same = ap (λ span. undo (text_in bytes span)) same;
+    }

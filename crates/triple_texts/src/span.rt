@@ -1,6 +1,6 @@
 // Where a text lies in a buffer.
 
-ghost use Rattle.std.specs.Prelude.{◌≡◌, ◌≤◌, length};
+ghost use Rattle.std.specs.Prelude.{◌≡◌, ◌≤◌, length, IsTrue};
 ghost use Rattle.triple_texts.specs.Spans.{span_end, text_in};
 
 // Where a text begins in a buffer, and its length, in bytes.
@@ -18,5 +18,11 @@ impl Span {
     {
         let start = self.start as usize;
         &bytes[start..start + self.len as usize]
+    }
+    // Whether it is the same place.
+    pub(crate) fn is(self, other: Span) -> bool
+        ensures { IsTrue result → self ≡ other }
+    {
+        self.start == other.start && self.len == other.len
     }
 }

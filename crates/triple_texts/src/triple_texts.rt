@@ -4,7 +4,7 @@ ghost use Rattle.std.specs.Prelude.{◌≡◌, ◌<◌, ◌++◌, [], length, ta
 ghost use Rattle.rdf_term.specs.Text.{term_text};
 ghost use Rattle.triple_sink.specs.TermRef.{meant, meant_triple};
 ghost use Rattle.triple_texts.specs.Spans.{AreSpansOf, IsSpanOf};
-ghost use Rattle.triple_texts.specs.Texts.{IsTextOf};
+ghost use Rattle.triple_texts.specs.Texts.{IsTextOf, RepeatsSubject};
 
 use crate::long_text::{is_text, long_size, remember};
 use crate::span::Span;
@@ -76,6 +76,21 @@ impl TripleTexts {
         ensures { IfSome (slice_get self.now index) (IsTextOf result) }
     {
         self.all_spans[index].texts(&self.bytes)
+    }
+
+    /// Whether the triple at a place from 0 is known to have the subject of the one before it: where the text of its subject wasn't
+    /// written again. It looks at no text.
+    pub fn repeats_subject(&self, index: usize) -> bool
+        requires { index < length self.now }
+        ensures { IsTrue result → RepeatsSubject self.now index }
+    {
+        match index.checked_sub(1) {
+            Some(before) => {
+                let subject = self.all_spans[index].subject;
+                subject.is(self.all_spans[before].subject)
+            }
+            None => false,
+        }
     }
 }
 

@@ -5,39 +5,48 @@ use Rattle.slot_index.specs.declared.key.Key.{Key}
 use Rattle.triple_store.specs.Room.{distinct}
 use Rattle.triple_store.specs.Slots.{triple_of}
 use Rattle.triple_store.proofs.Held.{held, terms_interned, three, too_many, undone}
+use Rattle.triple_store.proofs.Known.{known_later}
 use Rattle.triple_store.proofs.interning.intern_triple.Goals as goal
 
 same_fault : (a b : PoolFault) → ◌≡◌ {A = Result Key PoolFault} (Err a) (Err b) → a ≡ b
 same_fault a b e = cc
+
+pub intern_known-requires-2-clause-known : goal.intern_known-requires-2-clause-known
+intern_known-requires-2-clause-known c = known_later _ _ _ _ _ _ c.args.hints.predicate _ c.in-Ok.ensures.ok c.requires.hints.predicate
+
+pub intern_known-requires-3-clause-known : goal.intern_known-requires-3-clause-known
+intern_known-requires-3-clause-known c =
+    known_later _ _ _ _ _ _ c.args.hints.object _ c.in-Ok-intern_known.ensures.ok
+    (known_later _ _ _ _ _ _ c.args.hints.object _ c.in-Ok.ensures.ok c.requires.hints.object)
 
 pub returns-in-Err-clause-full : goal.returns-in-Err-clause-full
 returns-in-Err-clause-full c = λ e ts h all.
     let t = three (triple_of c.args.texts.now) ts all in
     too_many _ _ _ _ ts c.requires.lies c.requires.canonical.subject (c.in-Err.ensures.full.0 (ap Err (same_fault _ _ e))) h t.subject
 
-pub returns-in-Err-intern_text_near-clause-err : goal.returns-in-Err-intern_text_near-clause-err
-returns-in-Err-intern_text_near-clause-err c = undone _ _ _ _ _ _ _ _ _ _ c.requires.lies c.release.ensures.lies c.in-Ok.ensures.ok c.in-Err-intern_text_near.ensures.err c.release.ensures.released
+pub returns-in-Err-intern_known-clause-err : goal.returns-in-Err-intern_known-clause-err
+returns-in-Err-intern_known-clause-err c = undone _ _ _ _ _ _ _ _ _ _ c.requires.lies c.release.ensures.lies c.in-Ok.ensures.ok c.in-Err-intern_known.ensures.err c.release.ensures.released
 
-pub returns-in-Err-intern_text_near-clause-full : goal.returns-in-Err-intern_text_near-clause-full
-returns-in-Err-intern_text_near-clause-full c = λ e ts h all.
+pub returns-in-Err-intern_known-clause-full : goal.returns-in-Err-intern_known-clause-full
+returns-in-Err-intern_known-clause-full c = λ e ts h all.
     let t = three (triple_of c.args.texts.now) ts all in
-    let full = c.in-Err-intern_text_near.ensures.full.0 (ap Err (same_fault _ _ e)) in
-    subst (λ limit. limit < distinct ts) c.intern_text_near.ensures.limit
+    let full = c.in-Err-intern_known.ensures.full.0 (ap Err (same_fault _ _ e)) in
+    subst (λ limit. limit < distinct ts) c.intern_known.ensures.limit
     (too_many _ _ _ _ ts c.in-Ok.ensures.lies c.requires.canonical.predicate full (terms_interned _ _ _ _ _ _ ts c.in-Ok.ensures.ok h t.subject) t.predicate)
 
-pub returns-in-Err-intern_text_near-2-clause-err : goal.returns-in-Err-intern_text_near-2-clause-err
-returns-in-Err-intern_text_near-2-clause-err c =
-    undone _ _ _ _ _ _ _ _ _ _ c.requires.lies c.release-in-Err-intern_text_near-2-2.ensures.lies c.in-Ok.ensures.ok
-    (undone _ _ _ _ _ _ _ _ _ _ c.in-Ok.ensures.lies c.release-in-Err-intern_text_near-2.ensures.lies c.in-Ok-intern_text_near.ensures.ok c.in-Err-intern_text_near-2.ensures.err c.release-in-Err-intern_text_near-2.ensures.released)
-    c.release-in-Err-intern_text_near-2-2.ensures.released
+pub returns-in-Err-intern_known-2-clause-err : goal.returns-in-Err-intern_known-2-clause-err
+returns-in-Err-intern_known-2-clause-err c =
+    undone _ _ _ _ _ _ _ _ _ _ c.requires.lies c.release-in-Err-intern_known-2-2.ensures.lies c.in-Ok.ensures.ok
+    (undone _ _ _ _ _ _ _ _ _ _ c.in-Ok.ensures.lies c.release-in-Err-intern_known-2.ensures.lies c.in-Ok-intern_known.ensures.ok c.in-Err-intern_known-2.ensures.err c.release-in-Err-intern_known-2.ensures.released)
+    c.release-in-Err-intern_known-2-2.ensures.released
 
-pub returns-in-Err-intern_text_near-2-clause-full : goal.returns-in-Err-intern_text_near-2-clause-full
-returns-in-Err-intern_text_near-2-clause-full c = λ e ts h all.
+pub returns-in-Err-intern_known-2-clause-full : goal.returns-in-Err-intern_known-2-clause-full
+returns-in-Err-intern_known-2-clause-full c = λ e ts h all.
     let t = three (triple_of c.args.texts.now) ts all in
-    let full = c.in-Err-intern_text_near-2.ensures.full.0 (ap Err (same_fault _ _ e)) in
+    let full = c.in-Err-intern_known-2.ensures.full.0 (ap Err (same_fault _ _ e)) in
     let one = terms_interned _ _ _ _ _ _ ts c.in-Ok.ensures.ok h t.subject in
-    subst (λ limit. limit < distinct ts) (c.intern_text_near-2.ensures.limit ∙ c.intern_text_near.ensures.limit)
-    (too_many _ _ _ _ ts c.in-Ok-intern_text_near.ensures.lies c.requires.canonical.object full (terms_interned _ _ _ _ _ _ ts c.in-Ok-intern_text_near.ensures.ok one t.predicate) t.object)
+    subst (λ limit. limit < distinct ts) (c.intern_known-2.ensures.limit ∙ c.intern_known.ensures.limit)
+    (too_many _ _ _ _ ts c.in-Ok-intern_known.ensures.lies c.requires.canonical.object full (terms_interned _ _ _ _ _ _ ts c.in-Ok-intern_known.ensures.ok one t.predicate) t.object)
 
 pub returns-clause-ok : goal.returns-clause-ok
-returns-clause-ok c = held _ _ _ _ _ _ _ _ _ _ c.in-Ok.ensures.ok c.in-Ok-intern_text_near.ensures.ok c.in-Ok-intern_text_near-2.ensures.ok
+returns-clause-ok c = held _ _ _ _ _ _ _ _ _ _ c.in-Ok.ensures.ok c.in-Ok-intern_known.ensures.ok c.in-Ok-intern_known-2.ensures.ok

@@ -2,9 +2,15 @@ use Rattle.std.proofs.Common.{◌≡◌, ◌+◌, ◌<◌, arith, length, take, 
 use Rattle.triple_store.proofs.AtHand.{held_again, held_more, on_ok}
 use Rattle.triple_store.proofs.Costs.{at_most, both}
 use Rattle.triple_store.proofs.Rooming.{same_fault}
+use Rattle.triple_store.proofs.Known.{known_text, last_added, last_found}
 use Rattle.triple_store.proofs.Listed.{next_fits, next_full, next_held, next_new, row_canonical}
 use Rattle.triple_store.proofs.Taking.{none_more}
 use Rattle.triple_store.proofs.catalog.Catalog.take_in.Goals as goal
+
+pub find_held-requires-clause-known : goal.find_held-requires-clause-known
+find_held-requires-clause-known g c =
+    let low : c.loop-index.index < length c.args.swap.new.now = omega arith in
+    known_text c.loop-index.self.pool c.loop-index.region c.args.swap.new.now c.loop-index.index c.get-texts.result low c.get-texts.ensures c.known_subject-subject.result c.known_subject-subject.ensures
 
 pub loop-index-preserved-in-Ok : goal.loop-index-preserved-in-Ok
 loop-index-preserved-in-Ok g c =
@@ -16,6 +22,7 @@ loop-index-preserved-in-Ok g c =
       room = omega (arith, c.push_reserved.ensures.capacity, c.loop-index.invariant.room);
       indexed = omega (arith, c.push_reserved-in-Ok.ensures.len, c.loop-index.invariant.indexed);
       room_for_indices = omega (arith, c.push_reserved-in-Ok.ensures.capacity, c.loop-index.invariant.room_for_indices);
+      last = last_found c.loop-index.self.pool c.loop-index.region c.args.swap.new.now c.loop-index.index c.get-texts.result low c.get-texts.ensures c.in-Ok.found.key c.in-Ok.ensures.texts;
       held = rw c.push_reserved.ensures.items (held_again c.args.swap.old.rising.now c.loop-index.added.keys c.loop-index.met.keys.items c.loop-index.invariant.held c.in-Ok.found.key c.in-Ok.ensures.held);
     }
 
@@ -53,6 +60,7 @@ loop-index-preserved g c =
       room = omega (arith, c.push_reserved-in-loop-index.ensures.capacity, c.loop-index.invariant.room);
       indexed = omega (arith, c.push_reserved-in-loop-index-2.ensures.len, c.loop-index.invariant.indexed);
       room_for_indices = omega (arith, c.push_reserved-in-loop-index-2.ensures.capacity, c.loop-index.invariant.room_for_indices);
+      last = last_added c.loop-index.self.pool c.loop-index.region c.args.swap.new.now c.loop-index.index c.get-texts.result low c.get-texts.ensures _ _ c.in-Ok-add.key c.in-Ok-add.ensures.key.has;
       held = rw (c.push_reserved-in-loop-index.ensures.items, on_ok c.insert.result _ (sym c.is_err.ensures.value ∙ c.if-is_err.false) c.insert.ensures.keys) (held_more c.args.swap.old.rising.now c.loop-index.added.keys c.loop-index.met.keys.items c.loop-index.invariant.held c.in-Ok-add.key);
     }
 

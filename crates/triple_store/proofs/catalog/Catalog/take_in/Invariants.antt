@@ -1,10 +1,11 @@
-use Rattle.std.proofs.Common.{◌≡◌, ◌≤◌, length, take, ◌++◌, vec_len}
+use Rattle.std.proofs.Common.{◌≡◌, ◌≤◌, length, take, ◌++◌, vec_len, IfSome}
 use Rattle.std.specs.Prelude.{vec_capacity}
 use Rattle.std.specs.FinMap as map
 use Rattle.rising.specs.Rising.{has}
 use Rattle.slot_index.specs.declared.key.Key.{Key}
 use Rattle.slot_index.specs.Keys.{key_cmp}
 use Rattle.triple_store.specs.Costs.{Costs}
+use Rattle.triple_store.specs.Interning.{IsOfTripleBefore}
 use Rattle.triple_store.specs.Moves.{TakesIn}
 use Rattle.triple_store.proofs.catalog.Catalog.take_in.Given as goal
 
@@ -16,5 +17,6 @@ invariant-loop-index g l = record {
   room : length l.swap.new.now ≤ vec_capacity l.met.keys;
   indexed : vec_len l.met.old_indices ≡ l.index;
   room_for_indices : length l.swap.new.now ≤ vec_capacity l.met.old_indices;
+  last : IfSome l.last (λ key. IsOfTripleBefore l.self.pool l.region key l.swap.new.now l.index);
   held : (key : Key) → has key_cmp key (l.swap.old.rising.now ++ l.added.keys) ≡ has key_cmp key (l.swap.old.rising.now ++ l.met.keys.items);
 }

@@ -1,0 +1,151 @@
+// Where the keys of the triples that come are found.
+
+ghost use Rattle.std.specs.Prelude.{◌≡◌, ◌<◌, ◌++◌, true, false, length, Some, IfSome, IfErr, IfOk};
+ghost use Rattle.rising.specs.Rising.{IsRising, has};
+ghost use Rattle.term_pool.specs.Pool.{LiesIn, text_in_slot};
+ghost use Rattle.slot_index.specs.declared.key.Key.{Key as TheKey};
+ghost use Rattle.slot_index.specs.Keys.{key_cmp};
+ghost use Rattle.triple_store.specs.Interning.{AreHints, IsOfSubject, IsOfTripleBefore};
+ghost use Rattle.triple_store.specs.Slots.{HasTexts};
+ghost use Rattle.triple_store.specs.Stored.{IsStored};
+
+use crate::catalog::Catalog;
+use crate::interning::Hints;
+use crate::keys::{KeySlices, NOWHERE, narrowed};
+use slot_index::Key;
+use std::collections::BTreeSet;
+use term_pool::Pool;
+use text_region::Region;
+use triple_texts::{TripleText, TripleTexts};
+
+// How many indices of the walk are tried for the next triple: a triple or two may be gone.
+const TRIED: usize = 3;
+
+// How far ahead in the walk an index is looked for, which was found by a search.
+const AHEAD: usize = 64;
+
+// Where a triple is looked for first: among the keys that the owner had, from an index of their walk on, and in the slots of the key before
+// it. The slot of its subject may be known.
+#[derive(Clone, Copy)]
+pub(crate) struct Near<'a> {
+    pub(crate) subject: Option<u32>,
+    pub(crate) last: Option<Key>,
+    pub(crate) old: KeySlices<'a>,
+    pub(crate) next: usize,
+}
+
+// A key that is at hand, its index among the old ones where it was found there, and where the walk goes on.
+#[derive(Clone, Copy)]
+pub(crate) struct Found {
+    pub(crate) key: Key,
+    pub(crate) old_index: u32,
+    pub(crate) next: usize,
+}
+
+impl Catalog {
+    // The key of the triple with these texts, where it is among the old ones or those that were added, and else the
+    // slots of its terms that are there.
+    pub(crate) fn find_held(
+        &self,
+        region: &Region,
+        texts: &TripleText<'_>,
+        near: Near<'_>,
+        added: &BTreeSet<Key>,
+    ) -> Result<Found, Hints>
+        requires stored { IsStored self.now region.now }
+        requires rising { IsRising key_cmp near.old.rising.now }
+        requires known { IfSome near.subject (λ slot. text_in_slot self.now.pool region.now slot ≡ Some texts.now.subject.now) }
+        ensures texts { IfOk result (λ found. HasTexts self.now.pool region.now found.key texts.now) }
+        ensures held { IfOk result (λ found. has key_cmp found.key (near.entry.old.rising.now ++ added.now.keys) ≡ true) }
+        ensures none { IfErr result (λ _. (key : TheKey) → HasTexts self.now.pool region.now key texts.now → has key_cmp key (near.entry.old.rising.now ++ added.now.keys) ≡ false) }
+        ensures hints { IfErr result (λ hints. AreHints self.now.pool region.now hints texts.now) }
+    {
+        if let Some(found) = self.find_again(region, texts, near) {
+            return Ok(found);
+        }
+        let key = match self.find_key(region, texts, near.subject, near.last) {
+            Ok(key) => key,
+            Err(hints) => return Err(hints),
+        };
+        let next = near.next;
+        if let Ok(old_index) = near.old.rising.binary_search(&key) {
+            let old_index = narrowed(old_index);
+            let next = behind(near.old.walk, next, old_index);
+            return Ok(Found {
+                key,
+                old_index,
+                next,
+            });
+        }
+        if added.contains(&key) {
+            let old_index = NOWHERE;
+            Ok(Found {
+                key,
+                old_index,
+                next,
+            })
+        } else {
+            Err(Hints {
+                subject: Some(key.first),
+                predicate: Some(key.second),
+                object: Some(key.third),
+            })
+        }
+    }
+
+    // The key of the triple with these texts, where the walk that the old keys have comes to it next. What stays mostly comes
+    // in the order in which it came before, so this saves most look-ups.
+    fn find_again(&self, region: &Region, texts: &TripleText<'_>, near: Near<'_>) -> Option<Found>
+        requires stored { IsStored self.now region.now }
+        requires known { IfSome near.subject (λ slot. text_in_slot self.now.pool region.now slot ≡ Some texts.now.subject.now) }
+        ensures texts { IfSome result (λ found. HasTexts self.now.pool region.now found.key texts.now) }
+        ensures there { IfSome result (λ found. has key_cmp found.key near.entry.old.rising.now ≡ true) }
+    {
+        for past in 0..TRIED {
+            let at = near.next.saturating_add(past);
+            let old_index = *near.old.walk.get(at)?;
+            let Some(key) = near.old.rising.get(old_index as usize) else {
+                continue;
+            };
+            if self.has_texts(region, *key, texts, near.subject) {
+                return Some(Found {
+                    key: *key,
+                    old_index,
+                    next: at.saturating_add(1),
+                });
+            }
+        }
+        None
+    }
+}
+
+// The slot of the subject of the triple at an index, where it is known to be that of the triple before, whose key was the last one.
+pub(crate) fn known_subject(
+    pool: &Pool,
+    region: &Region,
+    triples: &TripleTexts,
+    index: usize,
+    last: Option<Key>,
+) -> Option<u32>
+    requires lies { LiesIn pool.now region.now }
+    requires within { index < length triples.now }
+    requires last { IfSome last (λ key. IsOfTripleBefore pool.now region.now key triples.now index) }
+    ensures { IsOfSubject pool.now region.now result triples.now index }
+{
+    if triples.repeats_subject(index) {
+        Some(last?.first)
+    } else {
+        None
+    }
+}
+
+// Where the walk goes on behind an index that it comes to soon. A hint alone: where it doesn't, it goes on where it stood.
+fn behind(walk: &[u32], next: usize, old_index: u32) -> usize {
+    for past in 0..AHEAD {
+        let at = next.saturating_add(past);
+        if walk.get(at) == Some(&old_index) {
+            return at.saturating_add(1);
+        }
+    }
+    next
+}
