@@ -4,7 +4,8 @@ use Rattle.words.specs.Items.{Item, is_there, number_in, value_in}
 use Rattle.words.specs.Table.{Entry, IsInRange, follow_table, kind_in, replay_table, split_table}
 
 -- what is asked for: the folder of the revisions, the most bytes of the input, the most terms and the horizon in microseconds, where
--- the words say them, which sections are printed, and the file of the snapshot where the world is saved
+-- the words say them, which sections are printed, the file of the snapshot where the world is
+-- saved, and that of the one from which the run goes on
 pub record Choices : Type 0 where
   pub folder : Option (List ℕ)
   pub max_bytes : Option ℕ
@@ -14,6 +15,7 @@ pub record Choices : Type 0 where
   pub state : Bool
   pub side : Bool
   pub save : Option (List ℕ)
+  pub resume : Option (List ℕ)
 
 -- what items of this table ask for; a patch stream has no sections
 abbrev pub choices_of : List Entry → List Item → Choices
@@ -26,6 +28,7 @@ choices_of table items = record {
   state = is_there (codes "--state") items;
   side = is_there (codes "--side") items;
   save = value_in (codes "--save") items;
+  resume = value_in (codes "--resume") items;
 }
 
 -- the folder of the revisions: without `--from` the current folder
@@ -87,5 +90,6 @@ split_choices_of items route = record {
     state = false;
     side = false;
     save = None;
+    resume = None;
   };
 }

@@ -43,6 +43,7 @@ replay_table =
     ∷ entry (codes "--state") Flag
     ∷ entry (codes "--side") Flag
     ∷ entry (codes "--save") Text
+    ∷ entry (codes "--resume") Text
     ∷ []
 
 -- the items of a drill
@@ -57,6 +58,7 @@ patches_table =
     ∷ entry (codes "--max-terms") (Number 1 4294967295)
     ∷ entry (codes "--horizon") (Number 0 9223372036854775807)
     ∷ entry (codes "--save") Text
+    ∷ entry (codes "--resume") Text
     ∷ []
 
 -- the items of a follower

@@ -29,6 +29,7 @@ pub struct ReplayOptions<'a> {
     state: bool,
     side: bool,
     save: Option<&'a str>,
+    resume: Option<&'a str>,
 }
 
 impl<'a> Model for ReplayOptions<'a> {
@@ -47,6 +48,7 @@ impl<'a> Model for ReplayOptions<'a> {
       state = a.state;
       side = a.side;
       save = option_map (λ p. p.now) a.save;
+      resume = option_map (λ p. p.now) a.resume;
     } };
 
     ghost invariant = { λ a. IsItemInRange (codes "--max-bytes") a.max_bytes × IsItemInRange (codes "--max-terms") a.max_terms × IsItemInRange (codes "--horizon") a.horizon };
@@ -68,6 +70,7 @@ impl<'a> ReplayOptions<'a> {
             state: items.has("--state"),
             side: items.has("--side"),
             save: items.text("--save"),
+            resume: items.text("--resume"),
         }
     }
 
@@ -130,6 +133,13 @@ impl<'a> ReplayOptions<'a> {
         ensures { option_map (λ p. p.now) result ≡ self.now.save }
     {
         self.save
+    }
+
+    /// The file of the snapshot from which the run goes on, if it goes on from one.
+    pub fn resume(&self) -> Option<&'a str>
+        ensures { option_map (λ p. p.now) result ≡ self.now.resume }
+    {
+        self.resume
     }
 
     /// Whether the end of the input is the end of the deliveries: where the world is saved, more may come in a later run.
@@ -226,6 +236,7 @@ impl<'a> SplitOptions<'a> {
             state: false,
             side: false,
             save: None,
+            resume: None,
         };
         SplitOptions { route, replay }
     }

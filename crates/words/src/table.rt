@@ -71,6 +71,7 @@ fn replay_kind(name: &str) -> Option<ValueKind>
         "--state" => Some(ValueKind::Flag),
         "--side" => Some(ValueKind::Flag),
         "--save" => Some(ValueKind::Text),
+        "--resume" => Some(ValueKind::Text),
         _ => None,
     }
 }
@@ -95,6 +96,7 @@ fn patches_kind(name: &str) -> Option<ValueKind>
         "--max-terms" => Some(ValueKind::Number(1, 4_294_967_295)),
         "--horizon" => Some(ValueKind::Number(0, 9_223_372_036_854_775_807)),
         "--save" => Some(ValueKind::Text),
+        "--resume" => Some(ValueKind::Text),
         _ => None,
     }
 }
