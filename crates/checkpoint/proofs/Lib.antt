@@ -1,5 +1,7 @@
 mod Feeds
 mod GivenBack
+mod Loadable
+mod LoadedRoom
 mod Progress
 mod Rests
 mod SavedText

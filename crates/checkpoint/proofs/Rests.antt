@@ -1,17 +1,20 @@
 -- Taking an event makes none due.
-use Rattle.std.proofs.Common.{◌≡◌, ℕ, ℤ, Bool, true, false, cond, ◌||◌, List, [], ◌∷◌, Option, None, Some, refl, ◌∙◌, ap}
+use Rattle.std.proofs.Common.{◌≡◌, ℕ, ℤ, Bool, true, false, cond, not, ◌&&◌, ◌||◌, List, [], ◌∷◌, Option, None, Some, refl, sym, ◌∙◌, ap, true≢false}
+use Rattle.std.specs.Ordering.{eq_by_cmp}
 use Rattle.std.specs.BTreeSet.{insert_key}
 use Rattle.std.specs.Prelude.{find}
 use Rattle.std.specs.List.{list_any}
 use Rattle.rising.specs.Rising.{has, IsRising}
 use Rattle.rising.proofs.Rising.{IsRising-insert_key}
-use Rattle.rising.proofs.Bools.{or_false}
+use Rattle.rising.proofs.Bools.{equal, or_false, or_true}
 use Rattle.rising.proofs.Finding.{list_any-insert_key}
 use Rattle.entity_model.specs.declared.event.Event.{Event}
 use Rattle.entity_model.specs.Event.{event_cmp, event_cmp_same, event_cmp_total}
 use Rattle.reorder_buffer.specs.declared.taken.Taken.TheVariants.{New, Repeat, Late}
 use Rattle.reorder_buffer.specs.Watermarks.{is_due, reached}
 use Rattle.reorder_buffer.specs.Buffered.{Buffered, after_answer, after_taking, first_due}
+use Rattle.replay_model.specs.Explained.{is_applied}
+use Rattle.replay_model.specs.ReplayState.{ReplayState}
 use Rattle.snapshot.specs.Waiting.{at_mark}
 use Rattle.checkpoint.specs.Loading.{IsResting}
 
@@ -63,6 +66,38 @@ rests-taking b e rests = record {
   rises = rises-taking b e rests.rises;
   none_due = none_due b e rests.open_still rests.none_due;
 }
+
+-- the mark stays
+pub mark-taking : (b : Buffered) (e : Event) → (after_taking b e).mark ≡ b.mark
+mark-taking b e = by (has event_cmp e b.kept) (reached b.mark e.time)
+  where
+    by : (h r : Bool) → (after_answer (cond h Repeat (cond r Late New)) b e).mark ≡ b.mark
+    by true r = refl
+    by false true = refl
+    by false false = refl
+
+-- an event that is among others, and passes, is one that passes
+has_passes : (p : Event → Bool) (e : Event) (xs : List Event) → has event_cmp e xs ≡ true → p e ≡ true → list_any p xs ≡ true
+has_passes p e [] there passes = cc
+has_passes p e (x ∷ xs) there passes = by (eq_by_cmp event_cmp e x) refl there (λ later. has_passes p e xs later passes)
+  where
+    by : (t : Bool) → eq_by_cmp event_cmp e x ≡ t → (t || has event_cmp e xs) ≡ true → (has event_cmp e xs ≡ true → list_any p xs ≡ true) → (p x || list_any p xs) ≡ true
+    by true tie there rest =
+        let here : p x ≡ true = ap p (sym (event_cmp_same e x (equal _ tie))) ∙ passes in
+        ap (λ b. b || list_any p xs) here
+    by false other there rest = or_true (p x) (list_any p xs) (rest there)
+
+-- in a buffer that rests, an event that the mark reached was applied
+pub rests_applied : (w : ReplayState) (e : Event) → IsResting w.buffer → reached w.buffer.mark e.time ≡ true → is_applied w e ≡ true
+rests_applied w e rests reach = by (has event_cmp e w.buffer.waiting) refl
+  where
+    due : is_due w.buffer.closed w.buffer.mark e ≡ true
+    due = ap (λ c. c || reached w.buffer.mark e.time) rests.open_still ∙ reach
+
+    by : (t : Bool) → has event_cmp e w.buffer.waiting ≡ t → (is_due w.buffer.closed w.buffer.mark e && not t) ≡ true
+    by true waits =
+        absurd (true≢false (sym (has_passes (is_due w.buffer.closed w.buffer.mark) e w.buffer.waiting waits due) ∙ none_any (is_due w.buffer.closed w.buffer.mark) w.buffer.waiting rests.none_due))
+    by false gone = ap (λ d. d && true) due
 
 -- a buffer that remembers nothing rests
 pub rests-empty : (h : Option ℕ) (m : Option ℤ) → IsResting (at_mark h m [])

@@ -1,25 +1,38 @@
 -- The lines of a snapshot that go into a world one after the other.
-use Rattle.std.specs.Prelude.{◌≡◌, ⊤, ◌⊎◌, ℕ, ◌<◌, false, List, [], ◌∷◌, ◌++◌, None, Some}
+use Rattle.std.specs.Prelude.{◌≡◌, ⊤, ◌⊎◌, ℕ, ℤ, ◌<◌, Bool, true, false, List, [], ◌∷◌, ◌++◌, Option, None, Some}
 use Rattle.std.specs.Str.{IsUtf8}
+use Rattle.entity_model.specs.declared.id.EntityId.{EntityId}
+use Rattle.entity_model.specs.declared.event.Event.{Event}
 use Rattle.entity_model.specs.Event.{event_cmp}
 use Rattle.reorder_buffer.specs.Buffered.{Buffered, first_due}
-use Rattle.rising.specs.Rising.{IsRising}
+use Rattle.reorder_buffer.specs.Watermarks.{reached}
+use Rattle.rising.specs.Rising.{IsRising, has}
+use Rattle.side_output.specs.declared.entry.Cause.TheVariants.{Missing, Failed, Unfit}
+use Rattle.side_output.specs.declared.entry.Entry.{Entry}
+use Rattle.side_output.specs.declared.entry.Entry.TheVariants.{Late, Revision}
+use Rattle.replay_model.specs.Entries.{HoldsUnlessOpen}
+use Rattle.replay_model.specs.Explained.{is_applied}
+use Rattle.replay_model.specs.Replies.{HoldsDocument, failed_events}
+use Rattle.replay_model.specs.Records.{Records, record_of}
+use Rattle.entity_json.specs.Document.{unfit_of}
 use Rattle.replay_model.specs.ReplayState.{nothing_delivered}
 use Rattle.replay_model.specs.Union.{triples_held}
 use Rattle.replay_model.specs.Versions.{all_by, meaning_by}
 use Rattle.wq_io.specs.Lines.{lines}
 use Rattle.world.specs.Meaning.{meaning}
 use Rattle.world.specs.Restoring.{MayStand}
-use Rattle.world.specs.Roomed.{room_with}
+use Rattle.world.specs.Roomed.{HasRoom, room_with}
 use Rattle.world.specs.WorldState.{WorldState}
 use Rattle.snapshot.specs.declared.line.Line.{Line}
 use Rattle.snapshot.specs.declared.line.Line.TheVariants.{Head as Begins, Remembered, Entity, Side, End}
-use Rattle.snapshot.specs.File.{lines_in}
+use Rattle.snapshot.specs.File.{IsFitSaved, lines_in}
+use Rattle.snapshot.specs.Waiting.{IsAtRest}
 use Rattle.snapshot.specs.LineText.{line_of}
-use Rattle.snapshot.specs.Whole.{Loading, unbegun, begun, ended as whole_of, after_line}
+use Rattle.snapshot.specs.Whole.{Loading, unbegun, begun, ended as whole_of, after_line, beginning}
 use Rattle.checkpoint.specs.declared.loader.Stage.{Stage}
 use Rattle.checkpoint.specs.declared.loader.Stage.TheVariants.{Unbegun, Begun, Ended}
-use Rattle.checkpoint.specs.Saved.{saved_of}
+use Rattle.checkpoint.specs.declared.numbers.Numbers.{Numbers}
+use Rattle.checkpoint.specs.Saved.{AreWithin, numbers_of, saved_of}
 
 -- what the lines so far keep, where they put this world together, and so many were taken
 abbrev pub loading_of : WorldState → Stage → ℕ → Loading
@@ -39,20 +52,63 @@ pub record IsResting (b : Buffered) : Type 0 where
   pub rises : IsRising event_cmp b.waiting
   pub none_due : first_due b ≡ None
 
--- the world took so many lines, and may take more: every page is mapped by the version in force, and no event is due
+-- once the head was taken, its counts are within
+abbrev pub AreStageWithin : Stage → Type 0
+AreStageWithin Unbegun = ⊤
+AreStageWithin (Begun numbers) = AreWithin numbers
+AreStageWithin (Ended numbers) = AreWithin numbers
+
+-- the mark reached each event of which the side output says that a fetch for it failed
+abbrev pub HasReachedFailed : Option ℤ → List Entry → Type 0
+HasReachedFailed mark side = (e : Event) → has event_cmp e (failed_events side) ≡ true → reached mark e.time ≡ true
+
+-- every entity holds a document of itself, or nothing
+abbrev pub HoldsDocuments : Records → Type 0
+HoldsDocuments records = (x : EntityId) → HoldsDocument unfit_of x (record_of records x).held
+
+-- a world between two lines of an input, as a replay may have it, with counts that are within: of the events that it remembers those wait
+-- that the mark hasn't reached, every page is mapped by the version in force, fetches failed for such events alone that were applied, each
+-- entity holds what its state wants exactly where no entry tells otherwise, and what is held are documents
+pub record IsLoadable (w : WorldState) (numbers : Numbers) : Type 0 where
+  pub rests : IsAtRest w.replay.buffer
+  pub fits : IsFitSaved (saved_of w numbers)
+  pub by_one : w.by_two ≡ all_by w.mapping w.replay.played.records
+  pub applied : (e : Event) → has event_cmp e (failed_events w.replay.played.side) ≡ true → is_applied w.replay e ≡ true
+  pub holds : HoldsUnlessOpen w.replay.played
+  pub documents : HoldsDocuments w.replay.played.records
+  pub within : AreWithin numbers
+
+-- the world took so many lines, and may take more: every page is mapped by the version in force, no event is due, fetches failed for
+-- such events alone that the mark reached, what is held are documents and has room, and the counts are within
 pub record IsReady (w : WorldState) (stage : Stage) (n : ℕ) : Type 0 where
   pub fresh : IsFresh w stage n
   pub by_one : w.by_two ≡ all_by w.mapping w.replay.played.records
   pub resting : IsResting w.replay.buffer
+  pub failed : HasReachedFailed w.replay.buffer.mark w.replay.played.side
+  pub documents : HoldsDocuments w.replay.played.records
+  pub held : HasRoom (meaning_by meaning w.by_two) w.limit w.replay.played.records
+  pub within : AreStageWithin stage
 
--- the line may come now: where it is that of a record, a world with the side output so far may have this record
+-- whether an entry of the side output may stand beside this mark: where it says that a fetch failed, the mark reached its event
+abbrev pub may_note : Option ℤ → Entry → Bool
+may_note mark (Late e) = true
+may_note mark (Revision e r Missing) = true
+may_note mark (Revision e r Failed) = reached mark e.time
+may_note mark (Revision e r (Unfit why)) = true
+
+-- the line may come now: the counts of a head are within; an entry may stand beside the mark; and a world with the side output so far
+-- may have this record
 abbrev pub MayCome : Loading → Line → Type 0
 MayCome (begun s n) (Entity x r) = MayStand s.state.played.side x r
 MayCome (begun s n) (Begins h) = ⊤
 MayCome (begun s n) (Remembered e) = ⊤
-MayCome (begun s n) (Side entry) = ⊤
+MayCome (begun s n) (Side entry) = may_note s.state.buffer.mark entry ≡ true
 MayCome (begun s n) (End m) = ⊤
-MayCome unbegun line = ⊤
+MayCome unbegun (Begins h) = AreWithin (numbers_of (beginning h))
+MayCome unbegun (Entity x r) = ⊤
+MayCome unbegun (Remembered e) = ⊤
+MayCome unbegun (Side entry) = ⊤
+MayCome unbegun (End m) = ⊤
 MayCome (whole_of s) line = ⊤
 
 -- the lines come one after the other, and lead from here to there

@@ -1,15 +1,28 @@
 // What holds of what is saved and loaded. The law is the contract of a function that does nothing.
 
-ghost use Rattle.std.specs.Prelude.{◌≡◌, ◌≢◌, ℕ, ◌<◌, Some, length, take};
-ghost use Rattle.replay_model.specs.Versions.{all_by};
+ghost use Rattle.std.specs.Prelude.{◌≡◌, ◌≢◌, ℕ, ◌<◌, [], Some, length, take};
 ghost use Rattle.world.specs.WorldState.{WorldState};
 ghost use Rattle.snapshot.specs.File.{IsFitSaved, file_text, saved_in_bytes};
 ghost use Rattle.snapshot.specs.Waiting.{IsAtRest};
 ghost use Rattle.snapshot.specs.Whole.{Saved};
 ghost use Rattle.checkpoint.specs.declared.numbers.Numbers.{Numbers as TheNumbers};
+ghost use Rattle.replay_model.specs.Versions.{all_by, meaning_by};
+ghost use Rattle.world.specs.Meaning.{meaning};
+ghost use Rattle.world.specs.Roomed.{room_with};
+ghost use Rattle.checkpoint.specs.Causes.{IsFileOverfull, IsNoSnapshot};
+ghost use Rattle.checkpoint.specs.Loading.{IsLoadable};
 ghost use Rattle.checkpoint.specs.Saved.{numbers_of, saved_of, world_of};
 
 use snapshot::snapshots_read_back;
+
+/// Of the bytes that were written of such a world as a replay may have between two lines, no line is refused, and none is missing; and
+/// there is no room for a line only where there is none for the triples of the world. So a loading of these bytes ends well where they can be
+/// read, are no more than a file may have, and there is room and memory.
+pub fn no_line_of_a_saved_world_is_refused()
+    ensures lines { (w : WorldState) (numbers : TheNumbers) (n : ℕ) → IsLoadable w numbers → ¬ (IsNoSnapshot (file_text (saved_of w numbers)) n) }
+    ensures room { (w : WorldState) (numbers : TheNumbers) (room : ℕ) → IsLoadable w numbers → IsFileOverfull room (file_text (saved_of w numbers)) →
+        room < room_with (meaning_by meaning w.by_two) w.replay.played.records [] }
+{}
 
 /// What is read of the bytes that were written of a world gives this world back, with the numbers, where its buffer rests and every page
 /// is mapped by the version in force; so a loading of these bytes within the same room answers with this world. Of a shorter prefix of the

@@ -1,14 +1,17 @@
 // A world that is put together line by line.
 
-ghost use Rattle.std.specs.Prelude.{◌≡◌, ℕ, ◌-◌, ◌≤◌, [], Some, IfOk, IsErrOf, OnErr, OnOk};
+ghost use Rattle.std.specs.Prelude.{◌≡◌, ℕ, ◌-◌, ◌≤◌, true, [], Some, IfOk, IsErrOf, OnErr, OnOk};
 ghost use Rattle.replay_model.specs.Play.{nothing_played};
 ghost use Rattle.replay_model.specs.ReplayState.{nothing_delivered, nothing_delivered_within};
-ghost use Rattle.replay_model.specs.Versions.{all_by};
+ghost use Rattle.replay_model.specs.Versions.{all_by, meaning_by};
+ghost use Rattle.world.specs.Meaning.{meaning};
+ghost use Rattle.world.specs.Roomed.{HasRoom};
 ghost use Rattle.world.specs.Restoring.{MayStand, restored};
 ghost use Rattle.snapshot.specs.declared.line.Line.TheVariants.{Entity};
 ghost use Rattle.snapshot.specs.Waiting.{at_mark};
-ghost use Rattle.snapshot.specs.Whole.{after_line, beginning};
-ghost use Rattle.checkpoint.specs.Loading.{HasNoRoomForLine, IsOutOfPlace, IsReady, MayCome, loading_of};
+ghost use Rattle.snapshot.specs.Whole.{after_line, beginning, noting};
+ghost use Rattle.reorder_buffer.specs.Watermarks.{reached};
+ghost use Rattle.checkpoint.specs.Loading.{HasNoRoomForLine, IsOutOfPlace, IsReady, MayCome, loading_of, may_note};
 ghost use Rattle.checkpoint.specs.Saved.{numbers_of};
 ghost use Rattle.checkpoint.specs.declared.fault.LoadFault.TheVariants.{BadLine, Full, ReadFault, TooLong};
 
@@ -17,6 +20,7 @@ use crate::numbers::Numbers;
 use entity_model::EntityId;
 use entity_state::Record;
 use rdf_term::{OutOfMemory, Text};
+use side_output::{Cause, Entry};
 use snapshot::{Head, Line, replays_can_be_saved};
 use std::alloc::Global;
 use std::hash::RandomState;
@@ -68,11 +72,14 @@ impl Loader {
     {
         match (self.stage, line) {
             (Stage::Unbegun, Line::Head(head)) => {
+                if !Numbers::of_head(head).are_within() {
+                    return Err(LoadFault::BadLine(number));
+                }
                 self.begin(head);
                 Ok(())
             }
             (Stage::Begun(_), Line::Remembered(event)) => Ok(self.world.remember(event)?),
-            (Stage::Begun(_), Line::Side(entry)) => Ok(self.world.note(entry)?),
+            (Stage::Begun(_), Line::Side(entry)) => note(&mut self.world, entry, number),
             (Stage::Begun(_), Line::Entity(id, entity)) => restore(
                 &mut self.world,
                 id,
@@ -96,11 +103,7 @@ impl Loader {
         self.world.set_mapping(head.mapping);
         set_horizon(&mut self.world, head.horizon);
         set_mark(&mut self.world, head.mark);
-        self.stage = Stage::Begun(Numbers {
-            asks: head.asks,
-            matches: head.matches,
-            patches: head.patches,
-        });
+        self.stage = Stage::Begun(Numbers::of_head(head));
     }
 }
 
@@ -125,6 +128,45 @@ fn set_mark(world: &mut World, mark: Option<i64>)
     }
 }
 
+// Notes an entry of the side output, which stands in the line with this number.
+fn note(world: &mut World, entry: Entry, number: u64) -> Result<(), LoadFault>
+    ensures ok { OnOk result (world.new ≡ record world.old { replay = noting world.old.replay entry }) }
+    ensures sound { OnOk result (may_note world.old.replay.buffer.mark entry ≡ true) }
+    ensures err { OnErr result (world.new ≡ world.old) }
+    ensures bad { (n : ℕ) → IsErrOf result (BadLine n) → (n ≡ number) × ¬ (may_note world.old.replay.buffer.mark entry ≡ true) }
+    ensures others { ¬ (IsErrOf result Full) × (¬ (IsErrOf result ReadFault) × ¬ (IsErrOf result TooLong)) }
+{
+    if !may_note(world.mark(), &entry) {
+        return Err(LoadFault::BadLine(number));
+    }
+    match world.note(entry) {
+        Ok(()) => Ok(()),
+        Err(_) => Err(LoadFault::OutOfMemory),
+    }
+}
+
+// Whether an entry of the side output may stand beside this mark: a fetch fails for such an event alone that the mark reached.
+fn may_note(mark: Option<i64>, entry: &Entry) -> bool
+    ensures { result ≡ may_note mark entry.now }
+{
+    match entry {
+        Entry::Late(_) => true,
+        Entry::Revision(event, _, Cause::Failed) => is_reached(mark, event.time),
+        Entry::Revision(_, _, Cause::Missing) => true,
+        Entry::Revision(_, _, Cause::Unfit(_)) => true,
+    }
+}
+
+// Whether the mark reached this time.
+fn is_reached(mark: Option<i64>, time: i64) -> bool
+    ensures { result ≡ reached mark time }
+{
+    match mark {
+        None => false,
+        Some(mark) => time <= mark,
+    }
+}
+
 // Puts the record of an entity back, which stands in the line with this number.
 fn restore(
     world: &mut World,
@@ -136,6 +178,7 @@ fn restore(
     ensures sound { OnOk result (MayStand world.old.replay.played.side id entity) }
     ensures by_one { world.old.by_two ≡ all_by world.old.mapping world.old.replay.played.records →
         world.new.by_two ≡ all_by world.new.mapping world.new.replay.played.records }
+    ensures held { HasRoom (meaning_by meaning world.new.by_two) world.new.limit world.new.replay.played.records }
     ensures err { OnErr result (world.new ≡ world.old) }
     ensures bad { (n : ℕ) → IsErrOf result (BadLine n) → (n ≡ number) × ¬ (MayStand world.old.replay.played.side id entity) }
     ensures full { IsErrOf result Full → HasNoRoomForLine world.old (Entity id entity) }

@@ -1,14 +1,22 @@
 // The lines of a snapshot are read, and put into a world.
 
-ghost use Rattle.std.specs.Prelude.{◌≡◌, ◌⊎◌, ℕ, ◌+◌, ◌-◌, ◌^◌, ◌<◌, ◌≤◌, None, Some, length, min, IfErr, IfOk, IfSome, IsErrOf, OnOk};
+ghost use Rattle.std.specs.Prelude.{◌≡◌, ◌⊎◌, ℕ, ◌+◌, ◌-◌, ◌^◌, ◌<◌, ◌≤◌, true, None, Some, length, min, IfErr, IfOk, IfSome, IsErrOf, OnOk};
 ghost use Rattle.std.specs.Str.{IsUtf8};
 ghost use Rattle.wq_io.specs.Streams.{IsAtEnd};
+ghost use Rattle.entity_model.specs.Event.{event_cmp};
+ghost use Rattle.entity_model.specs.declared.event.Event.{Event};
+ghost use Rattle.replay_model.specs.Explained.{is_applied};
+ghost use Rattle.replay_model.specs.Replies.{failed_events};
+ghost use Rattle.replay_model.specs.Versions.{meaning_by};
+ghost use Rattle.rising.specs.Rising.{has};
+ghost use Rattle.world.specs.Meaning.{meaning};
+ghost use Rattle.world.specs.Roomed.{HasRoom};
 ghost use Rattle.snapshot.specs.File.{saved_in_bytes};
 ghost use Rattle.snapshot.specs.LineText.{line_of};
 ghost use Rattle.snapshot.specs.Whole.{whole};
 ghost use Rattle.checkpoint.specs.Causes.{HasCause};
-ghost use Rattle.checkpoint.specs.Loading.{IsReady, IsRefused, IsResting, Overfills, LoadsLine, loading_of};
-ghost use Rattle.checkpoint.specs.Saved.{saved_of, world_of};
+ghost use Rattle.checkpoint.specs.Loading.{HoldsDocuments, IsReady, IsRefused, IsResting, Overfills, LoadsLine, loading_of};
+ghost use Rattle.checkpoint.specs.Saved.{AreWithin, saved_of, world_of};
 ghost use Rattle.checkpoint.specs.declared.fault.LoadFault.TheVariants.{BadLine, Full, ReadFault, TooLong};
 ghost use Rattle.checkpoint.specs.declared.loader.Stage.TheVariants.{Ended};
 
@@ -37,7 +45,8 @@ pub struct Loaded {
 
 /// Reads a snapshot into a new world with room for so many terms: the world that was saved, every page mapped by the version in force,
 /// and no event due. The hashes of the world are keyed by `keys`. Whoever made the file, what is held is documents of their entities, an
-/// entity holds what its state wants exactly where no entry of the side output tells otherwise, and all has room.
+/// entity holds what its state wants exactly where no entry of the side output tells otherwise, a fetch failed for such an event alone that
+/// was applied, all has room, and each count is at most 2^63.
 ///
 /// # Errors
 /// The file could not be read; a line is none that may come there, or the lines end too early; the triples of the pages have more terms
@@ -51,6 +60,10 @@ pub fn load<S: Source>(
     ensures saved { IfOk result (λ loaded. IfSome (S.left file.old) (λ bytes. saved_in_bytes bytes ≡ Some (saved_of loaded.world loaded.numbers))) }
     ensures world { IfOk result (λ loaded. loaded.world ≡ world_of room (saved_of loaded.world loaded.numbers)) }
     ensures rests { IfOk result (λ loaded. IsResting loaded.world.replay.buffer) }
+    ensures applied { IfOk result (λ loaded. (e : Event) → has event_cmp e (failed_events loaded.world.replay.played.side) ≡ true → is_applied loaded.world.replay e ≡ true) }
+    ensures documents { IfOk result (λ loaded. HoldsDocuments loaded.world.replay.played.records) }
+    ensures held { IfOk result (λ loaded. HasRoom (meaning_by meaning loaded.world.by_two) loaded.world.limit loaded.world.replay.played.records) }
+    ensures counts { IfOk result (λ loaded. AreWithin loaded.numbers) }
     ensures whole { OnOk result (IsAtEnd (S.left file.new)) }
     ensures fault { IfErr result (λ fault. HasCause fault room (S.left file.old) (S.faults file.old) (S.faults file.new)) }
     ensures later { S.faults file.old ≤ S.faults file.new }

@@ -1,5 +1,14 @@
 // The counts of a run that go on in the next one.
 
+ghost use Rattle.std.specs.Prelude.{◌≡◌, ◌↔◌, true};
+ghost use Rattle.snapshot.specs.Whole.{beginning};
+ghost use Rattle.checkpoint.specs.Saved.{AreWithin, numbers_of};
+
+use snapshot::Head;
+
+/// The most that each count may be where a run goes on with it, so that there is a number for each question and each record that it tells of.
+const MOST: u64 = 9_223_372_036_854_775_808;
+
 /// The counts of a run that the next one goes on with.
 #[derive(Clone, Copy, Debug, PartialEq, Eq)]
 pub struct Numbers {
@@ -9,4 +18,24 @@ pub struct Numbers {
     pub matches: u64,
     /// The number of the last patch record, 0 where there was none.
     pub patches: u64,
+}
+
+impl Numbers {
+    /// The counts that the head of a snapshot says.
+    pub(crate) fn of_head(head: Head) -> Numbers
+        ensures { result ≡ numbers_of (beginning head) }
+    {
+        Numbers {
+            asks: head.asks,
+            matches: head.matches,
+            patches: head.patches,
+        }
+    }
+
+    /// Whether a run may go on with these counts.
+    pub(crate) fn are_within(self) -> bool
+        ensures { (result ≡ true) ↔ AreWithin self }
+    {
+        self.asks <= MOST && self.matches <= MOST && self.patches <= MOST
+    }
 }

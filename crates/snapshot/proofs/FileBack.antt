@@ -3,8 +3,8 @@ use Rattle.std.proofs.Common.{◌≡◌, ℕ, List, [], ◌∷◌, ◌++◌, map
 use Rattle.std.specs.Prelude.{option_map, option_and_then}
 use Rattle.std.specs.FinMap as finite
 use Rattle.rising.specs.Rising.{Each}
-use Rattle.wq_io.specs.Lines.{IsOneLine, ended_lines, line_feed}
-use Rattle.wq_io.proofs.LineLists.{one_line-cons}
+use Rattle.wq_io.specs.Lines.{IsOneLine, ended_lines, line_feed, lines}
+use Rattle.wq_io.proofs.LineLists.{lines-line, one_line-cons}
 use Rattle.entity_model.specs.declared.id.EntityId.{EntityId}
 use Rattle.entity_model.specs.declared.event.Event.{Event}
 use Rattle.entity_model.specs.EntityId.{IsId}
@@ -38,7 +38,7 @@ feeds-line (b ∷ bs) others is =
     by None = refl
     by (Some lines) = refl
 
-feeds-ended : (lines : List Line) → feeds (ended_lines (map line_text lines)) ≡ Some (map line_text lines)
+pub feeds-ended : (lines : List Line) → feeds (ended_lines (map line_text lines)) ≡ Some (map line_text lines)
 feeds-ended [] = refl
 feeds-ended (line ∷ lines) =
     ap feeds (append_assoc (line_text line) (line_feed ∷ []) (ended_lines (map line_text lines)))
@@ -48,6 +48,14 @@ feeds-ended (line ∷ lines) =
 pub lines_back : (lines : List Line) → Each IsFitLine lines → lines_in (map line_text lines) ≡ Some lines
 lines_back [] fit = refl
 lines_back (line ∷ lines) fit = rw (line_text_back line fit.0, lines_back lines fit.1) refl
+
+-- the lines of the bytes of lines are their texts
+pub lines-ended : (ls : List Line) → lines (ended_lines (map line_text ls)) ≡ map line_text ls
+lines-ended [] = refl
+lines-ended (line ∷ ls) =
+    ap lines (append_assoc (line_text line) (line_feed ∷ []) (ended_lines (map line_text ls)))
+    ∙ lines-line (line_text line) (ended_lines (map line_text ls)) (text_in_line (line_data line))
+    ∙ ap (λ others. line_text line ∷ others) (lines-ended ls)
 
 -- ---- the lines of a state that fits do
 

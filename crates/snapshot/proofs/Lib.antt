@@ -1,11 +1,13 @@
 mod LineBack
+pub mod LineLength
 mod LineShape
 mod TextBack
+pub mod LineUtf8
 mod LineWritable
-mod LineTextBack
-mod WholeBack
+pub mod LineTextBack
+pub mod WholeBack
 mod ReplayFits
-mod FileBack
+pub mod FileBack
 mod FileCut
 mod TakenBack
 mod ReplaySaved

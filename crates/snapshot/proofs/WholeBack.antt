@@ -45,7 +45,7 @@ module _ {A : Type 0} (f : A → Line) (g : ReplayState → A → ReplayState)
 
 -- ---- the events
 
-abbrev with_buffer : ReplayState → Buffered → ReplayState
+abbrev pub with_buffer : ReplayState → Buffered → ReplayState
 with_buffer w b = record w { buffer = b }
 
 remembered_fold : (es : List Event) (w : ReplayState) → fold remembering w es ≡ with_buffer w (fold after_taking w.buffer es)
@@ -54,7 +54,7 @@ remembered_fold (e ∷ es) w = remembered_fold es (remembering w e)
 
 -- ---- the records
 
-not_before : {X : Type 0} (done todo : List (EntityId × X)) (k : EntityId) (v : X) → T (is_sorted entity_cmp (done ++ (k, v) ∷ todo)) → find entity_cmp k done ≡ None
+pub not_before : {X : Type 0} (done todo : List (EntityId × X)) (k : EntityId) (v : X) → T (is_sorted entity_cmp (done ++ (k, v) ∷ todo)) → find entity_cmp k done ≡ None
 not_before {X = X} [] todo k v rise = refl
 not_before {X = X} (e ∷ done) todo k v rise =
     let below : entity_cmp e.0 k ≡ Less = below_middle done (and_first _ _ rise) in
@@ -66,7 +66,7 @@ not_before {X = X} (e ∷ done) todo k v rise =
     below_middle [] h = less _ (and_first _ _ h)
     below_middle (f ∷ done) h = below_middle done (and_second _ _ h)
 
-records_fold : {X : Type 0} (done todo : List (EntityId × X)) → T (is_sorted entity_cmp (done ++ todo)) →
+pub records_fold : {X : Type 0} (done todo : List (EntityId × X)) → T (is_sorted entity_cmp (done ++ todo)) →
     fold (λ m e. finite.insert m e.0 e.1) (finite.from_entries {R = entity_cmp} done) todo ≡ finite.from_entries {R = entity_cmp} (done ++ todo)
 records_fold done [] rise = ap (λ es. finite.from_entries {R = entity_cmp} es) (sym (append-nil done))
 records_fold done (e ∷ todo) rise =
@@ -81,16 +81,16 @@ records_back m =
     records_fold [] (finite.entries m) (entries_sorted m)
     ∙ same_map entity_cmp_total entity_cmp_same _ m (λ q. get-from_entries entity_cmp_total (finite.entries m) q ∙ sym (get-entries m q))
 
-abbrev with_records : ReplayState → Records → ReplayState
+abbrev pub with_records : ReplayState → Records → ReplayState
 with_records w m = record w { played = record w.played { records = m } }
 
-recorded_fold : (es : List (EntityId × Record Bytes)) (w : ReplayState) → fold recording w es ≡ with_records w (fold (λ m e. finite.insert m e.0 e.1) w.played.records es)
+pub recorded_fold : (es : List (EntityId × Record Bytes)) (w : ReplayState) → fold recording w es ≡ with_records w (fold (λ m e. finite.insert m e.0 e.1) w.played.records es)
 recorded_fold [] w = refl
 recorded_fold (e ∷ es) w = recorded_fold es (recording w e)
 
 -- ---- the side output
 
-abbrev with_side : ReplayState → List Entry → ReplayState
+abbrev pub with_side : ReplayState → List Entry → ReplayState
 with_side w side = record w { played = record w.played { side = side } }
 
 noted_fold : (es : List Entry) (w : ReplayState) → fold noting w es ≡ with_side w (w.played.side ++ es)
@@ -99,13 +99,13 @@ noted_fold (e ∷ es) w = noted_fold es (noting w e) ∙ ap (with_side w) (appen
 
 -- ---- all of it
 
-same_count : (m n : ℕ) (s : Saved) → m ≡ n → cond (m == n) (Some (ended s)) None ≡ Some (ended s)
+pub same_count : (m n : ℕ) (s : Saved) → m ≡ n → cond (m == n) (Some (ended s)) None ≡ Some (ended s)
 same_count m n s same =
     let test : (m == n) ≡ true = grind (arith, nat_tests) in
     rw test refl
 
 -- how many lines there are before the end
-counted : (s : Saved) → length (lines_before_end s) ≡ ((1 + length s.state.buffer.kept) + length s.state.played.side) + length (finite.entries s.state.played.records)
+pub counted : (s : Saved) → length (lines_before_end s) ≡ ((1 + length s.state.buffer.kept) + length s.state.played.side) + length (finite.entries s.state.played.records)
 counted s =
     let kept = map Remembered s.state.buffer.kept in
     let side = map Side s.state.played.side in
@@ -120,16 +120,16 @@ counted s =
     )
 
 module _ (s : Saved) where
-  abbrev kept_in : ReplayState
+  abbrev pub kept_in : ReplayState
   kept_in = fold remembering (beginning (head_of s)).state s.state.buffer.kept
 
-  abbrev noted_in : ReplayState
+  abbrev pub noted_in : ReplayState
   noted_in = fold noting kept_in s.state.played.side
 
-  abbrev recorded_in : ReplayState
+  abbrev pub recorded_in : ReplayState
   recorded_in = fold recording noted_in (finite.entries s.state.played.records)
 
-  abbrev lines_counted : ℕ
+  abbrev pub lines_counted : ℕ
   lines_counted = ((1 + length s.state.buffer.kept) + length s.state.played.side) + length (finite.entries s.state.played.records)
 
   -- the lines before the end are read one after the other
@@ -147,17 +147,21 @@ module _ (s : Saved) where
       ∙ third
 
   module _ (is : IsAtRest s.state.buffer) where
-    -- and make the state again
-    same_state : recorded_in ≡ s.state
-    same_state =
-        let b = s.state.buffer in
-        let p = s.state.played in
+    -- the events make the buffer again, and the entries the side output
+    pub kept_again : kept_in ≡ with_buffer (beginning (head_of s)).state s.state.buffer
+    kept_again =
         let w = (beginning (head_of s)).state in
-        let kept : kept_in ≡ with_buffer w b = remembered_fold b.kept w ∙ ap (with_buffer w) (taken_back b is) in
-        let noted : noted_in ≡ with_side (with_buffer w b) p.side = ap (λ x. fold noting x p.side) kept ∙ noted_fold p.side (with_buffer w b) in
-        ap (λ x. fold recording x (finite.entries p.records)) noted
-        ∙ recorded_fold (finite.entries p.records) (with_side (with_buffer w b) p.side)
-        ∙ ap (with_records (with_side (with_buffer w b) p.side)) (records_back p.records)
+        remembered_fold s.state.buffer.kept w ∙ ap (with_buffer w) (taken_back s.state.buffer is)
+
+    pub noted_again : noted_in ≡ with_side (with_buffer (beginning (head_of s)).state s.state.buffer) s.state.played.side
+    noted_again = ap (λ x. fold noting x s.state.played.side) kept_again ∙ noted_fold s.state.played.side (with_buffer (beginning (head_of s)).state s.state.buffer)
+
+    -- and all lines make the state again
+    pub same_state : recorded_in ≡ s.state
+    same_state =
+        let p = s.state.played in
+        let w = with_side (with_buffer (beginning (head_of s)).state s.state.buffer) p.side in
+        ap (λ x. fold recording x (finite.entries p.records)) noted_again ∙ recorded_fold (finite.entries p.records) w ∙ ap (with_records w) (records_back p.records)
 
     -- the lines of a state at rest are read as that state
     pub saved_back : saved_in (snapshot_lines s) ≡ Some s

@@ -1,12 +1,14 @@
 -- Which lines the types of the code hold, and ids of entities with numbers from 1.
-use Rattle.std.specs.Prelude.{◌<◌, ◌^◌, IfSome, FitsSigned}
+use Rattle.std.specs.Prelude.{⊤, ◌<◌, ◌^◌, IfSome, FitsSigned}
 use Rattle.std.specs.Int.{w64}
 use Rattle.entity_model.specs.declared.event.Event.{Event}
 use Rattle.entity_model.specs.EntityId.{IsId}
 use Rattle.entity_state.specs.declared.record.Record.{Record}
 use Rattle.side_output.specs.declared.entry.Entry.{Entry}
 use Rattle.side_output.specs.declared.entry.Entry.TheVariants.{Late, Revision}
+use Rattle.entity_json.specs.Document.{unfit_of}
 use Rattle.replay_model.specs.Records.{Bytes}
+use Rattle.replay_model.specs.Replies.{HoldsDocument}
 use Rattle.snapshot.specs.declared.line.Head.{Head}
 use Rattle.snapshot.specs.declared.line.Line.{Line}
 use Rattle.snapshot.specs.declared.line.Line.TheVariants.{Head as Begins, Remembered, Entity, Side, End}
@@ -32,6 +34,14 @@ pub record IsFitRecord (r : Record Bytes) : Type 0 where
 abbrev pub IsFitEntry : Entry → Type 0
 IsFitEntry (Late e) = IsFitEvent e
 IsFitEntry (Revision e r cause) = IsFitEvent e × (r < 2 ^ 64)
+
+-- what the line of a record holds is a document of its entity
+abbrev pub HasDocument : Line → Type 0
+HasDocument (Begins h) = ⊤
+HasDocument (Remembered e) = ⊤
+HasDocument (Entity x r) = HoldsDocument unfit_of x r.held
+HasDocument (Side entry) = ⊤
+HasDocument (End n) = ⊤
 
 abbrev pub IsFitLine : Line → Type 0
 IsFitLine (Begins h) = IsFitHead h

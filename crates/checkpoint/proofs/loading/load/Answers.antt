@@ -1,7 +1,9 @@
 -- The start, a fault of the reader, a line that isn't taken, and the end.
-use Rattle.std.proofs.Common.{rules, ◌≡◌, ◌≢◌, ◌+◌, Err, refl, sym, ap, ◌∙◌, arith}
+use Rattle.std.proofs.Common.{rules, ◌≡◌, ◌≢◌, ◌+◌, Err, refl, sym, ap, ◌∙◌, arith, subst}
 use Rattle.std.proofs.lemmas.Result.{err_from_is_err_and}
 use Rattle.wq_io.specs.Lines.{taken}
+use Rattle.checkpoint.specs.Loading.{AreStageWithin}
+use Rattle.checkpoint.proofs.Rests.{rests_applied}
 use Rattle.checkpoint.proofs.UnderWay.{all_loaded, begins, early_stops, fault_stops, goes_on, line_stops, none_left, nothing_left, unended_stops}
 use Rattle.checkpoint.proofs.loading.load.Goals as goal
 
@@ -61,6 +63,20 @@ returns-in-Ok-clause-saved g c =
     (none_left c.args.room _ _ (g.S.Source.left c.next.new.source) _ c.next.new.self _ _ _ _ c.next.new.line.items c.loop-line.invariant.0 none.1 c.in_ok-number.ensures.length same
     c.in_ok-number.ensures.goes_on c.in_ok-number.ensures.ended)
     (rw none.1 none.0) equal c.in-Ok.ensures.numbers)
+
+pub returns-in-Ok-clause-applied : goal.returns-in-Ok-clause-applied
+returns-in-Ok-clause-applied g c =
+    let ready = c.loop-line.invariant.0.ready in
+    rw c.in-Ok.ensures.world (λ e there. rests_applied c.loop-line.loader.world.replay e ready.resting (ready.failed e there))
+
+pub returns-in-Ok-clause-documents : goal.returns-in-Ok-clause-documents
+returns-in-Ok-clause-documents g c = rw c.in-Ok.ensures.world c.loop-line.invariant.0.ready.documents
+
+pub returns-in-Ok-clause-held : goal.returns-in-Ok-clause-held
+returns-in-Ok-clause-held g c = rw c.in-Ok.ensures.world c.loop-line.invariant.0.ready.held
+
+pub returns-in-Ok-clause-counts : goal.returns-in-Ok-clause-counts
+returns-in-Ok-clause-counts g c = subst AreStageWithin c.in-Ok.ensures.numbers c.loop-line.invariant.0.ready.within
 
 pub returns-in-Ok-clause-whole : goal.returns-in-Ok-clause-whole
 returns-in-Ok-clause-whole g c =

@@ -1,6 +1,16 @@
 -- A new world has no record.
+use Rattle.std.proofs.Common.{◌∙◌, ap, refl, subst, sym}
 use Rattle.std.specs.FinMap.{len-empty}
+use Rattle.world.specs.WorldState.{WorldState}
+use Rattle.checkpoint.specs.declared.loader.Stage.TheVariants.{Unbegun}
+use Rattle.checkpoint.specs.Loading.{IsReady}
+use Rattle.checkpoint.proofs.Steps.{new_ready}
 use Rattle.checkpoint.proofs.loader.Loader.new.Goals as goal
 
 pub set_room-requires : goal.set_room-requires
 set_room-requires c = rw c.in_ok-world.ensures (len-empty _ _)
+
+pub returns-clause-fresh : goal.returns-clause-fresh
+returns-clause-fresh c =
+    let is = c.set_room.ensures ∙ ap (λ (w : WorldState). record w { limit = c.args.room }) c.in_ok-world.ensures in
+    (refl, subst (λ (w : WorldState). IsReady w Unbegun 0) (sym is) (new_ready c.args.room))
