@@ -6,8 +6,8 @@ use Rattle.delivery.specs.declared.Delivery.{Delivery}
 use Rattle.replay_model.specs.Acceptance.{version_in_force}
 use Rattle.replay_model.specs.Play.{Replies, played}
 use Rattle.replay_model.specs.ReplayState.{ReplayState, delivered, ended, following, following_to_end}
-use Rattle.replay_model.specs.Transcript.{Question, Sections, asks, closing_text, matches, pattern_of, question_of, said, shapes_of}
-use Rattle.replay_parts.specs.Checkpoint.{Checkpoint, advanced, advanced_by, answer_at, checkpoint, said_from}
+use Rattle.replay_model.specs.Transcript.{Question, asks, closing_text, matches, pattern_of, question_of, said, shapes_of}
+use Rattle.replay_parts.specs.Checkpoint.{Checkpoint, advanced, answer_at, checkpoint, said_from}
 use Rattle.replay_parts.proofs.TwoRuns.{checkpoint-two, following_to_end-two, said-two}
 use Rattle.subgraph.specs.declared.routes.Route.{Route}
 use Rattle.world.specs.Meaning.{meaning}
