@@ -30,7 +30,7 @@ use Rattle.world.specs.Meaning.{meaning}
 use Rattle.world.proofs.Entries.{over_ids}
 use Rattle.words.specs.Options.{closes, max_bytes_of}
 use Rattle.session.specs.declared.status.Status.{Status}
-use Rattle.session.specs.declared.status.Status.TheVariants.{Ok as Ended, BadWords, BadLine, ReadFault, WriteFault, TooLong, StoreFull, OutOfMemory}
+use Rattle.session.specs.declared.status.Status.TheVariants.{Ok as Ended, BadWords, BadLine, ReadFault, WriteFault, TooLong, StoreFull, OutOfMemory, BadSnapshot}
 use Rattle.session.specs.Complete.{FindsDocument, IsStill, has_document, triples_in}
 use Rattle.session.specs.Headline.{Ending, Stopped}
 use Rattle.session.specs.Moment.{IsFirst, Moment, Run, horizon_at, start_of}
@@ -129,6 +129,7 @@ module _ (run : Run) (before now : Moment) (bytes : List ℕ) (ds : List Deliver
       more (Some b) past = past.more
   ends_well StoreFull understood stopped = absurd (room stopped)
   ends_well OutOfMemory understood stopped = inr refl
+  ends_well (BadSnapshot number) understood never = absurd never
 
 -- ---- the world
 

@@ -75,7 +75,7 @@ is_played environment course reported start now x rests mapped = record {
       subst (λ (n : ℕ). HasCounted start.counts now.counts start.world.played.side n now.world.played.side) (Explained-source_fetches judgement environment.known course.state course.fetched x.made now.world x.explained rests contents is) x.counted;
 }
 
-fates : (closed : Bool) (hz : Option ℕ) (ds : List Delivery) (world : ReplayState) (replies : Replies) → played hz closed replies ds ≡ world.played → HasFates closed hz ds world
+pub fates : (closed : Bool) (hz : Option ℕ) (ds : List Delivery) (world : ReplayState) (replies : Replies) → played hz closed replies ds ≡ world.played → HasFates closed hz ds world
 fates closed hz ds world replies whole = record {
   of_due = λ x. let P : Played → Type 0 = λ p. (record_of p.records x).state ≡ fate (in_order (events_of x (due hz closed ds))) in subst P whole (state-played hz closed replies ds x);
   of_known = λ x none.

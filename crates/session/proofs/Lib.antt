@@ -12,7 +12,9 @@ mod Finding
 mod Fitting
 mod Followed
 mod FromNothing
+mod Loaded
 mod Needed
+mod OneRun
 mod Ongoing
 mod Opening
 mod Pages

@@ -4,7 +4,7 @@ use Rattle.wq_io.specs.declared.source.Source.{Ghosts as SourceOf}
 use Rattle.wq_io.specs.declared.sink.Sink.{Ghosts as SinkOf}
 use Rattle.revisions.specs.declared.revisions.Revisions.{Ghosts as RevisionsOf}
 use Rattle.session.specs.declared.ports.Ports.{Ports}
-use Rattle.session.specs.Counts.{HasGoneOn, HasWrittenOn, HaveGoneOn}
+use Rattle.session.specs.Counts.{HasGoneOn, HasReadOn, HasWrittenOn, HaveGoneOn}
 use Rattle.session.proofs.Due.{gone-on}
 
 module _ {S R K F : Type 0} (input : SourceOf S) (source : RevisionsOf R) (sink : SinkOf K) (file : SinkOf F) where
@@ -15,6 +15,7 @@ module _ {S R K F : Type 0} (input : SourceOf S) (source : RevisionsOf R) (sink 
     revisions = record { known = refl; faults = omega arith; misses = omega arith; most = refl };
     out = record { faults = omega arith; most = refl };
     snapshot = record { faults = omega arith; most = refl };
+    resumed = record { faults = omega arith; most = refl };
   }
 
   -- the input is read
@@ -25,12 +26,13 @@ module _ {S R K F : Type 0} (input : SourceOf S) (source : RevisionsOf R) (sink 
     revisions = so_far.revisions;
     out = so_far.out;
     snapshot = so_far.snapshot;
+    resumed = so_far.resumed;
   }
 
   -- revisions are fetched
   pub fetched_on : (old now : Ports S R K F) (revisions : R) → HaveGoneOn input source sink file old now → HasGoneOn source now.revisions revisions →
       HaveGoneOn input source sink file old (record now { revisions = revisions })
-  fetched_on old now revisions so_far more = record { events = so_far.events; revisions = gone-on source _ _ _ so_far.revisions more; out = so_far.out; snapshot = so_far.snapshot }
+  fetched_on old now revisions so_far more = record { events = so_far.events; revisions = gone-on source _ _ _ so_far.revisions more; out = so_far.out; snapshot = so_far.snapshot; resumed = so_far.resumed }
 
   -- the output is written
   pub written_on : (old now : Ports S R K F) (out : K) → HaveGoneOn input source sink file old now → HasWrittenOn sink now.out out → HaveGoneOn input source sink file old (record now { out = out })
@@ -39,6 +41,7 @@ module _ {S R K F : Type 0} (input : SourceOf S) (source : RevisionsOf R) (sink 
     revisions = so_far.revisions;
     out = record { faults = omega (arith, so_far.out.faults, more.faults); most = more.most ∙ so_far.out.most };
     snapshot = so_far.snapshot;
+    resumed = so_far.resumed;
   }
 
   -- what waits at the end is applied and told
@@ -49,7 +52,7 @@ module _ {S R K F : Type 0} (input : SourceOf S) (source : RevisionsOf R) (sink 
   -- records are followed
   pub followed_on : (ports : Ports S R K F) (events : S) (out : K) → input.faults ports.events ≤ input.faults events → input.most_faults events ≡ input.most_faults ports.events → HasWrittenOn sink ports.out out →
       HaveGoneOn input source sink file ports (record ports { events = events; out = out })
-  followed_on ports events out later most written = record { events = record { faults = later; most = most }; revisions = (none_gone ports).revisions; out = written; snapshot = (none_gone ports).snapshot }
+  followed_on ports events out later most written = record { events = record { faults = later; most = most }; revisions = (none_gone ports).revisions; out = written; snapshot = (none_gone ports).snapshot; resumed = (none_gone ports).resumed }
 
   -- a line is read and delivered
   pub delivered_on : (old now : Ports S R K F) (events : S) (revisions : R) (out : K) → HaveGoneOn input source sink file old now → input.faults now.events ≤ input.faults events → input.most_faults events ≡ input.most_faults now.events →
@@ -59,6 +62,7 @@ module _ {S R K F : Type 0} (input : SourceOf S) (source : RevisionsOf R) (sink 
     revisions = gone-on source _ _ _ so_far.revisions fetched;
     out = record { faults = omega (arith, so_far.out.faults, written.faults); most = written.most ∙ so_far.out.most };
     snapshot = so_far.snapshot;
+    resumed = so_far.resumed;
   }
 
   -- the snapshot is written
@@ -68,4 +72,25 @@ module _ {S R K F : Type 0} (input : SourceOf S) (source : RevisionsOf R) (sink 
     revisions = so_far.revisions;
     out = so_far.out;
     snapshot = record { faults = omega (arith, so_far.snapshot.faults, more.faults); most = more.most ∙ so_far.snapshot.most };
+    resumed = so_far.resumed;
+  }
+
+  -- the snapshot is read that the run goes on from
+  pub resumed_on : (ports : Ports S R K F) (resumed : S) → HasReadOn input ports.resumed resumed → HaveGoneOn input source sink file ports (record ports { resumed = resumed })
+  resumed_on ports resumed read = record {
+    events = (none_gone ports).events;
+    revisions = (none_gone ports).revisions;
+    out = (none_gone ports).out;
+    snapshot = (none_gone ports).snapshot;
+    resumed = read;
+  }
+
+  -- one after the other
+  pub gone_twice : (old middle now : Ports S R K F) → HaveGoneOn input source sink file old middle → HaveGoneOn input source sink file middle now → HaveGoneOn input source sink file old now
+  gone_twice old middle now first then = record {
+    events = record { faults = omega (arith, first.events.faults, then.events.faults); most = then.events.most ∙ first.events.most };
+    revisions = gone-on source _ _ _ first.revisions then.revisions;
+    out = record { faults = omega (arith, first.out.faults, then.out.faults); most = then.out.most ∙ first.out.most };
+    snapshot = record { faults = omega (arith, first.snapshot.faults, then.snapshot.faults); most = then.snapshot.most ∙ first.snapshot.most };
+    resumed = record { faults = omega (arith, first.resumed.faults, then.resumed.faults); most = then.resumed.most ∙ first.resumed.most };
   }

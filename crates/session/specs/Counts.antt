@@ -61,9 +61,10 @@ pub record HasReadOn {S : Type 0} (members : SourceOf S) (old new : S) : Type 0 
   pub faults : members.faults old ≤ members.faults new
   pub most : members.most_faults new ≡ members.most_faults old
 
--- all four went on
+-- all went on
 pub record HaveGoneOn {S R K F : Type 0} (input : SourceOf S) (source : RevisionsOf R) (sink : SinkOf K) (file : SinkOf F) (old new : Ports S R K F) : Type 0 where
   pub events : HasReadOn input old.events new.events
   pub revisions : HasGoneOn source old.revisions new.revisions
   pub out : HasWrittenOn sink old.out new.out
   pub snapshot : HasWrittenOn file old.snapshot new.snapshot
+  pub resumed : HasReadOn input old.resumed new.resumed

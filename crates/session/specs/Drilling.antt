@@ -9,7 +9,7 @@ use Rattle.transcript.specs.Printing.{IsCutShort, Output}
 use Rattle.drill_replay.specs.Playing.{HasBegun}
 use Rattle.drill_replay.specs.Summary.{drilled, summary_lines, summary_of}
 use Rattle.session.specs.declared.status.Status.{Status}
-use Rattle.session.specs.declared.status.Status.TheVariants.{Ok as Ended, BadWords, BadLine, ReadFault, WriteFault, TooLong, StoreFull, OutOfMemory}
+use Rattle.session.specs.declared.status.Status.TheVariants.{Ok as Ended, BadWords, BadLine, ReadFault, WriteFault, TooLong, StoreFull, OutOfMemory, BadSnapshot}
 use Rattle.session.specs.Moment.{Stage}
 
 -- the text of a drill's summary
@@ -42,3 +42,4 @@ DrillEnding WriteFault size before now = DrillStopped NotWritten size before.out
 DrillEnding TooLong size before now = ⊥
 DrillEnding StoreFull size before now = ⊥
 DrillEnding OutOfMemory size before now = DrillStopped Refused size before.output now.output now.world
+DrillEnding (BadSnapshot number) size before now = ⊥

@@ -31,7 +31,7 @@ use Rattle.session.specs.declared.report.Report.TheVariants.{Answers, Changes}
 use Rattle.session.specs.declared.stop.Halt.TheVariants.{Unapplied, Untold}
 use Rattle.session.specs.declared.status.Status.{Status}
 use Rattle.session.specs.declared.stop.Stop.{Stop}
-use Rattle.session.specs.declared.stop.Stop.TheVariants.{BadLine, ReadFault, WriteFault, TooLong, StoreFull, OutOfMemory}
+use Rattle.session.specs.declared.stop.Stop.TheVariants.{BadLine, ReadFault, WriteFault, TooLong, StoreFull, OutOfMemory, BadSnapshot}
 use Rattle.term_pool.specs.declared.fault.PoolFault.TheVariants.{Full as NoRoom, OutOfMemory as Starved}
 use Rattle.session.specs.Answering.{answer_text, closing_by}
 use Rattle.session.specs.Counts.{HasCounted}
@@ -237,7 +237,7 @@ pub record StandsAtPage (why : Unwritten) (run : Run) (before now : Moment) : Ty
 abbrev pub IsInterrupted : Unwritten → Run → Moment → Moment → Type 0
 IsInterrupted why run before now = (StandsAtQuestion why run before now ⊎ BrokenOff why run before now) ⊎ (IsHalted (Untold why) run before now ⊎ StandsAtPage why run before now)
 
--- why a run stopped, and what stands then
+-- why a run stopped that was begun, and what stands then
 abbrev pub Stopped : Stop → Run → Moment → Moment → Type 0
 Stopped (BadLine number cause) run before now = StandsBeforeLine number cause run before now
 Stopped ReadFault run before now = Rose before.input.faults now.input.faults × StandsAfter run before now
@@ -251,6 +251,7 @@ Stopped StoreFull run before now =
 Stopped OutOfMemory run before now =
     ((IsHalted (Unapplied Starved) run before now ⊎ StandsAtMapping run before now) ⊎ IsInterrupted Refused run before now)
     ⊎ Unsaved Refused run before now
+Stopped (BadSnapshot number) run before now = ⊥
 
 -- what a replay leaves that was begun: it ended well, or it stopped for a cause; and what it took of its input is bounded
 pub record ReplayEnding (status : Status) (run : Run) (before now : Moment) : Type 0 where

@@ -9,9 +9,11 @@ pub mod Records
 pub mod Headline
 pub mod Moment
 pub mod Needed
+pub mod OneRun
 pub mod Reading
 pub mod Remapping
 pub mod Report
+pub mod Resuming
 pub mod Room
 pub mod Saving
 pub mod Sections

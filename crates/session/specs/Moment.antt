@@ -94,11 +94,12 @@ with_output s out = record { output = out; counts = s.counts; world = s.world; m
 abbrev pub with_mapped : Stage → Mapped → Stage
 with_mapped s mapped = record { output = s.output; counts = s.counts; world = s.world; mapped = mapped }
 
--- what stands at a moment of a run
+-- what stands at a moment of a run: the input, the stage, the snapshot that is written, and the one that the run goes on from
 pub record Moment : Type 0 where
   pub input : Input
   pub stage : Stage
   pub snapshot : Output
+  pub resumed : Input
 
 -- the moment that these are
 abbrev pub moment : {S R K F : Type 0} → SourceOf S → RevisionsOf R → SinkOf K → SinkOf F → Ports S R K F → WorldState → Moment
@@ -106,6 +107,7 @@ moment events source sink file ports world = record {
   input = input events ports.events;
   stage = stage source sink ports.revisions ports.out world;
   snapshot = output file ports.snapshot;
+  resumed = input events ports.resumed;
 }
 
 -- a run: what was chosen, what deliveries are taken under, and how many asks and matches earlier runs have answered, and how many records

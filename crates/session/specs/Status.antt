@@ -3,7 +3,7 @@ use Rattle.std.specs.Prelude.{ℕ, List, [], ◌++◌, decimal, codes}
 use Rattle.event_line.specs.declared.faults.LineCause.{LineCause}
 use Rattle.event_line.specs.declared.faults.LineCause.TheVariants.{LineLong, NotJson, NoForm, Kind, Entity, Rev, Time, Mode, Pattern, Mapping, Match, Head, Triple, Order, Short}
 use Rattle.session.specs.declared.status.Status.{Status}
-use Rattle.session.specs.declared.status.Status.TheVariants.{Ok as Ended, BadWords, BadLine, ReadFault, WriteFault, TooLong, StoreFull, OutOfMemory}
+use Rattle.session.specs.declared.status.Status.TheVariants.{Ok as Ended, BadWords, BadLine, ReadFault, WriteFault, TooLong, StoreFull, OutOfMemory, BadSnapshot}
 
 -- the name of a cause
 unfoldable pub cause_name : LineCause → List ℕ
@@ -27,6 +27,10 @@ cause_name Short = codes "Short"
 abbrev pub bad_line_text : ℕ → LineCause → List ℕ
 bad_line_text number cause = codes "wdq: line " ++ decimal number ++ codes ": " ++ cause_name cause
 
+-- the line on a line of a snapshot that is refused
+abbrev pub bad_snapshot_text : ℕ → List ℕ
+bad_snapshot_text number = codes "wdq: snapshot: line " ++ decimal number
+
 -- the line that says how a run ended
 abbrev pub status_text : Status → List ℕ
 status_text Ended = []
@@ -37,6 +41,7 @@ status_text WriteFault = codes "wdq: write fault"
 status_text TooLong = codes "wdq: input too long"
 status_text StoreFull = codes "wdq: store full"
 status_text OutOfMemory = codes "wdq: out of memory"
+status_text (BadSnapshot number) = bad_snapshot_text number
 
 -- the exit status of the process
 abbrev pub status_number : Status → ℕ
@@ -48,3 +53,4 @@ status_number WriteFault = 4
 status_number TooLong = 5
 status_number StoreFull = 6
 status_number OutOfMemory = 7
+status_number (BadSnapshot number) = 8

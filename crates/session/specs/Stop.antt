@@ -10,15 +10,17 @@ use Rattle.following.specs.declared.stop.RecordCause.{RecordCause}
 use Rattle.following.specs.declared.stop.RecordCause.TheVariants.{LineLong as RecordLong, Head as NoHead, Triple as NoTriple, Order as OutOfOrder, Short as CutOff}
 use Rattle.following.specs.declared.stop.FollowStop.{FollowStop}
 use Rattle.following.specs.declared.stop.FollowStop.TheVariants.{BadLine as BadRecord, ReadFault as NotFollowed, WriteFault as NotPrinted, TooLong as OverLimit, StoreFull as NoPlace, OutOfMemory as Unfed}
+use Rattle.checkpoint.specs.declared.fault.LoadFault.{LoadFault}
+use Rattle.checkpoint.specs.declared.fault.LoadFault.TheVariants.{ReadFault as NotLoaded, TooLong as OverLength, BadLine as BadSnapshotLine, Full as NoRoomLeft, OutOfMemory as Unloaded}
 use Rattle.session.specs.declared.stop.Stop.{Stop}
 use Rattle.session.specs.declared.stop.Halt.{Halt}
 use Rattle.session.specs.declared.stop.Halt.TheVariants.{Unapplied as NotApplied, Untold}
 use Rattle.term_pool.specs.declared.fault.PoolFault.{PoolFault as StoreFault}
 use Rattle.term_pool.specs.declared.fault.PoolFault.TheVariants.{Full as NoRoom, OutOfMemory as Starved}
-use Rattle.session.specs.declared.stop.Stop.TheVariants.{BadLine, ReadFault, WriteFault, TooLong, StoreFull, OutOfMemory}
+use Rattle.session.specs.declared.stop.Stop.TheVariants.{BadLine, ReadFault, WriteFault, TooLong, StoreFull, OutOfMemory, BadSnapshot}
 use Rattle.session.specs.declared.status.Status.{Status}
 use Rattle.session.specs.declared.status.Status.TheVariants.{Ok as Ended, BadWords as WordsRefused, BadLine as LineRefused, ReadFault as ReadFailed, WriteFault as WriteFailed, TooLong as LimitPassed}
-use Rattle.session.specs.declared.status.Status.TheVariants.{StoreFull as RoomPassed, OutOfMemory as MemoryRefused}
+use Rattle.session.specs.declared.status.Status.TheVariants.{StoreFull as RoomPassed, OutOfMemory as MemoryRefused, BadSnapshot as SnapshotRefused}
 
 -- why a run stopped at a fault of the reader of lines
 abbrev pub stop_of_fault : LineFault → Stop
@@ -59,6 +61,14 @@ stop_of_follow OverLimit = TooLong
 stop_of_follow NoPlace = StoreFull
 stop_of_follow Unfed = OutOfMemory
 
+-- why a run stopped whose snapshot wasn't loaded
+abbrev pub stop_of_load : LoadFault → Stop
+stop_of_load NotLoaded = ReadFault
+stop_of_load OverLength = TooLong
+stop_of_load (BadSnapshotLine number) = BadSnapshot number
+stop_of_load NoRoomLeft = StoreFull
+stop_of_load Unloaded = OutOfMemory
+
 -- why a run with this status stopped, if it was begun and stopped
 abbrev pub stop_of : Status → Option Stop
 stop_of Ended = None
@@ -69,3 +79,4 @@ stop_of WriteFailed = Some WriteFault
 stop_of LimitPassed = Some TooLong
 stop_of RoomPassed = Some StoreFull
 stop_of MemoryRefused = Some OutOfMemory
+stop_of (SnapshotRefused number) = Some (BadSnapshot number)

@@ -1,6 +1,6 @@
 // What follows from the contract of a run where nothing goes wrong. Each law is the contract of a function that does nothing.
 
-ghost use Rattle.std.specs.Prelude.{◌≡◌, ◌<◌, ◌≤◌, ◌⊎◌, ◌^◌, ℕ, true, false, length, List, [], Option, None, Some, IfSome};
+ghost use Rattle.std.specs.Prelude.{◌≡◌, ◌<◌, ◌≤◌, ◌⊎◌, ◌^◌, ℕ, true, false, length, List, [], Option, None, Some, IfSome, ◌++◌};
 ghost use Rattle.std.specs.FinMap as map;
 ghost use Rattle.std.specs.List.{flat_map};
 ghost use Rattle.rising.specs.Rising.{Each, In, has, sorted};
@@ -26,6 +26,8 @@ ghost use Rattle.subgraph.specs.declared.routes.Route.{Route};
 ghost use Rattle.words.specs.Options.{FollowChoices, closes, follow_max_bytes_of, max_bytes_of};
 ghost use Rattle.following.specs.Following.{Ending as Followed, FollowMoment, replica_text};
 ghost use Rattle.following.specs.Reading.{AreRecords};
+ghost use Rattle.checkpoint.specs.declared.numbers.Numbers.{Numbers as TheNumbers};
+ghost use Rattle.session.specs.declared.report.Report.TheVariants.{Answers};
 ghost use Rattle.session.specs.declared.status.Status.{Status};
 ghost use Rattle.session.specs.declared.stop.Stop.{Stop};
 ghost use Rattle.told_pages.specs.Told.{terms_there};
@@ -33,12 +35,15 @@ ghost use Rattle.session.specs.Along.{along, fetches_of_delivery, steps_of_deliv
 ghost use Rattle.session.specs.Answering.{said_by};
 ghost use Rattle.session.specs.Course.{course_to_end, led_to, version_at};
 ghost use Rattle.session.specs.Complete.{FindsDocument, IsStill, has_document, steps_made, triples_in};
-ghost use Rattle.session.specs.Headline.{Ending, Stopped, numbers_saved};
-ghost use Rattle.session.specs.Moment.{Beginning, IsFirst, Moment, Run, horizon_at, standing, start_of};
+ghost use Rattle.session.specs.Headline.{Ending, HasFates, Stopped, numbers_saved};
+ghost use Rattle.session.specs.Moment.{Beginning, IsFirst, Moment, Run, Stage, behind, horizon_at, standing, start_in, start_of};
+ghost use Rattle.session.specs.OneRun.{CountsQuestions, StandsAfter, deliveries_of, printed_in_all, replies_with, state_ended};
 ghost use Rattle.session.specs.Reading.{AreDeliveries};
+ghost use Rattle.session.specs.Resuming.{IsResumed, with_loaded};
 ghost use Rattle.session.specs.Saving.{saved_at};
+ghost use Rattle.session.specs.Sections.{sections_of};
 ghost use Rattle.session.specs.Stop.{stop_of};
-ghost use Rattle.session.specs.Remapping.{IsFullOfStale, held_triples};
+ghost use Rattle.session.specs.Remapping.{IsFullOfStale, held_triples, mapped_by};
 ghost use Rattle.session.specs.Taking.{IsFull, judgement};
 
 use snapshot::{replays_can_be_saved, snapshots_read_back};
@@ -163,4 +168,53 @@ pub fn a_saved_replay_is_read_back()
 {
     replays_can_be_saved();
     snapshots_read_back();
+}
+
+/// A run that begins where a replay of earlier deliveries stands leaves what one replay of all deliveries leaves: the world, the states that
+/// are their fates, and every page mapped by the version in force. The replies to this replay are the earlier ones to events that the mark
+/// had reached then, and the run's own to all others. Where questions are answered, what is printed is what this replay prints behind what it
+/// prints at the earlier deliveries. Where the run saves its world, a later run that goes on from it begins where this replay stands.
+pub fn runs_go_on_as_one()
+    ensures world { (h : Option ℕ) (earlier : Replies) (ds : List Delivery) (run : Run) (before now : Moment) → StandsAfter h earlier ds (start_of run before) → (ending : Ending run before now) →
+        now.stage.world ≡ state_ended (closes run.choices) h (replies_with earlier ds ending) (ds ++ deliveries_of ending) }
+    ensures mapped { (h : Option ℕ) (earlier : Replies) (ds : List Delivery) (run : Run) (before now : Moment) → StandsAfter h earlier ds (start_of run before) → (ending : Ending run before now) →
+        now.stage.mapped ≡ mapped_by (version_in_force (ds ++ deliveries_of ending)) now.stage.world.played.records }
+    ensures fates { (h : Option ℕ) (earlier : Replies) (ds : List Delivery) (run : Run) (before now : Moment) → StandsAfter h earlier ds (start_of run before) → (ending : Ending run before now) →
+        HasFates (closes run.choices) h (ds ++ deliveries_of ending) now.stage.world }
+    ensures printed { (h : Option ℕ) (earlier : Replies) (ds : List Delivery) (run : Run) (before now : Moment) → StandsAfter h earlier ds (start_of run before) → (ending : Ending run before now) →
+        run.environment.report ≡ Answers → CountsQuestions ds run.numbered → run.environment.routes ≡ None →
+        (rest : List ℕ) × (now.stage.output.bytes ≡ after_known before.stage.output.bytes rest)
+        × (said meaning h earlier ds ++ rest ≡ printed_in_all (closes run.choices) (sections_of run.choices) h (replies_with earlier ds ending) (ds ++ deliveries_of ending)) }
+    ensures stands { (h : Option ℕ) (earlier : Replies) (ds : List Delivery) (run : Run) (before now : Moment) → StandsAfter h earlier ds (start_of run before) → (ending : Ending run before now) →
+        closes run.choices ≡ false → StandsAfter h (replies_with earlier ds ending) (ds ++ deliveries_of ending) (start_in (numbers_saved ending) now.stage) }
+    ensures counts { (h : Option ℕ) (earlier : Replies) (ds : List Delivery) (run : Run) (before now : Moment) → StandsAfter h earlier ds (start_of run before) → (ending : Ending run before now) →
+        run.environment.report ≡ Answers → CountsQuestions ds run.numbered → CountsQuestions (ds ++ deliveries_of ending) (numbers_saved ending) }
+{}
+
+/// Before the first delivery a first run begins where the replay of none stands.
+pub fn first_runs_stand_after_nothing()
+    ensures stands { (start : Beginning) → IsFirst start → (replies : Replies) → StandsAfter (horizon_at start) replies [] start }
+    ensures counts { (start : Beginning) → IsFirst start → CountsQuestions [] start.numbered }
+{}
+
+/// A run that goes on from the bytes that another run saved begins where that one stood, with its counts.
+pub fn resumed_runs_begin_where_others_stood()
+    ensures { (status : Status) (run : Run) (before now : Moment) (stage : Stage) (numbers : TheNumbers) (bytes : List ℕ) → (resumed : IsResumed status run before now) →
+        before.resumed.left ≡ Some bytes → saved_in_bytes bytes ≡ Some (saved_at stage numbers) →
+        (h : Option ℕ) (replies : Replies) (ds : List Delivery) → StandsAfter h replies ds (start_in numbers stage) →
+        StandsAfter h replies ds (start_of (behind resumed.numbers run) (with_loaded before resumed.rest resumed.world)) × (resumed.numbers ≡ numbers) }
+{}
+
+/// Two runs are one: where a first run ended well that saved its world, and a second one goes on from these bytes and ends well, the world is
+/// that of one replay of the deliveries of both, whose replies are the first run's to events that its mark had reached, and the second's to
+/// all others. So are the states. The numbers that are saved have to fit 64 bits.
+pub fn two_runs_are_one()
+    ensures { (one two : Run) (before_one now_one before_two now_two : Moment) → IsFirst (start_of one before_one) → (first : Ending one before_one now_one) → closes one.choices ≡ false →
+        before_one.snapshot.bytes ≡ Some [] → IsFitSaved (saved_at now_one.stage (numbers_saved first)) → before_two.resumed.left ≡ now_one.snapshot.bytes →
+        (second : IsResumed Status.Ok two before_two now_two) →
+        (now_two.stage.world ≡ state_ended (closes two.choices) (horizon_at (start_of one before_one)) (replies_with first.replayed.replay.played.replies (deliveries_of first) second.ending.outcome)
+        (deliveries_of first ++ deliveries_of second.ending.outcome))
+        × HasFates (closes two.choices) (horizon_at (start_of one before_one)) (deliveries_of first ++ deliveries_of second.ending.outcome) now_two.stage.world }
+{
+    a_saved_replay_is_read_back();
 }

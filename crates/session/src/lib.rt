@@ -1,7 +1,7 @@
 //! The top call: the words are judged, the lines are taken one by one, and what was asked for is printed; or records are followed, or a
 //! drill is run.
 //!
-//! `run` is the whole program but for the process around it; `running` has it. `replaying` is a replay, `split` a replay into several
+//! `run` is the whole program but for the process around it; `running` has it. `resuming` is a replay from its beginning or from a snapshot on, `replaying` what both do, `split` a replay into several
 //! graphs, `records` the following of records, and `drilling` a drill, whose deliveries `drill_playing` takes.
 //! `task` is what is asked of a replay. `taking` takes the lines of the input, `delivering` one delivery, and the end, and `remapping` a change of the mapping; `report` is what is
 //! reported of them, answers or changes, and `context` writes it.
@@ -19,6 +19,7 @@ mod records;
 mod remapping;
 mod replaying;
 mod report;
+mod resuming;
 mod running;
 mod split;
 mod status;

@@ -5,6 +5,8 @@
 pub struct Ports<S, R, K, F> {
     /// The input, whose lines are the deliveries.
     pub events: S,
+    /// The snapshot that the run goes on from, if it goes on from one.
+    pub resumed: S,
     /// The revisions of pages.
     pub revisions: R,
     /// Where answers and sections go.

@@ -1,7 +1,8 @@
 // A replay: the lines of the input, the end, what is printed then, where it answers questions, and the snapshot of the world.
 
-ghost use Rattle.std.specs.Prelude.{◌≡◌, ◌≤◌, ◌^◌, None, Some, IfErr, IfOk, IfSome, OnOk};
+ghost use Rattle.std.specs.Prelude.{◌≡◌, Some, IfErr, IfOk, IfSome, OnOk};
 ghost use Rattle.std.specs.FinMap as map;
+ghost use Rattle.checkpoint.specs.Saved.{AreWithin};
 ghost use Rattle.drill_replay.specs.Playing.{IsByFirst};
 ghost use Rattle.replay_model.specs.ReplayState.{nothing_delivered};
 ghost use Rattle.replay_model.specs.Versions.{meaning_by};
@@ -26,7 +27,7 @@ use crate::remapping::begin_by_first;
 use crate::report::Report;
 use crate::stop::Stop;
 use crate::taking::take_lines;
-use crate::task::{NOTHING_REPORTED, Task};
+use crate::task::Task;
 use checkpoint::{Numbers, save};
 use revisions::Revisions;
 use splitting::Graphs;
@@ -35,35 +36,6 @@ use transcript::{Sections, Unwritten, print_closing};
 use words::ReplayOptions;
 use world::World;
 use wq_io::{Sink, Source};
-
-// Replays without graphs.
-pub fn replay<S: Source, R: Revisions, K: Sink, F: Sink>(
-    alloc: Global,
-    options: &ReplayOptions<'_>,
-    report: Report,
-    ports: &mut Ports<S, R, K, F>,
-    world: &mut World,
-) -> Result<(), Stop>
-    requires world { world.old.replay ≡ nothing_delivered }
-    ensures ok { OnOk result (Ending (run_of None report (R.contents ports.old.revisions) options.now)
-        (moment S.Source R.Revisions K.Sink F.Sink ports.old (world_at_start options.now))
-        (moment S.Source R.Revisions K.Sink F.Sink ports.new world.new)) }
-    ensures err { IfErr result (λ stop. Stopped stop (run_of None report (R.contents ports.old.revisions) options.now)
-        (moment S.Source R.Revisions K.Sink F.Sink ports.old (world_at_start options.now))
-        (moment S.Source R.Revisions K.Sink F.Sink ports.new world.new)) }
-    ensures taken { IfSome (S.left ports.old.events) (λ bytes. TakesByNeed (max_bytes_of options.now) bytes (S.left ports.new.events)) }
-    ensures limit { world.new.limit ≡ max_terms_of options.now }
-    ensures held { HoldsWithin (max_terms_of options.now) world.new }
-    ensures further { HaveGoneOn S.Source R.Revisions K.Sink F.Sink ports.old ports.new }
-{
-    let task = Task {
-        alloc,
-        options,
-        report,
-        numbers: NOTHING_REPORTED,
-    };
-    replay_into(&task, ports, world, &mut None)
-}
 
 // Begins by the first version of the mapping, sets the horizon and the limit, takes the lines and the end, prints, and saves the world where
 // the options say so: then the end of the input isn't that of the deliveries. What is reported are the answers to questions, with the
@@ -77,7 +49,7 @@ pub fn replay_into<S: Source, R: Revisions, K: Sink, F: Sink>(
 ) -> Result<(), Stop>
     requires world { world.old.replay ≡ nothing_delivered }
     requires fresh { IfSome graphs.old (λ g. g.entries ≡ Some map.empty) }
-    requires few { (task.now.numbers.asks ≤ 2 ^ 63) × (task.now.numbers.matches ≤ 2 ^ 63) }
+    requires within { AreWithin task.now.numbers }
     ensures ok { OnOk result (Ending (behind task.now.numbers (run_of (routes_of graphs.old) task.now.report (R.contents ports.old.revisions) task.now.options.now))
         (moment S.Source R.Revisions K.Sink F.Sink ports.old (world_at_start task.now.options.now))
         (moment S.Source R.Revisions K.Sink F.Sink ports.new world.new)) }
@@ -117,14 +89,14 @@ fn set_horizon(options: &ReplayOptions<'_>, world: &mut World)
 }
 
 // Takes the lines and the end, prints, and saves the world where it is to be saved.
-fn replay_within<S: Source, R: Revisions, K: Sink, F: Sink>(
+pub fn replay_within<S: Source, R: Revisions, K: Sink, F: Sink>(
     task: &Task<'_>,
     ports: &mut Ports<S, R, K, F>,
     world: &mut World,
     graphs: &mut Option<Graphs>,
 ) -> Result<(), Stop>
     requires stands { IsStanding world.old.replay (mapped_in world.old) }
-    requires few { (task.now.numbers.asks ≤ 2 ^ 63) × (task.now.numbers.matches ≤ 2 ^ 63) }
+    requires within { AreWithin task.now.numbers }
     requires limit { world.old.limit ≡ max_terms_of task.now.options.now }
     requires follow { MayFollow graphs.old world.old }
     requires held { HoldsWithin world.old.limit world.old }
@@ -154,7 +126,7 @@ fn take_and_print<S: Source, R: Revisions, K: Sink, F: Sink>(
     graphs: &mut Option<Graphs>,
 ) -> Result<Numbers, Stop>
     requires stands { IsStanding world.old.replay (mapped_in world.old) }
-    requires few { (task.now.numbers.asks ≤ 2 ^ 63) × (task.now.numbers.matches ≤ 2 ^ 63) }
+    requires within { AreWithin task.now.numbers }
     requires limit { world.old.limit ≡ max_terms_of task.now.options.now }
     requires follow { MayFollow graphs.old world.old }
     requires held { HoldsWithin world.old.limit world.old }
@@ -217,7 +189,7 @@ fn take_all<S: Source, R: Revisions, K: Sink, F: Sink>(
     graphs: &mut Option<Graphs>,
 ) -> Result<Numbers, Stop>
     requires stands { IsStanding world.old.replay (mapped_in world.old) }
-    requires few { (task.now.numbers.asks ≤ 2 ^ 63) × (task.now.numbers.matches ≤ 2 ^ 63) }
+    requires within { AreWithin task.now.numbers }
     requires limit { world.old.limit ≡ max_terms_of task.now.options.now }
     requires follow { MayFollow graphs.old world.old }
     requires held { HoldsWithin world.old.limit world.old }

@@ -1,6 +1,6 @@
 // The top call.
 
-ghost use Rattle.std.specs.Prelude.{◌≡◌, ◌⊎◌, ℕ, List, None, Some, map, string_bytes};
+ghost use Rattle.std.specs.Prelude.{◌≡◌, ◌⊎◌, ℕ, List, None, Some, IsSome, map, string_bytes};
 ghost use Rattle.replay_model.specs.ReplayState.{nothing_delivered};
 ghost use Rattle.drill_replay.specs.Playing.{IsByFirst};
 ghost use Rattle.session.specs.declared.report.Report.TheVariants.{Answers, Changes};
@@ -10,6 +10,7 @@ ghost use Rattle.session.specs.Records.{FollowEnding};
 ghost use Rattle.session.specs.Headline.{ReplayEnding};
 ghost use Rattle.session.specs.Moment.{moment, run_of, stage, world_at_start};
 ghost use Rattle.session.specs.Remapping.{HoldsWithin};
+ghost use Rattle.session.specs.Resuming.{ResumeEnding};
 ghost use Rattle.session.specs.Room.{limit_of_plan};
 ghost use Rattle.session.specs.Understood.{IsNotUnderstood};
 ghost use Rattle.following.specs.Following.{follow_moment};
@@ -23,11 +24,12 @@ ghost use Rattle.words.specs.declared.plan.Plan.TheVariants.{Replay, Drill, Patc
 use crate::drilling::drill;
 use crate::ports::Ports;
 use crate::records::follow_records;
-use crate::replaying::replay;
 use crate::report::Report;
+use crate::resuming::replay;
 use crate::split::split;
 use crate::status::Status;
 use crate::stop::Stop;
+use crate::task::{NOTHING_REPORTED, Task};
 use revisions::Revisions;
 use std::alloc::Global;
 use std::hash::RandomState;
@@ -42,6 +44,8 @@ use wq_io::{Sink, Source};
 /// A patch stream replays the same lines, and writes in place of answers and sections how the stored triples change: a record for each
 /// application, and for each page that is mapped anew, that changes them. It passes over questions.
 ///
+/// Where the words name a snapshot, the replay goes on from its world, and the numbers of answers and records go on from its counts.
+///
 /// Where the words say that the world is saved, the end of the input isn't that of the deliveries: what waits goes on waiting, the sections
 /// show the world as it is then, and its snapshot is written last.
 ///
@@ -51,7 +55,7 @@ use wq_io::{Sink, Source};
 /// A follower reads records of changes, and prints how many of them were applied and, where the words ask for it, the triples then.
 ///
 /// `words` are those after the program's name; terms of records are found by hashes under `keys`; `world` has taken nothing yet and has no horizon; a run begins with the first version of
-/// the mapping, whichever is in force in it.
+/// the mapping, whichever is in force in it, or with the world of a snapshot.
 pub fn run<S: Source, R: Revisions, K: Sink, F: Sink>(
     alloc: Global,
     keys: RandomState,
@@ -68,16 +72,28 @@ pub fn run<S: Source, R: Revisions, K: Sink, F: Sink>(
     ensures routes { IsNotUnderstood (map (λ w. string_bytes w) words.now) → (result ≡ Status.BadWords) ⊎ (result ≡ Status.OutOfMemory) }
     ensures untouched { result ≡ Status.BadWords → (ports.new ≡ ports.old) × (world.new ≡ world.old) }
 
-    // A replay ends well, or stops for a cause; it begins with the horizon and the limit of the words, and by the first version.
-    ensures replay { (choices : Choices) → plan_of (map (λ w. string_bytes w) words.now) ≡ Some (Replay choices) →
+    // A replay without a snapshot ends well, or stops for a cause; it begins with the horizon and the limit of the words, and by the first
+    // version.
+    ensures replay { (choices : Choices) → plan_of (map (λ w. string_bytes w) words.now) ≡ Some (Replay choices) → choices.resume ≡ None →
         ReplayEnding result (run_of None Answers (R.contents ports.old.revisions) choices)
         (moment S.Source R.Revisions K.Sink F.Sink ports.old (world_at_start choices))
         (moment S.Source R.Revisions K.Sink F.Sink ports.new world.new) }
 
     // So does a patch stream, which is a replay whose output has the records of its changes, and nothing else.
-    ensures patches { (choices : Choices) → plan_of (map (λ w. string_bytes w) words.now) ≡ Some (Patches choices) →
+    ensures patches { (choices : Choices) → plan_of (map (λ w. string_bytes w) words.now) ≡ Some (Patches choices) → choices.resume ≡ None →
         ReplayEnding result (run_of None Changes (R.contents ports.old.revisions) choices)
         (moment S.Source R.Revisions K.Sink F.Sink ports.old (world_at_start choices))
+        (moment S.Source R.Revisions K.Sink F.Sink ports.new world.new) }
+
+    // Where the words name a snapshot, either it is refused for a cause, before anything else is read or anything is written; or the bytes are
+    // the snapshot of a world, and the replay goes on from this world, behind the runs that left its counts.
+    ensures resumed { (choices : Choices) → plan_of (map (λ w. string_bytes w) words.now) ≡ Some (Replay choices) → IsSome choices.resume →
+        ResumeEnding result (run_of None Answers (R.contents ports.old.revisions) choices)
+        (moment S.Source R.Revisions K.Sink F.Sink ports.old world.old)
+        (moment S.Source R.Revisions K.Sink F.Sink ports.new world.new) }
+    ensures resumed_patches { (choices : Choices) → plan_of (map (λ w. string_bytes w) words.now) ≡ Some (Patches choices) → IsSome choices.resume →
+        ResumeEnding result (run_of None Changes (R.contents ports.old.revisions) choices)
+        (moment S.Source R.Revisions K.Sink F.Sink ports.old world.old)
         (moment S.Source R.Revisions K.Sink F.Sink ports.new world.new) }
 
     // So does a split, which is a replay that routes pages to graphs: its output has the answers of each graph, and then the triples of each.
@@ -111,16 +127,22 @@ pub fn run<S: Source, R: Revisions, K: Sink, F: Sink>(
     match read_plan(words) {
         None => Status::BadWords,
         Some(Plan::Replay(options)) => {
-            match replay(alloc, &options, Report::Answers, ports, world) {
-                Ok(()) => Status::Ok,
-                Err(stop) => stop.status(),
-            }
+            let task = Task {
+                alloc,
+                options: &options,
+                report: Report::Answers,
+                numbers: NOTHING_REPORTED,
+            };
+            replay(keys, &task, ports, world)
         }
         Some(Plan::Patches(options)) => {
-            match replay(alloc, &options, Report::Changes, ports, world) {
-                Ok(()) => Status::Ok,
-                Err(stop) => stop.status(),
-            }
+            let task = Task {
+                alloc,
+                options: &options,
+                report: Report::Changes,
+                numbers: NOTHING_REPORTED,
+            };
+            replay(keys, &task, ports, world)
         }
         Some(Plan::Drill(size)) => match drill(alloc, size, &mut ports.out, world) {
             Ok(()) => Status::Ok,

@@ -1,7 +1,7 @@
 // How a run ended.
 
 ghost use Rattle.std.specs.Prelude.{◌≡◌, IfOk};
-ghost use Rattle.session.specs.Status.{bad_line_text, cause_name as name_of, status_number, status_text};
+ghost use Rattle.session.specs.Status.{bad_line_text, bad_snapshot_text, cause_name as name_of, status_number, status_text};
 
 use event_line::LineCause;
 use rdf_term::{OutOfMemory, Text};
@@ -26,6 +26,8 @@ pub enum Status {
     StoreFull,
     /// A request for memory was refused.
     OutOfMemory,
+    /// The line of the snapshot with this number, from 1, is refused; nothing else was read, and nothing was written.
+    BadSnapshot(u64),
 }
 
 /// The line that says how a run ended, without its line feed; empty where it ended well.
@@ -42,6 +44,7 @@ pub fn status_text(alloc: Global, status: &Status) -> Result<Text, OutOfMemory>
         Status::TooLong => Text::new(alloc, "wdq: input too long"),
         Status::StoreFull => Text::new(alloc, "wdq: store full"),
         Status::OutOfMemory => Text::new(alloc, "wdq: out of memory"),
+        Status::BadSnapshot(number) => bad_snapshot(alloc, *number),
     }
 }
 
@@ -51,6 +54,13 @@ fn bad_line(alloc: Global, number: u64, cause: LineCause) -> Result<Text, OutOfM
 {
     let cause = cause_name(cause);
     Ok(Text::from_string(format!(in alloc; "wdq: line {number}: {cause}")?))
+}
+
+// The line on a line of a snapshot that is refused.
+fn bad_snapshot(alloc: Global, number: u64) -> Result<Text, OutOfMemory>
+    ensures { IfOk result (λ text. text ≡ bad_snapshot_text number) }
+{
+    Ok(Text::from_string(format!(in alloc; "wdq: snapshot: line {number}")?))
 }
 
 /// The exit status of the process.
@@ -66,6 +76,7 @@ pub fn status_number(status: &Status) -> u8
         Status::TooLong => 5,
         Status::StoreFull => 6,
         Status::OutOfMemory => 7,
+        Status::BadSnapshot(_) => 8,
     }
 }
 

@@ -1,10 +1,11 @@
-// Why a run that was begun stopped.
+// Why a run stopped.
 
 ghost use Rattle.std.specs.Prelude.{◌≡◌, Some};
 ghost use Rattle.session.specs.Stop.{cause_of_record, stop_of};
 ghost use Rattle.session.specs.declared.stop.Stop.TheVariants.{OutOfMemory as Refused};
 
 use crate::status::Status;
+use checkpoint::LoadFault;
 use event_line::LineCause;
 use following::{FollowStop, RecordCause};
 use rdf_term::OutOfMemory;
@@ -21,7 +22,7 @@ pub enum Halt {
     Untold(Unwritten),
 }
 
-// Why a run that was begun stopped.
+// Why a run stopped that was begun, or that was to go on from a snapshot.
 #[derive(Clone, Copy, Debug, PartialEq, Eq)]
 pub enum Stop {
     // The line with this number, from 1, is refused.
@@ -36,6 +37,8 @@ pub enum Stop {
     StoreFull,
     // A request for memory was refused.
     OutOfMemory,
+    // The line of the snapshot with this number, from 1, is refused.
+    BadSnapshot(u64),
 }
 
 impl From<OutOfMemory> for Stop {
@@ -122,6 +125,23 @@ impl From<FollowStop> for Stop {
     }
 }
 
+impl From<LoadFault> for Stop {
+    ghost use Rattle.std.specs.Prelude.{◌≡◌};
+    ghost use Rattle.session.specs.Stop.{stop_of_load};
+
+    ghost from_gives = { λ fault stop. stop ≡ stop_of_load fault };
+
+    fn from(fault: LoadFault) -> Stop {
+        match fault {
+            LoadFault::ReadFault => Stop::ReadFault,
+            LoadFault::TooLong => Stop::TooLong,
+            LoadFault::BadLine(number) => Stop::BadSnapshot(number),
+            LoadFault::Full => Stop::StoreFull,
+            LoadFault::OutOfMemory => Stop::OutOfMemory,
+        }
+    }
+}
+
 // Why a line of records is refused, as a cause of a line.
 fn cause_of_record(cause: RecordCause) -> LineCause
     ensures { result ≡ cause_of_record cause }
@@ -148,6 +168,7 @@ impl Stop {
             Stop::TooLong => Status::TooLong,
             Stop::StoreFull => Status::StoreFull,
             Stop::OutOfMemory => Status::OutOfMemory,
+            Stop::BadSnapshot(number) => Status::BadSnapshot(number),
         }
     }
 }

@@ -1,6 +1,7 @@
 // The lines of the input are taken one by one.
 
-ghost use Rattle.std.specs.Prelude.{◌≡◌, ◌≤◌, ◌^◌, ◌⊎◌, ◌∷◌, [], Ok, Err, IfErr, IfOk, IfSome, OnOk};
+ghost use Rattle.std.specs.Prelude.{◌≡◌, ◌⊎◌, ◌∷◌, [], Ok, Err, IfErr, IfOk, IfSome, OnOk};
+ghost use Rattle.checkpoint.specs.Saved.{AreWithin};
 ghost use Rattle.replay_model.specs.Transcript.{matches};
 ghost use Rattle.event_line.specs.declared.faults.LineCause.{LineCause};
 ghost use Rattle.event_line.specs.Line.{delivery_of};
@@ -46,7 +47,7 @@ pub fn take_lines<S: Source, R: Revisions, K: Sink, F: Sink>(
     graphs: &mut Option<Graphs>,
 ) -> Result<LinesTaken, Stop>
     requires stands { IsStanding world.old.replay (mapped_in world.old) }
-    requires few { (task.now.numbers.asks ≤ 2 ^ 63) × (task.now.numbers.matches ≤ 2 ^ 63) }
+    requires within { AreWithin task.now.numbers }
     requires limit { world.old.limit ≡ max_terms_of task.now.options.now }
     requires follow { MayFollow graphs.old world.old }
     requires held { HoldsWithin world.old.limit world.old }

@@ -1,5 +1,5 @@
 -- What a replay, a drill and a follower leave, by the plan that was read.
-use Rattle.std.proofs.Common.{◌≡◌, ◌∙◌, sym, ap, None, Some, inr, refl}
+use Rattle.std.proofs.Common.{◌≡◌, ◌∙◌, sym, ap, None, Some, IsSome, inr, refl}
 use Rattle.words.specs.declared.plan.Plan.TheVariants.{Replay, Drill, Follow}
 use Rattle.session.specs.declared.report.Report.TheVariants.{Answers}
 use Rattle.session.specs.declared.status.Status.TheVariants.{Ok as Ended}
@@ -9,86 +9,74 @@ use Rattle.session.specs.Records.{FollowEnding}
 use Rattle.session.specs.Headline.{ReplayEnding}
 use Rattle.session.specs.Moment.{moment, run_of, stage, world_at_start}
 use Rattle.session.specs.Remapping.{HoldsWithin}
+use Rattle.session.specs.Resuming.{ResumeEnding}
 use Rattle.session.specs.Room.{limit_of_plan}
 use Rattle.world.specs.WorldState.{WorldState}
 use Rattle.drill_replay.specs.Playing.{IsByFirst}
 use Rattle.session.proofs.Ongoing.{none_gone, written_on}
-use Rattle.session.proofs.Plans.{drill_no_follow, follow_no_drill, follow_no_replay, follow_stopped, for_choices, for_follow, for_plan, for_size, no_drill, no_replay, replay_no_follow, replay_stopped}
+use Rattle.session.proofs.Plans.{drill_no_follow, follow_no_drill, follow_no_replay, follow_stopped, for_choices, for_follow, for_plan, for_size, no_drill, no_replay, replay_no_follow}
 use Rattle.session.proofs.running.run.Goals as goal
 
--- ---- a replay that ended well
+-- ---- a replay
 
-pub returns-in-Ok-clause-replay : goal.returns-in-Ok-clause-replay
-returns-in-Ok-clause-replay g c = λ choices plan.
-    for_choices (λ x. ReplayEnding Ended (run_of None Answers (g.R.Revisions.contents c.args.ports.now.revisions) x) (moment g.S.Source g.R.Revisions g.K.Sink g.F.Sink c.args.ports.now (world_at_start x)) (moment g.S.Source g.R.Revisions g.K.Sink g.F.Sink c.replay.new.ports c.replay.new.world))
-    c.in-Some-Replay.options choices (ap Some (sym c.in-Some-Replay.field-0-is) ∙ c.in-Some-Replay.ensures.value ∙ plan) (record { outcome = c.in-Ok.ensures.ok; taken = c.in-Ok.ensures.taken })
+pub returns-in-Some-Replay-clause-replay : goal.returns-in-Some-Replay-clause-replay
+returns-in-Some-Replay-clause-replay g c = λ choices plan.
+    for_choices (λ x. x.resume ≡ None → ReplayEnding c.replay.result (run_of None Answers (g.R.Revisions.contents c.args.ports.now.revisions) x) (moment g.S.Source g.R.Revisions g.K.Sink g.F.Sink c.args.ports.now (world_at_start x)) (moment g.S.Source g.R.Revisions g.K.Sink g.F.Sink c.replay.new.ports c.replay.new.world))
+    c.in-Some-Replay.options choices (ap Some (sym c.in-Some-Replay.field-0-is) ∙ c.in-Some-Replay.ensures.value ∙ plan) c.replay.ensures.begun
 
-pub returns-in-Ok-clause-drill : goal.returns-in-Ok-clause-drill
-returns-in-Ok-clause-drill g c = λ size plan. no_drill _ _ size (ap Some (sym c.in-Some-Replay.field-0-is) ∙ c.in-Some-Replay.ensures.value ∙ plan)
+pub returns-in-Some-Replay-clause-resumed : goal.returns-in-Some-Replay-clause-resumed
+returns-in-Some-Replay-clause-resumed g c = λ choices plan.
+    for_choices (λ x. IsSome x.resume → ResumeEnding c.replay.result (run_of None Answers (g.R.Revisions.contents c.args.ports.now.revisions) x) (moment g.S.Source g.R.Revisions g.K.Sink g.F.Sink c.args.ports.now c.args.world.now) (moment g.S.Source g.R.Revisions g.K.Sink g.F.Sink c.replay.new.ports c.replay.new.world))
+    c.in-Some-Replay.options choices (ap Some (sym c.in-Some-Replay.field-0-is) ∙ c.in-Some-Replay.ensures.value ∙ plan) c.replay.ensures.resumed
 
-pub returns-in-Ok-clause-follow : goal.returns-in-Ok-clause-follow
-returns-in-Ok-clause-follow g c = λ choices plan. replay_no_follow _ _ choices (ap Some (sym c.in-Some-Replay.field-0-is) ∙ c.in-Some-Replay.ensures.value ∙ plan)
+pub returns-in-Some-Replay-clause-drill : goal.returns-in-Some-Replay-clause-drill
+returns-in-Some-Replay-clause-drill g c = λ size plan. no_drill _ _ size (ap Some (sym c.in-Some-Replay.field-0-is) ∙ c.in-Some-Replay.ensures.value ∙ plan)
 
-pub returns-in-Ok-clause-limit : goal.returns-in-Ok-clause-limit
-returns-in-Ok-clause-limit g c = λ the plan.
+pub returns-in-Some-Replay-clause-follow : goal.returns-in-Some-Replay-clause-follow
+returns-in-Some-Replay-clause-follow g c = λ choices plan. replay_no_follow _ _ choices (ap Some (sym c.in-Some-Replay.field-0-is) ∙ c.in-Some-Replay.ensures.value ∙ plan)
+
+pub returns-in-Some-Replay-clause-limit : goal.returns-in-Some-Replay-clause-limit
+returns-in-Some-Replay-clause-limit g c = λ the plan.
     inr (for_plan (λ x. (c.replay.new.world.limit ≡ limit_of_plan x) × HoldsWithin (limit_of_plan x) c.replay.new.world)
-    (Replay c.in-Some-Replay.options) the (ap Some (sym c.in-Some-Replay.field-0-is) ∙ c.in-Some-Replay.ensures.value ∙ plan) (c.replay.ensures.limit, c.in-Ok.ensures.held))
-
--- ---- a replay that stopped
-
-pub returns-in-Err-clause-replay : goal.returns-in-Err-clause-replay
-returns-in-Err-clause-replay g c = λ choices plan.
-    for_choices (λ x. ReplayEnding c.status.result (run_of None Answers (g.R.Revisions.contents c.args.ports.now.revisions) x) (moment g.S.Source g.R.Revisions g.K.Sink g.F.Sink c.args.ports.now (world_at_start x)) (moment g.S.Source g.R.Revisions g.K.Sink g.F.Sink c.replay.new.ports c.replay.new.world))
-    c.in-Some-Replay.options choices (ap Some (sym c.in-Some-Replay.field-0-is) ∙ c.in-Some-Replay.ensures.value ∙ plan) (replay_stopped _ _ _ _ _ c.status.ensures.stops c.in-Err.ensures.err c.in-Err.ensures.taken)
-
-pub returns-in-Err-clause-drill : goal.returns-in-Err-clause-drill
-returns-in-Err-clause-drill g c = λ size plan. no_drill _ _ size (ap Some (sym c.in-Some-Replay.field-0-is) ∙ c.in-Some-Replay.ensures.value ∙ plan)
-
-pub returns-in-Err-clause-follow : goal.returns-in-Err-clause-follow
-returns-in-Err-clause-follow g c = λ choices plan. replay_no_follow _ _ choices (ap Some (sym c.in-Some-Replay.field-0-is) ∙ c.in-Some-Replay.ensures.value ∙ plan)
-
-pub returns-in-Err-clause-limit : goal.returns-in-Err-clause-limit
-returns-in-Err-clause-limit g c = λ the plan.
-    inr (for_plan (λ x. (c.replay.new.world.limit ≡ limit_of_plan x) × HoldsWithin (limit_of_plan x) c.replay.new.world)
-    (Replay c.in-Some-Replay.options) the (ap Some (sym c.in-Some-Replay.field-0-is) ∙ c.in-Some-Replay.ensures.value ∙ plan) (c.replay.ensures.limit, c.in-Err.ensures.held))
+    (Replay c.in-Some-Replay.options) the (ap Some (sym c.in-Some-Replay.field-0-is) ∙ c.in-Some-Replay.ensures.value ∙ plan) (c.replay.ensures.limit, c.replay.ensures.held))
 
 -- ---- a drill that ended well
 
-pub returns-in-Ok-drill-clause-replay : goal.returns-in-Ok-drill-clause-replay
-returns-in-Ok-drill-clause-replay g c = λ choices plan. no_replay _ choices _ (ap Some (sym c.in-Some-Drill.field-0-is) ∙ c.in-Some-Drill.ensures.value ∙ plan)
+pub returns-in-Ok-clause-replay : goal.returns-in-Ok-clause-replay
+returns-in-Ok-clause-replay g c = λ choices plan. no_replay _ choices _ (ap Some (sym c.in-Some-Drill.field-0-is) ∙ c.in-Some-Drill.ensures.value ∙ plan)
 
-pub returns-in-Ok-drill-clause-drill : goal.returns-in-Ok-drill-clause-drill
-returns-in-Ok-drill-clause-drill g c = λ size plan.
+pub returns-in-Ok-clause-drill : goal.returns-in-Ok-clause-drill
+returns-in-Ok-clause-drill g c = λ size plan.
     for_size (λ n. DrillEnding Ended n (stage g.R.Revisions g.K.Sink c.args.ports.now.revisions c.args.ports.now.out c.args.world.now) (stage g.R.Revisions g.K.Sink c.args.ports.now.revisions c.drill.new.out c.drill.new.world)
     × IsByFirst c.drill.new.world × (record c.args.ports.now { out = c.drill.new.out } ≡ record c.args.ports.now { out = c.drill.new.out }))
-    c.in-Some-Drill.size size (ap Some (sym c.in-Some-Drill.field-0-is) ∙ c.in-Some-Drill.ensures.value ∙ plan) (c.in-Ok-drill.ensures.ok, c.in-Ok-drill.ensures.first, refl)
+    c.in-Some-Drill.size size (ap Some (sym c.in-Some-Drill.field-0-is) ∙ c.in-Some-Drill.ensures.value ∙ plan) (c.in-Ok.ensures.ok, c.in-Ok.ensures.first, refl)
 
-pub returns-in-Ok-drill-clause-follow : goal.returns-in-Ok-drill-clause-follow
-returns-in-Ok-drill-clause-follow g c = λ choices plan. drill_no_follow _ _ choices (ap Some (sym c.in-Some-Drill.field-0-is) ∙ c.in-Some-Drill.ensures.value ∙ plan)
+pub returns-in-Ok-clause-follow : goal.returns-in-Ok-clause-follow
+returns-in-Ok-clause-follow g c = λ choices plan. drill_no_follow _ _ choices (ap Some (sym c.in-Some-Drill.field-0-is) ∙ c.in-Some-Drill.ensures.value ∙ plan)
 
-pub returns-in-Ok-drill-clause-limit : goal.returns-in-Ok-drill-clause-limit
-returns-in-Ok-drill-clause-limit g c = λ the plan.
+pub returns-in-Ok-clause-limit : goal.returns-in-Ok-clause-limit
+returns-in-Ok-clause-limit g c = λ the plan.
     inr (for_plan (λ x. (c.drill.new.world.limit ≡ limit_of_plan x) × HoldsWithin (limit_of_plan x) c.drill.new.world)
-    (Drill c.in-Some-Drill.size) the (ap Some (sym c.in-Some-Drill.field-0-is) ∙ c.in-Some-Drill.ensures.value ∙ plan) (c.in-Ok-drill.ensures.limit, c.in-Ok-drill.ensures.held))
+    (Drill c.in-Some-Drill.size) the (ap Some (sym c.in-Some-Drill.field-0-is) ∙ c.in-Some-Drill.ensures.value ∙ plan) (c.in-Ok.ensures.limit, c.in-Ok.ensures.held))
 
-pub returns-in-Ok-drill-clause-further : goal.returns-in-Ok-drill-clause-further
-returns-in-Ok-drill-clause-further g c = written_on g.S.Source g.R.Revisions g.K.Sink g.F.Sink c.args.ports.now c.args.ports.now c.drill.new.out (none_gone g.S.Source g.R.Revisions g.K.Sink g.F.Sink _) c.drill.ensures.written
+pub returns-in-Ok-clause-further : goal.returns-in-Ok-clause-further
+returns-in-Ok-clause-further g c = written_on g.S.Source g.R.Revisions g.K.Sink g.F.Sink c.args.ports.now c.args.ports.now c.drill.new.out (none_gone g.S.Source g.R.Revisions g.K.Sink g.F.Sink _) c.drill.ensures.written
 
 -- ---- a drill that stopped
 
-pub returns-in-Err-drill-clause-replay : goal.returns-in-Err-drill-clause-replay
-returns-in-Err-drill-clause-replay g c = λ choices plan. no_replay _ choices _ (ap Some (sym c.in-Some-Drill.field-0-is) ∙ c.in-Some-Drill.ensures.value ∙ plan)
+pub returns-in-Err-clause-replay : goal.returns-in-Err-clause-replay
+returns-in-Err-clause-replay g c = λ choices plan. no_replay _ choices _ (ap Some (sym c.in-Some-Drill.field-0-is) ∙ c.in-Some-Drill.ensures.value ∙ plan)
 
-pub returns-in-Err-drill-clause-follow : goal.returns-in-Err-drill-clause-follow
-returns-in-Err-drill-clause-follow g c = λ choices plan. drill_no_follow _ _ choices (ap Some (sym c.in-Some-Drill.field-0-is) ∙ c.in-Some-Drill.ensures.value ∙ plan)
+pub returns-in-Err-clause-follow : goal.returns-in-Err-clause-follow
+returns-in-Err-clause-follow g c = λ choices plan. drill_no_follow _ _ choices (ap Some (sym c.in-Some-Drill.field-0-is) ∙ c.in-Some-Drill.ensures.value ∙ plan)
 
-pub returns-in-Err-drill-clause-limit : goal.returns-in-Err-drill-clause-limit
-returns-in-Err-drill-clause-limit g c = λ the plan.
+pub returns-in-Err-clause-limit : goal.returns-in-Err-clause-limit
+returns-in-Err-clause-limit g c = λ the plan.
     inr (for_plan (λ x. (c.drill.new.world.limit ≡ limit_of_plan x) × HoldsWithin (limit_of_plan x) c.drill.new.world)
     (Drill c.in-Some-Drill.size) the (ap Some (sym c.in-Some-Drill.field-0-is) ∙ c.in-Some-Drill.ensures.value ∙ plan) (c.drill.ensures.limit, c.drill.ensures.held))
 
-pub returns-in-Err-drill-clause-further : goal.returns-in-Err-drill-clause-further
-returns-in-Err-drill-clause-further g c = written_on g.S.Source g.R.Revisions g.K.Sink g.F.Sink c.args.ports.now c.args.ports.now c.drill.new.out (none_gone g.S.Source g.R.Revisions g.K.Sink g.F.Sink _) c.drill.ensures.written
+pub returns-in-Err-clause-further : goal.returns-in-Err-clause-further
+returns-in-Err-clause-further g c = written_on g.S.Source g.R.Revisions g.K.Sink g.F.Sink c.args.ports.now c.args.ports.now c.drill.new.out (none_gone g.S.Source g.R.Revisions g.K.Sink g.F.Sink _) c.drill.ensures.written
 
 -- ---- a follower that ended well
 

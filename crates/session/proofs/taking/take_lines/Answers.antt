@@ -71,7 +71,7 @@ loop-line-preserved g c =
 
 pub deliver-requires-clause-number : goal.deliver-requires-clause-number
 deliver-requires-clause-number g c =
-    numbers_left c.args.task.now.report c.args.task.now.numbers c.loop-line.reported c.loop-line.matched c.loop-line.lines c.requires.few.0 c.requires.few.1 c.loop-line.invariant.0.few c.loop-line.invariant.0.few_matched
+    numbers_left c.args.task.now.report c.args.task.now.numbers c.loop-line.reported c.loop-line.matched c.loop-line.lines c.requires.within.asks c.requires.within.matches c.loop-line.invariant.0.few c.loop-line.invariant.0.few_matched
     c.loop-line.invariant.0.sound c.loop-line.invariant.0.max (rw c.max_bytes.ensures.value at c.max_bytes.ensures.bounded)
 
 pub returns-clause-ok : goal.returns-clause-ok

@@ -1,0 +1,50 @@
+-- What follows of a snapshot that is loaded, and of one that isn't.
+use Rattle.std.proofs.Common.{◌≡◌, sym, subst, ◌∙◌, ap, ℕ, List, Bool, true, false, Option, Some, IfSome}
+use Rattle.rising.specs.Rising.{has}
+use Rattle.entity_model.specs.declared.event.Event.{Event}
+use Rattle.entity_model.specs.declared.id.EntityId.{EntityId}
+use Rattle.entity_model.specs.Event.{event_cmp}
+use Rattle.replay_model.specs.Explained.{is_applied}
+use Rattle.replay_model.specs.Replies.{failed_events}
+use Rattle.snapshot.specs.File.{saved_in_bytes}
+use Rattle.world.specs.WorldState.{WorldState}
+use Rattle.checkpoint.specs.declared.numbers.Numbers.{Numbers}
+use Rattle.checkpoint.specs.Loading.{HoldsDocuments as AreDocuments, IsResting}
+use Rattle.checkpoint.specs.Saved.{AreWithin, saved_of, world_of}
+use Rattle.session.specs.Remapping.{HoldsWithin, mapped_in}
+use Rattle.words.specs.Options.{Choices, max_terms_of}
+use Rattle.session.specs.Resuming.{AllowsHorizon, HasOtherHorizon, IsSnapshotOf}
+use Rattle.session.specs.Taking.{IsStanding}
+
+-- a world that is loaded stands between two deliveries
+loaded_stands : (limit : ℕ) (world : WorldState) (numbers : Numbers) → world ≡ world_of limit (saved_of world numbers) → IsResting world.replay.buffer → AreDocuments world.replay.played.records →
+    ((e : Event) → has event_cmp e (failed_events world.replay.played.side) ≡ true → is_applied world.replay e ≡ true) → IsStanding world.replay (mapped_in world)
+loaded_stands limit world numbers is rests documents applied = record {
+  open_still = rests.open_still;
+  rests = rests.none_due;
+  rises = rests.rises;
+  by_one = ap (λ (xs : List EntityId). record { version = world.mapping; by_two = xs }) (ap (λ (w : WorldState). w.by_two) is);
+  documents = documents;
+  applied = applied;
+}
+
+pub is_snapshot : (left : Option (List ℕ)) (limit : ℕ) (world : WorldState) (numbers : Numbers) → IfSome left (λ bytes. saved_in_bytes bytes ≡ Some (saved_of world numbers)) → world ≡ world_of limit (saved_of world numbers) →
+    IsResting world.replay.buffer → AreDocuments world.replay.played.records → ((e : Event) → has event_cmp e (failed_events world.replay.played.side) ≡ true → is_applied world.replay e ≡ true) →
+    AreWithin numbers → HoldsWithin world.limit world → IsSnapshotOf left limit world numbers
+is_snapshot left limit world numbers saved is rests documents applied within held = record {
+  saved = saved;
+  is = is;
+  stands = loaded_stands limit world numbers is rests documents applied;
+  held = subst (λ n. HoldsWithin n world) (ap (λ (w : WorldState). w.limit) is) held;
+  within = within;
+}
+
+-- one with another horizon than the words name is refused
+pub other_horizon : (choices : Choices) (left : Option (List ℕ)) (world : WorldState) (numbers : Numbers) (allowed : Bool) → IsSnapshotOf left (max_terms_of choices) world numbers →
+    (AllowsHorizon choices world.replay.buffer.horizon → allowed ≡ true) → allowed ≡ false → HasOtherHorizon choices left
+other_horizon choices left world numbers allowed loaded would isnt = record {
+  world = world;
+  numbers = numbers;
+  loaded = loaded;
+  differs = λ allows. let never : true ≡ false = sym (would allows) ∙ isnt in cc;
+}

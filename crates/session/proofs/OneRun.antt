@@ -1,0 +1,213 @@
+-- A run that goes on from where a replay stands, and one replay of all deliveries.
+use Rattle.std.proofs.Common.{◌≡◌, refl, sym, subst, ◌∙◌, ap, ℕ, ◌+◌, Bool, true, false, List, [], ◌∷◌, ◌++◌, append_assoc, length, length-append, Option, None, Some, IfSome, IsSome, arith}
+use Rattle.std.proofs.lemmas.List.Elements.{filter_map-append}
+use Rattle.wq_io.specs.Streams.{after_known}
+use Rattle.delivery.specs.declared.Delivery.{Delivery}
+use Rattle.replay_model.specs.Acceptance.{version_in_force}
+use Rattle.replay_model.specs.Play.{Replies, played}
+use Rattle.replay_model.specs.ReplayState.{ReplayState, delivered, ended, following, following_to_end}
+use Rattle.replay_model.specs.Transcript.{Question, asks, closing_text, matches, pattern_of, question_of, said, shapes_of}
+use Rattle.replay_parts.specs.Checkpoint.{Checkpoint, advanced, answer_at, checkpoint, said_from}
+use Rattle.replay_parts.proofs.TwoRuns.{checkpoint-two, following_to_end-two, said-two}
+use Rattle.subgraph.specs.declared.routes.Route.{Route}
+use Rattle.world.specs.Meaning.{meaning}
+use Rattle.snapshot.specs.File.{saved_in_bytes}
+use Rattle.snapshot.specs.Whole.{Saved}
+use Rattle.world.specs.WorldState.{WorldState}
+use Rattle.checkpoint.specs.declared.numbers.Numbers.{Numbers}
+use Rattle.checkpoint.specs.Saved.{numbers_of as numbers_back, saved_of}
+use Rattle.following.specs.Input.{Input}
+use Rattle.words.specs.Options.{closes}
+use Rattle.session.specs.declared.report.Report.TheVariants.{Answers}
+use Rattle.session.specs.declared.status.Status.{Status}
+use Rattle.session.specs.declared.status.Status.TheVariants.{Ok as Ended}
+use Rattle.session.specs.Along.{state_along, version_since}
+use Rattle.session.specs.Answering.{answer_by, said_by}
+use Rattle.session.specs.Course.{all_said, course_ended, led_to, version_at}
+use Rattle.session.specs.Headline.{Ending, HasFates, course_of, numbers_saved}
+use Rattle.session.specs.Moment.{Beginning, IsFirst, Moment, Run, Stage, behind, horizon_at, standing, start_in, start_of}
+use Rattle.session.specs.OneRun.{CountsQuestions, StandsAfter, deliveries_of, printed_in_all, replies_with, state_ended}
+use Rattle.session.specs.Remapping.{Mapped, mapped_by}
+use Rattle.session.specs.Report.{bytes_of}
+use Rattle.session.specs.Resuming.{IsResumed, with_loaded}
+use Rattle.session.specs.Saving.{HasSaved, numbers_of, saved_at, snapshot_text}
+use Rattle.session.specs.Sections.{sections_of}
+use Rattle.session.proofs.Along.{version-along}
+use Rattle.session.proofs.Ends.{fates}
+use Rattle.session.proofs.FromNothing.{led_first, version_first}
+
+-- a first run stands after no delivery
+pub first_stands : (start : Beginning) → IsFirst start → (replies : Replies) → StandsAfter (horizon_at start) replies [] start
+first_stands start first replies = record { world = first.world; version = first.mapping }
+
+pub first_counts : (start : Beginning) → IsFirst start → CountsQuestions [] start.numbered
+first_counts start first = record { asks_are = ap (λ (n : Numbers). n.asks) first.numbered; matches_are = ap (λ (n : Numbers). n.matches) first.numbered }
+
+-- where deliveries lead depends on the state alone
+same_state : (replies : Replies) (c other : Checkpoint) → c.state ≡ other.state → (ds : List Delivery) → state_along replies c ds ≡ state_along replies other ds
+same_state replies c other same [] = same
+same_state replies c other same (d ∷ ds) = same_state replies (advanced replies c d) (advanced replies other d) (ap (λ w. delivered replies w d) same) ds
+
+-- without routes what is said from a checkpoint on is what a replay says from there on
+answer_same : (c : Checkpoint) (question : Option Question) → answer_by None c question ≡ answer_at meaning c question
+answer_same c None = refl
+answer_same c (Some question) = refl
+
+said_same : (replies : Replies) (c : Checkpoint) (ds : List Delivery) → said_by None replies c ds ≡ said_from meaning replies c ds
+said_same replies c [] = refl
+said_same replies c (d ∷ ds) = λ i. answer_same c (question_of d) i ++ said_same replies (advanced replies c d) ds i
+
+asks-append : (a b : List Delivery) → asks (a ++ b) ≡ asks a + asks b
+asks-append a b = ap length (filter_map-append pattern_of a b) ∙ length-append _ _
+
+matches-append : (a b : List Delivery) → matches (a ++ b) ≡ matches a + matches b
+matches-append a b = ap length (filter_map-append shapes_of a b) ∙ length-append _ _
+
+state_ended-played : (closed : Bool) (h : Option ℕ) (replies : Replies) (ds : List Delivery) → played h closed replies ds ≡ (state_ended closed h replies ds).played
+state_ended-played true h replies ds = refl
+state_ended-played false h replies ds = refl
+
+module _ (h : Option ℕ) (first : Replies) (a : List Delivery) (run : Run) (before now : Moment) (stands : StandsAfter h first a (start_of run before)) (ending : Ending run before now) where
+  abbrev start : Beginning
+  start = start_of run before
+
+  abbrev b : List Delivery
+  b = ending.replayed.deliveries
+
+  abbrev second : Replies
+  second = ending.replayed.replay.played.replies
+
+  abbrev both : Replies
+  both = replies_with first a ending
+
+  led : led_to b start second ≡ following h both (a ++ b)
+  led = same_state second (standing start) (checkpoint h first a) stands.world b ∙ sym (ap (λ (c : Checkpoint). c.state) (checkpoint-two h first second a b))
+
+  led_ended : ended second (led_to b start second) ≡ following_to_end h both (a ++ b)
+  led_ended = ap (ended second) (same_state second (standing start) (checkpoint h first a) stands.world b) ∙ sym (following_to_end-two h first second a b)
+
+  state_is : (routes : Option (List Route)) (closed : Bool) → (course_ended routes closed b start).state second ≡ state_ended closed h both (a ++ b)
+  state_is routes true = led_ended
+  state_is routes false = led
+
+  pub world_is : now.stage.world ≡ state_ended (closes run.choices) h both (a ++ b)
+  world_is = ending.replayed.replay.played.is ∙ state_is run.environment.routes (closes run.choices)
+
+  version_is : version_at b start ≡ version_in_force (a ++ b)
+  version_is =
+      ap (λ v. version_since v b) stands.version
+      ∙ sym (version-along second (checkpoint h first a) b)
+      ∙ sym (ap (λ (c : Checkpoint). c.version) (checkpoint-two h first second a b))
+
+  pub mapped_is : now.stage.mapped ≡ mapped_by (version_in_force (a ++ b)) now.stage.world.played.records
+  mapped_is = ending.replayed.replay.played.mapped ∙ ap (λ v. mapped_by v now.stage.world.played.records) version_is
+
+  pub fates_are : HasFates (closes run.choices) h (a ++ b) now.stage.world
+  fates_are = fates (closes run.choices) h (a ++ b) now.stage.world both (state_ended-played (closes run.choices) h both (a ++ b) ∙ sym (ap (λ (w : ReplayState). w.played) world_is))
+
+  -- where it saves its world, a later run stands after all of them
+  pub next_stands : closes run.choices ≡ false → StandsAfter h both (a ++ b) (start_in (numbers_saved ending) now.stage)
+  next_stands open_still = record {
+    world = subst (λ closed. now.stage.world ≡ state_ended closed h both (a ++ b)) open_still world_is;
+    version = ap (λ (m : Mapped). m.version) mapped_is;
+  }
+
+  module _ (answers : run.environment.report ≡ Answers) (counts : CountsQuestions a run.numbered) where
+    pub next_counts : CountsQuestions (a ++ b) (numbers_saved ending)
+    next_counts = subst (λ report. CountsQuestions (a ++ b) (numbers_of report (course_of run b start).steps b start second)) (sym answers) (record {
+      asks_are = omega (arith, counts.asks_are, asks-append a b);
+      matches_are = omega (arith, counts.matches_are, matches-append a b);
+    })
+
+    stands_at : standing start ≡ checkpoint h first a
+    stands_at = λ i. record { state = stands.world i; version = stands.version i; asked = counts.asks_are i; matched = counts.matches_are i }
+
+    -- what is printed is what one replay prints after what it said at the earlier deliveries
+    rest_is : said meaning h first a ++ all_said None (closes run.choices) (sections_of run.choices) b start second ≡ printed_in_all (closes run.choices) (sections_of run.choices) h both (a ++ b)
+    rest_is =
+        sym (append_assoc (said meaning h first a) (said_by None second (standing start) b) _)
+        ∙ (λ i. (said_all i) ++ closing_text meaning (version_is i) (sections_of run.choices) (state_is None (closes run.choices) i).played)
+      where
+        said_all : said meaning h first a ++ said_by None second (standing start) b ≡ said meaning h both (a ++ b)
+        said_all =
+            ap (λ l. said meaning h first a ++ l) (said_same second (standing start) b ∙ ap (λ c. said_from meaning second c b) stands_at)
+            ∙ sym (said-two h first second a meaning b)
+
+    pub prints_rest : run.environment.routes ≡ None →
+        (rest : List ℕ) × (now.stage.output.bytes ≡ after_known before.stage.output.bytes rest) × (said meaning h first a ++ rest ≡ printed_in_all (closes run.choices) (sections_of run.choices) h both (a ++ b))
+    prints_rest none = (
+      all_said None (closes run.choices) (sections_of run.choices) b start second,
+      ending.replayed.replay.played.says
+          ∙ ap (λ report. bytes_of report (course_of run b start) start second) answers
+          ∙ ap (λ routes. after_known before.stage.output.bytes (all_said routes (closes run.choices) (sections_of run.choices) b start second)) none,
+      rest_is,
+    )
+
+-- ---- a run that goes on from bytes that were saved
+
+-- such bytes give back one world with one set of counts
+begins_at : (status : Status) (run : Run) (before now : Moment) (stage : Stage) (numbers : Numbers) (resumed : IsResumed status run before now) → IfSome before.resumed.left (λ bytes. saved_in_bytes bytes ≡ Some (saved_at stage numbers)) →
+    IsSome before.resumed.left → saved_of resumed.world resumed.numbers ≡ saved_at stage numbers
+begins_at status run before now stage numbers resumed saved told = by before.resumed.left told resumed.loaded.saved saved
+  where
+    by : (left : Option (List ℕ)) → IsSome left → IfSome left (λ bytes. saved_in_bytes bytes ≡ Some (saved_of resumed.world resumed.numbers)) → IfSome left (λ bytes. saved_in_bytes bytes ≡ Some (saved_at stage numbers)) →
+        saved_of resumed.world resumed.numbers ≡ saved_at stage numbers
+    by None never here there = cc
+    by (Some bytes) told here there =
+        let same : Some (saved_of resumed.world resumed.numbers) ≡ Some (saved_at stage numbers) = sym here ∙ there in
+        cc
+
+stands_there : (run : Run) (before : Moment) (rest : Input) (world : WorldState) (counts : Numbers) (stage : Stage) (numbers : Numbers) → saved_of world counts ≡ saved_at stage numbers →
+    (h : Option ℕ) (replies : Replies) (ds : List Delivery) → StandsAfter h replies ds (start_in numbers stage) → StandsAfter h replies ds (start_of (behind counts run) (with_loaded before rest world))
+stands_there run before rest world counts stage numbers same h replies ds stands = record {
+  world = ap (λ (s : Saved). s.state) same ∙ stands.world;
+  version = ap (λ (s : Saved). s.version) same ∙ stands.version;
+}
+
+counts_same : (world : WorldState) (counts : Numbers) (stage : Stage) (numbers : Numbers) → saved_of world counts ≡ saved_at stage numbers → counts ≡ numbers
+counts_same world counts stage numbers same = ap numbers_back same
+
+pub begins_there : (status : Status) (run : Run) (before now : Moment) (stage : Stage) (numbers : Numbers) (bytes : List ℕ) (resumed : IsResumed status run before now) →
+    before.resumed.left ≡ Some bytes → saved_in_bytes bytes ≡ Some (saved_at stage numbers) →
+    (h : Option ℕ) (replies : Replies) (ds : List Delivery) → StandsAfter h replies ds (start_in numbers stage) →
+    StandsAfter h replies ds (start_of (behind resumed.numbers run) (with_loaded before resumed.rest resumed.world)) × (resumed.numbers ≡ numbers)
+begins_there status run before now stage numbers bytes resumed left saved h replies ds stands =
+    let Told : Option (List ℕ) → Type 0 = λ o. IfSome o (λ b. saved_in_bytes b ≡ Some (saved_at stage numbers)) in
+    let same : saved_of resumed.world resumed.numbers ≡ saved_at stage numbers = begins_at status run before now stage numbers resumed (subst Told (sym left) saved) (subst (λ (o : Option (List ℕ)). IsSome o) (sym left) refl) in
+    (stands_there run before resumed.rest resumed.world resumed.numbers stage numbers same h replies ds stands, counts_same resumed.world resumed.numbers stage numbers same)
+
+-- what a first run saves is where its replay stands, and it is told where its file began empty
+first_saved : (run : Run) (before now : Moment) → IsFirst (start_of run before) → (ending : Ending run before now) → closes run.choices ≡ false →
+    StandsAfter (horizon_at (start_of run before)) ending.replayed.replay.played.replies (deliveries_of ending) (start_in (numbers_saved ending) now.stage)
+first_saved run before now is_first ending open_still =
+    let start : Beginning = start_of run before in
+    let ds : List Delivery = ending.replayed.deliveries in
+    let replies : Replies = ending.replayed.replay.played.replies in
+    record {
+      world = subst (λ closed. now.stage.world ≡ (course_ended run.environment.routes closed ds start).state replies) open_still ending.replayed.replay.played.is ∙ led_first start is_first replies ds;
+      version = ap (λ (m : Mapped). m.version) ending.replayed.replay.played.mapped ∙ version_first start is_first replies ds;
+    }
+
+pub saved_told : (run : Run) (before now : Moment) (ending : Ending run before now) → closes run.choices ≡ false → before.snapshot.bytes ≡ Some [] → IsSome now.snapshot.bytes
+saved_told run before now ending open_still empty =
+    let text : List ℕ = snapshot_text (numbers_saved ending) now.stage in
+    let saved : now.snapshot.bytes ≡ after_known before.snapshot.bytes text = subst (λ closed. HasSaved closed text before.snapshot now.snapshot) open_still ending.saved in
+    subst (λ (o : Option (List ℕ)). IsSome o) (sym (saved ∙ ap (λ b. after_known b text) empty)) refl
+
+pub two_are_one : (one two : Run) (before_one now_one before_two now_two : Moment) (is_first : IsFirst (start_of one before_one)) (first : Ending one before_one now_one) → closes one.choices ≡ false →
+    before_two.resumed.left ≡ now_one.snapshot.bytes → (second : IsResumed Ended two before_two now_two) → IfSome now_one.snapshot.bytes (λ bytes. saved_in_bytes bytes ≡ Some (saved_at now_one.stage (numbers_saved first))) →
+    IsSome now_one.snapshot.bytes →
+    (now_two.stage.world ≡ state_ended (closes two.choices) (horizon_at (start_of one before_one)) (replies_with first.replayed.replay.played.replies (deliveries_of first) second.ending.outcome)
+    (deliveries_of first ++ deliveries_of second.ending.outcome))
+    × HasFates (closes two.choices) (horizon_at (start_of one before_one)) (deliveries_of first ++ deliveries_of second.ending.outcome) now_two.stage.world
+two_are_one one two before_one now_one before_two now_two is_first first open_still same second saved told =
+    let h : Option ℕ = horizon_at (start_of one before_one) in
+    let replies : Replies = first.replayed.replay.played.replies in
+    let Told : Option (List ℕ) → Type 0 = λ o. IfSome o (λ b. saved_in_bytes b ≡ Some (saved_at now_one.stage (numbers_saved first))) in
+    let there : saved_of second.world second.numbers ≡ saved_at now_one.stage (numbers_saved first) =
+    begins_at Ended two before_two now_two now_one.stage (numbers_saved first) second (subst Told (sym same) saved) (subst (λ (o : Option (List ℕ)). IsSome o) (sym same) told) in
+    let stands : StandsAfter h replies (deliveries_of first) (start_of (behind second.numbers two) (with_loaded before_two second.rest second.world)) =
+    stands_there two before_two second.rest second.world second.numbers now_one.stage (numbers_saved first) there h replies (deliveries_of first) (first_saved one before_one now_one is_first first open_still) in (
+      world_is h replies (deliveries_of first) (behind second.numbers two) (with_loaded before_two second.rest second.world) now_two stands second.ending.outcome,
+      fates_are h replies (deliveries_of first) (behind second.numbers two) (with_loaded before_two second.rest second.world) now_two stands second.ending.outcome,
+    )

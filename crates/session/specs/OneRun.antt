@@ -1,0 +1,39 @@
+-- Runs that go on from one another, and one replay of all their deliveries.
+use Rattle.std.specs.Prelude.{◌≡◌, ℕ, Bool, true, false, List, ◌++◌, Option}
+use Rattle.delivery.specs.declared.Delivery.{Delivery}
+use Rattle.replay_model.specs.Acceptance.{mark, version_in_force}
+use Rattle.replay_model.specs.Play.{Replies}
+use Rattle.replay_model.specs.ReplayState.{ReplayState, following, following_to_end}
+use Rattle.replay_model.specs.Transcript.{Sections, asks, closing_text, matches, said}
+use Rattle.replay_parts.specs.Checkpoint.{replies_of_runs}
+use Rattle.world.specs.Meaning.{meaning}
+use Rattle.checkpoint.specs.declared.numbers.Numbers.{Numbers}
+use Rattle.session.specs.Headline.{Ending}
+use Rattle.session.specs.Moment.{Beginning, Moment, Run}
+
+-- a run begins where a replay of these deliveries stands
+pub record StandsAfter (h : Option ℕ) (replies : Replies) (ds : List Delivery) (start : Beginning) : Type 0 where
+  pub world : start.world ≡ following h replies ds
+  pub version : start.mapped.version ≡ version_in_force ds
+
+-- these count the questions among these deliveries
+pub record CountsQuestions (ds : List Delivery) (numbers : Numbers) : Type 0 where
+  pub asks_are : numbers.asks ≡ asks ds
+  pub matches_are : numbers.matches ≡ matches ds
+
+-- where these deliveries lead, and perhaps their end
+abbrev pub state_ended : Bool → Option ℕ → Replies → List Delivery → ReplayState
+state_ended false h replies ds = following h replies ds
+state_ended true h replies ds = following_to_end h replies ds
+
+-- what a replay prints at these deliveries, and then in these sections, perhaps after their end
+abbrev pub printed_in_all : Bool → Sections → Option ℕ → Replies → List Delivery → List ℕ
+printed_in_all closed sections h replies ds = said meaning h replies ds ++ closing_text meaning (version_in_force ds) sections (state_ended closed h replies ds).played
+
+-- the deliveries of a run that ended well
+abbrev pub deliveries_of : {run : Run} {before now : Moment} → Ending run before now → List Delivery
+deliveries_of ending = ending.replayed.deliveries
+
+-- the replies to the earlier deliveries, and behind their mark those of a run that ended well
+abbrev pub replies_with : {run : Run} {before now : Moment} → Replies → List Delivery → Ending run before now → Replies
+replies_with earlier ds ending = replies_of_runs (mark ds) earlier ending.replayed.replay.played.replies

@@ -1,0 +1,67 @@
+-- What a run leaves that goes on from a snapshot.
+use Rattle.std.specs.Prelude.{◌≡◌, ◌⊎◌, ℕ, List, Option, Some, IfSome}
+use Rattle.wq_io.specs.Streams.{IsAtEnd}
+use Rattle.world.specs.WorldState.{WorldState}
+use Rattle.snapshot.specs.File.{saved_in_bytes}
+use Rattle.checkpoint.specs.declared.fault.LoadFault.{LoadFault}
+use Rattle.checkpoint.specs.declared.fault.LoadFault.TheVariants.{BadLine}
+use Rattle.checkpoint.specs.declared.numbers.Numbers.{Numbers}
+use Rattle.checkpoint.specs.Causes.{HasCause}
+use Rattle.checkpoint.specs.Saved.{AreWithin, saved_of, world_of}
+use Rattle.following.specs.Input.{Input}
+use Rattle.words.specs.Options.{Choices, max_terms_of}
+use Rattle.session.specs.declared.status.Status.{Status}
+use Rattle.session.specs.Headline.{ReplayEnding}
+use Rattle.session.specs.Moment.{Moment, Run, behind, stage_in}
+use Rattle.session.specs.Remapping.{HoldsWithin, mapped_in}
+use Rattle.session.specs.Stop.{stop_of, stop_of_load}
+use Rattle.session.specs.Taking.{IsStanding}
+
+-- these bytes are the snapshot of this world with these counts, where there is room for so many terms. Whoever made them, the world is one
+-- that stands between two deliveries, what it holds has room, and there is a number for each question and each record to come
+pub record IsSnapshotOf (left : Option (List ℕ)) (limit : ℕ) (world : WorldState) (numbers : Numbers) : Type 0 where
+  pub saved : IfSome left (λ bytes. saved_in_bytes bytes ≡ Some (saved_of world numbers))
+  pub is : world ≡ world_of limit (saved_of world numbers)
+  pub stands : IsStanding world.replay (mapped_in world)
+  pub held : HoldsWithin limit world
+  pub within : AreWithin numbers
+
+-- the words name no horizon, or this one
+abbrev pub AllowsHorizon : Choices → Option ℕ → Type 0
+AllowsHorizon choices horizon = IfSome choices.horizon (λ micros. horizon ≡ Some micros)
+
+-- these bytes are the snapshot of a world that has another horizon than the words name, or none
+pub record HasOtherHorizon (choices : Choices) (left : Option (List ℕ)) : Type 0 where
+  pub world : WorldState
+  pub numbers : Numbers
+  pub loaded : IsSnapshotOf left (max_terms_of choices) world numbers
+  pub differs : AllowsHorizon choices world.replay.buffer.horizon → ⊥
+
+-- why a run doesn't go on from a snapshot: it isn't loaded, or its head is refused for its horizon
+abbrev pub IsRefusedFor : LoadFault → Choices → Option (List ℕ) → ℕ → ℕ → Type 0
+IsRefusedFor fault choices left before now = HasCause fault (max_terms_of choices) left before now ⊎ ((fault ≡ BadLine 1) × HasOtherHorizon choices left)
+
+-- the run didn't go on from the snapshot, for a cause: the input is unread, nothing was written, and the world is as it was
+pub record IsNotResumed (status : Status) (run : Run) (before now : Moment) : Type 0 where
+  pub fault : LoadFault
+  pub is : stop_of status ≡ Some (stop_of_load fault)
+  pub cause : IsRefusedFor fault run.choices before.resumed.left before.resumed.faults now.resumed.faults
+  pub untouched : now ≡ record before { resumed = now.resumed }
+
+-- the moment once a snapshot was read, of which this is left, with its world in place of the one before
+abbrev pub with_loaded : Moment → Input → WorldState → Moment
+with_loaded before rest world = record before { stage = stage_in before.stage.output before.stage.counts world; resumed = rest }
+
+-- the whole snapshot was read, and the run went on from its world, behind the runs that left its counts
+pub record IsResumed (status : Status) (run : Run) (before now : Moment) : Type 0 where
+  pub world : WorldState
+  pub numbers : Numbers
+  pub loaded : IsSnapshotOf before.resumed.left (max_terms_of run.choices) world numbers
+  pub allowed : AllowsHorizon run.choices world.replay.buffer.horizon
+  pub rest : Input
+  pub read : IsAtEnd rest.left
+  pub ending : ReplayEnding status (behind numbers run) (with_loaded before rest world) now
+
+-- what a run leaves that was to go on from a snapshot
+abbrev pub ResumeEnding : Status → Run → Moment → Moment → Type 0
+ResumeEnding status run before now = IsNotResumed status run before now ⊎ IsResumed status run before now
