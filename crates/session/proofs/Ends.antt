@@ -64,6 +64,7 @@ is_played environment course reported start now x rests mapped = record {
   says = all_reported environment.report course reported start now x.explained.replies rests (x.says x.explained.replies (λ q r h. refl));
   roomed = all_met environment.limit _ _ (due-none course.version x.explained.replies now.world rests) (x.roomed x.explained.replies (λ q r h. refl));
   documents = x.documents;
+  applied = x.explained.failed_applied;
   mapped = mapped;
   counted = subst (λ (n : ℕ). HasCounted start.counts now.counts start.world.played.side n now.world.played.side) (Explained-fetches judgement environment.known course.state course.fetched x.made now.world x.explained rests) x.counted;
   source = Explained-source judgement environment.known course.state course.fetched x.made now.world x.explained rests;

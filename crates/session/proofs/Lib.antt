@@ -22,5 +22,6 @@ mod Plans
 mod Printed
 mod Progress
 mod Reading
+mod Reloading
 mod Reports
 mod Versions

@@ -3,10 +3,13 @@ use Rattle.std.proofs.Common.{◌≡◌, refl, sym, subst, ◌∙◌, ap, ℕ, �
 use Rattle.std.proofs.lemmas.List.Elements.{filter_map-append}
 use Rattle.wq_io.specs.Streams.{after_known}
 use Rattle.delivery.specs.declared.Delivery.{Delivery}
-use Rattle.replay_model.specs.Acceptance.{version_in_force}
-use Rattle.replay_model.specs.Play.{Replies, played}
+use Rattle.replay_model.specs.Acceptance.{late, version_in_force}
+use Rattle.replay_model.specs.Entries.{HoldsUnlessOpen, late_events}
+use Rattle.replay_model.specs.Play.{Played, Replies, played}
 use Rattle.replay_model.specs.ReplayState.{ReplayState, delivered, ended, following, following_to_end}
 use Rattle.replay_model.specs.Transcript.{Question, asks, closing_text, matches, pattern_of, question_of, said, shapes_of}
+use Rattle.replay_model.proofs.LateEntries.{late-played}
+use Rattle.replay_model.proofs.Settled.{Tells-played, settled-played}
 use Rattle.replay_parts.specs.Checkpoint.{Checkpoint, advanced, answer_at, checkpoint, said_from}
 use Rattle.replay_parts.proofs.TwoRuns.{checkpoint-two, following_to_end-two, said-two}
 use Rattle.subgraph.specs.declared.routes.Route.{Route}
@@ -26,7 +29,7 @@ use Rattle.session.specs.Answering.{answer_by, said_by}
 use Rattle.session.specs.Course.{all_said, course_ended, led_to, version_at}
 use Rattle.session.specs.Headline.{Ending, HasFates, course_of, numbers_saved}
 use Rattle.session.specs.Moment.{Beginning, IsFirst, Moment, Run, Stage, behind, horizon_at, standing, start_in, start_of}
-use Rattle.session.specs.OneRun.{CountsQuestions, StandsAfter, deliveries_of, printed_in_all, replies_with, state_ended}
+use Rattle.session.specs.OneRun.{CountsQuestions, HoldsAndNames, StandsAfter, deliveries_of, printed_in_all, replies_with, state_ended}
 use Rattle.session.specs.Remapping.{Mapped, mapped_by}
 use Rattle.session.specs.Report.{bytes_of}
 use Rattle.session.specs.Resuming.{IsResumed, with_loaded}
@@ -104,6 +107,23 @@ module _ (h : Option ℕ) (first : Replies) (a : List Delivery) (run : Run) (bef
 
   pub fates_are : HasFates (closes run.choices) h (a ++ b) now.stage.world
   fates_are = fates (closes run.choices) h (a ++ b) now.stage.world both (state_ended-played (closes run.choices) h both (a ++ b) ∙ sym (ap (λ (w : ReplayState). w.played) world_is))
+
+  -- what is held and named
+  pub holds_are : HoldsAndNames h (a ++ b) now.stage.world
+  holds_are =
+      let Held : Played → Type 0 = λ p. HoldsUnlessOpen p in
+      let Late : Played → Type 0 = λ p. late_events p.side ≡ late h (a ++ b) in
+      record {
+        holds = subst Held whole (record {
+          settled = settled-played h (closes run.choices) both (a ++ b);
+          empty = λ x. (Tells-played h (closes run.choices) both (a ++ b) x).empty_unless_kept;
+        });
+        documents = ending.replayed.replay.played.documents;
+        late_ones = subst Late whole (late-played h (closes run.choices) both (a ++ b));
+      }
+    where
+      whole : played h (closes run.choices) both (a ++ b) ≡ now.stage.world.played
+      whole = state_ended-played (closes run.choices) h both (a ++ b) ∙ sym (ap (λ (w : ReplayState). w.played) world_is)
 
   -- where it saves its world, a later run stands after all of them
   pub next_stands : closes run.choices ≡ false → StandsAfter h both (a ++ b) (start_in (numbers_saved ending) now.stage)

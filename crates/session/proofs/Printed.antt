@@ -65,6 +65,7 @@ module _ (environment : Environment) (closed : Bool) (sections : Sections) (ds :
       says = says replay.played.replies replay.played.is replay.played.says;
       roomed = replay.played.roomed;
       documents = replay.played.documents;
+      applied = replay.played.applied;
       mapped = replay.played.mapped;
       counted = replay.played.counted;
       source = replay.played.source;

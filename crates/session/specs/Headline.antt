@@ -1,10 +1,11 @@
 -- What a run leaves: the states, what is held, the side output and what was printed.
 use Rattle.std.specs.Prelude.{◌≡◌, ◌⊎◌, ℕ, ◌-◌, ◌^◌, ◌+◌, ◌<◌, Bool, true, false, not, List, [], ◌∷◌, ◌++◌, Option, None, Some, IfSome, MatchOption, length}
 use Rattle.std.specs.List.{list_any}
-use Rattle.rising.specs.Rising.{Each}
+use Rattle.rising.specs.Rising.{Each, has}
 use Rattle.wq_io.specs.Streams.{IsAtEnd, Rose}
 use Rattle.entity_model.specs.declared.id.EntityId.{EntityId}
 use Rattle.entity_model.specs.declared.event.Event.{Event}
+use Rattle.entity_model.specs.Event.{event_cmp}
 use Rattle.entity_state.specs.State.{is_kept}
 use Rattle.delivery.specs.declared.Delivery.{Delivery}
 use Rattle.delivery.specs.declared.Delivery.TheVariants.{Mapping}
@@ -12,6 +13,7 @@ use Rattle.entity_model.specs.declared.mapping.MappingVersion.{MappingVersion}
 use Rattle.event_line.specs.declared.faults.LineCause.{LineCause}
 use Rattle.replay_model.specs.Acceptance.{due, known, late}
 use Rattle.replay_model.specs.Entries.{has_open_revision, is_open_late, late_events}
+use Rattle.replay_model.specs.Explained.{is_applied}
 use Rattle.replay_model.specs.Fate.{events_of, fate, in_order}
 use Rattle.replay_model.specs.Records.{Bytes, is_settled, record_of}
 use Rattle.replay_model.specs.Play.{Replies}
@@ -49,7 +51,8 @@ use Rattle.session.specs.Taking.{HoldsDocuments, IsFull, judgement, replies_ther
 
 -- the world is where a play leads, with some replies to its fetches, each a document of its entity or a reason, the output has what is
 -- reported of the play, there was room for each page that a fetch gave or that was mapped anew, with all that was held then, and the counts of the
--- source rose by these fetches; what is held are documents of their entities, each mapped by the version in force; where it is known
+-- source rose by these fetches; what is held are documents of their entities, each mapped by the version in force; each event whose fetch
+-- failed, by the side output, was applied; where it is known
 -- what the source has, the replies are those of what is there, but for the events whose fetches failed, which the side output names
 pub record IsPlayed (environment : Environment) (course : Course) (start : Beginning) (now : Stage) : Type 0 where
   pub replies : Replies
@@ -58,6 +61,7 @@ pub record IsPlayed (environment : Environment) (course : Course) (start : Begin
   pub says : now.output.bytes ≡ bytes_of environment.report course start replies
   pub roomed : HaveRoom environment.limit (course.needed replies)
   pub documents : HoldsDocuments now.world
+  pub applied : (e : Event) → has event_cmp e (failed_events now.world.played.side) ≡ true → is_applied now.world e ≡ true
   pub mapped : now.mapped ≡ mapped_by course.version now.world.played.records
   pub counted : HasCounted start.counts now.counts start.world.played.side (length (course.fetched replies)) now.world.played.side
   pub source : (contents : ℕ → Option Bytes) → environment.known ≡ Some contents → now.world ≡ course.state (replies_there contents now.world)

@@ -15,7 +15,9 @@ ghost use Rattle.replay_model.specs.Play.{Replies, fetches, fetches_to_end};
 ghost use Rattle.replay_model.specs.ReplayState.{ended, following, following_to_end};
 ghost use Rattle.replay_model.specs.Transcript.{said};
 ghost use Rattle.replay_model.specs.Records.{Bytes, is_settled, record_of};
+ghost use Rattle.replay_model.specs.Versions.{all_by, meaning_by};
 ghost use Rattle.world.specs.Meaning.{meaning};
+ghost use Rattle.world.specs.Roomed.{room_with};
 ghost use Rattle.snapshot.specs.File.{IsFitSaved, saved_in_bytes};
 ghost use Rattle.triple_store.specs.Room.{distinct};
 ghost use Rattle.wq_io.specs.Streams.{after_known};
@@ -23,10 +25,11 @@ ghost use Rattle.replica.specs.declared.record.PatchRecord.{PatchRecord};
 ghost use Rattle.patch_stream.specs.Laws.{AreOfStream, HasWritableSides};
 ghost use Rattle.patch_stream.specs.Stream.{Step, changes, steps_of_play, steps_to_end, stream, stream_text};
 ghost use Rattle.subgraph.specs.declared.routes.Route.{Route};
-ghost use Rattle.words.specs.Options.{FollowChoices, closes, follow_max_bytes_of, max_bytes_of};
+ghost use Rattle.words.specs.Options.{FollowChoices, closes, follow_max_bytes_of, max_bytes_of, max_terms_of};
 ghost use Rattle.following.specs.Following.{Ending as Followed, FollowMoment, replica_text};
 ghost use Rattle.following.specs.Reading.{AreRecords};
 ghost use Rattle.checkpoint.specs.declared.numbers.Numbers.{Numbers as TheNumbers};
+ghost use Rattle.checkpoint.specs.Saved.{AreWithin};
 ghost use Rattle.session.specs.declared.report.Report.TheVariants.{Answers};
 ghost use Rattle.session.specs.declared.status.Status.{Status};
 ghost use Rattle.session.specs.declared.stop.Stop.{Stop};
@@ -37,15 +40,16 @@ ghost use Rattle.session.specs.Course.{course_to_end, led_to, version_at};
 ghost use Rattle.session.specs.Complete.{FindsDocument, IsStill, has_document, steps_made, triples_in};
 ghost use Rattle.session.specs.Headline.{Ending, HasFates, Stopped, numbers_saved};
 ghost use Rattle.session.specs.Moment.{Beginning, IsFirst, Moment, Run, Stage, behind, horizon_at, standing, start_in, start_of};
-ghost use Rattle.session.specs.OneRun.{CountsQuestions, StandsAfter, deliveries_of, printed_in_all, replies_with, state_ended};
+ghost use Rattle.session.specs.OneRun.{CountsQuestions, HoldsAndNames, StandsAfter, deliveries_of, printed_in_all, replies_with, state_ended};
 ghost use Rattle.session.specs.Reading.{AreDeliveries};
-ghost use Rattle.session.specs.Resuming.{IsResumed, with_loaded};
+ghost use Rattle.session.specs.Resuming.{AllowsHorizon, IsNotResumed, IsResumed, ResumeEnding, with_loaded};
 ghost use Rattle.session.specs.Saving.{saved_at};
 ghost use Rattle.session.specs.Sections.{sections_of};
 ghost use Rattle.session.specs.Stop.{stop_of};
 ghost use Rattle.session.specs.Remapping.{IsFullOfStale, held_triples, mapped_by};
 ghost use Rattle.session.specs.Taking.{IsFull, judgement};
 
+use checkpoint::no_line_of_a_saved_world_is_refused;
 use snapshot::{replays_can_be_saved, snapshots_read_back};
 
 /// A replay, with its answers or its changes, ends well, or for want of memory, where the words are understood, each line of the input is
@@ -160,9 +164,13 @@ pub fn written_streams_are_records()
 {}
 
 /// Where a replay ended well that saves its world, the bytes that were written are read back as this world, by the version in force, with
-/// the number of its answers or of its records; so a loading of them gives the world back. The numbers in it have to fit 64 bits.
+/// the number of its answers or of its records; so a loading of them gives the world back. So it is of a first run, and of one that goes on
+/// from where a replay stands. The numbers in it have to fit 64 bits.
 pub fn a_saved_replay_is_read_back()
-    ensures { (run : Run) (before now : Moment) → IsFirst (start_of run before) → (ending : Ending run before now) → closes run.choices ≡ false → before.snapshot.bytes ≡ Some [] →
+    ensures later { (h : Option ℕ) (earlier : Replies) (ds : List Delivery) (run : Run) (before now : Moment) → StandsAfter h earlier ds (start_of run before) → (ending : Ending run before now) →
+        closes run.choices ≡ false → before.snapshot.bytes ≡ Some [] → IsFitSaved (saved_at now.stage (numbers_saved ending)) →
+        IfSome now.snapshot.bytes (λ bytes. saved_in_bytes bytes ≡ Some (saved_at now.stage (numbers_saved ending))) }
+    ensures first { (run : Run) (before now : Moment) → IsFirst (start_of run before) → (ending : Ending run before now) → closes run.choices ≡ false → before.snapshot.bytes ≡ Some [] →
         IsFitSaved (saved_at now.stage (numbers_saved ending)) →
         IfSome now.snapshot.bytes (λ bytes. saved_in_bytes bytes ≡ Some (saved_at now.stage (numbers_saved ending))) }
 {
@@ -171,7 +179,7 @@ pub fn a_saved_replay_is_read_back()
 }
 
 /// A run that begins where a replay of earlier deliveries stands leaves what one replay of all deliveries leaves: the world, the states that
-/// are their fates, and every page mapped by the version in force. The replies to this replay are the earlier ones to events that the mark
+/// are their fates, what is held and named, and every page mapped by the version in force. The replies to this replay are the earlier ones to events that the mark
 /// had reached then, and the run's own to all others. Where questions are answered, what is printed is what this replay prints behind what it
 /// prints at the earlier deliveries. Where the run saves its world, a later run that goes on from it begins where this replay stands.
 pub fn runs_go_on_as_one()
@@ -181,6 +189,8 @@ pub fn runs_go_on_as_one()
         now.stage.mapped ≡ mapped_by (version_in_force (ds ++ deliveries_of ending)) now.stage.world.played.records }
     ensures fates { (h : Option ℕ) (earlier : Replies) (ds : List Delivery) (run : Run) (before now : Moment) → StandsAfter h earlier ds (start_of run before) → (ending : Ending run before now) →
         HasFates (closes run.choices) h (ds ++ deliveries_of ending) now.stage.world }
+    ensures holds { (h : Option ℕ) (earlier : Replies) (ds : List Delivery) (run : Run) (before now : Moment) → StandsAfter h earlier ds (start_of run before) → (ending : Ending run before now) →
+        HoldsAndNames h (ds ++ deliveries_of ending) now.stage.world }
     ensures printed { (h : Option ℕ) (earlier : Replies) (ds : List Delivery) (run : Run) (before now : Moment) → StandsAfter h earlier ds (start_of run before) → (ending : Ending run before now) →
         run.environment.report ≡ Answers → CountsQuestions ds run.numbered → run.environment.routes ≡ None →
         (rest : List ℕ) × (now.stage.output.bytes ≡ after_known before.stage.output.bytes rest)
@@ -204,6 +214,24 @@ pub fn resumed_runs_begin_where_others_stood()
         (h : Option ℕ) (replies : Replies) (ds : List Delivery) → StandsAfter h replies ds (start_in numbers stage) →
         StandsAfter h replies ds (start_of (behind resumed.numbers run) (with_loaded before resumed.rest resumed.world)) × (resumed.numbers ≡ numbers) }
 {}
+
+/// What a run saved that ended well is gone on from: a later run refuses none of its lines, where its words name no other horizon, and there
+/// is no room for it only where there is none for what is held. The numbers have to be such that a run may go on with them.
+pub fn saved_worlds_are_gone_on_from()
+    ensures lines { (h : Option ℕ) (earlier : Replies) (ds : List Delivery) (run : Run) (before now : Moment) → StandsAfter h earlier ds (start_of run before) → (ending : Ending run before now) →
+        closes run.choices ≡ false → before.snapshot.bytes ≡ Some [] → IsFitSaved (saved_at now.stage (numbers_saved ending)) → AreWithin (numbers_saved ending) →
+        (later : Run) (then_before then_now : Moment) → then_before.resumed.left ≡ now.snapshot.bytes → AllowsHorizon later.choices h →
+        (status : Status) → ResumeEnding status later then_before then_now → (n : ℕ) → stop_of status ≡ Some (Stop.BadSnapshot n) → ⊥ }
+    ensures room { (h : Option ℕ) (earlier : Replies) (ds : List Delivery) (run : Run) (before now : Moment) → StandsAfter h earlier ds (start_of run before) → (ending : Ending run before now) →
+        closes run.choices ≡ false → before.snapshot.bytes ≡ Some [] → IsFitSaved (saved_at now.stage (numbers_saved ending)) → AreWithin (numbers_saved ending) →
+        (later : Run) (then_before then_now : Moment) → then_before.resumed.left ≡ now.snapshot.bytes →
+        (status : Status) → IsNotResumed status later then_before then_now → stop_of status ≡ Some Stop.StoreFull →
+        max_terms_of later.choices < room_with (meaning_by meaning (all_by now.stage.mapped.version now.stage.world.played.records)) now.stage.world.played.records [] }
+{
+    replays_can_be_saved();
+    snapshots_read_back();
+    no_line_of_a_saved_world_is_refused();
+}
 
 /// Two runs are one: where a first run ended well that saved its world, and a second one goes on from these bytes and ends well, the world is
 /// that of one replay of the deliveries of both, whose replies are the first run's to events that its mark had reached, and the second's to

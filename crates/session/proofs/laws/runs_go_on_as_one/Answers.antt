@@ -1,5 +1,5 @@
 -- The run goes on from the checkpoint of the replay.
-use Rattle.session.proofs.OneRun.{fates_are, mapped_is, next_counts, next_stands, prints_rest, world_is}
+use Rattle.session.proofs.OneRun.{fates_are, holds_are, mapped_is, next_counts, next_stands, prints_rest, world_is}
 use Rattle.session.proofs.laws.runs_go_on_as_one.Goals as goal
 
 pub returns-clause-world : goal.returns-clause-world
@@ -10,6 +10,9 @@ returns-clause-mapped c = mapped_is
 
 pub returns-clause-fates : goal.returns-clause-fates
 returns-clause-fates c = fates_are
+
+pub returns-clause-holds : goal.returns-clause-holds
+returns-clause-holds c = holds_are
 
 pub returns-clause-printed : goal.returns-clause-printed
 returns-clause-printed c = prints_rest
