@@ -16,7 +16,9 @@ ghost use Rattle.triple_store.specs.Stored.{HasKey, IsStored, KeepsKeys, beside,
 
 use crate::StoreFault;
 use crate::catalog::Catalog;
+use crate::finding::Near;
 use crate::interning::{Hints, intern_triple, release_triple};
+use crate::seen::Seen;
 use block_index::Steps;
 use slot_index::Key;
 use std::sync::ledger::Ledger;
@@ -32,11 +34,10 @@ impl Catalog {
         &self,
         region: &Region,
         texts: &TripleText<'_>,
-        known: Option<u32>,
-        near: Option<Key>,
+        near: Near<'_>,
     ) -> Result<Key, Hints>
         requires stored { IsStored self.now region.now }
-        requires known { IfSome known (λ slot. text_in_slot self.now.pool region.now slot ≡ Some texts.now.subject.now) }
+        requires known { IfSome near.subject (λ slot. text_in_slot self.now.pool region.now slot ≡ Some texts.now.subject.now) }
         ensures found { IfOk result (λ key. HasTexts self.now.pool region.now key texts.now) }
         ensures nowhere { IfErr result (λ _. (key : TheKey) → HasTexts self.now.pool region.now key texts.now → ⊥) }
         ensures hints { IfErr result (λ hints. AreHints self.now.pool region.now hints texts.now) }
@@ -46,24 +47,24 @@ impl Catalog {
             predicate: None,
             object: None,
         };
-        let near_subject = near.map(|key| key.first);
-        let Some(subject) = find_known(&self.pool, region, texts.subject, known, near_subject)
-        else {
+        let pool = &self.pool;
+        let last = near.last.map(|key| key.first);
+        let Some(subject) = find_known(pool, region, texts.subject, near, last) else {
             return Err(hints);
         };
         hints.subject = Some(subject);
-        let near_predicate = near.map(|key| key.second);
-        let Some(predicate) = find_near(&self.pool, region, texts.predicate, near_predicate) else {
+        let last = near.last.map(|key| key.second);
+        let Some(predicate) = find_near(pool, region, texts.predicate, near.seen, last) else {
             return Err(hints);
         };
         hints.predicate = Some(predicate);
-        let Some(object) = self.pool.find_text(region, texts.object) else {
+        let Some(object) = find_near(pool, region, texts.object, near.seen, None) else {
             return Err(hints);
         };
         Ok(Key {
             first: subject,
             second: predicate,
-            third: object.number,
+            third: object,
         })
     }
 
@@ -142,13 +143,24 @@ impl Catalog {
     }
 }
 
-// The slot with this text; one is tried first.
-fn find_near(pool: &Pool, region: &Region, text: &[u8], near: Option<u32>) -> Option<u32>
+// The slot with this text; the last one and one that was seen are tried first.
+fn find_near(
+    pool: &Pool,
+    region: &Region,
+    text: &[u8],
+    seen: &Seen,
+    last: Option<u32>,
+) -> Option<u32>
     requires { LiesIn pool.now region.now }
     ensures found { IfSome result (λ slot. text_in_slot pool.now region.now slot ≡ Some text.now) }
     ensures nowhere { IfNone result (IsNowhere pool.now region.now text.now) }
 {
-    if let Some(number) = near {
+    if let Some(number) = last {
+        if pool.has_text(region, number, text) {
+            return Some(number);
+        }
+    }
+    if let Some(number) = seen.slot(text) {
         if pool.has_text(region, number, text) {
             return Some(number);
         }
@@ -157,22 +169,22 @@ fn find_near(pool: &Pool, region: &Region, text: &[u8], near: Option<u32>) -> Op
     Some(slot.number)
 }
 
-// The slot with this text: the one that is known, or else one is tried first.
+// The slot with the text of a subject: the one that is known, or else the last one is tried first.
 fn find_known(
     pool: &Pool,
     region: &Region,
     text: &[u8],
-    known: Option<u32>,
-    near: Option<u32>,
+    near: Near<'_>,
+    last: Option<u32>,
 ) -> Option<u32>
     requires lies { LiesIn pool.now region.now }
-    requires known { IfSome known (λ slot. text_in_slot pool.now region.now slot ≡ Some text.now) }
+    requires known { IfSome near.subject (λ slot. text_in_slot pool.now region.now slot ≡ Some text.now) }
     ensures found { IfSome result (λ slot. text_in_slot pool.now region.now slot ≡ Some text.now) }
     ensures nowhere { IfNone result (IsNowhere pool.now region.now text.now) }
 {
-    match known {
+    match near.subject {
         Some(slot) => Some(slot),
-        None => find_near(pool, region, text, near),
+        None => find_near(pool, region, text, near.seen, last),
     }
 }
 

@@ -21,6 +21,7 @@ use crate::StoreFault;
 use crate::catalog::Catalog;
 use crate::finding::{Near, known_subject};
 use crate::keys::{KeySlices, Keys, NOWHERE, in_order};
+use crate::seen::Seen;
 use crate::telling::{Exchange, Sides, Telling};
 use block_index::Steps;
 use rdf_term::OutOfMemory;
@@ -154,6 +155,7 @@ impl Catalog {
         ensures cost { Costs (map.len self.old.index) (map.len self.new.index) (length swap.entry.new.now) 0 steps.old steps.new }
     {
         let mut added = BTreeSet::new(self.alloc);
+        let mut seen = Seen::new();
         let mut last = None;
         let mut next = 0;
         for index in 0..swap.new.len() {
@@ -163,6 +165,7 @@ impl Catalog {
             let near = Near {
                 subject,
                 last,
+                seen: &seen,
                 old,
                 next,
             };
@@ -182,6 +185,9 @@ impl Catalog {
             };
             met.keys.push_reserved(key);
             met.old_indices.push_reserved(NOWHERE);
+            seen.remember(texts.subject, key.first);
+            seen.remember(texts.predicate, key.second);
+            seen.remember(texts.object, key.third);
             last = Some(key);
             if added.insert(key).is_err() {
                 return Err(StoreFault::OutOfMemory);

@@ -12,6 +12,7 @@ ghost use Rattle.triple_store.specs.Stored.{IsStored};
 use crate::catalog::Catalog;
 use crate::interning::Hints;
 use crate::keys::{KeySlices, NOWHERE, narrowed};
+use crate::seen::Seen;
 use slot_index::Key;
 use std::collections::BTreeSet;
 use term_pool::Pool;
@@ -25,11 +26,12 @@ const TRIED: usize = 3;
 const AHEAD: usize = 64;
 
 // Where a triple is looked for first: among the keys that the owner had, from an index of their walk on, and in the slots of the key before
-// it. The slot of its subject may be known.
+// it or those that came a short time ago. The slot of its subject may be known.
 #[derive(Clone, Copy)]
 pub(crate) struct Near<'a> {
     pub(crate) subject: Option<u32>,
     pub(crate) last: Option<Key>,
+    pub(crate) seen: &'a Seen,
     pub(crate) old: KeySlices<'a>,
     pub(crate) next: usize,
 }
@@ -63,7 +65,7 @@ impl Catalog {
         if let Some(found) = self.find_again(region, texts, near) {
             return Ok(found);
         }
-        let key = match self.find_key(region, texts, near.subject, near.last) {
+        let key = match self.find_key(region, texts, near) {
             Ok(key) => key,
             Err(hints) => return Err(hints),
         };
