@@ -2,6 +2,7 @@ pub mod Costs
 pub mod Edited
 pub mod Grouped
 pub mod Halves
+pub mod Lengths
 pub mod Located
 pub mod Parts
 pub mod Ranges

@@ -40,7 +40,7 @@ module _ {K : Type 0} {R : K → K → Ordering} (o : IsTotalOrder R) (from to :
       ap (λ r. cond (is_le r && is_le (R x to)) (x ∷ keys_between R from to xs) (keys_between R from to xs)) h.0
       ∙ first x xs (all_from xs h.1 rising.1) rising.0
 
-  above_tied : (x : K) (xs : List K) → R from x ≡ Equal → Above R x xs → Above R from xs
+  pub above_tied : (x : K) (xs : List K) → R from x ≡ Equal → Above R x xs → Above R from xs
   above_tied x [] e h = tt
   above_tied x (y ∷ ys) e h = (o.congr from x y e ∙ h.0, above_tied x ys e h.1)
 

@@ -1,6 +1,6 @@
 // The set of keys.
 
-ghost use Rattle.std.specs.Prelude.{◌≡◌, ◌+◌, ◌<◌, ◌≤◌, not, [], length, slice_index_or, IfOk, OnOk, OnErr};
+ghost use Rattle.std.specs.Prelude.{◌≡◌, ℕ, ◌+◌, ◌*◌, ◌^◌, ◌<◌, ◌≤◌, not, [], length, slice_index_or, IfOk, OnOk, OnErr};
 ghost use Rattle.std.specs.Bool.{OnFalse};
 ghost use Rattle.std.specs.Ordering.{eq_by_cmp};
 ghost use Rattle.std.specs.BTreeSet.{insert_key};
@@ -9,10 +9,11 @@ ghost use Rattle.rising.specs.Rising.{IsRising, has};
 ghost use Rattle.block_index.specs.Steps.{WithinSteps};
 ghost use Rattle.block_index.specs.Blocks.{AreFilled, ChangesTwo, keys_between, keys_of};
 
+use crate::counting::count_between;
 use crate::edit::{put_in, take_out};
 use crate::group::{Group, block_at, count_blocks};
 use crate::ranked::Ranked;
-use crate::search::locate;
+use crate::search::{behind, locate};
 use crate::steps::Steps;
 use crate::taking::take_from;
 use base::{List, OutOfMemory};
@@ -151,5 +152,23 @@ impl<K: Ranked> BlockIndex<K> {
         }
         take_from(groups, position, &to, &mut keys, steps)?;
         Ok(List::from_vec(keys))
+    }
+
+    /// How many keys there are from `from` to `to`, both ends included, which takes no memory: their two positions are found. It
+    /// takes at most twice as many steps as the number of keys has binary digits, and 16 more.
+    pub fn range_len<L: Ledger>(&self, from: K, to: K, steps: &mut Steps<L>) -> usize
+        ensures len { result ≡ length (keys_between K.cmp from to (keys_of self.now)) }
+        ensures forward { steps.old ≤ steps.new }
+        ensures cost { (d : ℕ) → length (keys_of self.now) < 2 ^ d → steps.new ≤ steps.old + 2 * (d + 8) }
+    {
+        // The number of all keys fits.
+        let _keys = self.count;
+        let groups = self.groups.as_slice();
+        let low = locate(groups, &from, steps);
+        let high = locate(groups, &to, steps);
+        if groups.is_empty() {
+            return 0;
+        }
+        count_between(groups, low, behind(high))
     }
 }

@@ -4,10 +4,11 @@
 //! its keys stand in rising order in blocks of 1 to 128, and the blocks in groups of 64 to 128, so a change moves few
 //! keys and few blocks, and touches at most two neighbouring blocks. Below it, `block` has one block and `group` one
 //! group, `search` finds a key's position by three binary searches, `edit` puts a key in or takes it out at a
-//! position, and `taking` copies the keys of a range.
+//! position, `taking` copies the keys of a range, and `counting` says how many stand between two positions.
 #![tactic(auto)]
 
 mod block;
+mod counting;
 mod edit;
 mod group;
 mod index;

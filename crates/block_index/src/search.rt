@@ -1,6 +1,7 @@
 // Where a key stands among the groups of blocks, or would stand.
 
-ghost use Rattle.std.specs.Prelude.{◌-◌, ◌<◌, ◌≤◌, length, map};
+ghost use Rattle.std.specs.Prelude.{◌≡◌, ◌+◌, ◌-◌, ◌<◌, ◌≤◌, length, map};
+ghost use Rattle.rising.specs.Counting.{one_if};
 ghost use Rattle.rising.specs.Rising.{IsRising};
 ghost use Rattle.block_index.specs.Steps.{WithinSteps};
 ghost use Rattle.block_index.specs.Blocks.{AreFilled, keys_of};
@@ -29,6 +30,21 @@ struct GroupPosition {
     block: usize,
     at: usize,
     found: bool,
+}
+
+/// The position behind the key where it was found, and else the same.
+pub fn behind(position: Position) -> Position
+    requires { position.at < 18446744073709551615 }
+    ensures { result ≡ record position { at = position.at + one_if position.found } }
+{
+    if position.found {
+        Position {
+            at: position.at + 1,
+            ..position
+        }
+    } else {
+        position
+    }
 }
 
 // Finds a key among the keys from an index on, as std's `binary_search` answers. The key before that index, if

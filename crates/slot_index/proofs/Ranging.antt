@@ -115,6 +115,13 @@ by_second p xs ys found q t e =
     ∙ t.alike (λ k. slots_agree (turned_pattern p) k && q (turned (turned k)))
     ∙ count-alike (λ k. slots_agree (turned_pattern p) (turned k) && q k) (λ k. slots_agree p k && q k) xs (λ k. ap (λ b. b && q k) (agrees_turned p k))
 
+-- how many agree, counted among the turned triples and among those turned twice
+pub count_second : (p : SlotPattern) (xs ys : List Key) → IsTurned xs ys → count_by (slots_agree (turned_pattern p)) ys ≡ count_by (slots_agree p) xs
+count_second p xs ys t = t.alike (slots_agree (turned_pattern p)) ∙ count-alike (λ k. slots_agree (turned_pattern p) (turned k)) (slots_agree p) xs (agrees_turned p)
+
+pub count_third : (p : SlotPattern) (xs ys zs : List Key) → IsTurned xs ys → IsTurned ys zs → count_by (slots_agree (turned_pattern (turned_pattern p))) zs ≡ count_by (slots_agree p) xs
+count_third p xs ys zs t u = count_second (turned_pattern p) ys zs u ∙ count_second p xs ys t
+
 pub by_third : (p : SlotPattern) (xs ys zs found : List Key) (q : Key → Bool) → IsTurned xs ys → IsTurned ys zs → found ≡ filter (slots_agree (turned_pattern (turned_pattern p))) zs → count_by q (mapped turned found) ≡ count_by (λ k. slots_agree p k && q k) xs
 by_third p xs ys zs found q t u e =
     count-map turned q found

@@ -1,5 +1,5 @@
 -- Triples of slots, their order and their turns.
-use Rattle.std.specs.Prelude.{ℕ, ◌^◌, ◌<◌, Bool}
+use Rattle.std.specs.Prelude.{◌^◌, ◌<◌, Bool}
 use Rattle.std.specs.declared.cmp.Ordering.{Ordering}
 use Rattle.std.specs.Ordering.{nat_cmp, on, then_cmp, eq_by_cmp}
 use Rattle.std.specs.Cmp.{IsTotalOrder, nat_cmp_total, on_total, then_total}

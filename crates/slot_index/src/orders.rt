@@ -138,6 +138,24 @@ impl Orders {
         let found = leading(&self.objects, third, steps)?;
         Ok(all_turned(found))
     }
+
+    /// How many triples agree with the pattern, which takes no memory: the length of one range of one index.
+    pub fn range_len<L: Ledger>(&self, pattern: SlotPattern, steps: &mut Steps<L>) -> usize
+        ensures len { result ≡ count_by (slots_agree pattern) self.now }
+        ensures rising { IsRising key_cmp self.now }
+        ensures forward { steps.old ≤ steps.new }
+        ensures cost { (d : ℕ) → length self.now < 2 ^ d → steps.new ≤ steps.old + 2 * (d + 8) }
+    {
+        if pattern.leads() {
+            return leading_len(&self.subjects, pattern, steps);
+        }
+        let second = pattern.turned();
+        if second.leads() {
+            return leading_len(&self.predicates, second, steps);
+        }
+        let third = second.turned();
+        leading_len(&self.objects, third, steps)
+    }
 }
 
 // The triples of an index that agree with a pattern in which no free place stands before a wanted one.
@@ -154,6 +172,21 @@ fn leading<L: Ledger>(
 {
     let keys = index.range(pattern.low(), pattern.high(), steps)?;
     Ok(keys)
+}
+
+// How many triples of an index agree with a pattern in which no free place stands before a wanted one.
+fn leading_len<L: Ledger>(
+    index: &BlockIndex<Key>,
+    pattern: SlotPattern,
+    steps: &mut Steps<L>,
+) -> usize
+    requires leads { leads pattern ≡ true }
+    requires fit { All FitsSlots (keys_of index.now) }
+    ensures len { result ≡ count_by (slots_agree pattern) (keys_of index.now) }
+    ensures forward { steps.old ≤ steps.new }
+    ensures cost { (d : ℕ) → length (keys_of index.now) < 2 ^ d → steps.new ≤ steps.old + 2 * (d + 8) }
+{
+    index.range_len(pattern.low(), pattern.high(), steps)
 }
 
 // Each triple turned, in its place.

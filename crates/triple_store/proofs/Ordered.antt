@@ -11,6 +11,7 @@ use Rattle.std.proofs.lemmas.Cmp.{tied_itself}
 use Rattle.std.proofs.lemmas.List.{get_or-map, length-map}
 use Rattle.std.proofs.lemmas.List.Elements.{All-get_or}
 use Rattle.std.proofs.lemmas.List.Sorted.{All-permutation, IsPermutation-map, length_permutation, sum_by-IsPermutation}
+use Rattle.std.proofs.lemmas.List.Sums.{length-filter}
 use Rattle.rising.specs.Rising.{IsRising, has, sorted}
 use Rattle.rising.proofs.Bools.{clash, equal, or_false_left}
 use Rattle.rising.proofs.Rising.{IsRising-sorted, turned}
@@ -28,13 +29,13 @@ use Rattle.slot_index.specs.declared.key.Key.{Key}
 use Rattle.slot_index.specs.declared.pattern.SlotPattern.{SlotPattern}
 use Rattle.slot_index.specs.Keys.{key_cmp, key_cmp-total, key_cmp-IsAntisymmetric}
 use Rattle.slot_index.specs.Patterns.{slots_agree}
-use Rattle.slot_index.proofs.Passing.{count-map, count_by-cons, has_counted, one_if}
+use Rattle.slot_index.proofs.Passing.{count-filter, count-map, count_by-cons, has_counted, one_if}
 use Rattle.triple_texts.specs.declared.triple_text.TripleText.{TripleText}
 use Rattle.triple_store.specs.declared.catalog.Catalog.{Catalog}
 use Rattle.triple_store.specs.Rows.{line_of, text_cmp}
 use Rattle.triple_store.specs.Slots.{HasCanonicalTexts, HasTexts, HasTriple, term_in, triple_at, triple_of}
 use Rattle.triple_store.specs.Stored.{IsStored, image}
-use Rattle.triple_store.proofs.Distinct.{AreDistinct}
+use Rattle.triple_store.proofs.Distinct.{AreDistinct, length-distinct}
 use Rattle.triple_store.proofs.Keyed.{has_key, keys_rising}
 use Rattle.triple_store.proofs.Live.{key_same}
 use Rattle.triple_store.proofs.Matched.{canonical_at, count_fewer, matched}
@@ -193,3 +194,15 @@ pub rows_matched : (st : Catalog) (r : Texts) (pattern : Pattern) (w : SlotPatte
     → mapped triple_of after ≡ filter (agrees pattern) (map.keys (image (triple_at st.pool r) st.index))
 rows_matched st r pattern w found before after h alike is means canonical p s =
     in_order st r w found before after h is means canonical p s ∙ matched st.pool r st.index pattern w found alike is
+
+-- they are as many as the keys that agree with the pattern of slots
+pub rows_counted : (st : Catalog) (r : Texts) (pattern : Pattern) (w : SlotPattern) → IsStored st r → ((k : Key) → map.contains_key st.index k ≡ true → agrees pattern (triple_at st.pool r k) ≡ slots_agree w k)
+    → count_by (slots_agree w) (map.keys st.index) ≡ length (filter (agrees pattern) (map.keys (image (triple_at st.pool r) st.index)))
+rows_counted st r pattern w h alike =
+    let m = triple_at st.pool r in
+    let found = filter (slots_agree w) (map.keys st.index) in
+    let is : (f : Key → Bool) → count_by f found ≡ count_by (λ k. slots_agree w k && f k) (map.keys st.index) = λ f. count-filter (slots_agree w) f (map.keys st.index) in
+    sym (length-filter (slots_agree w) (map.keys st.index))
+    ∙ sym (length-map found m)
+    ∙ sym (length-distinct triple_cmp-total triple_cmp-IsAntisymmetric (mapped m found) (found_once st r w found h is))
+    ∙ ap length (matched st.pool r st.index pattern w found alike is)

@@ -1,9 +1,9 @@
-// The number of the owners of a triple, and the slots that a pattern wants.
+// The number of the owners of a triple, the slots that a pattern wants, and how many triples agree with it.
 
-ghost use Rattle.std.specs.Prelude.{◌≡◌, ◌<◌, ℕ, true, IfNone, IfSome};
+ghost use Rattle.std.specs.Prelude.{◌≡◌, ◌+◌, ◌*◌, ◌^◌, ◌<◌, ◌≤◌, ℕ, true, length, IfNone, IfSome};
 ghost use Rattle.std.specs.FinMap as map;
 ghost use Rattle.block_index.specs.Steps.{WithinSteps};
-ghost use Rattle.rdf_term.specs.Pattern.{agrees, agrees_at};
+ghost use Rattle.rdf_term.specs.Pattern.{agrees, agrees_at, rows};
 ghost use Rattle.term_pool.specs.Pool.{LiesIn, count_at, text_in_slot};
 ghost use Rattle.slot_index.specs.declared.key.Key.{Key as TheKey};
 ghost use Rattle.triple_store.specs.Counts.{count_of};
@@ -33,6 +33,24 @@ impl Catalog {
     {
         match self.key_of(region, triple) {
             Some(key) => self.index.count(key, steps),
+            None => 0,
+        }
+    }
+
+    // How many stored triples agree with the pattern. A wanted term costs one look-up; then it is the length of one range of one index.
+    pub(crate) fn matching_len<L: Ledger>(
+        &self,
+        region: &Region,
+        pattern: &Pattern,
+        steps: &mut Steps<L>,
+    ) -> usize
+        requires { IsStored self.now region.now }
+        ensures len { result ≡ length (rows (map.keys (counts_in self.now region.now)) pattern.now) }
+        ensures forward { steps.old ≤ steps.new }
+        ensures cost { (d : ℕ) → map.len (counts_in self.now region.now) < 2 ^ d → steps.new ≤ steps.old + 2 * (d + 8) }
+    {
+        match self.slots_of(region, pattern) {
+            Some(wanted) => self.index.range_len(wanted, steps),
             None => 0,
         }
     }

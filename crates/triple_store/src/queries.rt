@@ -1,7 +1,7 @@
 // The stored triples, or those that agree with a pattern, and the number of the owners of one: the store's calls, each with its steps
 // counted and without.
 
-ghost use Rattle.std.specs.Prelude.{◌≡◌, ◌+◌, ◌<◌, ◌≤◌, List, length, IfOk};
+ghost use Rattle.std.specs.Prelude.{◌≡◌, ◌+◌, ◌*◌, ◌^◌, ◌<◌, ◌≤◌, ℕ, List, length, IfOk};
 ghost use Rattle.std.specs.FinMap as map;
 ghost use Rattle.rising.specs.Rising.{sorted};
 ghost use Rattle.block_index.specs.Steps.{WithinSteps};
@@ -61,6 +61,23 @@ impl Store {
         self.catalog.matching(&self.region, pattern, steps)
     }
 
+    /// How many stored triples agree with the pattern, which takes no memory. A wanted term costs one look-up; then it is the length of one
+    /// range of one index, of which no triple is looked at but to find its ends.
+    pub fn matching_len(&self, pattern: &Pattern) -> usize
+        ensures { result ≡ length (rows (map.keys (counts_in self.now)) pattern.now) }
+    {
+        matching_len_by::<Brand>(self, pattern, Blank::new(1))
+    }
+
+    /// The same, counting the steps in the index: at most twice as many as the number of stored triples has binary digits, and 16 more.
+    pub fn matching_len_counting<L: Ledger>(&self, pattern: &Pattern, steps: &mut Steps<L>) -> usize
+        ensures len { result ≡ length (rows (map.keys (counts_in self.now)) pattern.now) }
+        ensures forward { steps.old ≤ steps.new }
+        ensures cost { (d : ℕ) → map.len (counts_in self.now) < 2 ^ d → steps.new ≤ steps.old + 2 * (d + 8) }
+    {
+        self.catalog.matching_len(&self.region, pattern, steps)
+    }
+
     /// The stored triples that agree with the pattern, in memory of their own: each is read from its texts.
     pub fn matches(&self, pattern: &Pattern) -> Result<TripleSet, OutOfMemory>
         ensures rows { IfOk result (λ set. set ≡ rows (map.keys (counts_in self.now)) pattern.now) }
@@ -117,6 +134,15 @@ fn matching_by<'a, L: Ledger>(
     ensures rows { IfOk result (λ found. found ≡ rows (map.keys (counts_in store.now)) pattern.now) }
 {
     store.matching_counting(pattern, &mut Steps::<L>::new(blank))
+}
+
+fn matching_len_by<L: Ledger>(store: &Store, pattern: &Pattern, blank: Blank) -> usize
+    requires name { blank.name ≡ L.name }
+    requires parts { blank.parts ≡ L.parts }
+    requires some { 0 < blank.parts }
+    ensures { result ≡ length (rows (map.keys (counts_in store.now)) pattern.now) }
+{
+    store.matching_len_counting(pattern, &mut Steps::<L>::new(blank))
 }
 
 fn owners_by<L: Ledger>(store: &Store, triple: &Triple, blank: Blank) -> u64
