@@ -1,0 +1,132 @@
+#!/usr/bin/python3
+"""Takes parts of a stream, one after the other: a process that any number of machines run side by side.
+
+The events of part K are the entries of the Redis stream `events:K`, each with one line. Whoever holds the lease `owner:K` reads the next
+lines, gives them to `wdq patches`, which goes on from the part's snapshot, and adds the records to the stream `records:K`. A lease that
+isn't renewed ends, so another process takes the part over and goes on from its snapshot.
+
+A snapshot's name is the id of the last entry that it knows, so snapshot and offset change at once. A record's number is its id in
+`records:K`, and Redis refuses an id that isn't above the last one: where a process is killed between its records and its snapshot, the
+next one makes the same records again, and none is added twice. The entry `{"end":true}` ends a part.
+
+Status 0: all parts have ended. 1: wdq or Redis failed. 69: Debian's package python3-redis is missing.
+"""
+
+import argparse
+import os
+import pathlib
+import re
+import subprocess
+import sys
+import time
+
+RECORD = re.compile(rb"^# patch (\d+) ", re.MULTILINE)
+END = b'{"end":true}'
+
+
+def words():
+    """The words of the command line."""
+    parser = argparse.ArgumentParser(description=__doc__, formatter_class=argparse.RawDescriptionHelpFormatter)
+    parser.add_argument("--port", type=int, required=True, help="where Redis listens on the loopback address")
+    parser.add_argument("--parts", type=int, required=True, help="how many parts there are")
+    parser.add_argument("--work", type=pathlib.Path, required=True, help="the folder of the snapshots, which all machines share")
+    parser.add_argument("--pages", required=True, help="the folder of the pages")
+    parser.add_argument("--program", required=True, help="the program wdq")
+    parser.add_argument("--batch", type=int, default=500, help="how many lines are taken at once (500)")
+    parser.add_argument("--lease", type=int, default=2000, help="how long a lease lasts, in milliseconds (2000)")
+    return parser.parse_args()
+
+
+def newest(folder):
+    """The last snapshot of a part, and the id of the entry that it ends with."""
+    ids = [path.name for path in folder.iterdir() if re.fullmatch(r"\d+-\d+", path.name)]
+    last = max(ids, key=lambda text: tuple(map(int, text.split("-"))), default=None)
+    return (folder / last, last) if last else (None, "0-0")
+
+
+def records_of(output):
+    """The records, each with its number."""
+    starts = [(match.start(), int(match[1])) for match in RECORD.finditer(output)]
+    ends = [start for start, _ in starts[1:]] + [len(output)]
+    return [(number, output[start:end]) for (start, number), end in zip(starts, ends)]
+
+
+class Part:
+    """A part whose lease this process holds."""
+
+    def __init__(self, given, server, number):
+        self.given, self.server, self.number = given, server, number
+        self.folder = given.work / str(number)
+        self.folder.mkdir(parents=True, exist_ok=True)
+
+    def is_held(self):
+        """Renews the lease, and tells whether it is still this process's."""
+        name = f"owner:{self.number}"
+        if self.server.get(name) != str(os.getpid()).encode():
+            return False
+        return bool(self.server.pexpire(name, self.given.lease))
+
+    def step(self):
+        """Takes the next lines; tells whether there were any."""
+        snapshot, offset = newest(self.folder)
+        answer = self.server.xread({f"events:{self.number}": offset}, count=self.given.batch)
+        if not answer:
+            return False
+        entries = answer[0][1]
+        lines = [fields[b"line"] for _, fields in entries]
+        is_last = lines[-1] == END
+        if is_last:
+            entries, lines = entries[:-1], lines[:-1]
+        if entries:
+            self.replay(snapshot, entries[-1][0].decode(), b"".join(line + b"\n" for line in lines))
+        if is_last:
+            self.server.set(f"ended:{self.number}", 1)
+        return True
+
+    def replay(self, snapshot, offset, lines):
+        """Goes on from the snapshot over these lines: adds the records, and then gives the new snapshot its name."""
+        beside = self.folder / f"{offset}.{os.getpid()}"
+        command = [self.given.program, "patches", "--from", self.given.pages, "--save", str(beside)]
+        command += ["--resume", str(snapshot)] if snapshot else []
+        output = subprocess.run(command, input=lines, stdout=subprocess.PIPE, check=True).stdout
+        for number, record in records_of(output):
+            self.add(number, record)
+        os.replace(beside, self.folder / offset)
+        if snapshot:
+            snapshot.unlink(missing_ok=True)
+
+    def add(self, number, record):
+        """Adds a record, unless it is there."""
+        last = self.server.xrevrange(f"records:{self.number}", count=1)
+        if not last or int(last[0][0].split(b"-")[0]) < number:
+            self.server.xadd(f"records:{self.number}", {"record": record}, id=f"{number}-0")
+
+
+def main():
+    """Takes parts until all have ended."""
+    given = words()
+    try:
+        import redis
+    except ImportError:
+        print("take_parts.py: Debian's package python3-redis is missing", file=sys.stderr)
+        return 69
+    server = redis.Redis(host="127.0.0.1", port=given.port)
+    while True:
+        left = [number for number in range(given.parts) if not server.exists(f"ended:{number}")]
+        if not left:
+            return 0
+        for number in left:
+            if not server.set(f"owner:{number}", os.getpid(), nx=True, px=given.lease):
+                continue
+            part = Part(given, server, number)
+            while part.is_held() and not server.exists(f"ended:{number}"):
+                if not part.step():
+                    time.sleep(0.05)
+        time.sleep(0.1)
+
+
+if __name__ == "__main__":
+    try:
+        sys.exit(main())
+    except subprocess.CalledProcessError as error:
+        sys.exit(f"take_parts.py: wdq ended with status {error.returncode}")
