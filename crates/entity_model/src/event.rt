@@ -1,7 +1,7 @@
 // Events of entities' pages, and the order in which they are applied.
 
 ghost use Rattle.std.specs.Prelude.{◌≡◌};
-ghost use Rattle.std.specs.Ordering.{nat_cmp, on, is_lt};
+ghost use Rattle.std.specs.Ordering.{nat_cmp, on, ordering_then, is_lt};
 ghost use Rattle.entity_model.specs.Kind.{kind_place};
 
 use crate::id::EntityId;
@@ -47,6 +47,7 @@ pub struct Event {
 
 impl Event {
     ghost use Rattle.entity_model.specs.Event.{event_cmp};
+    ghost use Rattle.entity_model.specs.EntityId.{entity_cmp};
 
     /// Says whether this event is applied before the other: by time, then by revision, then by
     /// kind, then by entity.
@@ -54,6 +55,16 @@ impl Event {
         ensures { result ≡ is_lt (event_cmp self.now other.now) }
     {
         self < other
+    }
+
+    // The order of events of one time: most events have another, so these are looked at apart.
+    fn compare_at_time(&self, other: &Event) -> Ordering
+        ensures { result ≡ ordering_then (ordering_then (nat_cmp self.now.rev other.now.rev) (on kind_place nat_cmp self.now.kind other.now.kind)) (entity_cmp self.now.entity other.now.entity) }
+    {
+        self.rev
+            .cmp(&other.rev)
+            .then(self.kind.compare(other.kind))
+            .then(self.entity.cmp(&other.entity))
     }
 }
 
@@ -105,10 +116,9 @@ impl Ord for Event {
     ghost matches_eq = { λ x y. refl };
 
     fn cmp(&self, other: &Event) -> Ordering {
-        self.time
-            .cmp(&other.time)
-            .then(self.rev.cmp(&other.rev))
-            .then(self.kind.compare(other.kind))
-            .then(self.entity.cmp(&other.entity))
+        match self.time.cmp(&other.time) {
+            Ordering::Equal => self.compare_at_time(other),
+            decided => decided,
+        }
     }
 }
