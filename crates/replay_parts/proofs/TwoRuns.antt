@@ -27,11 +27,11 @@ use Rattle.replay_parts.specs.Checkpoint.{Checkpoint, checkpoint, advanced, adva
 use Rattle.replay_parts.proofs.GoingOn.{checkpoint-advanced, answer_at-said}
 
 -- the replies are the same at events that pass a test
-abbrev AgreeWhere : (Event → Bool) → Replies → Replies → Type 0
+abbrev pub AgreeWhere : (Event → Bool) → Replies → Replies → Type 0
 AgreeWhere test others replies = (e : Event) (r : ℕ) → test e ≡ true → others e r ≡ replies e r
 
 module _ (others replies : Replies) where
-  apply-alike : (p : Played) (e : Event) → ((r : ℕ) → others e r ≡ replies e r) → apply others p e ≡ apply replies p e
+  pub apply-alike : (p : Played) (e : Event) → ((r : ℕ) → others e r ≡ replies e r) → apply others p e ≡ apply replies p e
   apply-alike p e same = λ i. apply (λ q n. same (state_after (record_of p.records e.entity).state e).rev i) p e
 
   apply_all-alike : (test : Event → Bool) → AgreeWhere test others replies → (es : List Event) (p : Played) → apply_all others p (filter test es) ≡ apply_all replies p (filter test es)
@@ -46,14 +46,14 @@ module _ (others replies : Replies) where
 -- ---- up to a mark
 
 -- what the mark reached stays reached
-reached-push : (ds : List Delivery) (d : Delivery) (e : Event) → reached (mark ds) e.time ≡ true → reached (mark (ds ++ d ∷ [])) e.time ≡ true
+pub reached-push : (ds : List Delivery) (d : Delivery) (e : Event) → reached (mark ds) e.time ≡ true → reached (mark (ds ++ d ∷ [])) e.time ≡ true
 reached-push ds (Told q) e h = ap (λ m. reached m e.time) (mark-kept ds (Told q) refl) ∙ h
 reached-push ds (Watermark w) e h = ap (λ m. reached m e.time) (mark-watermark ds w) ∙ reached-greater (mark ds) w e.time h
 reached-push ds (Ask q) e h = ap (λ m. reached m e.time) (mark-kept ds (Ask q) refl) ∙ h
 reached-push ds (Mapping v) e h = ap (λ m. reached m e.time) (mark-kept ds (Mapping v) refl) ∙ h
 reached-push ds (Match q) e h = ap (λ m. reached m e.time) (mark-kept ds (Match q) refl) ∙ h
 
-abbrev AgreeReached : List Delivery → Replies → Replies → Type 0
+abbrev pub AgreeReached : List Delivery → Replies → Replies → Type 0
 AgreeReached ds others replies = AgreeWhere (λ e. reached (mark ds) e.time) others replies
 
 module _ (hz : Option ℕ) (others replies : Replies) where
@@ -67,7 +67,7 @@ module _ (hz : Option ℕ) (others replies : Replies) where
       let same = apply_all-alike others replies (is_due false (greater (mark ds) w)) (λ e r due. agree e r (ap (λ m. reached m e.time) (mark-watermark ds w) ∙ due)) before.buffer.waiting before.played in
       λ i. record { buffer = (after_due replies before).buffer; played = same i }
 
-  following-reached : (ds : List Delivery) → AgreeReached ds others replies → following hz others ds ≡ following hz replies ds
+  pub following-reached : (ds : List Delivery) → AgreeReached ds others replies → following hz others ds ≡ following hz replies ds
   following-reached = by_pushes (λ ds. AgreeReached ds others replies → following hz others ds ≡ following hz replies ds) (λ agree. refl)
       (λ ds d before agree.
       following-delivered hz others ds d
@@ -107,7 +107,7 @@ module _ (hz : Option ℕ) (others replies : Replies) where
   ended-waiting ds agree = λ i. record { buffer = (after_due replies (after_end (following hz others ds))).buffer; played = due-waiting ds agree true (mark ds) i }
 
   -- what waits after more deliveries wasn't reached before
-  waits_earlier : (a b : List Delivery) (e : Event) → waits (mark (a ++ b)) e ≡ true → waits (mark a) e ≡ true
+  pub waits_earlier : (a b : List Delivery) (e : Event) → waits (mark (a ++ b)) e ≡ true → waits (mark a) e ≡ true
   waits_earlier a b e h = by (reached (mark a) e.time) refl
     where
       later : reached (mark a) e.time ≡ true → (b : List Delivery) → reached (mark (a ++ b)) e.time ≡ true
@@ -119,7 +119,7 @@ module _ (hz : Option ℕ) (others replies : Replies) where
       by true r = clash h (ap not (later r b))
 
   -- from a list of deliveries on, other replies lead where these lead, if they agree on what its mark didn't reach
-  checkpoint-waiting : (a : List Delivery) → AgreeWhere (waits (mark a)) others replies → (b : List Delivery) → checkpoint hz others (a ++ b) ≡ advanced_by replies (checkpoint hz others a) b
+  pub checkpoint-waiting : (a : List Delivery) → AgreeWhere (waits (mark a)) others replies → (b : List Delivery) → checkpoint hz others (a ++ b) ≡ advanced_by replies (checkpoint hz others a) b
   checkpoint-waiting a agree = by_pushes (λ b. checkpoint hz others (a ++ b) ≡ advanced_by replies (checkpoint hz others a) b) (ap (checkpoint hz others) (append-nil a))
       (λ b d before.
       ap (checkpoint hz others) (sym (append_assoc a b (d ∷ [])))
@@ -148,20 +148,20 @@ module _ (hz : Option ℕ) (others replies : Replies) where
 -- ---- both
 
 module _ (hz : Option ℕ) (first second : Replies) (a : List Delivery) where
-  abbrev both : Replies
+  abbrev pub both : Replies
   both = replies_of_runs (mark a) first second
 
-  both_first : AgreeReached a both first
+  pub both_first : AgreeReached a both first
   both_first e r is = ap (λ b. cond b (first e r) (second e r)) is
 
-  both_second : AgreeWhere (waits (mark a)) both second
+  pub both_second : AgreeWhere (waits (mark a)) both second
   both_second e r is = by (reached (mark a) e.time) is
     where
       by : (b : Bool) → not b ≡ true → cond b (first e r) (second e r) ≡ second e r
       by true h = clash h refl
       by false h = refl
 
-  checkpoint_first : checkpoint hz both a ≡ checkpoint hz first a
+  pub checkpoint_first : checkpoint hz both a ≡ checkpoint hz first a
   checkpoint_first = ap (λ w. record (checkpoint hz first a) { state = w }) (following-reached hz both first a both_first)
 
   -- the second run goes on from the first one's checkpoint, and both are one run

@@ -24,4 +24,5 @@ mod Progress
 mod Reading
 mod Reloading
 mod Reports
+mod StreamRuns
 mod Versions

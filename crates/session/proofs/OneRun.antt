@@ -3,17 +3,20 @@ use Rattle.std.proofs.Common.{◌≡◌, refl, sym, subst, ◌∙◌, ap, ℕ, �
 use Rattle.std.proofs.lemmas.List.Elements.{filter_map-append}
 use Rattle.wq_io.specs.Streams.{after_known}
 use Rattle.delivery.specs.declared.Delivery.{Delivery}
+use Rattle.delivery.specs.declared.Delivery.TheVariants.{Event as Told, Watermark, Ask, Mapping, Match}
 use Rattle.replay_model.specs.Acceptance.{late, version_in_force}
 use Rattle.replay_model.specs.Entries.{HoldsUnlessOpen, late_events}
 use Rattle.replay_model.specs.Play.{Played, Replies, played}
-use Rattle.replay_model.specs.ReplayState.{ReplayState, delivered, ended, following, following_to_end}
+use Rattle.replay_model.specs.ReplayState.{ReplayState, after_end, after_mark, delivered, ended, following, following_to_end}
 use Rattle.replay_model.specs.Transcript.{Question, asks, closing_text, matches, pattern_of, question_of, said, shapes_of}
 use Rattle.replay_model.proofs.LateEntries.{late-played}
 use Rattle.replay_model.proofs.Settled.{Tells-played, settled-played}
-use Rattle.replay_parts.specs.Checkpoint.{Checkpoint, advanced, answer_at, checkpoint, said_from}
+use Rattle.replay_parts.specs.Checkpoint.{Checkpoint, advanced, advanced_by, answer_at, checkpoint, said_from, version_after}
 use Rattle.replay_parts.proofs.TwoRuns.{checkpoint-two, following_to_end-two, said-two}
 use Rattle.subgraph.specs.declared.routes.Route.{Route}
+use Rattle.replay_model.specs.Versions.{all_by}
 use Rattle.world.specs.Meaning.{meaning}
+use Rattle.patch_stream.specs.Stream.{Step, changes, steps_anew, steps_due, steps_of_play, stream_text}
 use Rattle.snapshot.specs.File.{saved_in_bytes}
 use Rattle.snapshot.specs.Whole.{Saved}
 use Rattle.world.specs.WorldState.{WorldState}
@@ -21,15 +24,15 @@ use Rattle.checkpoint.specs.declared.numbers.Numbers.{Numbers}
 use Rattle.checkpoint.specs.Saved.{numbers_of as numbers_back, saved_of}
 use Rattle.following.specs.Input.{Input}
 use Rattle.words.specs.Options.{closes}
-use Rattle.session.specs.declared.report.Report.TheVariants.{Answers}
+use Rattle.session.specs.declared.report.Report.TheVariants.{Answers, Changes}
 use Rattle.session.specs.declared.status.Status.{Status}
 use Rattle.session.specs.declared.status.Status.TheVariants.{Ok as Ended}
-use Rattle.session.specs.Along.{state_along, version_since}
+use Rattle.session.specs.Along.{along, state_along, steps_of_delivery, stream_text_from, version_since}
 use Rattle.session.specs.Answering.{answer_by, said_by}
 use Rattle.session.specs.Course.{all_said, course_ended, led_to, version_at}
 use Rattle.session.specs.Headline.{Ending, HasFates, course_of, numbers_saved}
 use Rattle.session.specs.Moment.{Beginning, IsFirst, Moment, Run, Stage, behind, horizon_at, standing, start_in, start_of}
-use Rattle.session.specs.OneRun.{CountsQuestions, HoldsAndNames, StandsAfter, deliveries_of, printed_in_all, replies_with, state_ended}
+use Rattle.session.specs.OneRun.{CountsQuestions, HoldsAndNames, StandsAfter, deliveries_of, printed_in_all, replies_with, state_ended, steps_ended}
 use Rattle.session.specs.Remapping.{Mapped, mapped_by}
 use Rattle.session.specs.Report.{bytes_of}
 use Rattle.session.specs.Resuming.{IsResumed, with_loaded}
@@ -38,6 +41,7 @@ use Rattle.session.specs.Sections.{sections_of}
 use Rattle.session.proofs.Along.{version-along}
 use Rattle.session.proofs.Ends.{fates}
 use Rattle.session.proofs.FromNothing.{led_first, version_first}
+use Rattle.session.proofs.StreamRuns.{changes-append, steps-two, steps_to_end-two, stream-append}
 
 -- a first run stands after no delivery
 pub first_stands : (start : Beginning) → IsFirst start → (replies : Replies) → StandsAfter (horizon_at start) replies [] start
@@ -46,10 +50,27 @@ first_stands start first replies = record { world = first.world; version = first
 pub first_counts : (start : Beginning) → IsFirst start → CountsQuestions [] start.numbered
 first_counts start first = record { asks_are = ap (λ (n : Numbers). n.asks) first.numbered; matches_are = ap (λ (n : Numbers). n.matches) first.numbered }
 
+pub first_patches : (start : Beginning) → IsFirst start → (replies : Replies) → start.numbered.patches ≡ changes (steps_of_play (horizon_at start) replies [])
+first_patches start first replies = ap (λ (n : Numbers). n.patches) first.numbered
+
 -- where deliveries lead depends on the state alone
 same_state : (replies : Replies) (c other : Checkpoint) → c.state ≡ other.state → (ds : List Delivery) → state_along replies c ds ≡ state_along replies other ds
 same_state replies c other same [] = same
 same_state replies c other same (d ∷ ds) = same_state replies (advanced replies c d) (advanced replies other d) (ap (λ w. delivered replies w d) same) ds
+
+-- and so do the steps, with the version
+steps_same : (replies : Replies) (c other : Checkpoint) → c.state ≡ other.state → c.version ≡ other.version → (ds : List Delivery) → along steps_of_delivery replies c ds ≡ along steps_of_delivery replies other ds
+steps_same replies c other state version [] = refl
+steps_same replies c other state version (d ∷ ds) = λ i.
+    steps_at state version d i
+    ++ steps_same replies (advanced replies c d) (advanced replies other d) (ap (λ w. delivered replies w d) state) (ap (λ v. version_after v d) version) ds i
+  where
+    steps_at : c.state ≡ other.state → c.version ≡ other.version → (d : Delivery) → steps_of_delivery replies c d ≡ steps_of_delivery replies other d
+    steps_at state version (Told e) = refl
+    steps_at state version (Watermark m) = λ i. steps_due (version i) replies (after_mark (state i) m)
+    steps_at state version (Ask q) = refl
+    steps_at state version (Match q) = refl
+    steps_at state version (Mapping v) = λ i. steps_anew v (state i).played.records (all_by (version i) (state i).played.records)
 
 -- without routes what is said from a checkpoint on is what a replay says from there on
 answer_same : (c : Checkpoint) (question : Option Question) → answer_by None c question ≡ answer_at meaning c question
@@ -162,6 +183,40 @@ module _ (h : Option ℕ) (first : Replies) (a : List Delivery) (run : Run) (bef
           ∙ ap (λ routes. after_known before.stage.output.bytes (all_said routes (closes run.choices) (sections_of run.choices) b start second)) none,
       rest_is,
     )
+
+  -- where changes are reported, the records are those of one stream
+  module _ (told : run.environment.report ≡ Changes) (counts : run.numbered.patches ≡ changes (steps_of_play h first a)) where
+    abbrev made : List Step
+    made = (course_of run b start).steps second
+
+    along_same : along steps_of_delivery second (standing start) b ≡ along steps_of_delivery second (checkpoint h first a) b
+    along_same = steps_same second (standing start) (checkpoint h first a) stands.world stands.version b
+
+    steps_are : (routes : Option (List Route)) (closed : Bool) → steps_of_play h first a ++ (course_ended routes closed b start).steps second ≡ steps_ended closed h both (a ++ b)
+    steps_are routes false = ap (λ l. steps_of_play h first a ++ l) along_same ∙ sym (steps-two h first second a b)
+    steps_are routes true =
+        (λ i. steps_of_play h first a ++ (along_same i ++ steps_due (version_on i) second (after_end (same_state second (standing start) (checkpoint h first a) stands.world b i))))
+        ∙ sym (steps_to_end-two h first second a b)
+      where
+        version_on : version_at b start ≡ (advanced_by second (checkpoint h first a) b).version
+        version_on = version_is ∙ ap (λ (c : Checkpoint). c.version) (checkpoint-two h first second a b)
+
+    pub streams_rest : (rest : List ℕ) × (now.stage.output.bytes ≡ after_known before.stage.output.bytes rest)
+        × (stream_text (steps_of_play h first a) ++ rest ≡ stream_text (steps_ended (closes run.choices) h both (a ++ b)))
+    streams_rest = (
+      stream_text_from run.numbered.patches made,
+      ending.replayed.replay.played.says ∙ ap (λ report. bytes_of report (course_of run b start) start second) told,
+      ap (λ n. stream_text (steps_of_play h first a) ++ stream_text_from n made) counts
+          ∙ sym (stream-append (steps_of_play h first a) made)
+          ∙ ap stream_text (steps_are run.environment.routes (closes run.choices)),
+    )
+
+    pub next_patches : (numbers_saved ending).patches ≡ changes (steps_ended (closes run.choices) h both (a ++ b))
+    next_patches =
+        ap (λ report. (numbers_of report (course_of run b start).steps b start second).patches) told
+        ∙ ap (λ n. n + changes made) counts
+        ∙ sym (changes-append (steps_of_play h first a) made)
+        ∙ ap changes (steps_are run.environment.routes (closes run.choices))
 
 -- ---- a run that goes on from bytes that were saved
 

@@ -7,6 +7,7 @@ use Rattle.replay_model.specs.Play.{Replies}
 use Rattle.replay_model.specs.ReplayState.{ReplayState, following, following_to_end}
 use Rattle.replay_model.specs.Transcript.{Sections, asks, closing_text, matches, said}
 use Rattle.replay_parts.specs.Checkpoint.{replies_of_runs}
+use Rattle.patch_stream.specs.Stream.{Step, steps_of_play, steps_to_end}
 use Rattle.world.specs.Meaning.{meaning}
 use Rattle.checkpoint.specs.declared.numbers.Numbers.{Numbers}
 use Rattle.session.specs.Headline.{Ending}
@@ -27,6 +28,11 @@ pub record CountsQuestions (ds : List Delivery) (numbers : Numbers) : Type 0 whe
 abbrev pub state_ended : Bool → Option ℕ → Replies → List Delivery → ReplayState
 state_ended false h replies ds = following h replies ds
 state_ended true h replies ds = following_to_end h replies ds
+
+-- the steps of these deliveries, and perhaps of their end
+abbrev pub steps_ended : Bool → Option ℕ → Replies → List Delivery → List Step
+steps_ended false h replies ds = steps_of_play h replies ds
+steps_ended true h replies ds = steps_to_end h replies ds
 
 -- what a replay prints at these deliveries, and then in these sections, perhaps after their end
 abbrev pub printed_in_all : Bool → Sections → Option ℕ → Replies → List Delivery → List ℕ

@@ -30,7 +30,7 @@ ghost use Rattle.following.specs.Following.{Ending as Followed, FollowMoment, re
 ghost use Rattle.following.specs.Reading.{AreRecords};
 ghost use Rattle.checkpoint.specs.declared.numbers.Numbers.{Numbers as TheNumbers};
 ghost use Rattle.checkpoint.specs.Saved.{AreWithin};
-ghost use Rattle.session.specs.declared.report.Report.TheVariants.{Answers};
+ghost use Rattle.session.specs.declared.report.Report.TheVariants.{Answers, Changes};
 ghost use Rattle.session.specs.declared.status.Status.{Status};
 ghost use Rattle.session.specs.declared.stop.Stop.{Stop};
 ghost use Rattle.told_pages.specs.Told.{terms_there};
@@ -40,7 +40,7 @@ ghost use Rattle.session.specs.Course.{course_to_end, led_to, version_at};
 ghost use Rattle.session.specs.Complete.{FindsDocument, IsStill, has_document, steps_made, triples_in};
 ghost use Rattle.session.specs.Headline.{Ending, HasFates, Stopped, numbers_saved};
 ghost use Rattle.session.specs.Moment.{Beginning, IsFirst, Moment, Run, Stage, behind, horizon_at, standing, start_in, start_of};
-ghost use Rattle.session.specs.OneRun.{CountsQuestions, HoldsAndNames, StandsAfter, deliveries_of, printed_in_all, replies_with, state_ended};
+ghost use Rattle.session.specs.OneRun.{CountsQuestions, HoldsAndNames, StandsAfter, deliveries_of, printed_in_all, replies_with, state_ended, steps_ended};
 ghost use Rattle.session.specs.Reading.{AreDeliveries};
 ghost use Rattle.session.specs.Resuming.{AllowsHorizon, IsNotResumed, IsResumed, ResumeEnding, with_loaded};
 ghost use Rattle.session.specs.Saving.{saved_at};
@@ -179,9 +179,10 @@ pub fn a_saved_replay_is_read_back()
 }
 
 /// A run that begins where a replay of earlier deliveries stands leaves what one replay of all deliveries leaves: the world, the states that
-/// are their fates, what is held and named, and every page mapped by the version in force. The replies to this replay are the earlier ones to events that the mark
-/// had reached then, and the run's own to all others. Where questions are answered, what is printed is what this replay prints behind what it
-/// prints at the earlier deliveries. Where the run saves its world, a later run that goes on from it begins where this replay stands.
+/// are their fates, what is held and named, and every page mapped by the version in force. The replies to this replay are the earlier ones to
+/// events that the mark had reached then, and the run's own to all others. Where questions are answered, what is printed is what this replay
+/// prints behind what it prints at the earlier deliveries; where changes are reported, the records are those of its stream behind those of the
+/// earlier ones. Where the run saves its world, a later run that goes on from it begins where this replay stands.
 pub fn runs_go_on_as_one()
     ensures world { (h : Option ℕ) (earlier : Replies) (ds : List Delivery) (run : Run) (before now : Moment) → StandsAfter h earlier ds (start_of run before) → (ending : Ending run before now) →
         now.stage.world ≡ state_ended (closes run.choices) h (replies_with earlier ds ending) (ds ++ deliveries_of ending) }
@@ -195,16 +196,24 @@ pub fn runs_go_on_as_one()
         run.environment.report ≡ Answers → CountsQuestions ds run.numbered → run.environment.routes ≡ None →
         (rest : List ℕ) × (now.stage.output.bytes ≡ after_known before.stage.output.bytes rest)
         × (said meaning h earlier ds ++ rest ≡ printed_in_all (closes run.choices) (sections_of run.choices) h (replies_with earlier ds ending) (ds ++ deliveries_of ending)) }
+    ensures streamed { (h : Option ℕ) (earlier : Replies) (ds : List Delivery) (run : Run) (before now : Moment) → StandsAfter h earlier ds (start_of run before) → (ending : Ending run before now) →
+        run.environment.report ≡ Changes → run.numbered.patches ≡ changes (steps_of_play h earlier ds) →
+        (rest : List ℕ) × (now.stage.output.bytes ≡ after_known before.stage.output.bytes rest)
+        × (stream_text (steps_of_play h earlier ds) ++ rest ≡ stream_text (steps_ended (closes run.choices) h (replies_with earlier ds ending) (ds ++ deliveries_of ending))) }
     ensures stands { (h : Option ℕ) (earlier : Replies) (ds : List Delivery) (run : Run) (before now : Moment) → StandsAfter h earlier ds (start_of run before) → (ending : Ending run before now) →
         closes run.choices ≡ false → StandsAfter h (replies_with earlier ds ending) (ds ++ deliveries_of ending) (start_in (numbers_saved ending) now.stage) }
     ensures counts { (h : Option ℕ) (earlier : Replies) (ds : List Delivery) (run : Run) (before now : Moment) → StandsAfter h earlier ds (start_of run before) → (ending : Ending run before now) →
         run.environment.report ≡ Answers → CountsQuestions ds run.numbered → CountsQuestions (ds ++ deliveries_of ending) (numbers_saved ending) }
+    ensures patches { (h : Option ℕ) (earlier : Replies) (ds : List Delivery) (run : Run) (before now : Moment) → StandsAfter h earlier ds (start_of run before) → (ending : Ending run before now) →
+        run.environment.report ≡ Changes → run.numbered.patches ≡ changes (steps_of_play h earlier ds) →
+        (numbers_saved ending).patches ≡ changes (steps_ended (closes run.choices) h (replies_with earlier ds ending) (ds ++ deliveries_of ending)) }
 {}
 
 /// Before the first delivery a first run begins where the replay of none stands.
 pub fn first_runs_stand_after_nothing()
     ensures stands { (start : Beginning) → IsFirst start → (replies : Replies) → StandsAfter (horizon_at start) replies [] start }
     ensures counts { (start : Beginning) → IsFirst start → CountsQuestions [] start.numbered }
+    ensures patches { (start : Beginning) → IsFirst start → (replies : Replies) → start.numbered.patches ≡ changes (steps_of_play (horizon_at start) replies []) }
 {}
 
 /// A run that goes on from the bytes that another run saved begins where that one stood, with its counts.
