@@ -1,6 +1,6 @@
 // What the page of an item or a property says of the dataset that it is.
 
-ghost use Rattle.std.specs.Prelude.{◌≡◌, OnOk};
+ghost use Rattle.std.specs.Prelude.{OnOk};
 ghost use Rattle.triple_sink.specs.Gains.{Gains, KeepsFront};
 ghost use Rattle.triple_sink.specs.TermRef.{meant};
 ghost use Rattle.entity_rdf.specs.About.{dataset_triples, link_count};

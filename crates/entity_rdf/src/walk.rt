@@ -1,6 +1,6 @@
 // The walk over a document, which emits what each rule of the dump gives.
 
-ghost use Rattle.std.specs.Prelude.{◌≡◌, OnOk};
+ghost use Rattle.std.specs.Prelude.{OnOk};
 ghost use Rattle.std.specs.List.{flat_map};
 ghost use Rattle.entity_model.specs.Document.{IsDocumentOf};
 ghost use Rattle.sitelinks.specs.Article.{article_triples};

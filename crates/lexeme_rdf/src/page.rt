@@ -1,6 +1,6 @@
 // What the page of a lexeme says of the dataset that it is.
 
-ghost use Rattle.std.specs.Prelude.{◌≡◌, OnOk};
+ghost use Rattle.std.specs.Prelude.{OnOk};
 ghost use Rattle.triple_sink.specs.Gains.{Gains, KeepsFront};
 ghost use Rattle.lexeme_rdf.specs.Page.{lexeme_page_triples};
 

@@ -1,6 +1,6 @@
 // What a page says of a sense.
 
-ghost use Rattle.std.specs.Prelude.{◌≡◌, OnOk};
+ghost use Rattle.std.specs.Prelude.{OnOk};
 ghost use Rattle.std.specs.List.{flat_map};
 ghost use Rattle.triple_sink.specs.Gains.{Gains, KeepsFront};
 ghost use Rattle.triple_sink.specs.TermRef.{meant};

@@ -1,6 +1,6 @@
 // The walk over a lexeme, which emits what each rule of the dump gives.
 
-ghost use Rattle.std.specs.Prelude.{◌≡◌, OnOk};
+ghost use Rattle.std.specs.Prelude.{OnOk};
 ghost use Rattle.triple_sink.specs.Gains.{Gains, KeepsFront};
 ghost use Rattle.lexeme_rdf.specs.Dump.{lexdump, part_triples, spoken_triples};
 

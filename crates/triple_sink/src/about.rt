@@ -1,6 +1,6 @@
 // Triples by the words of the vocabulary.
 
-ghost use Rattle.std.specs.Prelude.{◌≡◌, [], ◌∷◌, OnOk};
+ghost use Rattle.std.specs.Prelude.{[], ◌∷◌, OnOk};
 ghost use Rattle.rdf_vocabulary.specs.Predicate.{about};
 ghost use Rattle.rdf_vocabulary.specs.Resource.{class_triple};
 ghost use Rattle.triple_sink.specs.Gains.{Gains, KeepsFront};

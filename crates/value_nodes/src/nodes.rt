@@ -1,6 +1,6 @@
 // The triples of the nodes of data values.
 
-ghost use Rattle.std.specs.Prelude.{◌≡◌, [], ◌∷◌, OnOk};
+ghost use Rattle.std.specs.Prelude.{[], ◌∷◌, OnOk};
 ghost use Rattle.std.specs.Option.{option_copied};
 ghost use Rattle.rdf_vocabulary.specs.Datatype.{typed};
 ghost use Rattle.rdf_vocabulary.specs.Predicate.{about};

@@ -1,5 +1,5 @@
 -- The badges so far.
-use Rattle.std.proofs.Common.{◌≡◌, map, take}
+use Rattle.std.proofs.Common.{map, take}
 use Rattle.triple_sink.specs.Gains.{Gains, KeepsFront}
 use Rattle.triple_sink.specs.TermRef.{meant}
 use Rattle.sitelinks.specs.Article.{badge_triple}

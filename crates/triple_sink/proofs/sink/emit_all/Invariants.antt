@@ -1,5 +1,5 @@
 -- The sink has gained the triples so far.
-use Rattle.std.proofs.Common.{◌≡◌, take}
+use Rattle.std.proofs.Common.{take}
 use Rattle.triple_sink.specs.Gains.{Gains, KeepsFront}
 use Rattle.triple_sink.proofs.sink.emit_all.Given as goal
 

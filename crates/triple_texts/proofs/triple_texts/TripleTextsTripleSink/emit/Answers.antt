@@ -1,8 +1,7 @@
 -- The texts are there, and the place is theirs; and whatever the answer, the triples before it stay.
-use Rattle.std.proofs.Common.{◌≡◌, [], ◌∷◌, ◌++◌, length, take, refl, sym, ap, ◌∙◌}
+use Rattle.std.proofs.Common.{[], ◌∷◌, ◌++◌, length, take, refl, ap, ◌∙◌}
 use Rattle.triple_sink.specs.TermRef.{meant_triple}
 use Rattle.triple_sink.proofs.Gained.{front_kept}
-use Rattle.triple_texts.specs.Spans.{triple_in}
 use Rattle.triple_texts.proofs.Placed.{all_kept, all_lie, one_more, still_lie}
 use Rattle.triple_texts.proofs.triple_texts.TripleTextsTripleSink.emit.Goals as goal
 
