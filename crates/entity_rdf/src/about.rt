@@ -2,7 +2,7 @@
 
 ghost use Rattle.std.specs.Prelude.{◌≡◌, OnOk};
 ghost use Rattle.std.specs.List.{flat_map};
-ghost use Rattle.triple_sink.specs.Gains.{Gains};
+ghost use Rattle.triple_sink.specs.Gains.{Gains, KeepsFront};
 ghost use Rattle.triple_sink.specs.TermRef.{meant};
 ghost use Rattle.entity_rdf.specs.About.{alias_triples, class_of, class_triples, description_triples, label_triples};
 
@@ -19,7 +19,7 @@ pub(crate) fn emit_entity_class<S: TripleSink>(
     out: &mut S,
 ) -> Result<(), OutOfMemory>
     ensures gains { OnOk result (Gains S.items S.keeps out.old out.new (class_triples id)) }
-    ensures stays { S.rest out.new ≡ S.rest out.old }
+    ensures front { KeepsFront S.items out.old out.new }
 {
     let entity = TermRef::Id(Prefix::Wd, id);
     emit_class(setting.alloc, &entity, class_of(id.kind), out)
@@ -44,7 +44,7 @@ fn emit_label<S: TripleSink>(
     out: &mut S,
 ) -> Result<(), OutOfMemory>
     ensures gains { OnOk result (Gains S.items S.keeps out.old out.new (label_triples (meant entity.now) label.now)) }
-    ensures stays { S.rest out.new ≡ S.rest out.old }
+    ensures front { KeepsFront S.items out.old out.new }
 {
     let text = text_ref(label);
     emit_about(setting.alloc, entity, Predicate::Label, &text, out)?;
@@ -60,7 +60,7 @@ pub(crate) fn emit_labels<S: TripleSink>(
     out: &mut S,
 ) -> Result<(), OutOfMemory>
     ensures gains { OnOk result (Gains S.items S.keeps out.old out.new (flat_map (label_triples (meant entity.now)) labels.now)) }
-    ensures stays { S.rest out.new ≡ S.rest out.old }
+    ensures front { KeepsFront S.items out.old out.new }
 {
     for label in labels {
         emit_label(setting, entity, label, out)?;
@@ -76,7 +76,7 @@ pub(crate) fn emit_descriptions<S: TripleSink>(
     out: &mut S,
 ) -> Result<(), OutOfMemory>
     ensures gains { OnOk result (Gains S.items S.keeps out.old out.new (flat_map (description_triples (meant entity.now)) descriptions.now)) }
-    ensures stays { S.rest out.new ≡ S.rest out.old }
+    ensures front { KeepsFront S.items out.old out.new }
 {
     for description in descriptions {
         let text = text_ref(description);
@@ -93,7 +93,7 @@ pub(crate) fn emit_aliases<S: TripleSink>(
     out: &mut S,
 ) -> Result<(), OutOfMemory>
     ensures gains { OnOk result (Gains S.items S.keeps out.old out.new (flat_map (alias_triples (meant entity.now)) aliases.now)) }
-    ensures stays { S.rest out.new ≡ S.rest out.old }
+    ensures front { KeepsFront S.items out.old out.new }
 {
     for alias in aliases {
         let text = text_ref(alias);

@@ -1,7 +1,7 @@
 // What the page of an item or a property says of the dataset that it is.
 
-ghost use Rattle.std.specs.Prelude.{◌≡◌, OnOk};
-ghost use Rattle.triple_sink.specs.Gains.{Gains};
+ghost use Rattle.std.specs.Prelude.{OnOk};
+ghost use Rattle.triple_sink.specs.Gains.{Gains, KeepsFront};
 ghost use Rattle.triple_sink.specs.TermRef.{meant};
 ghost use Rattle.entity_rdf.specs.About.{dataset_triples, link_count};
 
@@ -20,7 +20,7 @@ pub(crate) fn emit_dataset<S: TripleSink>(
     out: &mut S,
 ) -> Result<(), OutOfMemory>
     ensures gains { OnOk result (Gains S.items S.keeps out.old out.new (dataset_triples id rev entity.now)) }
-    ensures stays { S.rest out.new ≡ S.rest out.old }
+    ensures front { KeepsFront S.items out.old out.new }
 {
     let dataset = TermRef::Id(Prefix::Data, id);
     emit_page(setting, id, out)?;
@@ -38,7 +38,7 @@ fn emit_link_count<S: TripleSink>(
     out: &mut S,
 ) -> Result<(), OutOfMemory>
     ensures gains { OnOk result (Gains S.items S.keeps out.old out.new (link_count kind (meant dataset.now) count)) }
-    ensures stays { S.rest out.new ≡ S.rest out.old }
+    ensures front { KeepsFront S.items out.old out.new }
 {
     match kind {
         IdKind::P | IdKind::L => Ok(()),

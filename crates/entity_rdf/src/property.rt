@@ -4,7 +4,7 @@ ghost use Rattle.std.specs.Prelude.{◌≡◌, [], ◌∷◌, ◌++◌, IfOk, On
 ghost use Rattle.std.specs.Option.{option_copied};
 ghost use Rattle.std.specs.List.{flat_map, list_all, slice_split};
 ghost use Rattle.rdf_term.specs.Grammar.{is_word};
-ghost use Rattle.triple_sink.specs.Gains.{Gains};
+ghost use Rattle.triple_sink.specs.Gains.{Gains, KeepsFront};
 ghost use Rattle.triple_sink.specs.TermRef.{meant};
 ghost use Rattle.entity_rdf.specs.Property.{capitalized, datatype_triples, is_datatype_char, is_hyphen, other_predicates, predicate_triple, property_triples, type_name, type_triples, value_predicates};
 
@@ -87,7 +87,7 @@ fn emit_type<S: TripleSink>(
     out: &mut S,
 ) -> Result<(), OutOfMemory>
     ensures gains { OnOk result (Gains S.items S.keeps out.old out.new (type_triples (meant entity.now) datatype.now)) }
-    ensures stays { S.rest out.new ≡ S.rest out.old }
+    ensures front { KeepsFront S.items out.old out.new }
 {
     if !has_type(datatype.as_bytes()) {
         return Ok(());
@@ -105,7 +105,7 @@ fn emit_datatype<S: TripleSink>(
     out: &mut S,
 ) -> Result<(), OutOfMemory>
     ensures gains { OnOk result (Gains S.items S.keeps out.old out.new (datatype_triples (meant entity.now) (option_copied datatype.entry))) }
-    ensures stays { S.rest out.new ≡ S.rest out.old }
+    ensures front { KeepsFront S.items out.old out.new }
 {
     match datatype {
         Some(datatype) => emit_type(setting, entity, datatype.as_str(), out),
@@ -122,7 +122,7 @@ fn emit_predicate<S: TripleSink>(
     out: &mut S,
 ) -> Result<(), OutOfMemory>
     ensures gains { OnOk result (Gains S.items S.keeps out.old out.new (predicate_triple id predicate prefix ∷ [])) }
-    ensures stays { S.rest out.new ≡ S.rest out.old }
+    ensures front { KeepsFront S.items out.old out.new }
 {
     let entity = TermRef::Id(Prefix::Wd, id);
     emit_about(
@@ -140,7 +140,7 @@ fn emit_value_predicates<S: TripleSink>(
     out: &mut S,
 ) -> Result<(), OutOfMemory>
     ensures gains { OnOk result (Gains S.items S.keeps out.old out.new (value_predicates id)) }
-    ensures stays { S.rest out.new ≡ S.rest out.old }
+    ensures front { KeepsFront S.items out.old out.new }
 {
     emit_predicate(setting, id, Predicate::DirectClaim, Prefix::Wdt, out)?;
     emit_predicate(setting, id, Predicate::Claim, Prefix::P, out)?;
@@ -154,7 +154,7 @@ fn emit_other_predicates<S: TripleSink>(
     out: &mut S,
 ) -> Result<(), OutOfMemory>
     ensures gains { OnOk result (Gains S.items S.keeps out.old out.new (other_predicates id)) }
-    ensures stays { S.rest out.new ≡ S.rest out.old }
+    ensures front { KeepsFront S.items out.old out.new }
 {
     emit_predicate(setting, id, Predicate::Qualifier, Prefix::Pq, out)?;
     emit_predicate(setting, id, Predicate::QualifierValue, Prefix::Pqv, out)?;
@@ -171,7 +171,7 @@ pub(crate) fn emit_property<S: TripleSink>(
     out: &mut S,
 ) -> Result<(), OutOfMemory>
     ensures gains { OnOk result (Gains S.items S.keeps out.old out.new (property_triples id (option_copied datatype.entry))) }
-    ensures stays { S.rest out.new ≡ S.rest out.old }
+    ensures front { KeepsFront S.items out.old out.new }
 {
     match id.kind {
         IdKind::P => {

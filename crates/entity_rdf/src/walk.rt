@@ -1,10 +1,10 @@
 // The walk over a document, which emits what each rule of the dump gives.
 
-ghost use Rattle.std.specs.Prelude.{◌≡◌, OnOk};
+ghost use Rattle.std.specs.Prelude.{OnOk};
 ghost use Rattle.std.specs.List.{flat_map};
 ghost use Rattle.entity_model.specs.Document.{IsDocumentOf};
 ghost use Rattle.sitelinks.specs.Article.{article_triples};
-ghost use Rattle.triple_sink.specs.Gains.{Gains};
+ghost use Rattle.triple_sink.specs.Gains.{Gains, KeepsFront};
 ghost use Rattle.entity_rdf.specs.Dump.{dump, entity_triples, redirect_triples, spoken_triples, text_triples};
 
 use crate::about::{emit_aliases, emit_descriptions, emit_entity_class, emit_labels};
@@ -29,7 +29,7 @@ pub fn emit_dump<S: TripleSink>(
 ) -> Result<(), OutOfMemory>
     requires { IsDocumentOf id document.now }
     ensures gains { OnOk result (Gains S.items S.keeps out.old out.new (dump setting.version id rev document.now)) }
-    ensures stays { S.rest out.new ≡ S.rest out.old }
+    ensures front { KeepsFront S.items out.old out.new }
 {
     match document {
         Document::Entity(entity) => emit_entity(setting, id, rev, entity, out),
@@ -45,7 +45,7 @@ fn emit_redirect<S: TripleSink>(
     out: &mut S,
 ) -> Result<(), OutOfMemory>
     ensures gains { OnOk result (Gains S.items S.keeps out.old out.new (redirect_triples id target)) }
-    ensures stays { S.rest out.new ≡ S.rest out.old }
+    ensures front { KeepsFront S.items out.old out.new }
 {
     let entity = TermRef::Id(Prefix::Wd, id);
     let target = TermRef::Id(Prefix::Wd, target);
@@ -60,7 +60,7 @@ fn emit_entity<S: TripleSink>(
     out: &mut S,
 ) -> Result<(), OutOfMemory>
     ensures gains { OnOk result (Gains S.items S.keeps out.old out.new (entity_triples setting.version id rev entity.now)) }
-    ensures stays { S.rest out.new ≡ S.rest out.old }
+    ensures front { KeepsFront S.items out.old out.new }
 {
     emit_spoken(setting, id, rev, entity, out)?;
     emit_articles(setting, id, entity.links.as_slice(), out)?;
@@ -77,7 +77,7 @@ fn emit_spoken<S: TripleSink>(
     out: &mut S,
 ) -> Result<(), OutOfMemory>
     ensures gains { OnOk result (Gains S.items S.keeps out.old out.new (spoken_triples id rev entity.now)) }
-    ensures stays { S.rest out.new ≡ S.rest out.old }
+    ensures front { KeepsFront S.items out.old out.new }
 {
     emit_texts(setting, id, entity, out)?;
     emit_dataset(setting, id, rev, entity, out)?;
@@ -91,7 +91,7 @@ fn emit_articles<S: TripleSink>(
     out: &mut S,
 ) -> Result<(), OutOfMemory>
     ensures gains { OnOk result (Gains S.items S.keeps out.old out.new (flat_map (article_triples id) links.now)) }
-    ensures stays { S.rest out.new ≡ S.rest out.old }
+    ensures front { KeepsFront S.items out.old out.new }
 {
     for link in links {
         emit_article(setting, id, link, out)?;
@@ -106,7 +106,7 @@ fn emit_texts<S: TripleSink>(
     out: &mut S,
 ) -> Result<(), OutOfMemory>
     ensures gains { OnOk result (Gains S.items S.keeps out.old out.new (text_triples id entity.now)) }
-    ensures stays { S.rest out.new ≡ S.rest out.old }
+    ensures front { KeepsFront S.items out.old out.new }
 {
     let subject = TermRef::Id(Prefix::Wd, id);
     emit_entity_class(setting, id, out)?;

@@ -1,7 +1,7 @@
 // What a page says of the lexeme itself.
 
-ghost use Rattle.std.specs.Prelude.{◌≡◌, OnOk};
-ghost use Rattle.triple_sink.specs.Gains.{Gains};
+ghost use Rattle.std.specs.Prelude.{OnOk};
+ghost use Rattle.triple_sink.specs.Gains.{Gains, KeepsFront};
 ghost use Rattle.lexeme_rdf.specs.Entry.{entry_triples, lemma_triples};
 
 use crate::texts::emit_texts;
@@ -18,7 +18,7 @@ pub(crate) fn emit_entry<S: TripleSink>(
     out: &mut S,
 ) -> Result<(), OutOfMemory>
     ensures gains { OnOk result (Gains S.items S.keeps out.old out.new (entry_triples id lexeme.now)) }
-    ensures stays { S.rest out.new ≡ S.rest out.old }
+    ensures front { KeepsFront S.items out.old out.new }
 {
     let entity = TermRef::Id(Prefix::Wd, id);
     emit_class(setting.alloc, &entity, Resource::LexicalEntry, out)?;
@@ -43,7 +43,7 @@ pub(crate) fn emit_lemmas<S: TripleSink>(
     out: &mut S,
 ) -> Result<(), OutOfMemory>
     ensures gains { OnOk result (Gains S.items S.keeps out.old out.new (lemma_triples id lexeme.now)) }
-    ensures stays { S.rest out.new ≡ S.rest out.old }
+    ensures front { KeepsFront S.items out.old out.new }
 {
     let entity = TermRef::Id(Prefix::Wd, id);
     let lemmas = lexeme.lemmas.as_slice();

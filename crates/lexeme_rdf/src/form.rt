@@ -1,8 +1,8 @@
 // What a page says of a form.
 
-ghost use Rattle.std.specs.Prelude.{◌≡◌, OnOk};
+ghost use Rattle.std.specs.Prelude.{OnOk};
 ghost use Rattle.std.specs.List.{flat_map};
-ghost use Rattle.triple_sink.specs.Gains.{Gains};
+ghost use Rattle.triple_sink.specs.Gains.{Gains, KeepsFront};
 ghost use Rattle.triple_sink.specs.TermRef.{meant};
 ghost use Rattle.lexeme_rdf.specs.Form.{feature_triples, form_head, form_triples};
 
@@ -20,7 +20,7 @@ pub(crate) fn emit_forms<S: TripleSink>(
     out: &mut S,
 ) -> Result<(), OutOfMemory>
     ensures gains { OnOk result (Gains S.items S.keeps out.old out.new (flat_map (form_triples (meant entity.now)) forms.now)) }
-    ensures stays { S.rest out.new ≡ S.rest out.old }
+    ensures front { KeepsFront S.items out.old out.new }
 {
     for form in forms {
         emit_form(setting, entity, form, out)?;
@@ -36,7 +36,7 @@ fn emit_form<S: TripleSink>(
     out: &mut S,
 ) -> Result<(), OutOfMemory>
     ensures gains { OnOk result (Gains S.items S.keeps out.old out.new (form_triples (meant entity.now) form.now)) }
-    ensures stays { S.rest out.new ≡ S.rest out.old }
+    ensures front { KeepsFront S.items out.old out.new }
 {
     let node = TermRef::Named(Prefix::Wd, form.id.as_str());
     emit_head(setting, entity, &node, out)?;
@@ -53,7 +53,7 @@ fn emit_head<S: TripleSink>(
     out: &mut S,
 ) -> Result<(), OutOfMemory>
     ensures gains { OnOk result (Gains S.items S.keeps out.old out.new (form_head (meant entity.now) (meant node.now))) }
-    ensures stays { S.rest out.new ≡ S.rest out.old }
+    ensures front { KeepsFront S.items out.old out.new }
 {
     emit_about(setting.alloc, entity, Predicate::LexicalForm, node, out)?;
     emit_class(setting.alloc, node, Resource::Form, out)?;
@@ -68,7 +68,7 @@ fn emit_features<S: TripleSink>(
     out: &mut S,
 ) -> Result<(), OutOfMemory>
     ensures gains { OnOk result (Gains S.items S.keeps out.old out.new (flat_map (feature_triples (meant node.now)) features.now)) }
-    ensures stays { S.rest out.new ≡ S.rest out.old }
+    ensures front { KeepsFront S.items out.old out.new }
 {
     for feature in features {
         let item = TermRef::Id(Prefix::Wd, *feature);

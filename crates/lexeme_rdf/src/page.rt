@@ -1,7 +1,7 @@
 // What the page of a lexeme says of the dataset that it is.
 
-ghost use Rattle.std.specs.Prelude.{◌≡◌, OnOk};
-ghost use Rattle.triple_sink.specs.Gains.{Gains};
+ghost use Rattle.std.specs.Prelude.{OnOk};
+ghost use Rattle.triple_sink.specs.Gains.{Gains, KeepsFront};
 ghost use Rattle.lexeme_rdf.specs.Page.{lexeme_page_triples};
 
 use entity_model::{EntityId, Lexeme};
@@ -19,7 +19,7 @@ pub(crate) fn emit_lexeme_page<S: TripleSink>(
     out: &mut S,
 ) -> Result<(), OutOfMemory>
     ensures gains { OnOk result (Gains S.items S.keeps out.old out.new (lexeme_page_triples id rev lexeme.now)) }
-    ensures stays { S.rest out.new ≡ S.rest out.old }
+    ensures front { KeepsFront S.items out.old out.new }
 {
     let dataset = TermRef::Id(Prefix::Data, id);
     emit_page(setting, id, out)?;

@@ -1,8 +1,8 @@
 // What a page says of a sense.
 
-ghost use Rattle.std.specs.Prelude.{◌≡◌, OnOk};
+ghost use Rattle.std.specs.Prelude.{OnOk};
 ghost use Rattle.std.specs.List.{flat_map};
-ghost use Rattle.triple_sink.specs.Gains.{Gains};
+ghost use Rattle.triple_sink.specs.Gains.{Gains, KeepsFront};
 ghost use Rattle.triple_sink.specs.TermRef.{meant};
 ghost use Rattle.lexeme_rdf.specs.Sense.{sense_head, sense_triples};
 
@@ -20,7 +20,7 @@ pub(crate) fn emit_senses<S: TripleSink>(
     out: &mut S,
 ) -> Result<(), OutOfMemory>
     ensures gains { OnOk result (Gains S.items S.keeps out.old out.new (flat_map (sense_triples (meant entity.now)) senses.now)) }
-    ensures stays { S.rest out.new ≡ S.rest out.old }
+    ensures front { KeepsFront S.items out.old out.new }
 {
     for sense in senses {
         emit_sense(setting, entity, sense, out)?;
@@ -36,7 +36,7 @@ fn emit_sense<S: TripleSink>(
     out: &mut S,
 ) -> Result<(), OutOfMemory>
     ensures gains { OnOk result (Gains S.items S.keeps out.old out.new (sense_triples (meant entity.now) sense.now)) }
-    ensures stays { S.rest out.new ≡ S.rest out.old }
+    ensures front { KeepsFront S.items out.old out.new }
 {
     let node = TermRef::Named(Prefix::Wd, sense.id.as_str());
     emit_head(setting, entity, &node, out)?;
@@ -52,7 +52,7 @@ fn emit_head<S: TripleSink>(
     out: &mut S,
 ) -> Result<(), OutOfMemory>
     ensures gains { OnOk result (Gains S.items S.keeps out.old out.new (sense_head (meant entity.now) (meant node.now))) }
-    ensures stays { S.rest out.new ≡ S.rest out.old }
+    ensures front { KeepsFront S.items out.old out.new }
 {
     emit_about(setting.alloc, entity, Predicate::Sense, node, out)?;
     emit_class(setting.alloc, node, Resource::LexicalSense, out)?;

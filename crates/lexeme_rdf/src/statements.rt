@@ -1,8 +1,8 @@
 // The triples of the statements of a lexeme and of its forms and senses.
 
-ghost use Rattle.std.specs.Prelude.{◌≡◌, OnOk};
+ghost use Rattle.std.specs.Prelude.{OnOk};
 ghost use Rattle.std.specs.List.{flat_map};
-ghost use Rattle.triple_sink.specs.Gains.{Gains};
+ghost use Rattle.triple_sink.specs.Gains.{Gains, KeepsFront};
 ghost use Rattle.lexeme_rdf.specs.Statements.{all_statements, part_statements};
 
 use entity_model::{EntityId, Lexeme, Part};
@@ -19,7 +19,7 @@ pub(crate) fn emit_all_statements<S: TripleSink>(
     out: &mut S,
 ) -> Result<(), OutOfMemory>
     ensures gains { OnOk result (Gains S.items S.keeps out.old out.new (all_statements setting.version id lexeme.now)) }
-    ensures stays { S.rest out.new ≡ S.rest out.old }
+    ensures front { KeepsFront S.items out.old out.new }
 {
     let entity = TermRef::Id(Prefix::Wd, id);
     emit_statements(setting, &entity, &lexeme.statements, out)?;
@@ -34,7 +34,7 @@ fn emit_of_parts<S: TripleSink>(
     out: &mut S,
 ) -> Result<(), OutOfMemory>
     ensures gains { OnOk result (Gains S.items S.keeps out.old out.new (flat_map (part_statements setting.version) parts.now)) }
-    ensures stays { S.rest out.new ≡ S.rest out.old }
+    ensures front { KeepsFront S.items out.old out.new }
 {
     for part in parts {
         let node = TermRef::Named(Prefix::Wd, part.id.as_str());

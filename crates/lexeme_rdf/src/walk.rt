@@ -1,7 +1,7 @@
 // The walk over a lexeme, which emits what each rule of the dump gives.
 
-ghost use Rattle.std.specs.Prelude.{◌≡◌, OnOk};
-ghost use Rattle.triple_sink.specs.Gains.{Gains};
+ghost use Rattle.std.specs.Prelude.{OnOk};
+ghost use Rattle.triple_sink.specs.Gains.{Gains, KeepsFront};
 ghost use Rattle.lexeme_rdf.specs.Dump.{lexdump, part_triples, spoken_triples};
 
 use crate::entry::{emit_entry, emit_lemmas};
@@ -15,7 +15,7 @@ use rdf_vocabulary::Prefix;
 use triple_sink::{Setting, TermRef, TripleSink};
 
 /// Emits the triples that the rules of the dump give for the lexeme of a revision of `id`, one rule after the other. A
-/// triple may come more than once. What the sink holds after `OutOfMemory` isn't said.
+/// triple may come more than once. After `OutOfMemory` the sink holds what it held, and perhaps more behind that.
 #[tactic(auto, unfolding(crate::specs::Dump::lexdump))]
 pub fn emit_lexeme<S: TripleSink>(
     setting: Setting,
@@ -25,7 +25,7 @@ pub fn emit_lexeme<S: TripleSink>(
     out: &mut S,
 ) -> Result<(), OutOfMemory>
     ensures gains { OnOk result (Gains S.items S.keeps out.old out.new (lexdump setting.version id rev lexeme.now)) }
-    ensures stays { S.rest out.new ≡ S.rest out.old }
+    ensures front { KeepsFront S.items out.old out.new }
 {
     emit_spoken(setting, id, rev, lexeme, out)?;
     emit_parts(setting, id, lexeme, out)?;
@@ -41,7 +41,7 @@ fn emit_spoken<S: TripleSink>(
     out: &mut S,
 ) -> Result<(), OutOfMemory>
     ensures gains { OnOk result (Gains S.items S.keeps out.old out.new (spoken_triples id rev lexeme.now)) }
-    ensures stays { S.rest out.new ≡ S.rest out.old }
+    ensures front { KeepsFront S.items out.old out.new }
 {
     emit_entry(setting, id, lexeme, out)?;
     emit_lemmas(setting, id, lexeme, out)?;
@@ -56,7 +56,7 @@ fn emit_parts<S: TripleSink>(
     out: &mut S,
 ) -> Result<(), OutOfMemory>
     ensures gains { OnOk result (Gains S.items S.keeps out.old out.new (part_triples id lexeme.now)) }
-    ensures stays { S.rest out.new ≡ S.rest out.old }
+    ensures front { KeepsFront S.items out.old out.new }
 {
     let entity = TermRef::Id(Prefix::Wd, id);
     emit_forms(setting, &entity, lexeme.forms.as_slice(), out)?;

@@ -1,8 +1,8 @@
 // The sink that munges what it hands on.
 
-ghost use Rattle.std.specs.Prelude.{◌≡◌, [], ◌∷◌, OnOk};
+ghost use Rattle.std.specs.Prelude.{[], ◌∷◌, OnOk};
 ghost use Rattle.std.specs.List.{flat_map};
-ghost use Rattle.triple_sink.specs.Gains.{Gains};
+ghost use Rattle.triple_sink.specs.Gains.{Gains, KeepsFront};
 ghost use Rattle.triple_sink.specs.TermRef.{meant_triple};
 ghost use Rattle.munger.specs.Munging.{munged};
 ghost use Rattle.munger.specs.Naming.{named_triple};
@@ -28,8 +28,6 @@ impl<S: TripleSink> TripleSink for Munged<S> {
     ghost items = { λ sink. S.items sink.inner };
 
     ghost keeps = { λ sink triple. flat_map (S.keeps sink.inner) (munged sink.page.id triple) };
-
-    ghost rest = { λ sink. S.rest sink.inner };
 
     fn emit(
         &mut self,
@@ -59,7 +57,7 @@ fn emit_named<S: TripleSink>(
     out: &mut S,
 ) -> Result<(), OutOfMemory>
     ensures gains { OnOk result (Gains S.items S.keeps out.old out.new (named_triple (meant_triple subject.now predicate.now object.now) ∷ [])) }
-    ensures stays { S.rest out.new ≡ S.rest out.old }
+    ensures front { KeepsFront S.items out.old out.new }
 {
     if is_blank(subject) || is_blank(predicate) || is_blank(object) {
         return emit_renamed(alloc, subject, predicate, object, out);
@@ -77,7 +75,7 @@ fn emit_renamed<S: TripleSink>(
     out: &mut S,
 ) -> Result<(), OutOfMemory>
     ensures gains { OnOk result (Gains S.items S.keeps out.old out.new (named_triple (meant_triple subject.now predicate.now object.now) ∷ [])) }
-    ensures stays { S.rest out.new ≡ S.rest out.old }
+    ensures front { KeepsFront S.items out.old out.new }
 {
     out.emit(alloc, &named(subject), &named(predicate), &named(object))
 }

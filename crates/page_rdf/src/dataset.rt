@@ -3,7 +3,7 @@
 ghost use Rattle.std.specs.Prelude.{◌≡◌, [], ◌∷◌, OnOk};
 ghost use Rattle.std.specs.Option.{option_copied};
 ghost use Rattle.rdf_vocabulary.specs.Predicate.{about};
-ghost use Rattle.triple_sink.specs.Gains.{Gains};
+ghost use Rattle.triple_sink.specs.Gains.{Gains, KeepsFront};
 ghost use Rattle.triple_sink.specs.TermRef.{meant};
 ghost use Rattle.rdf_term.specs.declared.term.Term.TheVariants.{Plain};
 ghost use Rattle.page_rdf.specs.Dataset.{change_triples, format_version, identifiers, is_identifier, number_term, number_triples, page_triples};
@@ -21,7 +21,7 @@ pub fn emit_page<S: TripleSink>(
     out: &mut S,
 ) -> Result<(), OutOfMemory>
     ensures gains { OnOk result (Gains S.items S.keeps out.old out.new (page_triples id)) }
-    ensures stays { S.rest out.new ≡ S.rest out.old }
+    ensures front { KeepsFront S.items out.old out.new }
 {
     let dataset = TermRef::Id(Prefix::Data, id);
     emit_class(setting.alloc, &dataset, Resource::Dataset, out)?;
@@ -40,7 +40,7 @@ fn emit_format<S: TripleSink>(
     out: &mut S,
 ) -> Result<(), OutOfMemory>
     ensures gains { OnOk result (Gains S.items S.keeps out.old out.new (about (meant dataset.now) Predicate.SoftwareVersion (Plain format_version) ∷ [])) }
-    ensures stays { S.rest out.new ≡ S.rest out.old }
+    ensures front { KeepsFront S.items out.old out.new }
 {
     let version = TermRef::Plain("1.0.0");
     emit_about(
@@ -61,7 +61,7 @@ pub fn emit_number<S: TripleSink>(
     out: &mut S,
 ) -> Result<(), OutOfMemory>
     ensures gains { OnOk result (Gains S.items S.keeps out.old out.new (about (meant dataset.now) predicate (number_term number) ∷ [])) }
-    ensures stays { S.rest out.new ≡ S.rest out.old }
+    ensures front { KeepsFront S.items out.old out.new }
 {
     let mut buffer = Buffer::new();
     let number = TermRef::Typed(buffer.format(number), Datatype::Integer.text());
@@ -95,7 +95,7 @@ pub fn emit_numbers<S: TripleSink>(
     out: &mut S,
 ) -> Result<(), OutOfMemory>
     ensures gains { OnOk result (Gains S.items S.keeps out.old out.new (number_triples (meant dataset.now) rev statements.now)) }
-    ensures stays { S.rest out.new ≡ S.rest out.old }
+    ensures front { KeepsFront S.items out.old out.new }
 {
     emit_number(setting, dataset, Predicate::Version, rev, out)?;
     let count = statements.len() as u64;
@@ -112,7 +112,7 @@ pub fn emit_change<S: TripleSink>(
     out: &mut S,
 ) -> Result<(), OutOfMemory>
     ensures gains { OnOk result (Gains S.items S.keeps out.old out.new (change_triples (meant dataset.now) (option_copied time.entry))) }
-    ensures stays { S.rest out.new ≡ S.rest out.old }
+    ensures front { KeepsFront S.items out.old out.new }
 {
     match time {
         Some(time) => {

@@ -2,7 +2,7 @@
 
 ghost use Rattle.std.specs.Prelude.{◌≡◌, ◌<◌, length, map, slice_index, OnOk};
 ghost use Rattle.std.specs.List.{flat_map};
-ghost use Rattle.triple_sink.specs.Gains.{Gains};
+ghost use Rattle.triple_sink.specs.Gains.{Gains, KeepsFront};
 ghost use Rattle.statement_rdf.specs.Ranking.{is_best};
 ghost use Rattle.triple_sink.specs.TermRef.{meant};
 ghost use Rattle.page_rdf.specs.Statements.{judged_triples, statements_triples};
@@ -20,7 +20,7 @@ pub fn emit_statements<S: TripleSink>(
     out: &mut S,
 ) -> Result<(), OutOfMemory>
     ensures gains { OnOk result (Gains S.items S.keeps out.old out.new (statements_triples setting.version (meant subject.now) statements.now)) }
-    ensures stays { S.rest out.new ≡ S.rest out.old }
+    ensures front { KeepsFront S.items out.old out.new }
 {
     let best = best(setting.alloc, statements)?;
     emit_judged(
@@ -42,7 +42,7 @@ fn emit_judged<S: TripleSink>(
 ) -> Result<(), OutOfMemory>
     requires { best.now ≡ map (is_best statements.now) statements.now }
     ensures gains { OnOk result (Gains S.items S.keeps out.old out.new (statements_triples setting.version (meant subject.now) statements.now)) }
-    ensures stays { S.rest out.new ≡ S.rest out.old }
+    ensures front { KeepsFront S.items out.old out.new }
 {
     let mut index = 0;
     for statement in statements {

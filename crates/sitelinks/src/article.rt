@@ -7,7 +7,7 @@ ghost use Rattle.entity_model.specs.Document.{IsSmallLink};
 ghost use Rattle.rdf_vocabulary.specs.Predicate.{about};
 ghost use Rattle.rdf_vocabulary.specs.Unreserved.{escaped_name};
 ghost use Rattle.sitelinks.specs.Replaced.{replaced};
-ghost use Rattle.triple_sink.specs.Gains.{Gains};
+ghost use Rattle.triple_sink.specs.Gains.{Gains, KeepsFront};
 ghost use Rattle.triple_sink.specs.TermRef.{meant};
 ghost use Rattle.sitelinks.specs.Article.{article_iri, article_triples, badge_triple, group_triple, article_head_triples, site_triples};
 ghost use Rattle.rdf_term.specs.Grammar.{tagged_of};
@@ -33,7 +33,7 @@ pub fn emit_article<S: TripleSink>(
     out: &mut S,
 ) -> Result<(), OutOfMemory>
     ensures gains { OnOk result (Gains S.items S.keeps out.old out.new (article_triples entity link.now)) }
-    ensures stays { S.rest out.new ≡ S.rest out.old }
+    ensures front { KeepsFront S.items out.old out.new }
     ensures fit { IsSmallLink link.now → AllByRecursion HasFitAndShortTerms (article_triples entity link.now) }
 {
     match site(setting.alloc, link.site.as_str())? {
@@ -51,7 +51,7 @@ fn emit_at_site<S: TripleSink>(
     out: &mut S,
 ) -> Result<(), OutOfMemory>
     ensures gains { OnOk result (Gains S.items S.keeps out.old out.new (site_triples entity link.now site.now)) }
-    ensures stays { S.rest out.new ≡ S.rest out.old }
+    ensures front { KeepsFront S.items out.old out.new }
 {
     let iri = article_iri(setting.alloc, site, link.title.as_str())?;
     let article = TermRef::Iri(iri.as_str());
@@ -94,7 +94,7 @@ fn emit_head<S: TripleSink>(
     out: &mut S,
 ) -> Result<(), OutOfMemory>
     ensures gains { OnOk result (Gains S.items S.keeps out.old out.new (article_head_triples (meant article.now) entity site.now)) }
-    ensures stays { S.rest out.new ≡ S.rest out.old }
+    ensures front { KeepsFront S.items out.old out.new }
 {
     emit_class(setting.alloc, article, Resource::Article, out)?;
     let entity = TermRef::Id(Prefix::Wd, entity);
@@ -120,7 +120,7 @@ fn emit_name<S: TripleSink>(
     out: &mut S,
 ) -> Result<(), OutOfMemory>
     ensures gains { OnOk result (Gains S.items S.keeps out.old out.new (about (meant article.now) Predicate.Name (tagged_of title.now site.now.language) ∷ [])) }
-    ensures stays { S.rest out.new ≡ S.rest out.old }
+    ensures front { KeepsFront S.items out.old out.new }
 {
     let name = TermRef::tagged(title, site.language.as_str());
     emit_about(setting.alloc, article, Predicate::Name, &name, out)
@@ -134,7 +134,7 @@ fn emit_badges<S: TripleSink>(
     out: &mut S,
 ) -> Result<(), OutOfMemory>
     ensures gains { OnOk result (Gains S.items S.keeps out.old out.new (map (badge_triple (meant article.now)) badges.now)) }
-    ensures stays { S.rest out.new ≡ S.rest out.old }
+    ensures front { KeepsFront S.items out.old out.new }
 {
     for badge in badges {
         let badge = TermRef::Id(Prefix::Wd, *badge);
@@ -150,7 +150,7 @@ fn emit_group<S: TripleSink>(
     out: &mut S,
 ) -> Result<(), OutOfMemory>
     ensures gains { OnOk result (Gains S.items S.keeps out.old out.new (group_triple site.now ∷ [])) }
-    ensures stays { S.rest out.new ≡ S.rest out.old }
+    ensures front { KeepsFront S.items out.old out.new }
 {
     let base = TermRef::Iri(site.base.as_str());
     let group = TermRef::Plain(site.group.as_str());

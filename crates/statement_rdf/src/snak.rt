@@ -2,7 +2,7 @@
 
 ghost use Rattle.std.specs.Prelude.{◌≡◌, [], ◌∷◌, ◌++◌, OnOk};
 ghost use Rattle.std.specs.List.{flat_map};
-ghost use Rattle.triple_sink.specs.Gains.{Gains};
+ghost use Rattle.triple_sink.specs.Gains.{Gains, KeepsFront};
 ghost use Rattle.triple_sink.specs.TermRef.{meant};
 ghost use Rattle.value_nodes.specs.Name.{node_name};
 ghost use Rattle.value_nodes.specs.Nodes.{node_triples};
@@ -31,7 +31,7 @@ pub fn emit_snaks<S: TripleSink>(
 ) -> Result<(), OutOfMemory>
     ensures gains { OnOk result (Gains S.items S.keeps out.old out.new
         (flat_map (snak_triples setting.version (meant subject.now) labels.old role.now) snaks.now)) }
-    ensures stays { S.rest out.new ≡ S.rest out.old }
+    ensures front { KeepsFront S.items out.old out.new }
     ensures same { labels.new ≡ labels.old }
 {
     for snak in snaks {
@@ -51,7 +51,7 @@ pub fn emit_snak<S: TripleSink>(
 ) -> Result<(), OutOfMemory>
     ensures gains { OnOk result (Gains S.items S.keeps out.old out.new
         (snak_triples setting.version (meant subject.now) labels.old role.now snak.now)) }
-    ensures stays { S.rest out.new ≡ S.rest out.old }
+    ensures front { KeepsFront S.items out.old out.new }
     ensures same { labels.new ≡ labels.old }
 {
     match &snak.content {
@@ -77,7 +77,7 @@ fn emit_value<S: TripleSink>(
 ) -> Result<(), OutOfMemory>
     ensures gains { OnOk result (Gains S.items S.keeps out.old out.new
         (value_triples setting.version (meant subject.now) role.now snak.now value.now)) }
-    ensures stays { S.rest out.new ≡ S.rest out.old }
+    ensures front { KeepsFront S.items out.old out.new }
 {
     emit_object(
         setting.alloc,
@@ -101,7 +101,7 @@ pub fn emit_object<S: TripleSink>(
 ) -> Result<(), OutOfMemory>
     ensures gains { OnOk result (Gains S.items S.keeps out.old out.new
         (object_triples (meant subject.now) (id_term prefix snak.now.property) (simple_term snak.now.datatype value.now))) }
-    ensures stays { S.rest out.new ≡ S.rest out.old }
+    ensures front { KeepsFront S.items out.old out.new }
 {
     let predicate = TermRef::Id(prefix, snak.property);
     emit_simple(
@@ -126,7 +126,7 @@ fn emit_node<S: TripleSink>(
     ensures gains { OnOk result (Gains S.items S.keeps out.old out.new
         (link_triples (meant subject.now) (id_term prefix snak.now.property) (node_name setting.version value.now)
         ++ node_triples setting.version value.now)) }
-    ensures stays { S.rest out.new ≡ S.rest out.old }
+    ensures front { KeepsFront S.items out.old out.new }
 {
     match node_name(setting, value)? {
         Some(name) => {
@@ -148,7 +148,7 @@ pub fn emit_no_value<S: TripleSink>(
 ) -> Result<(), OutOfMemory>
     ensures gains { OnOk result (Gains S.items S.keeps out.old out.new
         (no_value_triple (meant subject.now) property ∷ [])) }
-    ensures stays { S.rest out.new ≡ S.rest out.old }
+    ensures front { KeepsFront S.items out.old out.new }
 {
     let predicate = TermRef::Predicate(Predicate::RdfType);
     let class = TermRef::Id(Prefix::Wdno, property);

@@ -2,7 +2,7 @@
 
 ghost use Rattle.std.specs.Prelude.{◌≡◌, OnOk};
 ghost use Rattle.std.specs.List.{flat_map};
-ghost use Rattle.triple_sink.specs.Gains.{Gains};
+ghost use Rattle.triple_sink.specs.Gains.{Gains, KeepsFront};
 ghost use Rattle.triple_sink.specs.TermRef.{meant};
 ghost use Rattle.statement_rdf.specs.Statement.{direct_triples, head_triples, main_triples, part_triples, qualifier_triples, rank_resource, reference_triples, source_triples, statement_triples};
 
@@ -28,7 +28,7 @@ pub fn emit_statement<S: TripleSink>(
 ) -> Result<(), OutOfMemory>
     ensures gains { OnOk result (Gains S.items S.keeps out.old out.new
         (statement_triples setting.version (meant entity.now) statement.now best)) }
-    ensures stays { S.rest out.new ≡ S.rest out.old }
+    ensures front { KeepsFront S.items out.old out.new }
 {
     let name = statement_name(setting.alloc, statement.id.as_str())?;
     let node = TermRef::Named(Prefix::Wds, name.as_str());
@@ -46,7 +46,7 @@ fn emit_all_parts<S: TripleSink>(
 ) -> Result<(), OutOfMemory>
     ensures gains { OnOk result (Gains S.items S.keeps out.old out.new
         (part_triples setting.version (meant entity.now) (meant node.now) statement.now best)) }
-    ensures stays { S.rest out.new ≡ S.rest out.old }
+    ensures front { KeepsFront S.items out.old out.new }
 {
     let mut labels = Labels::new(statement.id.as_str());
     emit_head(setting.alloc, entity, node, statement, best, out)?;
@@ -67,7 +67,7 @@ fn emit_head<S: TripleSink>(
 ) -> Result<(), OutOfMemory>
     ensures gains { OnOk result (Gains S.items S.keeps out.old out.new
         (head_triples (meant entity.now) (meant node.now) statement.now best)) }
-    ensures stays { S.rest out.new ≡ S.rest out.old }
+    ensures front { KeepsFront S.items out.old out.new }
 {
     let claim = TermRef::Id(Prefix::P, statement.property);
     out.emit(alloc, entity, &claim, node)?;
@@ -104,7 +104,7 @@ fn emit_main<S: TripleSink>(
     requires { labels.old ≡ statement.now.id }
     ensures gains { OnOk result (Gains S.items S.keeps out.old out.new
         (main_triples setting.version (meant entity.now) (meant node.now) statement.now best)) }
-    ensures stays { S.rest out.new ≡ S.rest out.old }
+    ensures front { KeepsFront S.items out.old out.new }
     ensures same { labels.new ≡ labels.old }
 {
     emit_snak(setting, node, labels, &Role::Main, &statement.main, out)?;
@@ -124,7 +124,7 @@ fn emit_direct<S: TripleSink>(
 ) -> Result<(), OutOfMemory>
     ensures gains { OnOk result (Gains S.items S.keeps out.old out.new
         (direct_triples (meant entity.now) labels.old snak.now)) }
-    ensures stays { S.rest out.new ≡ S.rest out.old }
+    ensures front { KeepsFront S.items out.old out.new }
     ensures same { labels.new ≡ labels.old }
 {
     match &snak.content {
@@ -149,7 +149,7 @@ fn emit_qualifiers<S: TripleSink>(
     requires { labels.old ≡ statement.now.id }
     ensures gains { OnOk result (Gains S.items S.keeps out.old out.new
         (qualifier_triples setting.version (meant node.now) statement.now)) }
-    ensures stays { S.rest out.new ≡ S.rest out.old }
+    ensures front { KeepsFront S.items out.old out.new }
     ensures same { labels.new ≡ labels.old }
 {
     let qualifiers = statement.qualifiers.as_slice();
@@ -166,7 +166,7 @@ fn emit_references<S: TripleSink>(
 ) -> Result<(), OutOfMemory>
     ensures gains { OnOk result (Gains S.items S.keeps out.old out.new
         (flat_map (reference_triples setting.version (meant node.now) labels.old) references.now)) }
-    ensures stays { S.rest out.new ≡ S.rest out.old }
+    ensures front { KeepsFront S.items out.old out.new }
     ensures same { labels.new ≡ labels.old }
 {
     for reference in references {
@@ -185,7 +185,7 @@ fn emit_reference<S: TripleSink>(
 ) -> Result<(), OutOfMemory>
     ensures gains { OnOk result (Gains S.items S.keeps out.old out.new
         (reference_triples setting.version (meant node.now) labels.old reference.now)) }
-    ensures stays { S.rest out.new ≡ S.rest out.old }
+    ensures front { KeepsFront S.items out.old out.new }
     ensures same { labels.new ≡ labels.old }
 {
     let source = TermRef::Named(Prefix::Wdref, reference.hash.as_str());
@@ -204,7 +204,7 @@ fn emit_source<S: TripleSink>(
 ) -> Result<(), OutOfMemory>
     ensures gains { OnOk result (Gains S.items S.keeps out.old out.new
         (source_triples (meant node.now) (meant source.now))) }
-    ensures stays { S.rest out.new ≡ S.rest out.old }
+    ensures front { KeepsFront S.items out.old out.new }
 {
     emit_about(alloc, node, Predicate::WasDerivedFrom, source, out)?;
     emit_class(alloc, source, Resource::Reference, out)

@@ -1,5 +1,5 @@
 -- What a sink gains by triples in a row, and by a sink that keeps each one.
-use Rattle.std.proofs.Common.{◌≡◌, List, [], ◌∷◌, ◌++◌, refl, sym, ap, ◌∙◌, append_assoc}
+use Rattle.std.proofs.Common.{◌≡◌, List, [], ◌∷◌, ◌++◌, length, take, refl, sym, ap, ◌∙◌, append_assoc}
 use Rattle.std.specs.List.{flat_map}
 use Rattle.std.proofs.lemmas.List.Concat.{flat_map-append}
 use Rattle.rdf_term.specs.declared.triple.Triple.{Triple}
@@ -17,3 +17,13 @@ gains_then items keeps a b c xs ys g h = (
 pub all_of : {A : Type 0} (xs : List A) → flat_map (λ x. x ∷ []) xs ≡ xs
 all_of [] = refl
 all_of (x ∷ xs) = ap (λ l. x ∷ l) (all_of xs)
+
+-- what a list begins with, a longer one begins with too
+pub front_kept : {A : Type 0} (xs ys front : List A) → take (length front) xs ≡ front → take (length front) (xs ++ ys) ≡ front
+front_kept xs ys [] h = refl
+front_kept [] ys (f ∷ front) h = cc
+front_kept (x ∷ xs) ys (f ∷ front) h =
+    let head : x ≡ f = cc in
+    let tail : take (length front) xs ≡ front = cc in
+    let rest = front_kept xs ys front tail in
+    cc

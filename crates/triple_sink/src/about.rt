@@ -1,9 +1,9 @@
 // Triples by the words of the vocabulary.
 
-ghost use Rattle.std.specs.Prelude.{◌≡◌, [], ◌∷◌, OnOk};
+ghost use Rattle.std.specs.Prelude.{[], ◌∷◌, OnOk};
 ghost use Rattle.rdf_vocabulary.specs.Predicate.{about};
 ghost use Rattle.rdf_vocabulary.specs.Resource.{class_triple};
-ghost use Rattle.triple_sink.specs.Gains.{Gains};
+ghost use Rattle.triple_sink.specs.Gains.{Gains, KeepsFront};
 ghost use Rattle.triple_sink.specs.TermRef.{meant};
 
 use crate::sink::TripleSink;
@@ -12,7 +12,7 @@ use rdf_term::OutOfMemory;
 use rdf_vocabulary::{Predicate, Resource};
 use std::alloc::Global;
 
-/// Hands on the triple that says the object of the subject. What the sink holds after `OutOfMemory` isn't said.
+/// Hands on the triple that says the object of the subject. After `OutOfMemory` the sink holds what it held, and perhaps more behind that.
 pub fn emit_about<S: TripleSink>(
     alloc: Global,
     subject: &TermRef<'_>,
@@ -21,12 +21,12 @@ pub fn emit_about<S: TripleSink>(
     out: &mut S,
 ) -> Result<(), OutOfMemory>
     ensures gains { OnOk result (Gains S.items S.keeps out.old out.new (about (meant subject.now) predicate (meant object.now) ∷ [])) }
-    ensures stays { S.rest out.new ≡ S.rest out.old }
+    ensures front { KeepsFront S.items out.old out.new }
 {
     out.emit(alloc, subject, &TermRef::Predicate(predicate), object)
 }
 
-/// Hands on the class of a node. What the sink holds after `OutOfMemory` isn't said.
+/// Hands on the class of a node. After `OutOfMemory` the sink holds what it held, and perhaps more behind that.
 pub fn emit_class<S: TripleSink>(
     alloc: Global,
     node: &TermRef<'_>,
@@ -34,7 +34,7 @@ pub fn emit_class<S: TripleSink>(
     out: &mut S,
 ) -> Result<(), OutOfMemory>
     ensures gains { OnOk result (Gains S.items S.keeps out.old out.new (class_triple (meant node.now) class ∷ [])) }
-    ensures stays { S.rest out.new ≡ S.rest out.old }
+    ensures front { KeepsFront S.items out.old out.new }
 {
     emit_about(
         alloc,

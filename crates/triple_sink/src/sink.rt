@@ -1,19 +1,19 @@
 // What takes triples.
 
-ghost use Rattle.std.specs.Prelude.{◌≡◌, [], ◌∷◌, ◌++◌, OnOk};
-ghost use Rattle.triple_sink.specs.Gains.{Gains};
+ghost use Rattle.std.specs.Prelude.{[], ◌∷◌, ◌++◌, OnOk};
+ghost use Rattle.triple_sink.specs.Gains.{Gains, KeepsFront};
 ghost use Rattle.triple_sink.specs.TermRef.{meant_triple};
 
 use crate::term_ref::TermRef;
 use rdf_term::{List, OutOfMemory, Triple};
 use std::alloc::Global;
 
-/// What takes triples. It says which triples it holds, what it keeps of a triple that it is handed, and what
-/// no call changes.
+/// What takes triples. It says which triples it holds, and what it keeps of a triple that it is handed. Whatever a call answers, what it
+/// held still stands in front.
 pub trait TripleSink {
-    ghost use Rattle.std.specs.Prelude.{List as Items, ℕ};
+    ghost use Rattle.std.specs.Prelude.{List as Items};
     ghost use Rattle.rdf_term.specs.declared.triple.Triple.{Triple};
-    ghost use Rattle.triple_sink.specs.Gains.{Gains};
+    ghost use Rattle.triple_sink.specs.Gains.{Gains, KeepsFront};
     ghost use Rattle.triple_sink.specs.TermRef.{meant_triple};
 
     // The triples that it holds, in the order in which they came.
@@ -22,10 +22,7 @@ pub trait TripleSink {
     // What it keeps of a triple: nothing, the triple or others in its place. No call changes this.
     ghost keeps: { Self → Triple → Items Triple };
 
-    // What no call changes, whatever it answers.
-    ghost rest: { Self → ℕ → ℕ };
-
-    /// Takes the triple of the three terms. What it holds after `OutOfMemory` isn't said.
+    /// Takes the triple of the three terms. After `OutOfMemory` it holds what it held, and perhaps more behind that.
     fn emit(
         &mut self,
         alloc: Global,
@@ -34,7 +31,7 @@ pub trait TripleSink {
         object: &TermRef<'_>,
     ) -> Result<(), OutOfMemory>
         ensures gains { OnOk result (Gains items keeps self.old self.new (meant_triple subject.now predicate.now object.now ∷ [])) }
-        ensures stays { rest self.new ≡ rest self.old };
+        ensures front { KeepsFront items self.old self.new };
 }
 
 // A list keeps each triple, at its end.
@@ -44,8 +41,6 @@ impl TripleSink for List<Triple> {
     ghost items = { λ list. list };
 
     ghost keeps = { λ list triple. triple ∷ [] };
-
-    ghost rest = { λ list n. 0 };
 
     fn emit(
         &mut self,
@@ -72,7 +67,7 @@ pub fn emit_all<S: TripleSink>(
     out: &mut S,
 ) -> Result<(), OutOfMemory>
     ensures gains { OnOk result (Gains S.items S.keeps out.old out.new triples.now) }
-    ensures stays { S.rest out.new ≡ S.rest out.old }
+    ensures front { KeepsFront S.items out.old out.new }
 {
     for triple in triples {
         out.emit(

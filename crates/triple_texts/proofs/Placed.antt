@@ -56,6 +56,16 @@ module _ (bytes more : List ℕ) where
   lie_more [] spans all lies = (lies, tt)
   lie_more (x ∷ all_spans) spans all lies = (lies_kept x all.0, lie_more all_spans spans all.1 lies)
 
+  triples_same : (all_spans : List TripleSpans) → AllByRecursion (LieIn bytes) all_spans → map (triple_in (bytes ++ more)) all_spans ≡ map (triple_in bytes) all_spans
+  triples_same [] all = refl
+  triples_same (x ∷ all_spans) all =
+      ap (λ t. t ∷ map (triple_in (bytes ++ more)) all_spans) (triple_kept x all.0)
+      ∙ ap (λ l. triple_in bytes x ∷ l) (triples_same all_spans all.1)
+
+  lie_same : (all_spans : List TripleSpans) → AllByRecursion (LieIn bytes) all_spans → AllByRecursion (LieIn (bytes ++ more)) all_spans
+  lie_same [] all = tt
+  lie_same (x ∷ all_spans) all = (lies_kept x all.0, lie_same all_spans all.1)
+
 -- so is the span of a term's text, in a buffer that begins with this one
 pub span_kept : (before after : List ℕ) (term : Term) (span : Span) → take (length before) after ≡ before → IsSpanOf before term span → IsSpanOf after term span
 span_kept before after term span kept its =
@@ -133,3 +143,13 @@ repeats bytes all_spans index before this that low prior is_this is_that same =
       is_this = slice_get-map (triple_in bytes) all_spans index ∙ ap (option_map (triple_in bytes)) (slice_get_read all_spans (length all_spans) index this refl within is_this);
       same = ap (λ span. undo (text_in bytes span)) same;
     }
+
+-- the triples as they were, in a buffer that begins with the one before
+module _ (before after : List ℕ) (kept : take (length before) after ≡ before) (all_spans : List TripleSpans) (all : AllByRecursion (LieIn before) all_spans) where
+  pub all_kept : map (triple_in after) all_spans ≡ map (triple_in before) all_spans
+  all_kept =
+      ap (λ bytes. map (triple_in bytes) all_spans) (longer before after kept)
+      ∙ triples_same before (drop (length before) after) all_spans all
+
+  pub still_lie : AllByRecursion (LieIn after) all_spans
+  still_lie = subst (λ (bytes : List ℕ). AllByRecursion (LieIn bytes) all_spans) (sym (longer before after kept)) (lie_same before (drop (length before) after) all_spans all)

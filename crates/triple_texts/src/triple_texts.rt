@@ -102,8 +102,6 @@ impl TripleSink for TripleTexts {
 
     ghost keeps = { λ texts triple. triple ∷ [] };
 
-    ghost rest = { λ texts n. 0 };
-
     fn emit(
         &mut self,
         _alloc: Global,
@@ -114,18 +112,10 @@ impl TripleSink for TripleTexts {
         self.all_spans.reserve(1)?;
         let size = long_size(subject);
         let near = near(&self.long, size);
-        match append_triple(subject, predicate, object, near, &mut self.bytes) {
-            Ok(spans) => {
-                remember(&mut self.long, size, spans.subject);
-                self.all_spans.push_reserved(spans);
-                Ok(())
-            }
-            Err(OutOfMemory) => {
-                // The buffer isn't what it was.
-                self.all_spans.clear();
-                Err(OutOfMemory)
-            }
-        }
+        let spans = append_triple(subject, predicate, object, near, &mut self.bytes)?;
+        remember(&mut self.long, size, spans.subject);
+        self.all_spans.push_reserved(spans);
+        Ok(())
     }
 }
 
@@ -134,7 +124,7 @@ fn near(long: &[Span], size: Option<usize>) -> Option<Span> {
     long.get(size?).copied()
 }
 
-// Appends the texts of a triple, but for a subject that is there already, and gives their place.
+// Appends the texts of a triple, but for a subject that is there already, and gives their place. What stood there stays, whatever the answer.
 fn append_triple(
     subject: &TermRef<'_>,
     predicate: &TermRef<'_>,
@@ -142,7 +132,7 @@ fn append_triple(
     near: Option<Span>,
     bytes: &mut Vec<u8>,
 ) -> Result<TripleSpans, OutOfMemory>
-    ensures kept { OnOk result (take (length bytes.old.items) bytes.new.items ≡ bytes.old.items) }
+    ensures kept { take (length bytes.old.items) bytes.new.items ≡ bytes.old.items }
     ensures spans { IfOk result (AreSpansOf bytes.new.items (meant_triple subject.now predicate.now object.now)) }
 {
     let subject = put(subject, near, bytes)?;
@@ -157,7 +147,7 @@ fn append_triple(
 
 // Where a term's text lies: where it is likely to, or else at the end, where it is appended.
 fn put(term: &TermRef<'_>, near: Option<Span>, bytes: &mut Vec<u8>) -> Result<Span, OutOfMemory>
-    ensures kept { OnOk result (take (length bytes.old.items) bytes.new.items ≡ bytes.old.items) }
+    ensures kept { take (length bytes.old.items) bytes.new.items ≡ bytes.old.items }
     ensures span { IfOk result (IsSpanOf bytes.new.items (meant term.now)) }
 {
     if let Some(span) = near {
@@ -178,7 +168,7 @@ fn lies_there(term: &TermRef<'_>, span: Span, bytes: &[u8]) -> bool
 
 // Appends a term's text and tells where it lies.
 fn append(term: &TermRef<'_>, bytes: &mut Vec<u8>) -> Result<Span, OutOfMemory>
-    ensures kept { OnOk result (take (length bytes.old.items) bytes.new.items ≡ bytes.old.items) }
+    ensures kept { take (length bytes.old.items) bytes.new.items ≡ bytes.old.items }
     ensures span { IfOk result (IsSpanOf bytes.new.items (meant term.now)) }
 {
     let start = bytes.len();

@@ -1,10 +1,10 @@
 // The triples of the nodes of data values.
 
-ghost use Rattle.std.specs.Prelude.{◌≡◌, [], ◌∷◌, OnOk};
+ghost use Rattle.std.specs.Prelude.{[], ◌∷◌, OnOk};
 ghost use Rattle.std.specs.Option.{option_copied};
 ghost use Rattle.rdf_vocabulary.specs.Datatype.{typed};
 ghost use Rattle.rdf_vocabulary.specs.Predicate.{about};
-ghost use Rattle.triple_sink.specs.Gains.{Gains};
+ghost use Rattle.triple_sink.specs.Gains.{Gains, KeepsFront};
 ghost use Rattle.triple_sink.specs.TermRef.{meant};
 ghost use Rattle.value_nodes.specs.Nodes.{bound_triples, globe_triples, value_part_triples, precision_triples, quantity_triples, time_triples, unit_term};
 
@@ -23,7 +23,7 @@ pub fn emit_parts<S: TripleSink>(
     out: &mut S,
 ) -> Result<(), OutOfMemory>
     ensures gains { OnOk result (Gains S.items S.keeps out.old out.new (value_part_triples (meant node.now) value.now)) }
-    ensures stays { S.rest out.new ≡ S.rest out.old }
+    ensures front { KeepsFront S.items out.old out.new }
 {
     match value {
         Value::Time(time) => {
@@ -50,7 +50,7 @@ fn emit_time_parts<S: TripleSink>(
     out: &mut S,
 ) -> Result<(), OutOfMemory>
     ensures gains { OnOk result (Gains S.items S.keeps out.old out.new (time_triples (meant node.now) time.now)) }
-    ensures stays { S.rest out.new ≡ S.rest out.old }
+    ensures front { KeepsFront S.items out.old out.new }
 {
     let value = TermRef::Predicate(Predicate::TimeValue);
     emit_time(alloc, node, &value, time, out)?;
@@ -70,7 +70,7 @@ fn emit_quantity_parts<S: TripleSink>(
     out: &mut S,
 ) -> Result<(), OutOfMemory>
     ensures gains { OnOk result (Gains S.items S.keeps out.old out.new (quantity_triples (meant node.now) quantity.now)) }
-    ensures stays { S.rest out.new ≡ S.rest out.old }
+    ensures front { KeepsFront S.items out.old out.new }
 {
     let amount = TermRef::Predicate(Predicate::QuantityAmount);
     emit_amount(alloc, node, &amount, quantity.amount.as_str(), out)?;
@@ -90,7 +90,7 @@ fn emit_bound<S: TripleSink>(
 ) -> Result<(), OutOfMemory>
     ensures gains { OnOk result (Gains S.items S.keeps out.old out.new
         (bound_triples (meant node.now) predicate (option_copied bound.entry))) }
-    ensures stays { S.rest out.new ≡ S.rest out.old }
+    ensures front { KeepsFront S.items out.old out.new }
 {
     match bound {
         Some(bound) => {
@@ -111,7 +111,7 @@ fn emit_unit<S: TripleSink>(
 ) -> Result<(), OutOfMemory>
     ensures gains { OnOk result (Gains S.items S.keeps out.old out.new
         (about (meant node.now) Predicate.QuantityUnit (unit_term unit.now) ∷ [])) }
-    ensures stays { S.rest out.new ≡ S.rest out.old }
+    ensures front { KeepsFront S.items out.old out.new }
 {
     let predicate = TermRef::Predicate(Predicate::QuantityUnit);
     if unit == "1" {
@@ -128,15 +128,29 @@ fn emit_globe_parts<S: TripleSink>(
     out: &mut S,
 ) -> Result<(), OutOfMemory>
     ensures gains { OnOk result (Gains S.items S.keeps out.old out.new (globe_triples (meant node.now) globe.now)) }
-    ensures stays { S.rest out.new ≡ S.rest out.old }
+    ensures front { KeepsFront S.items out.old out.new }
+{
+    emit_position(alloc, node, globe, out)?;
+    emit_precision(alloc, node, globe.precision.as_ref(), out)?;
+    let predicate = TermRef::Predicate(Predicate::GeoGlobe);
+    emit_iri(alloc, node, &predicate, globe.globe.as_str(), out)
+}
+
+// Hands on the latitude and the longitude of a coordinate.
+fn emit_position<S: TripleSink>(
+    alloc: Global,
+    node: &TermRef<'_>,
+    globe: &GlobeParts,
+    out: &mut S,
+) -> Result<(), OutOfMemory>
+    ensures gains { OnOk result (Gains S.items S.keeps out.old out.new
+        (about (meant node.now) Predicate.GeoLatitude (typed globe.now.latitude Datatype.Double) ∷ about (meant node.now) Predicate.GeoLongitude (typed globe.now.longitude Datatype.Double) ∷ [])) }
+    ensures front { KeepsFront S.items out.old out.new }
 {
     let latitude = globe.latitude.as_str();
     emit_double(alloc, node, Predicate::GeoLatitude, latitude, out)?;
     let longitude = globe.longitude.as_str();
-    emit_double(alloc, node, Predicate::GeoLongitude, longitude, out)?;
-    emit_precision(alloc, node, globe.precision.as_ref(), out)?;
-    let predicate = TermRef::Predicate(Predicate::GeoGlobe);
-    emit_iri(alloc, node, &predicate, globe.globe.as_str(), out)
+    emit_double(alloc, node, Predicate::GeoLongitude, longitude, out)
 }
 
 // Hands on the precision of a coordinate, where it is there.
@@ -148,7 +162,7 @@ fn emit_precision<S: TripleSink>(
 ) -> Result<(), OutOfMemory>
     ensures gains { OnOk result (Gains S.items S.keeps out.old out.new
         (precision_triples (meant node.now) (option_copied precision.entry))) }
-    ensures stays { S.rest out.new ≡ S.rest out.old }
+    ensures front { KeepsFront S.items out.old out.new }
 {
     match precision {
         Some(precision) => {
@@ -174,7 +188,7 @@ fn emit_integer<S: TripleSink>(
 ) -> Result<(), OutOfMemory>
     ensures gains { OnOk result (Gains S.items S.keeps out.old out.new
         (about (meant node.now) predicate (typed text.now Datatype.Integer) ∷ [])) }
-    ensures stays { S.rest out.new ≡ S.rest out.old }
+    ensures front { KeepsFront S.items out.old out.new }
 {
     let object = TermRef::Typed(text, Datatype::Integer.text());
     emit_about(alloc, node, predicate, &object, out)
@@ -190,7 +204,7 @@ fn emit_double<S: TripleSink>(
 ) -> Result<(), OutOfMemory>
     ensures gains { OnOk result (Gains S.items S.keeps out.old out.new
         (about (meant node.now) predicate (typed text.now Datatype.Double) ∷ [])) }
-    ensures stays { S.rest out.new ≡ S.rest out.old }
+    ensures front { KeepsFront S.items out.old out.new }
 {
     let object = TermRef::Typed(text, Datatype::Double.text());
     emit_about(alloc, node, predicate, &object, out)

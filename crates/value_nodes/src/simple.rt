@@ -4,7 +4,7 @@ ghost use Rattle.std.specs.Prelude.{◌≡◌, [], ◌∷◌, IfOk, IfSome, OnOk
 ghost use Rattle.std.specs.Str.{bytes_eq};
 ghost use Rattle.rdf_term.specs.Grammar.{iri_of};
 ghost use Rattle.rdf_vocabulary.specs.Prefix.{prefixed};
-ghost use Rattle.triple_sink.specs.Gains.{Gains};
+ghost use Rattle.triple_sink.specs.Gains.{Gains, KeepsFront};
 ghost use Rattle.triple_sink.specs.TermRef.{meant};
 ghost use Rattle.wb_values.specs.Literal.{time_literal};
 ghost use Rattle.value_nodes.specs.Said.{object_triples, triple};
@@ -30,7 +30,7 @@ pub fn emit_simple<S: TripleSink>(
 ) -> Result<(), OutOfMemory>
     ensures gains { OnOk result (Gains S.items S.keeps out.old out.new
         (object_triples (meant subject.now) (meant predicate.now) (simple_term datatype.now value.now))) }
-    ensures stays { S.rest out.new ≡ S.rest out.old }
+    ensures front { KeepsFront S.items out.old out.new }
 {
     match value {
         Value::Entity(id) => {
@@ -63,7 +63,7 @@ fn emit_text<S: TripleSink>(
 ) -> Result<(), OutOfMemory>
     ensures gains { OnOk result (Gains S.items S.keeps out.old out.new
         (triple (meant subject.now) (meant predicate.now) (text_term datatype.now text.now) ∷ [])) }
-    ensures stays { S.rest out.new ≡ S.rest out.old }
+    ensures front { KeepsFront S.items out.old out.new }
 {
     if datatype == "url" {
         return emit_iri(alloc, subject, predicate, text, out);
@@ -89,7 +89,7 @@ pub fn emit_iri<S: TripleSink>(
 ) -> Result<(), OutOfMemory>
     ensures gains { OnOk result (Gains S.items S.keeps out.old out.new
         (triple (meant subject.now) (meant predicate.now) (iri_of text.now) ∷ [])) }
-    ensures stays { S.rest out.new ≡ S.rest out.old }
+    ensures front { KeepsFront S.items out.old out.new }
 {
     if let Some(name) = name_in_iri(text) {
         return out.emit(alloc, subject, predicate, &TermRef::Named(Prefix::Wd, name));
@@ -122,7 +122,7 @@ pub(crate) fn emit_amount<S: TripleSink>(
 ) -> Result<(), OutOfMemory>
     ensures gains { OnOk result (Gains S.items S.keeps out.old out.new
         (triple (meant subject.now) (meant predicate.now) (amount_term text.now) ∷ [])) }
-    ensures stays { S.rest out.new ≡ S.rest out.old }
+    ensures front { KeepsFront S.items out.old out.new }
 {
     if is_decimal(text) {
         let object = TermRef::Typed(text, Datatype::Decimal.text());
@@ -141,7 +141,7 @@ pub(crate) fn emit_time<S: TripleSink>(
 ) -> Result<(), OutOfMemory>
     ensures gains { OnOk result (Gains S.items S.keeps out.old out.new
         (triple (meant subject.now) (meant predicate.now) (time_term time.now) ∷ [])) }
-    ensures stays { S.rest out.new ≡ S.rest out.old }
+    ensures front { KeepsFront S.items out.old out.new }
 {
     let text = time_text(alloc, time)?;
     emit_time_text(alloc, subject, predicate, &text, out)
@@ -172,7 +172,7 @@ fn emit_time_text<S: TripleSink>(
 ) -> Result<(), OutOfMemory>
     ensures gains { OnOk result (Gains S.items S.keeps out.old out.new
         (triple (meant subject.now) (meant predicate.now) (time_text_term text.now) ∷ [])) }
-    ensures stays { S.rest out.new ≡ S.rest out.old }
+    ensures front { KeepsFront S.items out.old out.new }
 {
     match text {
         TimeText::DateTime(text) => {
@@ -198,7 +198,7 @@ fn emit_globe<S: TripleSink>(
 ) -> Result<(), OutOfMemory>
     ensures gains { OnOk result (Gains S.items S.keeps out.old out.new
         (triple (meant subject.now) (meant predicate.now) (globe_term globe.now) ∷ [])) }
-    ensures stays { S.rest out.new ≡ S.rest out.old }
+    ensures front { KeepsFront S.items out.old out.new }
 {
     let (latitude, longitude) = (globe.latitude.as_str(), globe.longitude.as_str());
     let text = point_text(alloc, latitude, longitude, globe.globe.as_str())?;

@@ -1,7 +1,7 @@
 -- The triples of the features so far.
-use Rattle.std.proofs.Common.{◌≡◌, take}
+use Rattle.std.proofs.Common.{take}
 use Rattle.std.specs.List.{flat_map}
-use Rattle.triple_sink.specs.Gains.{Gains}
+use Rattle.triple_sink.specs.Gains.{Gains, KeepsFront}
 use Rattle.triple_sink.specs.TermRef.{meant}
 use Rattle.lexeme_rdf.specs.Form.{feature_triples}
 use Rattle.lexeme_rdf.proofs.form.emit_features.Given as goal
@@ -9,4 +9,4 @@ use Rattle.lexeme_rdf.proofs.form.emit_features.Given as goal
 abbrev pub invariant-loop-feature : goal.invariant-loop-feature
 invariant-loop-feature g l =
     Gains g.S.TripleSink.items g.S.TripleSink.keeps l.fn.out l.out (flat_map (feature_triples (meant l.node)) (take l.feature-index l.features))
-    × (g.S.TripleSink.rest l.out ≡ g.S.TripleSink.rest l.fn.out)
+    × KeepsFront g.S.TripleSink.items l.fn.out l.out

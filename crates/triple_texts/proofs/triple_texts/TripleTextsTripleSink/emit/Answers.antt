@@ -1,21 +1,35 @@
--- The texts are there, and the place is theirs.
-use Rattle.std.proofs.Common.{◌≡◌, [], ◌∷◌, ◌++◌, refl, ap, ◌∙◌}
-use Rattle.rdf_term.specs.declared.triple.Triple.{Triple}
+-- The texts are there, and the place is theirs; and whatever the answer, the triples before it stay.
+use Rattle.std.proofs.Common.{[], ◌∷◌, ◌++◌, length, take, refl, ap, ◌∙◌}
 use Rattle.triple_sink.specs.TermRef.{meant_triple}
-use Rattle.triple_texts.proofs.Placed.{one_more, all_lie}
+use Rattle.triple_sink.proofs.Gained.{front_kept}
+use Rattle.triple_texts.proofs.Placed.{all_kept, all_lie, one_more, still_lie}
 use Rattle.triple_texts.proofs.triple_texts.TripleTextsTripleSink.emit.Goals as goal
 
-abbrev triple : goal.After-push_reserved → Triple
-triple c = meant_triple c.args.subject.now c.args.predicate.now c.args.object.now
+pub invariant_of-self-in_err-spans : goal.invariant_of-self-in_err-spans
+invariant_of-self-in_err-spans c =
+    rw c.reserve.ensures.items (still_lie c.self.inside.bytes.items _ c.append_triple.ensures.kept c.self.inside.all_spans.items c.self.invariant)
 
-all_spans : (c : goal.After-push_reserved) → c.push_reserved.new.self.items ≡ c.self.inside.all_spans.items ++ c.in-Ok.spans ∷ []
-all_spans c = c.push_reserved.ensures.items ∙ ap (λ l. l ++ c.in-Ok.spans ∷ []) c.reserve.ensures.items
+pub returns-in_err-spans-clause-front : goal.returns-in_err-spans-clause-front
+returns-in_err-spans-clause-front c front h =
+    ap (take (length front)) (rw c.reserve.ensures.items (all_kept c.self.inside.bytes.items _ c.append_triple.ensures.kept c.self.inside.all_spans.items c.self.invariant) ∙ c.self.view_is) ∙ h
 
-pub invariant_of-self-in-Ok : goal.invariant_of-self-in-Ok
-invariant_of-self-in-Ok c = all_lie c.self.inside.bytes.items _ (triple c) c.in-Ok.spans c.in-Ok.ensures.kept c.in-Ok.ensures.spans c.self.inside.all_spans.items _ (all_spans c) c.self.invariant
+pub invariant_of-self-2 : goal.invariant_of-self-2
+invariant_of-self-2 c =
+    let triple = meant_triple c.args.subject.now c.args.predicate.now c.args.object.now in
+    let pushed = c.push_reserved.ensures.items ∙ ap (λ l. l ++ c.in_ok-spans.spans ∷ []) c.reserve.ensures.items in
+    all_lie c.self.inside.bytes.items _ triple c.in_ok-spans.spans c.append_triple.ensures.kept c.in_ok-spans.ensures.spans c.self.inside.all_spans.items _ pushed c.self.invariant
 
-pub returns-in-Ok-clause-gains : goal.returns-in-Ok-clause-gains
-returns-in-Ok-clause-gains c = (
-  one_more c.self.inside.bytes.items _ (triple c) c.in-Ok.spans c.in-Ok.ensures.kept c.in-Ok.ensures.spans c.self.inside.all_spans.items _ (all_spans c) c.self.invariant ∙ ap (λ l. l ++ triple c ∷ []) c.self.view_is,
-  refl,
-)
+pub returns-clause-gains : goal.returns-clause-gains
+returns-clause-gains c =
+    let triple = meant_triple c.args.subject.now c.args.predicate.now c.args.object.now in
+    let pushed = c.push_reserved.ensures.items ∙ ap (λ l. l ++ c.in_ok-spans.spans ∷ []) c.reserve.ensures.items in (
+      one_more c.self.inside.bytes.items _ triple c.in_ok-spans.spans c.append_triple.ensures.kept c.in_ok-spans.ensures.spans c.self.inside.all_spans.items _ pushed c.self.invariant ∙ ap (λ l. l ++ triple ∷ []) c.self.view_is,
+      refl,
+    )
+
+pub returns-clause-front : goal.returns-clause-front
+returns-clause-front c front h =
+    let triple = meant_triple c.args.subject.now c.args.predicate.now c.args.object.now in
+    let pushed = c.push_reserved.ensures.items ∙ ap (λ l. l ++ c.in_ok-spans.spans ∷ []) c.reserve.ensures.items in
+    let more = one_more c.self.inside.bytes.items _ triple c.in_ok-spans.spans c.append_triple.ensures.kept c.in_ok-spans.ensures.spans c.self.inside.all_spans.items _ pushed c.self.invariant in
+    ap (take (length front)) (more ∙ ap (λ l. l ++ triple ∷ []) c.self.view_is) ∙ front_kept c.args.self.now (triple ∷ []) front h
