@@ -94,7 +94,7 @@ impl TripleTexts {
     }
 }
 
-// Each triple is kept, at the end. After `OutOfMemory` none is.
+// Each triple is kept, at the end. After `OutOfMemory` those before it are there.
 impl TripleSink for TripleTexts {
     ghost use Rattle.std.specs.Prelude.{[], ◌∷◌};
 
