@@ -12,6 +12,7 @@ mod Finding
 mod Fitting
 mod Followed
 mod FromNothing
+mod GoesOn
 mod Loaded
 mod Needed
 mod OneRun

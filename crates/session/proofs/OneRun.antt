@@ -1,5 +1,5 @@
 -- A run that goes on from where a replay stands, and one replay of all deliveries.
-use Rattle.std.proofs.Common.{◌≡◌, refl, sym, subst, ◌∙◌, ap, ℕ, ◌+◌, Bool, true, false, List, [], ◌∷◌, ◌++◌, append_assoc, length, length-append, Option, None, Some, IfSome, IsSome, arith}
+use Rattle.std.proofs.Common.{◌≡◌, refl, sym, subst, ◌∙◌, ap, ℕ, ◌+◌, Bool, true, false, List, [], ◌∷◌, ◌++◌, append_assoc, length, length-append, Option, None, Some, arith}
 use Rattle.std.proofs.lemmas.List.Elements.{filter_map-append}
 use Rattle.wq_io.specs.Streams.{after_known}
 use Rattle.delivery.specs.declared.Delivery.{Delivery}
@@ -17,30 +17,21 @@ use Rattle.subgraph.specs.declared.routes.Route.{Route}
 use Rattle.replay_model.specs.Versions.{all_by}
 use Rattle.world.specs.Meaning.{meaning}
 use Rattle.patch_stream.specs.Stream.{Step, changes, steps_anew, steps_due, steps_of_play, stream_text}
-use Rattle.snapshot.specs.File.{saved_in_bytes}
-use Rattle.snapshot.specs.Whole.{Saved}
-use Rattle.world.specs.WorldState.{WorldState}
 use Rattle.checkpoint.specs.declared.numbers.Numbers.{Numbers}
-use Rattle.checkpoint.specs.Saved.{numbers_of as numbers_back, saved_of}
-use Rattle.following.specs.Input.{Input}
 use Rattle.words.specs.Options.{closes}
 use Rattle.session.specs.declared.report.Report.TheVariants.{Answers, Changes}
-use Rattle.session.specs.declared.status.Status.{Status}
-use Rattle.session.specs.declared.status.Status.TheVariants.{Ok as Ended}
 use Rattle.session.specs.Along.{along, state_along, steps_of_delivery, stream_text_from, version_since}
 use Rattle.session.specs.Answering.{answer_by, said_by}
 use Rattle.session.specs.Course.{all_said, course_ended, led_to, version_at}
 use Rattle.session.specs.Headline.{Ending, HasFates, course_of, numbers_saved}
-use Rattle.session.specs.Moment.{Beginning, IsFirst, Moment, Run, Stage, behind, horizon_at, standing, start_in, start_of}
-use Rattle.session.specs.OneRun.{CountsQuestions, HoldsAndNames, StandsAfter, deliveries_of, printed_in_all, replies_with, state_ended, steps_ended}
+use Rattle.session.specs.Moment.{Beginning, IsFirst, Moment, Run, horizon_at, standing, start_in, start_of}
+use Rattle.session.specs.OneRun.{CountsQuestions, HoldsAndNames, StandsAfter, printed_in_all, replies_with, state_ended, steps_ended}
 use Rattle.session.specs.Remapping.{Mapped, mapped_by}
 use Rattle.session.specs.Report.{bytes_of}
-use Rattle.session.specs.Resuming.{IsResumed, with_loaded}
-use Rattle.session.specs.Saving.{HasSaved, numbers_of, saved_at, snapshot_text}
+use Rattle.session.specs.Saving.{numbers_of}
 use Rattle.session.specs.Sections.{sections_of}
 use Rattle.session.proofs.Along.{version-along}
 use Rattle.session.proofs.Ends.{fates}
-use Rattle.session.proofs.FromNothing.{led_first, version_first}
 use Rattle.session.proofs.StreamRuns.{changes-append, steps-two, steps_to_end-two, stream-append}
 
 -- a first run stands after no delivery
@@ -217,72 +208,3 @@ module _ (h : Option ℕ) (first : Replies) (a : List Delivery) (run : Run) (bef
         ∙ ap (λ n. n + changes made) counts
         ∙ sym (changes-append (steps_of_play h first a) made)
         ∙ ap changes (steps_are run.environment.routes (closes run.choices))
-
--- ---- a run that goes on from bytes that were saved
-
--- such bytes give back one world with one set of counts
-begins_at : (status : Status) (run : Run) (before now : Moment) (stage : Stage) (numbers : Numbers) (resumed : IsResumed status run before now) → IfSome before.resumed.left (λ bytes. saved_in_bytes bytes ≡ Some (saved_at stage numbers)) →
-    IsSome before.resumed.left → saved_of resumed.world resumed.numbers ≡ saved_at stage numbers
-begins_at status run before now stage numbers resumed saved told = by before.resumed.left told resumed.loaded.saved saved
-  where
-    by : (left : Option (List ℕ)) → IsSome left → IfSome left (λ bytes. saved_in_bytes bytes ≡ Some (saved_of resumed.world resumed.numbers)) → IfSome left (λ bytes. saved_in_bytes bytes ≡ Some (saved_at stage numbers)) →
-        saved_of resumed.world resumed.numbers ≡ saved_at stage numbers
-    by None never here there = cc
-    by (Some bytes) told here there =
-        let same : Some (saved_of resumed.world resumed.numbers) ≡ Some (saved_at stage numbers) = sym here ∙ there in
-        cc
-
-stands_there : (run : Run) (before : Moment) (rest : Input) (world : WorldState) (counts : Numbers) (stage : Stage) (numbers : Numbers) → saved_of world counts ≡ saved_at stage numbers →
-    (h : Option ℕ) (replies : Replies) (ds : List Delivery) → StandsAfter h replies ds (start_in numbers stage) → StandsAfter h replies ds (start_of (behind counts run) (with_loaded before rest world))
-stands_there run before rest world counts stage numbers same h replies ds stands = record {
-  world = ap (λ (s : Saved). s.state) same ∙ stands.world;
-  version = ap (λ (s : Saved). s.version) same ∙ stands.version;
-}
-
-counts_same : (world : WorldState) (counts : Numbers) (stage : Stage) (numbers : Numbers) → saved_of world counts ≡ saved_at stage numbers → counts ≡ numbers
-counts_same world counts stage numbers same = ap numbers_back same
-
-pub begins_there : (status : Status) (run : Run) (before now : Moment) (stage : Stage) (numbers : Numbers) (bytes : List ℕ) (resumed : IsResumed status run before now) →
-    before.resumed.left ≡ Some bytes → saved_in_bytes bytes ≡ Some (saved_at stage numbers) →
-    (h : Option ℕ) (replies : Replies) (ds : List Delivery) → StandsAfter h replies ds (start_in numbers stage) →
-    StandsAfter h replies ds (start_of (behind resumed.numbers run) (with_loaded before resumed.rest resumed.world)) × (resumed.numbers ≡ numbers)
-begins_there status run before now stage numbers bytes resumed left saved h replies ds stands =
-    let Told : Option (List ℕ) → Type 0 = λ o. IfSome o (λ b. saved_in_bytes b ≡ Some (saved_at stage numbers)) in
-    let same : saved_of resumed.world resumed.numbers ≡ saved_at stage numbers = begins_at status run before now stage numbers resumed (subst Told (sym left) saved) (subst (λ (o : Option (List ℕ)). IsSome o) (sym left) refl) in
-    (stands_there run before resumed.rest resumed.world resumed.numbers stage numbers same h replies ds stands, counts_same resumed.world resumed.numbers stage numbers same)
-
--- what a first run saves is where its replay stands, and it is told where its file began empty
-first_saved : (run : Run) (before now : Moment) → IsFirst (start_of run before) → (ending : Ending run before now) → closes run.choices ≡ false →
-    StandsAfter (horizon_at (start_of run before)) ending.replayed.replay.played.replies (deliveries_of ending) (start_in (numbers_saved ending) now.stage)
-first_saved run before now is_first ending open_still =
-    let start : Beginning = start_of run before in
-    let ds : List Delivery = ending.replayed.deliveries in
-    let replies : Replies = ending.replayed.replay.played.replies in
-    record {
-      world = subst (λ closed. now.stage.world ≡ (course_ended run.environment.routes closed ds start).state replies) open_still ending.replayed.replay.played.is ∙ led_first start is_first replies ds;
-      version = ap (λ (m : Mapped). m.version) ending.replayed.replay.played.mapped ∙ version_first start is_first replies ds;
-    }
-
-pub saved_told : (run : Run) (before now : Moment) (ending : Ending run before now) → closes run.choices ≡ false → before.snapshot.bytes ≡ Some [] → IsSome now.snapshot.bytes
-saved_told run before now ending open_still empty =
-    let text : List ℕ = snapshot_text (numbers_saved ending) now.stage in
-    let saved : now.snapshot.bytes ≡ after_known before.snapshot.bytes text = subst (λ closed. HasSaved closed text before.snapshot now.snapshot) open_still ending.saved in
-    subst (λ (o : Option (List ℕ)). IsSome o) (sym (saved ∙ ap (λ b. after_known b text) empty)) refl
-
-pub two_are_one : (one two : Run) (before_one now_one before_two now_two : Moment) (is_first : IsFirst (start_of one before_one)) (first : Ending one before_one now_one) → closes one.choices ≡ false →
-    before_two.resumed.left ≡ now_one.snapshot.bytes → (second : IsResumed Ended two before_two now_two) → IfSome now_one.snapshot.bytes (λ bytes. saved_in_bytes bytes ≡ Some (saved_at now_one.stage (numbers_saved first))) →
-    IsSome now_one.snapshot.bytes →
-    (now_two.stage.world ≡ state_ended (closes two.choices) (horizon_at (start_of one before_one)) (replies_with first.replayed.replay.played.replies (deliveries_of first) second.ending.outcome)
-    (deliveries_of first ++ deliveries_of second.ending.outcome))
-    × HasFates (closes two.choices) (horizon_at (start_of one before_one)) (deliveries_of first ++ deliveries_of second.ending.outcome) now_two.stage.world
-two_are_one one two before_one now_one before_two now_two is_first first open_still same second saved told =
-    let h : Option ℕ = horizon_at (start_of one before_one) in
-    let replies : Replies = first.replayed.replay.played.replies in
-    let Told : Option (List ℕ) → Type 0 = λ o. IfSome o (λ b. saved_in_bytes b ≡ Some (saved_at now_one.stage (numbers_saved first))) in
-    let there : saved_of second.world second.numbers ≡ saved_at now_one.stage (numbers_saved first) =
-    begins_at Ended two before_two now_two now_one.stage (numbers_saved first) second (subst Told (sym same) saved) (subst (λ (o : Option (List ℕ)). IsSome o) (sym same) told) in
-    let stands : StandsAfter h replies (deliveries_of first) (start_of (behind second.numbers two) (with_loaded before_two second.rest second.world)) =
-    stands_there two before_two second.rest second.world second.numbers now_one.stage (numbers_saved first) there h replies (deliveries_of first) (first_saved one before_one now_one is_first first open_still) in (
-      world_is h replies (deliveries_of first) (behind second.numbers two) (with_loaded before_two second.rest second.world) now_two stands second.ending.outcome,
-      fates_are h replies (deliveries_of first) (behind second.numbers two) (with_loaded before_two second.rest second.world) now_two stands second.ending.outcome,
-    )

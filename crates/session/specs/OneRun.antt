@@ -1,5 +1,5 @@
 -- Runs that go on from one another, and one replay of all their deliveries.
-use Rattle.std.specs.Prelude.{◌≡◌, ℕ, Bool, true, false, List, ◌++◌, Option}
+use Rattle.std.specs.Prelude.{◌≡◌, ℕ, Bool, true, false, List, [], ◌++◌, Option, Some}
 use Rattle.delivery.specs.declared.Delivery.{Delivery}
 use Rattle.replay_model.specs.Acceptance.{late, mark, version_in_force}
 use Rattle.replay_model.specs.Entries.{HoldsUnlessOpen, late_events}
@@ -10,8 +10,13 @@ use Rattle.replay_parts.specs.Checkpoint.{replies_of_runs}
 use Rattle.patch_stream.specs.Stream.{Step, steps_of_play, steps_to_end}
 use Rattle.world.specs.Meaning.{meaning}
 use Rattle.checkpoint.specs.declared.numbers.Numbers.{Numbers}
-use Rattle.session.specs.Headline.{Ending}
-use Rattle.session.specs.Moment.{Beginning, Moment, Run}
+use Rattle.snapshot.specs.File.{IsFitSaved}
+use Rattle.words.specs.Options.{closes}
+use Rattle.session.specs.declared.status.Status.TheVariants.{Ok as Ended}
+use Rattle.session.specs.Headline.{Ending, numbers_saved}
+use Rattle.session.specs.Moment.{Beginning, IsFirst, Moment, Run, horizon_at, start_of}
+use Rattle.session.specs.Resuming.{IsResumed}
+use Rattle.session.specs.Saving.{saved_at}
 use Rattle.session.specs.Taking.{HoldsDocuments}
 
 -- a run begins where a replay of these deliveries stands
@@ -52,3 +57,33 @@ deliveries_of ending = ending.replayed.deliveries
 -- the replies to the earlier deliveries, and behind their mark those of a run that ended well
 abbrev pub replies_with : {run : Run} {before now : Moment} → Replies → List Delivery → Ending run before now → Replies
 replies_with earlier ds ending = replies_of_runs (mark ds) earlier ending.replayed.replay.played.replies
+
+-- ---- two runs
+
+-- a first run ended well that saved its world, and a second one went on from these bytes and ended well
+pub record TwoRuns (one two : Run) (before_one now_one before_two now_two : Moment) : Type 0 where
+  pub is_first : IsFirst (start_of one before_one)
+  pub first : Ending one before_one now_one
+  pub open_still : closes one.choices ≡ false
+  pub empty : before_one.snapshot.bytes ≡ Some []
+  pub fit : IsFitSaved (saved_at now_one.stage (numbers_saved first))
+  pub same : before_two.resumed.left ≡ now_one.snapshot.bytes
+  pub second : IsResumed Ended two before_two now_two
+
+module _ {one two : Run} {before_one now_one before_two now_two : Moment} where
+  -- the horizon of both
+  abbrev pub horizon_of : TwoRuns one two before_one now_one before_two now_two → Option ℕ
+  horizon_of runs = horizon_at (start_of one before_one)
+
+  abbrev pub first_replies : TwoRuns one two before_one now_one before_two now_two → Replies
+  first_replies runs = runs.first.replayed.replay.played.replies
+
+  abbrev pub first_deliveries : TwoRuns one two before_one now_one before_two now_two → List Delivery
+  first_deliveries runs = deliveries_of runs.first
+
+  -- the first run's replies to events that its mark had reached, and the second's to all others
+  abbrev pub all_replies : TwoRuns one two before_one now_one before_two now_two → Replies
+  all_replies runs = replies_with (first_replies runs) (first_deliveries runs) runs.second.ending.outcome
+
+  abbrev pub all_deliveries : TwoRuns one two before_one now_one before_two now_two → List Delivery
+  all_deliveries runs = first_deliveries runs ++ deliveries_of runs.second.ending.outcome

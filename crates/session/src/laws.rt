@@ -40,7 +40,7 @@ ghost use Rattle.session.specs.Course.{course_to_end, led_to, version_at};
 ghost use Rattle.session.specs.Complete.{FindsDocument, IsStill, has_document, steps_made, triples_in};
 ghost use Rattle.session.specs.Headline.{Ending, HasFates, Stopped, numbers_saved};
 ghost use Rattle.session.specs.Moment.{Beginning, IsFirst, Moment, Run, Stage, behind, horizon_at, standing, start_in, start_of};
-ghost use Rattle.session.specs.OneRun.{CountsQuestions, HoldsAndNames, StandsAfter, deliveries_of, printed_in_all, replies_with, state_ended, steps_ended};
+ghost use Rattle.session.specs.OneRun.{CountsQuestions, HoldsAndNames, StandsAfter, TwoRuns, all_deliveries, all_replies, deliveries_of, first_deliveries, first_replies, horizon_of, printed_in_all, replies_with, state_ended, steps_ended};
 ghost use Rattle.session.specs.Reading.{AreDeliveries};
 ghost use Rattle.session.specs.Resuming.{AllowsHorizon, IsNotResumed, IsResumed, ResumeEnding, with_loaded};
 ghost use Rattle.session.specs.Saving.{saved_at};
@@ -244,14 +244,26 @@ pub fn saved_worlds_are_gone_on_from()
 
 /// Two runs are one: where a first run ended well that saved its world, and a second one goes on from these bytes and ends well, the world is
 /// that of one replay of the deliveries of both, whose replies are the first run's to events that its mark had reached, and the second's to
-/// all others. So are the states. The numbers that are saved have to fit 64 bits.
+/// all others. So are the states, and what is held and named. Where both answer questions, the second prints what this replay prints behind
+/// what it prints at the first run's deliveries; where both report changes, their records are one stream. The numbers that are saved have to
+/// fit 64 bits.
 pub fn two_runs_are_one()
-    ensures { (one two : Run) (before_one now_one before_two now_two : Moment) → IsFirst (start_of one before_one) → (first : Ending one before_one now_one) → closes one.choices ≡ false →
-        before_one.snapshot.bytes ≡ Some [] → IsFitSaved (saved_at now_one.stage (numbers_saved first)) → before_two.resumed.left ≡ now_one.snapshot.bytes →
-        (second : IsResumed Status.Ok two before_two now_two) →
-        (now_two.stage.world ≡ state_ended (closes two.choices) (horizon_at (start_of one before_one)) (replies_with first.replayed.replay.played.replies (deliveries_of first) second.ending.outcome)
-        (deliveries_of first ++ deliveries_of second.ending.outcome))
-        × HasFates (closes two.choices) (horizon_at (start_of one before_one)) (deliveries_of first ++ deliveries_of second.ending.outcome) now_two.stage.world }
+    ensures world { (one two : Run) (before_one now_one before_two now_two : Moment) (runs : TwoRuns one two before_one now_one before_two now_two) →
+        now_two.stage.world ≡ state_ended (closes two.choices) (horizon_of runs) (all_replies runs) (all_deliveries runs) }
+    ensures fates { (one two : Run) (before_one now_one before_two now_two : Moment) (runs : TwoRuns one two before_one now_one before_two now_two) →
+        HasFates (closes two.choices) (horizon_of runs) (all_deliveries runs) now_two.stage.world }
+    ensures holds { (one two : Run) (before_one now_one before_two now_two : Moment) (runs : TwoRuns one two before_one now_one before_two now_two) →
+        HoldsAndNames (horizon_of runs) (all_deliveries runs) now_two.stage.world }
+    ensures printed { (one two : Run) (before_one now_one before_two now_two : Moment) (runs : TwoRuns one two before_one now_one before_two now_two) →
+        one.environment.report ≡ Answers → two.environment.report ≡ Answers → two.environment.routes ≡ None →
+        (rest : List ℕ) × (now_two.stage.output.bytes ≡ after_known before_two.stage.output.bytes rest)
+        × (said meaning (horizon_of runs) (first_replies runs) (first_deliveries runs) ++ rest
+        ≡ printed_in_all (closes two.choices) (sections_of two.choices) (horizon_of runs) (all_replies runs) (all_deliveries runs)) }
+    ensures streamed { (one two : Run) (before_one now_one before_two now_two : Moment) (runs : TwoRuns one two before_one now_one before_two now_two) →
+        one.environment.report ≡ Changes → two.environment.report ≡ Changes →
+        (rest : List ℕ) × (now_two.stage.output.bytes ≡ after_known before_two.stage.output.bytes rest)
+        × (stream_text (steps_of_play (horizon_of runs) (first_replies runs) (first_deliveries runs)) ++ rest
+        ≡ stream_text (steps_ended (closes two.choices) (horizon_of runs) (all_replies runs) (all_deliveries runs))) }
 {
     a_saved_replay_is_read_back();
 }

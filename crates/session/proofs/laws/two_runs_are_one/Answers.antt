@@ -1,8 +1,23 @@
 -- What is saved is read back, and the second run goes on from there.
-use Rattle.session.proofs.OneRun.{saved_told, two_are_one}
+use Rattle.session.proofs.GoesOn.{fates_of_both, holds_of_both, printed_by_both, streamed_by_both, world_of_both}
 use Rattle.session.proofs.laws.two_runs_are_one.Goals as goal
 
-pub returns : goal.returns
-returns c = λ one two before_one now_one before_two now_two is_first first open_still empty fit same second.
-    two_are_one one two before_one now_one before_two now_two is_first first open_still same second (c.a_saved_replay_is_read_back.ensures.first one before_one now_one is_first first open_still empty fit)
-    (saved_told one before_one now_one first open_still empty)
+pub returns-clause-world : goal.returns-clause-world
+returns-clause-world c = λ one two before_one now_one before_two now_two runs.
+    world_of_both one two before_one now_one before_two now_two runs (c.a_saved_replay_is_read_back.ensures.first one before_one now_one runs.is_first runs.first runs.open_still runs.empty runs.fit)
+
+pub returns-clause-fates : goal.returns-clause-fates
+returns-clause-fates c = λ one two before_one now_one before_two now_two runs.
+    fates_of_both one two before_one now_one before_two now_two runs (c.a_saved_replay_is_read_back.ensures.first one before_one now_one runs.is_first runs.first runs.open_still runs.empty runs.fit)
+
+pub returns-clause-holds : goal.returns-clause-holds
+returns-clause-holds c = λ one two before_one now_one before_two now_two runs.
+    holds_of_both one two before_one now_one before_two now_two runs (c.a_saved_replay_is_read_back.ensures.first one before_one now_one runs.is_first runs.first runs.open_still runs.empty runs.fit)
+
+pub returns-clause-printed : goal.returns-clause-printed
+returns-clause-printed c = λ one two before_one now_one before_two now_two runs.
+    printed_by_both one two before_one now_one before_two now_two runs (c.a_saved_replay_is_read_back.ensures.first one before_one now_one runs.is_first runs.first runs.open_still runs.empty runs.fit)
+
+pub returns-clause-streamed : goal.returns-clause-streamed
+returns-clause-streamed c = λ one two before_one now_one before_two now_two runs.
+    streamed_by_both one two before_one now_one before_two now_two runs (c.a_saved_replay_is_read_back.ensures.first one before_one now_one runs.is_first runs.first runs.open_still runs.empty runs.fit)
