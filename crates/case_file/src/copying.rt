@@ -1,0 +1,56 @@
+// What a run is given, with memory of its own.
+
+use crate::parts::{Calls, Given, Page};
+use anyhow::Result;
+use std::alloc::Global;
+
+impl Given {
+    /// The same once more.
+    pub fn copy(&self, alloc: Global) -> Result<Given> {
+        Ok(Given {
+            words: words(alloc, self.words.as_slice())?,
+            input: Vec::from_slice(alloc, self.input.as_slice())?,
+            pages: pages(alloc, self.pages.as_slice())?,
+            reads: calls(alloc, &self.reads)?,
+            writes: calls(alloc, &self.writes)?,
+            saves: calls(alloc, &self.saves)?,
+            resumed: Vec::from_slice(alloc, self.resumed.as_slice())?,
+            loads: calls(alloc, &self.loads)?,
+            failing_fetches: Vec::from_slice(alloc, self.failing_fetches.as_slice())?,
+        })
+    }
+}
+
+// The same words.
+fn words(alloc: Global, words: &[String]) -> Result<Vec<String>> {
+    let mut copies = Vec::new(alloc);
+    for word in words {
+        let word = String::from_str(alloc, word.as_str())?;
+        copies.push(word)?;
+    }
+    Ok(copies)
+}
+
+// The same pages.
+fn pages(alloc: Global, pages: &[Page]) -> Result<Vec<Page>> {
+    let mut copies = Vec::new(alloc);
+    for page in pages {
+        let folder = String::from_str(alloc, page.folder.as_str())?;
+        let bytes = Vec::from_slice(alloc, page.bytes.as_slice())?;
+        copies.push(Page {
+            folder,
+            rev: page.rev,
+            bytes,
+        })?;
+    }
+    Ok(copies)
+}
+
+// The same calls.
+fn calls(alloc: Global, calls: &Calls) -> Result<Calls> {
+    let failing = Vec::from_slice(alloc, calls.failing.as_slice())?;
+    Ok(Calls {
+        bytes: calls.bytes,
+        failing,
+    })
+}
