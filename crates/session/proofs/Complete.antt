@@ -50,7 +50,7 @@ use Rattle.session.proofs.Versions.{all_held_by}
 -- ---- the statuses
 
 -- a count that stands still didn't rise
-not_risen : {G : Type 0} (before now : ℕ) → IsStill before now → Rose before now → G
+pub not_risen : {G : Type 0} (before now : ℕ) → IsStill before now → Rose before now → G
 not_risen before now still rose = absurd (omega (arith, still.same, still.below, rose))
 
 onto_none : (r : Result Delivery LineCause) (o : Option (List Delivery)) → o ≡ None → onto_deliveries r o ≡ None

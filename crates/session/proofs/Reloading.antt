@@ -1,5 +1,5 @@
 -- What a run saved is no snapshot that a later run refuses.
-use Rattle.std.proofs.Common.{◌≡◌, refl, ⊎_elim, sym, subst, ◌∙◌, ap, ℕ, ◌<◌, false, List, [], ◌++◌, Option, Some, IfSome, MatchOption}
+use Rattle.std.proofs.Common.{◌≡◌, refl, ◌⊎◌, inr, ⊎_elim, sym, subst, ◌∙◌, ap, ℕ, ◌<◌, ◌≤◌, false, List, [], ◌++◌, length, Option, None, Some, IfSome, MatchOption, arith}
 use Rattle.wq_io.specs.Streams.{after_known}
 use Rattle.delivery.specs.declared.Delivery.{Delivery}
 use Rattle.replay_model.specs.Play.{Replies}
@@ -13,24 +13,48 @@ use Rattle.world.specs.Roomed.{room_with}
 use Rattle.world.specs.WorldState.{WorldState}
 use Rattle.checkpoint.specs.declared.fault.LoadFault.{LoadFault}
 use Rattle.checkpoint.specs.declared.fault.LoadFault.TheVariants.{ReadFault as NotRead, TooLong as OverLength, BadLine, Full, OutOfMemory as NoMemory}
-use Rattle.checkpoint.specs.Causes.{IsFileOverfull, IsNoSnapshot}
+use Rattle.checkpoint.specs.Causes.{IsFileOverfull, IsNoSnapshot, longest_file}
 use Rattle.checkpoint.specs.Loading.{IsLoadable}
 use Rattle.checkpoint.specs.Saved.{AreWithin, saved_of}
 use Rattle.words.specs.Options.{closes, max_terms_of}
 use Rattle.session.specs.declared.status.Status.{Status}
+use Rattle.session.specs.declared.status.Status.TheVariants.{Ok as Ended, BadWords, BadLine as LineRefused, ReadFault as ReadFailed, WriteFault as WriteFailed, TooLong as LimitPassed}
+use Rattle.session.specs.declared.status.Status.TheVariants.{StoreFull as RoomPassed, OutOfMemory as MemoryRefused, BadSnapshot as SnapshotRefused}
 use Rattle.session.specs.declared.stop.Stop.{Stop}
-use Rattle.session.specs.declared.stop.Stop.TheVariants.{BadSnapshot, StoreFull}
+use Rattle.session.specs.declared.stop.Stop.TheVariants.{BadSnapshot, OutOfMemory, StoreFull}
+use Rattle.session.specs.Complete.{IsStill}
 use Rattle.session.specs.Headline.{Ending, Stopped, numbers_saved}
 use Rattle.session.specs.Moment.{Moment, Run, Stage, behind, start_of}
 use Rattle.session.specs.OneRun.{StandsAfter, deliveries_of, replies_with}
 use Rattle.session.specs.Resuming.{AllowsHorizon, IsNotResumed, IsRefusedFor, IsResumed, ResumeEnding, with_loaded}
 use Rattle.session.specs.Saving.{HasSaved, saved_at}
 use Rattle.session.specs.Stop.{stop_of, stop_of_load}
+use Rattle.session.proofs.Complete.{not_risen}
 use Rattle.session.proofs.OneRun.{holds_are, next_stands}
 
 -- the world that a stage is, with room for so many terms
 abbrev pub world_in : ℕ → Stage → WorldState
 world_in limit now = record { replay = now.world; limit = limit; mapping = now.mapped.version; by_two = all_by now.mapped.version now.world.played.records }
+
+-- an ending with a stop is one that stopped
+if_stopped : (Done : Type 0) (P : Stop → Type 0) (stop : Option Stop) → MatchOption stop Done P → IfSome stop P
+if_stopped Done P None ended = tt
+if_stopped Done P (Some s) ended = ended
+
+pub stopped_of : (status : Status) (run : Run) (before now : Moment) → MatchOption (stop_of status) (Ending run before now) (λ stop. Stopped stop run before now) → IfSome (stop_of status) (λ stop. Stopped stop run before now)
+stopped_of status run before now ended = if_stopped (Ending run before now) (λ stop. Stopped stop run before now) (stop_of status) ended
+
+-- the status of a run that stopped for want of memory
+of_memory : (status : Status) → stop_of status ≡ Some OutOfMemory → status ≡ MemoryRefused
+of_memory Ended is = cc
+of_memory BadWords is = cc
+of_memory (LineRefused number cause) is = cc
+of_memory ReadFailed is = cc
+of_memory WriteFailed is = cc
+of_memory LimitPassed is = cc
+of_memory RoomPassed is = cc
+of_memory MemoryRefused is = refl
+of_memory (SnapshotRefused number) is = cc
 
 module _ (h : Option ℕ) (earlier : Replies) (ds : List Delivery) (run : Run) (before now : Moment) (stands : StandsAfter h earlier ds (start_of run before)) (ending : Ending run before now) (open_still : closes run.choices ≡ false)
     (at_rest : (replies : Replies) (all : List Delivery) → IsAtRest (following h replies all).buffer) where
@@ -117,3 +141,23 @@ module _ (h : Option ℕ) (earlier : Replies) (ds : List Delivery) (run : Run) (
             (λ over. room (loadable 0 fit within) (at_bytes (IsFileOverfull (max_terms_of later.choices)) over))
             (λ other. let never : Full ≡ BadLine 1 = other.0 in cc)
             why
+
+    -- where none is refused, and there is room, the snapshot is loaded unless memory is refused
+    pub goes_on : IfSome now.snapshot.bytes (λ text. length text ≤ longest_file) → IsStill then_before.resumed.faults then_now.resumed.faults → (status : Status) →
+        ((n : ℕ) → stop_of status ≡ Some (BadSnapshot n) → ⊥) → (IsNotResumed status later then_before then_now → stop_of status ≡ Some StoreFull → ⊥) →
+        (IsResumed status later then_before then_now → (status ≡ Ended) ⊎ (status ≡ MemoryRefused)) → ResumeEnding status later then_before then_now → (status ≡ Ended) ⊎ (status ≡ MemoryRefused)
+    goes_on short still status lines room resumed ended = ⊎_elim (λ x. of_fault x x.fault x.is x.cause) resumed ended
+      where
+        within_length : length (file_text saved) ≤ longest_file
+        within_length = subst (λ (o : Option (List ℕ)). IfSome o (λ text. length text ≤ longest_file)) (saved_bytes empty) short
+
+        of_fault : IsNotResumed status later then_before then_now → (fault : LoadFault) → stop_of status ≡ Some (stop_of_load fault) →
+            IsRefusedFor fault later.choices then_before.resumed.left then_before.resumed.faults then_now.resumed.faults → (status ≡ Ended) ⊎ (status ≡ MemoryRefused)
+        of_fault x NotRead stop why = ⊎_elim (λ rose. not_risen then_before.resumed.faults then_now.resumed.faults still rose) (λ other. let never : NotRead ≡ BadLine 1 = other.0 in cc) why
+        of_fault x OverLength stop why = ⊎_elim
+            (λ long. let past : longest_file < length (file_text saved) = at_bytes (λ text. longest_file < length text) long in absurd (omega (arith, past, within_length)))
+            (λ other. let never : OverLength ≡ BadLine 1 = other.0 in cc)
+            why
+        of_fault x (BadLine n) stop why = absurd (lines n stop)
+        of_fault x Full stop why = absurd (room x stop)
+        of_fault x NoMemory stop why = inr (of_memory status stop)

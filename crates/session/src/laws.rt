@@ -29,6 +29,7 @@ ghost use Rattle.words.specs.Options.{FollowChoices, closes, follow_max_bytes_of
 ghost use Rattle.following.specs.Following.{Ending as Followed, FollowMoment, replica_text};
 ghost use Rattle.following.specs.Reading.{AreRecords};
 ghost use Rattle.checkpoint.specs.declared.numbers.Numbers.{Numbers as TheNumbers};
+ghost use Rattle.checkpoint.specs.Causes.{longest_file};
 ghost use Rattle.checkpoint.specs.Saved.{AreWithin};
 ghost use Rattle.session.specs.declared.report.Report.TheVariants.{Answers, Changes};
 ghost use Rattle.session.specs.declared.status.Status.{Status};
@@ -240,6 +241,29 @@ pub fn saved_worlds_are_gone_on_from()
     replays_can_be_saved();
     snapshots_read_back();
     no_line_of_a_saved_world_is_refused();
+}
+
+/// A run that goes on from what another run saved ends well, or for want of memory, where the words are understood and name no other horizon,
+/// each line of the input is a delivery, the input is within the limit, and so is the snapshot, no read and no write fails, and there is room
+/// for all that is held, for the page that the least due event wants, and for the next page that is to be mapped anew. The numbers have to
+/// be such that a run may go on with them.
+pub fn good_input_goes_on_from_saved_worlds()
+    ensures { (h : Option ℕ) (earlier : Replies) (ds : List Delivery) (run : Run) (before now : Moment) → StandsAfter h earlier ds (start_of run before) → (ending : Ending run before now) →
+        closes run.choices ≡ false → before.snapshot.bytes ≡ Some [] → IsFitSaved (saved_at now.stage (numbers_saved ending)) → AreWithin (numbers_saved ending) →
+        IfSome now.snapshot.bytes (λ text. length text ≤ longest_file) →
+        (later : Run) (then_before then_now : Moment) → then_before.resumed.left ≡ now.snapshot.bytes → AllowsHorizon later.choices h →
+        room_with (meaning_by meaning (all_by now.stage.mapped.version now.stage.world.played.records)) now.stage.world.played.records [] ≤ max_terms_of later.choices →
+        (status : Status) → ResumeEnding status later then_before then_now → (status ≡ Status.BadWords → ⊥) →
+        (bytes : List ℕ) (items : List Delivery) → then_before.input.left ≡ Some bytes → AreDeliveries (max_bytes_of later.choices) bytes items →
+        IsStill then_before.resumed.faults then_now.resumed.faults → IsStill then_before.input.faults then_now.input.faults →
+        IsStill then_before.stage.output.faults then_now.stage.output.faults → IsStill then_before.snapshot.faults then_now.snapshot.faults →
+        (IsFull later.environment then_now.stage.world then_now.stage.mapped → ⊥) →
+        (IsFullOfStale later.environment.limit then_now.stage.world.played.records then_now.stage.mapped → ⊥) →
+        (status ≡ Status.Ok) ⊎ (status ≡ Status.OutOfMemory) }
+{
+    good_input_is_replayed();
+    replays_can_be_saved();
+    saved_worlds_are_gone_on_from();
 }
 
 /// Two runs are one: where a first run ended well that saved its world, and a second one goes on from these bytes and ends well, the world is
