@@ -51,7 +51,8 @@ pub fn questions(alloc: Global, input: &[u8]) -> Result<usize> {
 
 // Whether a line is whole, and asks.
 fn is_question(line: &[u8]) -> bool {
-    line.starts_with(b"{\"ask\"") && line.ends_with(b"\n")
+    let asks = line.starts_with(b"{\"ask\"") || line.starts_with(b"{\"match\"");
+    asks && line.ends_with(b"\n")
 }
 
 /// The first answers of an output.
@@ -59,8 +60,8 @@ pub fn answers(alloc: Global, out: &[u8], count: usize) -> Result<Vec<u8>> {
     let mut answers = Vec::new(alloc);
     let mut left = count;
     for line in &split_lines(alloc, out)? {
-        if line.starts_with(b"# ") {
-            if left == 0 || !line.starts_with(b"# ask ") {
+        if line.starts_with(b"# ") && !line.starts_with(b"# row") {
+            if left == 0 || !is_first_of_answer(line) {
                 break;
             }
             left -= 1;
@@ -68,4 +69,9 @@ pub fn answers(alloc: Global, out: &[u8], count: usize) -> Result<Vec<u8>> {
         answers.extend_from_slice(line)?;
     }
     Ok(answers)
+}
+
+// Whether a line is the first of an answer.
+fn is_first_of_answer(line: &[u8]) -> bool {
+    line.starts_with(b"# ask ") || line.starts_with(b"# match ")
 }

@@ -1,18 +1,28 @@
 -- The graphs to which records are routed.
-use Rattle.std.proofs.Common.{◌≡◌, ℕ, ◌<◌, ◌==◌, Bool, true, false, cond, List, [], Option, None, Some, is_some, unwrap_or, refl, sym, ◌∙◌, ap, true≢false, ⊎_elim}
+use Rattle.std.proofs.Common.{◌≡◌, ℕ, ◌<◌, ◌≤◌, ◌==◌, Bool, true, false, cond, List, [], ◌∷◌, ◌++◌, Option, None, Some, is_some, unwrap_or, refl, sym, ◌∙◌, ap, true≢false, ⊎_elim}
 use Rattle.std.specs.FinMap as map
+use Rattle.std.specs.List.{flat_map}
+use Rattle.std.specs.Ordering.{eq_by_cmp}
 use Rattle.std.proofs.lemmas.Bool.Decides.{eqb_tells}
 use Rattle.rising.specs.Rising.{has}
+use Rattle.rising.proofs.Bools.{or_true}
+use Rattle.rising.proofs.Rising.{has-append, has_itself}
+use Rattle.rdf_term.specs.declared.term.Term.{Term}
 use Rattle.rdf_term.specs.declared.triple.Triple.{Triple}
-use Rattle.rdf_term.specs.Order.{triple_cmp}
+use Rattle.rdf_term.specs.Order.{term_cmp, term_cmp-total, triple_cmp, triple_cmp-total}
+use Rattle.rdf_term.proofs.Texts.{term_cmp-IsAntisymmetric}
 use Rattle.entity_model.specs.declared.id.EntityId.{EntityId}
 use Rattle.entity_state.specs.declared.record.Held.{Held}
 use Rattle.entity_state.specs.declared.record.Record.{Record}
 use Rattle.entity_state.specs.Record.{blank}
-use Rattle.replay_model.specs.Records.{Bytes, record_of}
+use Rattle.triple_store.specs.Room.{distinct, terms_of}
+use Rattle.triple_store.proofs.Distinct.{fewer}
+use Rattle.triple_store.proofs.Rooming.{terms_among}
+use Rattle.triple_store.proofs.Taking.{one_of, or_left}
+use Rattle.replay_model.specs.Records.{Bytes, Records, record_of}
 use Rattle.replay_model.specs.Union.{Meaning, triples_held, union}
 use Rattle.subgraph.specs.Entries.{Entry, graph_triples, triples_in}
-use Rattle.subgraph.specs.Laws.{GraphsAreTheUnion, GraphsFollowTheRecords, Routing, entry_held, routed_union, triples_routed}
+use Rattle.subgraph.specs.Laws.{GraphsAreTheUnion, GraphsFollowTheRecords, GraphsNeedNoMoreRoom, Routing, entry_held, routed_union, triples_routed}
 use Rattle.subgraph.specs.Split.{entry}
 use Rattle.subgraph.proofs.Owning.{gathered_from, gathered_if, same_gathered}
 
@@ -37,6 +47,11 @@ held_there routing meaning graph x (Some h) t there = by (routing x h.revision h
     by true is = is
     by false is = absurd (none_there t is)
 
+routed_held : (routing : Routing) (meaning : Meaning Triple) (records : Records) (graph : ℕ) (t : Triple) → has triple_cmp t (routed_union routing meaning records graph) ≡ true → has triple_cmp t (union triple_cmp meaning records) ≡ true
+routed_held routing meaning records graph t there =
+    let one = gathered_from (λ (e : EntityId × Record Bytes). triples_routed routing meaning graph e.0 e.1.held) records t there in
+    gathered_if (λ (e : EntityId × Record Bytes). triples_held meaning e.0 e.1.held) records one.0 one.1 t one.2 (held_there routing meaning graph one.0 one.1.held t one.3)
+
 pub are_the_union : GraphsAreTheUnion
 are_the_union routing meaning records n below t = (there, back)
   where
@@ -59,9 +74,7 @@ are_the_union routing meaning records n below t = (there, back)
         by one.0 one.1 one.1.held refl one.2 one.3
 
     back : ((graph : ℕ) × (graph < n) × (has triple_cmp t (routed_union routing meaning records graph) ≡ true)) → has triple_cmp t (union triple_cmp meaning records) ≡ true
-    back h =
-        let one = gathered_from (λ (e : EntityId × Record Bytes). triples_routed routing meaning h.0 e.0 e.1.held) records t h.2 in
-        gathered_if (λ (e : EntityId × Record Bytes). triples_held meaning e.0 e.1.held) records one.0 one.1 t one.2 (held_there routing meaning h.0 one.0 one.1.held t one.3)
+    back h = routed_held routing meaning records h.0 t h.2
 
 pub follow_the_records : GraphsFollowTheRecords
 follow_the_records routing meaning entries records split graph =
@@ -95,3 +108,25 @@ follow_the_records routing meaning entries records split graph =
         split.entry_is x ∙ ap (λ (o : Option (Record Bytes)). entry_held routing meaning x (unwrap_or o blank).held) at ∙ ap (entry_held routing meaning x) is in
         gathered_if (λ (e : EntityId × Entry). triples_in graph e.1) entries x (entry (routing x h.revision h.content) (meaning x h.revision h.content)) t found
         (sym (ap (λ o. has triple_cmp t (triples_routed routing meaning graph x o)) is) ∙ there)
+
+-- ---- room
+
+-- the terms of some triples are among those of more
+terms_within : (ts us : List Triple) → ((t : Triple) → has triple_cmp t ts ≡ true → has triple_cmp t us ≡ true) → (x : Term) → has term_cmp x (flat_map terms_of ts) ≡ true → has term_cmp x (flat_map terms_of us) ≡ true
+terms_within [] us within x h = absurd (true≢false (sym h))
+terms_within (t ∷ ts) us within x h = ⊎_elim
+    (λ here. (terms_among us t (within t (has_itself triple_cmp-total t ts))).each x here)
+    (λ later. terms_within ts us (λ u there. within u (or_true (eq_by_cmp triple_cmp u t) _ there)) x later)
+    (one_of (has term_cmp x (terms_of t)) (has term_cmp x (flat_map terms_of ts)) (sym (has-append term_cmp x (terms_of t) (flat_map terms_of ts)) ∙ h))
+
+-- and are no more than those
+pub fewer_terms : (ts us : List Triple) → ((t : Triple) → has triple_cmp t ts ≡ true → has triple_cmp t us ≡ true) → distinct (flat_map terms_of ts) ≤ distinct (flat_map terms_of us)
+fewer_terms ts us within = fewer term_cmp-total term_cmp-IsAntisymmetric (flat_map terms_of ts) (flat_map terms_of us) (terms_within ts us within)
+
+pub need_no_more_room : GraphsNeedNoMoreRoom
+need_no_more_room routing meaning entries records split graph triples =
+    let all = union triple_cmp meaning records in
+    fewer_terms (graph_triples entries graph ++ triples) (all ++ triples) (λ t there. ⊎_elim
+    (λ own. has-append triple_cmp t all triples ∙ or_left _ _ (routed_held routing meaning records graph t (sym (ap (has triple_cmp t) (follow_the_records routing meaning entries records split graph)) ∙ own)))
+    (λ other. has-append triple_cmp t all triples ∙ or_true (has triple_cmp t all) _ other)
+    (one_of (has triple_cmp t (graph_triples entries graph)) (has triple_cmp t triples) (sym (has-append triple_cmp t (graph_triples entries graph) triples) ∙ there)))

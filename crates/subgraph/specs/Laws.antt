@@ -1,5 +1,5 @@
 -- What holds of routes, and of the graphs to which records are routed.
-use Rattle.std.specs.Prelude.{◌≡◌, ◌↔◌, ℕ, ◌<◌, ◌==◌, true, cond, List, [], Option, None, Some}
+use Rattle.std.specs.Prelude.{◌≡◌, ◌↔◌, ℕ, ◌<◌, ◌≤◌, ◌==◌, true, cond, List, [], Option, None, Some}
 use Rattle.std.specs.FinMap as map
 use Rattle.std.specs.List.{flat_map}
 use Rattle.rising.specs.Rising.{has, sorted}
@@ -9,7 +9,7 @@ use Rattle.entity_model.specs.declared.id.EntityId.{EntityId}
 use Rattle.entity_state.specs.declared.record.Held.{Held}
 use Rattle.replay_model.specs.Records.{Bytes, Records, record_of}
 use Rattle.replay_model.specs.Union.{Meaning, union}
-use Rattle.subgraph.specs.Entries.{Entries, Entry, graph_triples}
+use Rattle.subgraph.specs.Entries.{Entries, Entry, graph_triples, terms_with}
 use Rattle.subgraph.specs.Split.{entry}
 
 -- the graph that the bytes of an entity's revision are routed to
@@ -46,3 +46,9 @@ abbrev pub GraphsFollowTheRecords : Type 0
 GraphsFollowTheRecords =
     (routing : Routing) (meaning : Meaning Triple) (entries : Entries) (records : Records) → IsSplitOf routing meaning entries records → (graph : ℕ) →
     graph_triples entries graph ≡ routed_union routing meaning records graph
+
+-- where each entity has the entry of what it holds, a graph needs room for no more terms with other triples than all that is held does
+abbrev pub GraphsNeedNoMoreRoom : Type 0
+GraphsNeedNoMoreRoom =
+    (routing : Routing) (meaning : Meaning Triple) (entries : Entries) (records : Records) → IsSplitOf routing meaning entries records → (graph : ℕ) (triples : List Triple) →
+    terms_with (graph_triples entries graph) triples ≤ terms_with (union triple_cmp meaning records) triples

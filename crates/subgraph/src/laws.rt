@@ -2,7 +2,7 @@
 
 ghost use Rattle.std.specs.Prelude.{◌≡◌, ◌↔◌, ℕ, List, Some};
 ghost use Rattle.subgraph.specs.declared.routes.Route.{Route as TheRoute};
-ghost use Rattle.subgraph.specs.Laws.{GraphsAreTheUnion, GraphsFollowTheRecords};
+ghost use Rattle.subgraph.specs.Laws.{GraphsAreTheUnion, GraphsFollowTheRecords, GraphsNeedNoMoreRoom};
 ghost use Rattle.subgraph.specs.Reading.{routes_in};
 ghost use Rattle.subgraph.specs.Routes.{AreRoutesIn};
 
@@ -19,4 +19,10 @@ pub fn graphs_are_the_union()
 /// Where each entity has the entry of what it holds, a graph has the triples of what is routed to it.
 pub fn graphs_follow_the_records()
     ensures { GraphsFollowTheRecords }
+{}
+
+/// Where each entity has the entry of what it holds, a graph needs room for no more terms than all that is held does, each with the same other
+/// triples: where these have room beside all that is held, they have it beside a graph.
+pub fn graphs_need_no_more_room()
+    ensures { GraphsNeedNoMoreRoom }
 {}

@@ -13,7 +13,10 @@ mod routes;
 mod routing;
 mod split;
 
-pub use laws::{graphs_are_the_union, graphs_follow_the_records, routes_are_read_from_their_text};
+pub use laws::{
+    graphs_are_the_union, graphs_follow_the_records, graphs_need_no_more_room,
+    routes_are_read_from_their_text,
+};
 pub use routes::Routes;
 pub use routing::route;
 pub use split::Split;

@@ -1,6 +1,6 @@
 // The triples of all that is held, or of what one entity holds, in their order, and the number of the owners of each.
 
-ghost use Rattle.std.specs.Prelude.{◌≡◌, IfOk};
+ghost use Rattle.std.specs.Prelude.{◌≡◌, length, IfOk};
 ghost use Rattle.std.specs.List.{AllByRecursion};
 ghost use Rattle.rdf_term.specs.Fit.{HasFitAndShortTerms};
 ghost use Rattle.rdf_term.specs.Order.{triple_cmp};
@@ -64,6 +64,13 @@ impl World {
     {
         self.holdings.matching(pattern)
     }
+
+    /// How many of them agree with the pattern, which takes no memory: no triple is looked at but to find the ends of their range.
+    pub fn matching_len(&self, pattern: &Pattern) -> usize
+        ensures { result ≡ length (rows (union triple_cmp (meaning_by meaning self.now.by_two) self.now.replay.played.records) pattern.now) }
+    {
+        self.holdings.matching_len(pattern)
+    }
 }
 
 impl Holdings {
@@ -108,5 +115,12 @@ impl Holdings {
         ensures { IfOk result (λ found. found ≡ rows (union triple_cmp (meaning_by meaning self.now.by_two) self.now.records) pattern.now) }
     {
         self.store.matching(pattern)
+    }
+
+    // How many of them agree with the pattern.
+    pub(crate) fn matching_len(&self, pattern: &Pattern) -> usize
+        ensures { result ≡ length (rows (union triple_cmp (meaning_by meaning self.now.by_two) self.now.records) pattern.now) }
+    {
+        self.store.matching_len(pattern)
     }
 }
