@@ -51,10 +51,6 @@ def long_id_references():
     return page(claims={'P1': [statement('Q1$' + 'a' * (SIZE // 2), references=[{'hash': f'{i:x}', 'snaks': {}} for i in range(SIZE // 2 // 30)])]})
 
 
-def long_reference():
-    return page(claims={'P1': [statement('Q1$a', references=[{'hash': 'a' * (SIZE // 2), 'snaks': {'P2': [text_snak('P2', f'{i:06}') for i in range(SIZE // 2 // 115)]}}])]})
-
-
 def long_title():
     return page(sitelinks={'enwiki': {'site': 'enwiki', 'title': 'a' * (SIZE // 2), 'badges': [f'Q{i + 1}' for i in range(SIZE // 2 // 10)]}})
 
@@ -121,7 +117,7 @@ def many_ranks():
     return page(claims={f'P{i + 1}': [{**statement(f'Q1${i}'), 'mainsnak': text_snak(f'P{i + 1}', 'a'), 'rank': 'preferred'}] for i in range(SIZE // 190)})
 
 
-SHAPES = [ordinary, long_id_unknown, long_id_texts, long_id_references, long_reference, long_title, two_long_ids, alike_ids, alike_keys, many_keys, repeated_key, deep,
+SHAPES = [ordinary, long_id_unknown, long_id_texts, long_id_references, long_title, two_long_ids, alike_ids, alike_keys, many_keys, repeated_key, deep,
           empty_objects, one_text, escapes, quotes, long_number, long_amount, many_ranks]
 
 
