@@ -1,5 +1,6 @@
 #!/usr/bin/env bash
 # Kills wdq at random moments while it saves, 200 times, and sees that the file of --save is whole each time: the old one or the new one.
+# Every second run goes on from the file that it saves to.
 # usage: scripts/kill_save.sh [TIMES]
 top=$(cd "$(dirname "$(readlink -f "${BASH_SOURCE[0]}")")/.." && pwd) || exit 2
 program=$top/crates/wdq/out/wdq
@@ -9,26 +10,41 @@ room=$(mktemp -d) || exit 2
 trap 'rm -rf "$room"' EXIT
 cd "$room" || exit 2
 
-# Events of 2,000 redirects, so that a save has some thousand lines; the second input has one event more.
+# Events of 2,000 redirects, so that a save has some thousand lines; then one event more.
 mkdir pages
 for ((n = 1; n <= 2000; n++)); do
   printf '{"entity":"Q%d","redirect":"Q%d"}' "$n" "$((n + 1))" >"pages/$n.json"
   printf '{"kind":"edit","entity":"Q%d","rev":%d,"time":"2024-05-01T10:00:05Z"}\n' "$n" "$n"
 done >events.jsonl
 echo '{"watermark":"2024-05-01T10:00:05Z"}' >>events.jsonl
-cp events.jsonl more.jsonl
-echo '{"kind":"edit","entity":"Q1","rev":1,"time":"2024-05-01T10:00:09Z"}' >>more.jsonl
+echo '{"kind":"edit","entity":"Q1","rev":1,"time":"2024-05-01T10:00:09Z"}' >more.jsonl
+cat events.jsonl more.jsonl >all.jsonl
 
-# How long a save takes, in microseconds.
+# Makes the new file from nothing, or from the old one.
+save_all() { exec "$program" replay --from pages --save "$1" <all.jsonl; }
+save_more() { exec "$program" replay --from pages --resume "$1" --save "$1" <more.jsonl; }
+
+# How long each takes, in microseconds. Both make the same file.
 "$program" replay --from pages --save old <events.jsonl || exit 1
 begun=${EPOCHREALTIME/./}
-"$program" replay --from pages --save new <more.jsonl || exit 1
-span=$((${EPOCHREALTIME/./} - begun))
+(save_all new) || exit 1
+all=$((${EPOCHREALTIME/./} - begun))
+cp old file
+begun=${EPOCHREALTIME/./}
+(save_more file) || exit 1
+more=$((${EPOCHREALTIME/./} - begun))
+cmp new file || exit 1
 
 killed=0 kept=0 replaced=0 broken=0
 for ((round = 0; round < times; round++)); do
   cp old file
-  "$program" replay --from pages --save file <more.jsonl &
+  if ((round % 2)); then
+    span=$more
+    save_more file &
+  else
+    span=$all
+    save_all file &
+  fi
   child=$!
   # Most of the moments are in the last half of the run, where the file is written.
   pause=$((span / 2 + (RANDOM * 32768 + RANDOM) % (span * 6 / 10)))

@@ -224,6 +224,11 @@ replay --save|--save lacks its value, a file
 patches --save=|--save lacks its value, a file
 replay --save -x|a value doesn't begin with '-': write './-x'
 replay --sav a|'--sav' is no option of replay; did you mean --save?
+replay --resume|--resume lacks its value, a file
+patches --resume=|--resume lacks its value, a file
+patches --resum a|'--resum' is no option of patches; did you mean --resume?
+replay --resume a --resume b|--resume is given twice
+split --route people:Q5 --resume a|--resume is an option of replay and patches
 follow --save a|--save is an option of replay and patches
 replay --max-terms|--max-terms lacks its value, a number from 1 to 4294967295
 replay --max-terms 0|--max-terms takes a number from 1 to 4294967295, in digits without a leading zero, and not '0'
@@ -287,11 +292,15 @@ in_terminal "'$checkout/wdq' replay < events.jsonl"
 wants 'neither section nor question' $'{"kind":"edit"}\nwdq: neither a section (--export, --state, --side) nor a question was asked for, so nothing is printed' "$shown"
 in_terminal "'$checkout/wdq' replay --save kept < events.jsonl"
 wants 'a snapshot alone' '{"kind":"edit"}' "$shown"
+in_terminal "'$checkout/wdq' replay --export --resume lost < events.jsonl"
+shows 'no file to go on from' $'wdq: there is no file \'lost\' to go on from\n{"kind"'
+in_terminal "'$checkout/wdq' replay --export --resume asks.jsonl < events.jsonl"
+wants 'a file to go on from' '{"kind":"edit"}' "$shown"
 in_terminal "'$checkout/wdq' replay < asks.jsonl"
 wants 'a question' '{"ask":["?","?","?"]}' "$shown"
 in_terminal "cat asks.jsonl | '$checkout/wdq' replay"
 shows 'a pipe' 'wdq: no section was asked for (--export, --state, --side), so only answers to questions are printed'
-for number in 2 3 4 5 6 7; do
+for number in 2 3 4 5 6 7 8; do
   in_terminal "STAND_IN_STATUS=$number '$checkout/wdq' replay < events.jsonl"
   wants "status $number at a terminal" "$number wdq: status $number" "$status $shown"
 done

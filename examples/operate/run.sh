@@ -192,11 +192,6 @@ in_doubt() {
 home=$work/home url=
 mkdir "$home" && cp -r "$work/batches" "$home/batches" && rm -f "$home"/batches/*-now.jsonl || exit 2
 ./load_dump.py --into "$home/pages" --began "$began" "$work/wiki/dump.json.gz" > "$home/batches/000000.jsonl" 2>/dev/null
-if ./can_save.sh "$wdq"; then
-  echo "steps go on from snapshots"
-else
-  echo "the program has no --resume yet, so each step replays all batches"
-fi
 if /usr/bin/python3 -c 'import rdflib' 2>/dev/null; then
   ../sparql/rdflib_store.py > "$work/url" &
   store=$!
@@ -239,12 +234,10 @@ if [ -n "$url" ]; then
   python3 -c 'import sys, urllib.request as r; sys.stdout.buffer.write(r.urlopen(sys.argv[1]).read())' "$url" | cmp -s - "$work/export.txt"
   told "and so does rdflib, after record $(stored)" $?
 fi
-if [ -d "$home/snapshots" ]; then
-  last=$(done_so_far)
-  "$wdq" replay --resume "$home/snapshots/$last" --save "$work/look" --state --side < /dev/null | cmp -s - "$home/sides/$last.txt"
-  told "show_snapshot.py shows the $(grep -c '^# s' "$home/sides/$last.txt") states and entries that wdq shows" $?
-  add_quiet_batch && step "$@" --keep 3 && tail -n 1 "$home/metrics.jsonl" | jq -e '.adds == 0 and .removes == 0' > "$work/said.txt" &&
-    [ "$(find "$home/batches" -name '*[0-9].jsonl' | wc -l)" -eq 4 ]
-  told "a step forgets old batches, and $(find "$home/pages" -name '*.json' | wc -l) pages are left" $?
-fi
+last=$(done_so_far)
+"$wdq" replay --resume "$home/snapshots/$last" --save "$work/look" --state --side < /dev/null | cmp -s - "$home/sides/$last.txt"
+told "show_snapshot.py shows the $(grep -c '^# s' "$home/sides/$last.txt") states and entries that wdq shows" $?
+add_quiet_batch && step "$@" --keep 3 && tail -n 1 "$home/metrics.jsonl" | jq -e '.adds == 0 and .removes == 0' > "$work/said.txt" &&
+  [ "$(find "$home/batches" -name '*[0-9].jsonl' | wc -l)" -eq 4 ]
+told "a step forgets old batches, and $(find "$home/pages" -name '*.json' | wc -l) pages are left" $?
 exit $failed

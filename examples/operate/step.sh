@@ -14,11 +14,11 @@
 #   --graph IRI      the graph of the triples; without it, the default graph
 #   --counts         count the values, for stores that spell them their own way (docs/QUERY_SERVICE.md)
 #   --textfile FILE  the last line of metrics.jsonl for node_exporter
-#   --keep N         with snapshots: remove pages and batches that are more than N batches old; records stay, to make a store anew
+#   --keep N         remove pages and batches that are more than N batches old; records stay, to make a store anew
 #   --horizon N, --max-terms N       for wdq
 #   --site URL, --tries N, --pause S for fetch_pages.py and reconcile.py
 #
-# WDQ names the program; without it, it is this repository's wdq. Where the program has no --resume, each step replays all batches.
+# WDQ names the program; without it, it is this repository's wdq.
 # Status 0: the batch is taken, or there is none; 1: run the step again; 2: words or programs are wrong; 4: look at what it says.
 here=$(cd "$(dirname "$0")" && pwd) || exit 2
 LC_ALL=C PYTHONDONTWRITEBYTECODE=1
@@ -61,7 +61,7 @@ for needed in python3 jq flock; do
 done
 wdq=${WDQ:-$here/../../wdq}
 "$wdq" replay < /dev/null > /dev/null || fail "$wdq doesn't run" 2
-mkdir -p "$home/pages" "$home/records" "$home/sides" || exit 1
+mkdir -p "$home/pages" "$home/records" "$home/snapshots" "$home/sides" || exit 1
 
 # --- What a step does; each part ends with a file that is whole or not there, and does nothing where it is there ---
 
@@ -79,16 +79,6 @@ find_batch() {
     done
   fi
   [ -e "$home/batches/$batch.jsonl" ]
-}
-
-# Whether the program keeps what it knows in a file from one batch to the next.
-is_saving() {
-  if [ -n "$before" ]; then
-    [ -e "$home/snapshots/$before" ] && return
-    [ -e "$home/exports/$before.txt" ] || fail "neither snapshots/$before nor exports/$before.txt is there" 4
-    return 1
-  fi
-  "$here/can_save.sh" "$wdq"
 }
 
 # The reconciliations that go in front of the batch: BATCH-now.jsonl.
@@ -123,9 +113,9 @@ run_wdq() {
   esac
 }
 
-# Records and snapshot by those of the batch before.
-step_by_snapshot() {
-  mkdir -p "$home/snapshots" || exit 1
+# The records and the snapshot, from the snapshot of the batch before.
+make_records() {
+  [ -z "$before" ] || [ -e "$home/snapshots/$before" ] || fail "snapshots/$before isn't there" 4
   if [ ! -e "$home/snapshots/$batch" ]; then
     set -- "$home/batches/$batch.jsonl"
     [ ! -e "$now" ] || set -- "$now" "$@"
@@ -137,36 +127,6 @@ step_by_snapshot() {
     rm -f "$home/events.part"
   fi
   "$here/show_snapshot.py" "$home/snapshots/$batch" > "$home/side.part" && mv "$home/side.part" "$home/sides/$batch.txt" || exit 1
-}
-
-# All batches up to this one, in their order.
-all_batches() {
-  for file in "$home"/batches/[0-9]*.jsonl; do
-    cat "$file"
-    [ "$file" != "$home/batches/$batch.jsonl" ] || return
-  done
-}
-
-# One record of what differs from the export of the batch before, by a replay of all batches. What waits at their end is left out.
-step_by_replay() {
-  mkdir -p "$home/exports" || exit 1
-  [ ! -e "$home/exports/$batch.txt" ] || return 0
-  all_batches | jq -c -n -f "$here/../sparql/settled.jq" > "$home/events.part" || fail "jq refuses a line; see explain.py" 4
-  # shellcheck disable=SC2086 # words are split
-  run_wdq replay --from "$home/pages" --max-bytes 4294967295 $limits --export --state --side < "$home/events.part" > "$home/output.part"
-  grep '^# s' "$home/output.part" > "$home/sides/$batch.txt"
-  grep -v '^#' "$home/output.part" > "$home/export.part"
-  former=${before:+$home/exports/$before.txt}
-  record=0
-  [ -z "$before" ] || record=$(sed -n '1s/^# patch \([0-9]*\) .*/\1/p' "$home/records/$before.txt")
-  comm -13 "${former:-/dev/null}" "$home/export.part" > "$home/adds.part"
-  comm -23 "${former:-/dev/null}" "$home/export.part" > "$home/removes.part"
-  {
-    echo "# patch $((record + 1)) +$(wc -l < "$home/adds.part") -$(wc -l < "$home/removes.part")"
-    cat "$home/adds.part" "$home/removes.part"
-  } > "$home/records/$batch.txt" || exit 1
-  sync "$home/records/$batch.txt" "$home/sides/$batch.txt" && mv "$home/export.part" "$home/exports/$batch.txt" || exit 1
-  rm -f "$home/events.part" "$home/output.part" "$home/adds.part" "$home/removes.part"
 }
 
 # The store itself knows up to which record it is.
@@ -183,12 +143,12 @@ send_records() {
 
 # Removes what no later step reads, and with --keep the pages and events of older batches: what a snapshot knows isn't fetched again.
 forget() {
-  for folder in snapshots exports sides; do
+  for folder in snapshots sides; do
     for file in "$home/$folder"/[0-9]*; do
       case ${file##*/} in "$batch"* | "$before"* | '[0-9]*') ;; *) rm -f "$file" ;; esac
     done
   done
-  [ -n "$keep" ] && [ -d "$home/snapshots" ] || return 0
+  [ -n "$keep" ] || return 0
   for file in "$home"/batches/[0-9]*.jsonl; do
     old=${file##*/}
     old=${old%.jsonl}
@@ -204,7 +164,7 @@ while find_batch; do
   begun=$(date +%s)
   ask_the_wiki
   get_pages
-  if is_saving; then step_by_snapshot; else step_by_replay; fi
+  make_records
   send_records
   "$here/metrics.py" --home "$home" --batch "$batch" ${before:+--before "$before"} --seconds "$(($(date +%s) - begun))" \
     ${textfile:+--textfile "$textfile"} || exit 1

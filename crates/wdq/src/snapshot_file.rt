@@ -6,10 +6,13 @@ ghost use Rattle.wq_io.specs.Streams.{counted};
 use rdf_term::OutOfMemory;
 use std::alloc::Global;
 use std::fs::OpenFile;
-use std::io::Write;
+use std::io::{BufWriter, Write};
 use std::rt::Files;
 use std::{fs, io};
 use wq_io::{NoWrite, Sink};
+
+/// How many bytes go to the file at once.
+const AT_ONCE: usize = 65_536;
 
 /// The name of the file, and that of the one beside it: `NAME.new`.
 #[derive(Drop)]
@@ -27,21 +30,24 @@ impl FileNames {
     }
 }
 
-/// What is written to a snapshot goes into the file `NAME.new`, which is made at the first write. It tells nothing of its bytes.
+/// What is written to a snapshot goes into the file `NAME.new`, which is made at the first write, by many bytes at once. It tells nothing of
+/// its bytes.
 #[derive(Drop)]
 pub struct SnapshotFile<R: Files> {
+    alloc: Global,
     runtime: R,
     names: FileNames,
-    file: Option<R::File>,
+    file: Option<BufWriter<R::File>>,
     faults: u64,
 }
 
 impl<R: Files> SnapshotFile<R> {
     /// Nothing was written yet.
-    pub fn new(runtime: R, names: FileNames) -> SnapshotFile<R>
+    pub fn new(alloc: Global, runtime: R, names: FileNames) -> SnapshotFile<R>
         ensures { result.faults ≡ 0 }
     {
         SnapshotFile {
+            alloc,
             runtime,
             names,
             file: None,
@@ -51,11 +57,12 @@ impl<R: Files> SnapshotFile<R> {
 
     /// Where something was written, puts it on the disk whole, and only then gives it its name: until then the file with this name is as it
     /// was.
-    pub fn keep(&self) -> io::Result<()> {
-        match &self.file {
+    pub fn keep(&mut self) -> io::Result<()> {
+        match &mut self.file {
             None => Ok(()),
             Some(file) => {
-                file.sync_all()?;
+                file.flush()?;
+                file.get_ref().sync_all()?;
                 fs::rename(
                     &self.runtime,
                     self.names.beside.as_str(),
@@ -78,7 +85,7 @@ impl<R: Files> SnapshotFile<R> {
     {
         if self.file.is_none() {
             let file = fs::create(&self.runtime, self.names.beside.as_str())?;
-            self.file = Some(file);
+            self.file = Some(BufWriter::with_capacity(self.alloc, AT_ONCE, file)?);
         }
         match &mut self.file {
             None => Ok(0),
