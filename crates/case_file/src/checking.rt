@@ -8,7 +8,9 @@ use anyhow::{Context, Result, bail};
 const PAGES: &[&str] = &["page", "pages to"];
 
 // The names of the other sections that have lines of their own.
-const WITH_LINES: &[&str] = &["in", "out", "saved", "records", "side", "owners", "rows"];
+const WITH_LINES: &[&str] = &[
+    "in", "resume", "out", "saved", "records", "side", "owners", "rows",
+];
 
 // The names of those that are one line each.
 const ONE_LINE: &[&str] = &[
@@ -16,11 +18,14 @@ const ONE_LINE: &[&str] = &[
     "bytes a read",
     "bytes a write",
     "bytes a save",
+    "bytes a load",
     "failing reads",
     "failing writes",
     "failing saves",
+    "failing loads",
     "failing fetches",
     "cut page",
+    "cut resume",
     "status",
     "fetches",
     "waiting",

@@ -15,6 +15,8 @@ pub struct Given {
     pub reads: Calls,
     pub writes: Calls,
     pub saves: Calls,
+    pub resumed: Vec<u8>,
+    pub loads: Calls,
     pub failing_fetches: Vec<u64>,
 }
 
@@ -57,9 +59,23 @@ pub enum Turns {
     EachWrite,
     // a run for each write of the snapshot, which fails
     EachSave,
+    // a run for each read of the snapshot that the run goes on from, which fails
+    EachLoad,
     // a run for each front of the page of a revision
     EachFront(u64),
+    // a run for each front of the snapshot that the run goes on from
+    EachFrontOfSnapshot,
 }
+
+// The names of the sections by which a case is tried with several runs.
+const TURNS: [&str; 6] = [
+    "failing reads",
+    "failing writes",
+    "failing saves",
+    "failing loads",
+    "cut page",
+    "cut resume",
+];
 
 /// What the run of a case is given.
 pub fn given_of(alloc: Global, case: &Case) -> Result<Given> {
@@ -69,6 +85,8 @@ pub fn given_of(alloc: Global, case: &Case) -> Result<Given> {
     let reads = calls_of(alloc, case, "bytes a read", "failing reads")?;
     let writes = calls_of(alloc, case, "bytes a write", "failing writes")?;
     let saves = calls_of(alloc, case, "bytes a save", "failing saves")?;
+    let resumed = bytes_of(alloc, lines(case, "resume").unwrap_or(""))?;
+    let loads = calls_of(alloc, case, "bytes a load", "failing loads")?;
     let failing_fetches = numbers(alloc, text(case, "failing fetches").unwrap_or(""))?;
     Ok(Given {
         words,
@@ -77,6 +95,8 @@ pub fn given_of(alloc: Global, case: &Case) -> Result<Given> {
         reads,
         writes,
         saves,
+        resumed,
+        loads,
         failing_fetches,
     })
 }
@@ -214,21 +234,35 @@ fn bytes_where_told(alloc: Global, case: &Case, name: &str) -> Result<Option<Vec
 
 /// What a case is tried with: at most one thing that is done in turn.
 pub fn turns_of(case: &Case) -> Result<Turns> {
-    let each_read = text(case, "failing reads") == Some("each");
-    let each_write = text(case, "failing writes") == Some("each");
-    let each_save = text(case, "failing saves") == Some("each");
-    match (each_read, each_write, each_save, text(case, "cut page")) {
-        (false, false, false, None) => Ok(Turns::Once),
-        (true, false, false, None) => Ok(Turns::EachRead),
-        (false, true, false, None) => Ok(Turns::EachWrite),
-        (false, false, true, None) => Ok(Turns::EachSave),
-        (false, false, false, Some(rev)) => front_of(rev),
-        _ => bail!("reads, writes, saves and fronts of a page are tried one at a time"),
+    let mut turns = Turns::Once;
+    let mut count = 0u64;
+    for name in TURNS {
+        if let Some(named) = turns_named(case, name)? {
+            turns = named;
+            count = count.saturating_add(1);
+        }
     }
+    if count > 1 {
+        bail!("calls that fail, and fronts, are tried one at a time");
+    }
+    Ok(turns)
 }
 
-// A run for each front of the page of a revision.
-fn front_of(rev: &str) -> Result<Turns> {
-    let rev = rev.parse().context("a page's revision")?;
-    Ok(Turns::EachFront(rev))
+// The turns that the section with this name asks for.
+fn turns_named(case: &Case, name: &str) -> Result<Option<Turns>> {
+    let Some(words) = text(case, name) else {
+        return Ok(None);
+    };
+    match (name, words) {
+        ("failing reads", "each") => Ok(Some(Turns::EachRead)),
+        ("failing writes", "each") => Ok(Some(Turns::EachWrite)),
+        ("failing saves", "each") => Ok(Some(Turns::EachSave)),
+        ("failing loads", "each") => Ok(Some(Turns::EachLoad)),
+        ("cut resume", _) => Ok(Some(Turns::EachFrontOfSnapshot)),
+        ("cut page", rev) => {
+            let rev = rev.parse().context("a page's revision")?;
+            Ok(Some(Turns::EachFront(rev)))
+        }
+        _ => Ok(None),
+    }
 }

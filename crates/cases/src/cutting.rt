@@ -23,6 +23,9 @@ const FILES: [&str; 7] = [
 // The words for sections, which only the second part has.
 const SECTIONS: [&str; 3] = ["--export", "--state", "--side"];
 
+// The most lines of a case that is cut: each of its runs costs as much as the whole.
+const MOST_LINES: usize = 64;
+
 // Whether a case is cut: a replay or a patch stream that ends well and isn't saved, none of whose reads and writes fails.
 pub fn is_cut(case: &Case, given: &Given, expected: &Expected) -> bool {
     let named = FILES
@@ -38,7 +41,7 @@ pub fn is_cut(case: &Case, given: &Given, expected: &Expected) -> bool {
         && given.writes.failing.is_empty()
 }
 
-// Cuts a run after each of its lines, and before the first. One run of the whole was made before.
+// Cuts a run after each of its lines, where they aren't many, and before the first. One run of the whole was made before.
 pub fn tried_in_two(
     alloc: Global,
     keys: RandomState,
@@ -47,7 +50,12 @@ pub fn tried_in_two(
 ) -> Result<Trial> {
     let mut runs = 1u64;
     let count = split_lines(alloc, given.input.as_slice())?.len();
-    for cut in 0..=count {
+    let cuts = if count > MOST_LINES {
+        0
+    } else {
+        count.saturating_add(1)
+    };
+    for cut in 0..cuts {
         runs = runs.saturating_add(2);
         let found = difference_of_parts(alloc, keys, &given, &expected, cut)?;
         if let Some(difference) = found {

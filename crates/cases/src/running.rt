@@ -22,7 +22,8 @@ pub struct Left {
 
 // Makes one run.
 pub fn run_over(alloc: Global, keys: RandomState, given: &Given) -> Result<Left> {
-    let events = source(alloc, given)?;
+    let events = source(alloc, given.input.as_slice(), &given.reads)?;
+    let resumed = source(alloc, given.resumed.as_slice(), &given.loads)?;
     let revisions = revisions(alloc, given)?;
     let out = sink(alloc, &given.writes)?;
     let snapshot = sink(alloc, &given.saves)?;
@@ -31,6 +32,7 @@ pub fn run_over(alloc: Global, keys: RandomState, given: &Given) -> Result<Left>
         revisions,
         out,
         snapshot,
+        resumed,
     };
     let mut world = World::new(alloc, keys)?;
     let words = given.words.as_slice();
@@ -45,11 +47,11 @@ pub fn run_over(alloc: Global, keys: RandomState, given: &Given) -> Result<Left>
     })
 }
 
-// The input.
-fn source(alloc: Global, given: &Given) -> Result<MemorySource> {
-    let input = Vec::from_slice(alloc, given.input.as_slice())?;
-    let failing = list(alloc, given.reads.failing.as_slice())?;
-    Ok(MemorySource::new(input, given.reads.bytes.max(1), failing))
+// The input, or the snapshot from which the run goes on.
+fn source(alloc: Global, bytes: &[u8], reads: &Calls) -> Result<MemorySource> {
+    let bytes = Vec::from_slice(alloc, bytes)?;
+    let failing = list(alloc, reads.failing.as_slice())?;
+    Ok(MemorySource::new(bytes, reads.bytes.max(1), failing))
 }
 
 // The pages.

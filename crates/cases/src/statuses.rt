@@ -5,7 +5,7 @@ use event_line::LineCause;
 use session::{Status, status_number, status_text};
 
 // Some statuses of each kind.
-const STATUSES: [Status; 9] = [
+const STATUSES: [Status; 10] = [
     Status::Ok,
     Status::BadWords,
     Status::BadLine(4, LineCause::Rev),
@@ -15,6 +15,7 @@ const STATUSES: [Status; 9] = [
     Status::TooLong,
     Status::StoreFull,
     Status::OutOfMemory,
+    Status::BadSnapshot(7),
 ];
 
 // Prints a line for each.

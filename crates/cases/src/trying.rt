@@ -1,7 +1,9 @@
 // A case tried: once, with each row of its table, or with each of its calls failing in turn.
 
 use crate::comparing::difference;
+use crate::cutting::{is_cut, tried_in_two};
 use crate::running::run_over;
+use crate::trial::{Trial, differs_at};
 use anyhow::{Context, Result};
 use case_file::{
     Case, Expected, Given, Turns, answers, check, expected_of, filled, given_of, pieces_of_reads,
@@ -10,13 +12,6 @@ use case_file::{
 use std::alloc::Global;
 use std::hash::RandomState;
 use std::str;
-
-// How many runs were made, up to the first that differed, and how that differed.
-#[derive(Drop)]
-pub struct Trial {
-    pub runs: u64,
-    pub difference: Option<String>,
-}
 
 // Tries a case.
 pub fn tried(alloc: Global, keys: RandomState, case: &Case) -> Result<Trial> {
@@ -60,6 +55,9 @@ fn tried_alone(alloc: Global, keys: RandomState, case: &Case) -> Result<Trial> {
     match turns_of(case)? {
         Turns::Once => {
             let difference = tried_once(alloc, keys, &given, &expected)?;
+            if difference.is_none() && is_cut(case, &given, &expected) {
+                return tried_in_two(alloc, keys, given, expected);
+            }
             Ok(Trial {
                 runs: 1,
                 difference,
@@ -68,7 +66,9 @@ fn tried_alone(alloc: Global, keys: RandomState, case: &Case) -> Result<Trial> {
         Turns::EachRead => tried_with_reads(alloc, keys, given, expected),
         Turns::EachWrite => tried_with_writes(alloc, keys, given, expected),
         Turns::EachSave => tried_with_saves(alloc, keys, given, expected),
+        Turns::EachLoad => tried_with_loads(alloc, keys, given, &expected),
         Turns::EachFront(rev) => tried_with_fronts(alloc, keys, given, &expected, rev),
+        Turns::EachFrontOfSnapshot => tried_with_snapshots(alloc, keys, given),
     }
 }
 
@@ -99,7 +99,7 @@ fn tried_with_reads(
         let out = answers(alloc, expected.out.as_slice(), asked)?;
         let before = stopped(alloc, "3 wdq: read fault", out)?;
         if let Some(difference) = tried_once(alloc, keys, &given, &before)? {
-            return at_call(alloc, "read", call, call, difference.as_str());
+            return differs_at(alloc, "the failing read", call, call, difference.as_str());
         }
         taken.extend_from_slice(piece.as_slice())?;
         call = call.saturating_add(1);
@@ -127,7 +127,7 @@ fn tried_with_writes(
         let out = Vec::from_slice(alloc, taken.as_slice())?;
         let before = stopped(alloc, "4 wdq: write fault", out)?;
         if let Some(difference) = tried_once(alloc, keys, &given, &before)? {
-            return at_call(alloc, "write", call, call, difference.as_str());
+            return differs_at(alloc, "the failing write", call, call, difference.as_str());
         }
         taken.extend_from_slice(piece.as_slice())?;
         call = call.saturating_add(1);
@@ -157,7 +157,7 @@ fn tried_with_saves(
         let mut before = stopped(alloc, "4 wdq: write fault", out)?;
         before.saved = Some(Vec::from_slice(alloc, taken.as_slice())?);
         if let Some(difference) = tried_once(alloc, keys, &given, &before)? {
-            return at_call(alloc, "save", call, call, difference.as_str());
+            return differs_at(alloc, "the failing save", call, call, difference.as_str());
         }
         taken.extend_from_slice(piece.as_slice())?;
         call = call.saturating_add(1);
@@ -167,6 +167,58 @@ fn tried_with_saves(
     Ok(Trial {
         runs: call,
         difference,
+    })
+}
+
+// Tries each read of the snapshot failing in turn, and then none: nothing was printed before.
+fn tried_with_loads(
+    alloc: Global,
+    keys: RandomState,
+    mut given: Given,
+    expected: &Expected,
+) -> Result<Trial> {
+    let pieces = pieces_of_reads(alloc, given.resumed.as_slice(), given.loads.bytes.max(1))?;
+    let calls = pieces.len() as u64;
+    for call in 1..=calls {
+        given.loads.failing = vec![in alloc; call]?;
+        let before = stopped(alloc, "3 wdq: read fault", Vec::new(alloc))?;
+        if let Some(difference) = tried_once(alloc, keys, &given, &before)? {
+            return differs_at(alloc, "the failing load", call, call, difference.as_str());
+        }
+    }
+    given.loads.failing = Vec::new(alloc);
+    let difference = tried_once(alloc, keys, &given, expected)?;
+    Ok(Trial {
+        runs: calls.saturating_add(1),
+        difference,
+    })
+}
+
+// Tries each front of the snapshot, from no byte to all but the last: each is refused at its last line, and nothing is printed.
+fn tried_with_snapshots(alloc: Global, keys: RandomState, mut given: Given) -> Result<Trial> {
+    let whole = Vec::from_slice(alloc, given.resumed.as_slice())?;
+    let mut runs = 0u64;
+    for length in 0..whole.len() {
+        let (front, _) = whole
+            .as_slice()
+            .split_at_checked(length)
+            .context("a front")?;
+        let line = front
+            .iter()
+            .filter(|byte| **byte == b'\n')
+            .count()
+            .saturating_add(1);
+        given.resumed = Vec::from_slice(alloc, front)?;
+        let status = format!(in alloc; "8 wdq: snapshot: line {line}")?;
+        let refused = stopped(alloc, status.as_str(), Vec::new(alloc))?;
+        runs = runs.saturating_add(1);
+        if let Some(difference) = tried_once(alloc, keys, &given, &refused)? {
+            return differs_at(alloc, "the byte", length as u64, runs, difference.as_str());
+        }
+    }
+    Ok(Trial {
+        runs,
+        difference: None,
     })
 }
 
@@ -185,13 +237,7 @@ fn tried_with_fronts(
         set_page(alloc, &mut given, rev, front.0)?;
         runs = runs.saturating_add(1);
         if let Some(difference) = tried_once(alloc, keys, &given, expected)? {
-            return at_call(
-                alloc,
-                "after byte",
-                length as u64,
-                runs,
-                difference.as_str(),
-            );
+            return differs_at(alloc, "the byte", length as u64, runs, difference.as_str());
         }
     }
     Ok(Trial {
@@ -212,15 +258,6 @@ fn stopped(alloc: Global, status: &str, out: Vec<u8>) -> Result<Expected> {
         owners: None,
         fetches: None,
         waiting: None,
-    })
-}
-
-// A difference after so many runs, and the call at which it was found.
-fn at_call(alloc: Global, what: &str, call: u64, runs: u64, difference: &str) -> Result<Trial> {
-    let difference = format!(in alloc; "     where it fails: {what} {call}\n{difference}")?;
-    Ok(Trial {
-        runs,
-        difference: Some(difference),
     })
 }
 
