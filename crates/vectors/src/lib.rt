@@ -17,8 +17,6 @@ mod indexes;
 #[cfg(test)]
 mod lexemes;
 #[cfg(test)]
-mod matches;
-#[cfg(test)]
 mod munged;
 #[cfg(test)]
 mod names;

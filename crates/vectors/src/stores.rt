@@ -118,12 +118,7 @@ fn lower(alloc: Global, store: &mut Store, triple: &Triple) -> Option<()> {
 }
 
 // Does the call of a step, and says whether the store is full for the triple.
-pub(crate) fn is_full_for_call(
-    alloc: Global,
-    store: &mut Store,
-    sign: &str,
-    triple: &Triple,
-) -> Option<bool>
+fn is_full_for_call(alloc: Global, store: &mut Store, sign: &str, triple: &Triple) -> Option<bool>
     requires { HasFitAndShortTerms triple.now }
 {
     match sign {
