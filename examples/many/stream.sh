@@ -57,8 +57,11 @@ for process in 1 2 3 4; do start $process; done
 
 # One process is killed once its part has a snapshot.
 while [ "$(find "$work/snapshots" -name '*-*' | wc -l)" -lt $parts ]; do sleep 0.1; done
-owner=$(ask get owner:2)
-kill -9 "$owner"
+owner=
+while [ -z "$owner" ]; do
+  owner=$(ask get owner:2)
+done
+kill -9 "$owner" || { echo "not as expected: no process has part 2"; exit 1; }
 echo "killed: the process $owner, in the middle of part 2"
 { tail -n +$((half + 1)) "$work/routed.txt"; for part in 0 1 2 3; do printf '%s\t{"end":true}\n' $part; done; } | put
 for process in 1 2 3 4; do
