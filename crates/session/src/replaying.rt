@@ -48,7 +48,7 @@ pub fn replay_into<S: Source, R: Revisions, K: Sink, F: Sink>(
     graphs: &mut Option<Graphs>,
 ) -> Result<(), Stop>
     requires world { world.old.replay ≡ nothing_delivered }
-    requires fresh { IfSome graphs.old (λ g. g.entries ≡ Some map.empty) }
+    requires fresh { IfSome graphs.old (λ g. (g.entries ≡ Some map.empty) × (g.limit ≡ max_terms_of task.now.options.now)) }
     requires within { AreWithin task.now.numbers }
     ensures ok { OnOk result (Ending (behind task.now.numbers (run_of (routes_of graphs.old) task.now.report (R.contents ports.old.revisions) task.now.options.now))
         (moment S.Source R.Revisions K.Sink F.Sink ports.old (world_at_start task.now.options.now))

@@ -63,7 +63,7 @@ fn make_graphs(
     options: &SplitOptions<'_>,
 ) -> Result<Option<Graphs>, OutOfMemory>
     ensures { IfOk result (λ found. MatchOption found ((routes : List Route) → AreRoutesIn options.now.route routes → ⊥) (λ (graphs : GraphsState).
-        ((routes : List Route) → AreRoutesIn options.now.route routes → graphs.routes ≡ routes) × AreRoutesIn options.now.route graphs.routes × (graphs.entries ≡ Some map.empty))) }
+        ((routes : List Route) → AreRoutesIn options.now.route routes → graphs.routes ≡ routes) × AreRoutesIn options.now.route graphs.routes × (graphs.entries ≡ Some map.empty) × (graphs.limit ≡ max_terms_of options.now.replay))) }
 {
     let Some(routes) = Routes::read(alloc, options.route())? else {
         return Ok(None);
@@ -82,6 +82,7 @@ fn replay_by<S: Source, R: Revisions, K: Sink, F: Sink>(
 ) -> Status
     requires world { world.old.replay ≡ nothing_delivered }
     requires fresh { graphs.entries ≡ Some map.empty }
+    requires limit { graphs.limit ≡ max_terms_of options.now }
     ensures ending { ReplayEnding result (run_of (Some graphs.routes) Answers (R.contents ports.old.revisions) options.now)
         (moment S.Source R.Revisions K.Sink F.Sink ports.old (world_at_start options.now))
         (moment S.Source R.Revisions K.Sink F.Sink ports.new world.new) }

@@ -4,9 +4,7 @@ use Rattle.std.specs.FinMap as map
 use Rattle.std.specs.Cmp.{eq_by_cmp_equiv}
 use Rattle.std.specs.Ordering.{eq_by_cmp}
 use Rattle.std.proofs.lemmas.List.Sums.{prefix_len-le-length}
-use Rattle.rising.specs.Rising.{sorted}
 use Rattle.rdf_term.specs.declared.triple.Triple.{Triple}
-use Rattle.rdf_term.specs.Order.{triple_cmp}
 use Rattle.entity_json.specs.Document.{document_of}
 use Rattle.entity_model.specs.declared.document.Document.{Document}
 use Rattle.entity_model.specs.declared.document.Document.TheVariants.{Entity as AnEntity, Redirect, Lexeme as ALexeme}
@@ -40,7 +38,7 @@ use Rattle.world.specs.WorldState.{AreHolders, WorldState, by_two_after, next_st
 use Rattle.world.proofs.ByVersion.{version_other, version_own}
 use Rattle.world.proofs.Giving.{recorded}
 use Rattle.world.proofs.Pieced.{id_tells}
-use Rattle.splitting.specs.Graphs.{AreEntriesAfter, AreEntriesAnew, AreEntriesOf, Follow, GraphsState, IsSound, MayFollow, routes_of, routing_by}
+use Rattle.splitting.specs.Graphs.{AreEntriesAfter, AreEntriesAnew, AreEntriesOf, IsSound, routing_by}
 
 -- ---- routes
 
@@ -244,21 +242,23 @@ ok_of (Ok done) is p = p
 ok_of (Err e) is p = absurd (true≢false (sym is))
 
 -- graphs that follow a world follow it after an application
-pub graphs_applied : (routes : List Route) (entries entries_now : Entries) (applied : Applied) (page : Option RoutedPage) → AreEntriesAfter applied.outcome applied.event.entity page entries entries_now
-    → (known : Option Contents) (folder : List ℕ) (before after : WorldState) → Applies known folder before.replay after.replay applied
+pub graphs_applied : (routes : List Route) (limit : ℕ) (entries entries_now : Entries) (applied : Applied) (page : Option RoutedPage) → AreEntriesAfter applied.outcome applied.event.entity page entries entries_now
+    → (known : Option Contents) (folder : List ℕ) (before after : WorldState) → Applies known folder before.replay after.replay applied → after.limit ≡ before.limit
     → after.by_two ≡ by_two_after applied.outcome before.mapping applied.event.entity before.by_two → AreHolders after.by_two after.replay.played.records
     → GivesPage routes before.mapping applied.event.entity applied.outcome (held_in after applied.event.entity) page
-    → AreEntriesOf routes before entries → AreEntriesOf routes after entries_now
-graphs_applied routes entries entries_now applied page is known folder before after a by_two holders given follows = record {
+    → AreEntriesOf routes limit before entries → AreEntriesOf routes limit after entries_now
+graphs_applied routes limit entries entries_now applied page is known folder before after a same by_two holders given follows = record {
   split = application_followed routes entries entries_now known folder before after applied page a follows.holders by_two given is follows.split;
   holders = holders;
+  limit_is = follows.limit_is ∙ sym same;
 }
 
 -- and after a page is mapped anew
-pub graphs_remapped : (routes : List Route) (entries entries_now : Entries) (x : EntityId) (triples : List Triple) → AreEntriesAnew (graph_of entries x) x triples entries entries_now
+pub graphs_remapped : (routes : List Route) (limit : ℕ) (entries entries_now : Entries) (x : EntityId) (triples : List Triple) → AreEntriesAnew (graph_of entries x) x triples entries entries_now
     → (before : WorldState) → next_stale before ≡ Some x → AreTriplesOf before.mapping x (held_in before x) triples → AreHolders (remapped before).by_two before.replay.played.records
-    → AreEntriesOf routes before entries → AreEntriesOf routes (remapped before) entries_now
-graphs_remapped routes entries entries_now x triples is before next are holders follows = record {
+    → AreEntriesOf routes limit before entries → AreEntriesOf routes limit (remapped before) entries_now
+graphs_remapped routes limit entries entries_now x triples is before next are holders follows = record {
   split = remapping_followed routes entries entries_now before x triples follows.holders next are is follows.split;
   holders = holders;
+  limit_is = follows.limit_is;
 }

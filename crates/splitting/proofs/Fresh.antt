@@ -19,30 +19,33 @@ use Rattle.splitting.specs.Graphs.{AreEntriesOf, Follow, GraphsState, MayFollow,
 abbrev pub blank_world : Option ℕ → ℕ → MappingVersion → WorldState
 blank_world h limit version = record { replay = nothing_delivered_within h; limit = limit; mapping = version; by_two = [] }
 
-pub fresh_follow : (g : GraphsState) (h : Option ℕ) (limit : ℕ) (version : MappingVersion) → g.entries ≡ Some map.empty → Follow g (blank_world h limit version)
-fresh_follow g h limit version fresh =
-    subst (λ (o : Option Entries). IfSome o (AreEntriesOf g.routes (blank_world h limit version))) (sym fresh) (record {
+pub fresh_follow : (g : GraphsState) (h : Option ℕ) (limit : ℕ) (version : MappingVersion) → g.entries ≡ Some map.empty → g.limit ≡ limit → Follow g (blank_world h limit version)
+fresh_follow g h limit version fresh same =
+    subst (λ (o : Option Entries). IfSome o (AreEntriesOf g.routes g.limit (blank_world h limit version))) (sym fresh) (record {
       split = record {
         entry_is = λ x. map.get-empty _ x ∙ sym (ap (λ (r : Record Bytes). entry_held (routing_by g.routes) (meaning_by meaning []) x r.held) (record_of-empty x));
       };
       holders = record { rising = tt; holding = λ x there. absurd (true≢false (sym there)) };
+      limit_is = same;
     })
 
 -- the same, where there may be graphs
-pub fresh_may_follow : (graphs : Option GraphsState) (h : Option ℕ) (limit : ℕ) (version : MappingVersion) → IfSome graphs (λ (g : GraphsState). g.entries ≡ Some map.empty) → MayFollow graphs (blank_world h limit version)
+pub fresh_may_follow : (graphs : Option GraphsState) (h : Option ℕ) (limit : ℕ) (version : MappingVersion) → IfSome graphs (λ (g : GraphsState). (g.entries ≡ Some map.empty) × (g.limit ≡ limit)) → MayFollow graphs (blank_world h limit version)
 fresh_may_follow None h limit version fresh = tt
-fresh_may_follow (Some g) h limit version fresh = fresh_follow g h limit version fresh
+fresh_may_follow (Some g) h limit version fresh = fresh_follow g h limit version fresh.0 fresh.1
 
-still_of : (routes : List Route) (entries : Option Entries) (before after : WorldState) → after.replay.played.records ≡ before.replay.played.records → after.by_two ≡ before.by_two → IfSome entries (AreEntriesOf routes before) → IfSome entries (AreEntriesOf routes after)
-still_of routes None before after records by_two follows = tt
-still_of routes (Some entries) before after records by_two follows =
+still_of : (routes : List Route) (limit : ℕ) (entries : Option Entries) (before after : WorldState) → after.replay.played.records ≡ before.replay.played.records → after.by_two ≡ before.by_two → after.limit ≡ before.limit
+    → IfSome entries (AreEntriesOf routes limit before) → IfSome entries (AreEntriesOf routes limit after)
+still_of routes limit None before after records by_two same follows = tt
+still_of routes limit (Some entries) before after records by_two same follows =
     let There : Records → List EntityId → Type 0 = λ r ids. IsSplitOf (routing_by routes) (meaning_by meaning ids) entries r in
     record {
       split = subst (λ r. There r after.by_two) (sym records) (subst (There before.replay.played.records) (sym by_two) follows.split);
       holders = subst (AreHolders after.by_two) (sym records) (subst (λ ids. AreHolders ids before.replay.played.records) (sym by_two) follows.holders);
+      limit_is = follows.limit_is ∙ sym same;
     }
 
--- graphs follow a world where what is held, and by which versions it is mapped, stays the same
-pub follow_same : (graphs : Option GraphsState) (before after : WorldState) → after.replay.played.records ≡ before.replay.played.records → after.by_two ≡ before.by_two → MayFollow graphs before → MayFollow graphs after
-follow_same None before after records by_two follows = tt
-follow_same (Some g) before after records by_two follows = still_of g.routes g.entries before after records by_two follows
+-- graphs follow a world where what is held, by which versions it is mapped, and how many terms there may be, stays the same
+pub follow_same : (graphs : Option GraphsState) (before after : WorldState) → after.replay.played.records ≡ before.replay.played.records → after.by_two ≡ before.by_two → after.limit ≡ before.limit → MayFollow graphs before → MayFollow graphs after
+follow_same None before after records by_two same follows = tt
+follow_same (Some g) before after records by_two same follows = still_of g.routes g.limit g.entries before after records by_two same follows

@@ -1,5 +1,5 @@
 -- The texts of graphs, one after the other.
-use Rattle.std.proofs.Common.{◌≡◌, refl, sym, ◌∙◌, ap, subst, ℕ, zero, suc, ◌+◌, ◌≤◌, ◌-◌, List, [], ◌++◌, Ok, Err, append_assoc, append-nil, add-one, arith}
+use Rattle.std.proofs.Common.{◌≡◌, refl, sym, ◌∙◌, ap, ℕ, zero, suc, ◌+◌, ◌≤◌, ◌-◌, List, [], ◌++◌, Ok, Err, append_assoc, append-nil, add-one, arith}
 use Rattle.transcript.specs.declared.write.Unwritten.{Unwritten}
 use Rattle.transcript.specs.Printing.{Output, Prints}
 use Rattle.transcript.specs.declared.write.Unwritten.TheVariants.{OutOfMemory}

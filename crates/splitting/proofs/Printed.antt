@@ -25,7 +25,7 @@ module _ (routes : List Route) (entries : Entries) where
   abbrev pub section_in : ℕ → List ℕ
   section_in graph = graph_section (graph_name routes graph) (graph_triples entries graph)
 
-  module _ (world : WorldState) (follows : AreEntriesOf routes world entries) where
+  module _ (limit : ℕ) (world : WorldState) (follows : AreEntriesOf routes limit world entries) where
     abbrev routed : ℕ → List Triple
     routed graph = routed_union (routing_by routes) (meaning_by meaning world.by_two) world.replay.played.records graph
 

@@ -1,5 +1,5 @@
 -- Graphs that follow a world.
-use Rattle.std.specs.Prelude.{◌≡◌, ℕ, ◌<◌, ◌+◌, ⊤, List, Option, None, Some, length, IfSome, option_map}
+use Rattle.std.specs.Prelude.{◌≡◌, ℕ, ◌<◌, ◌≤◌, ◌+◌, ⊤, List, Option, None, Some, length, IfSome, option_map}
 use Rattle.std.specs.FinMap as map
 use Rattle.std.specs.List.{AllByRecursion}
 use Rattle.rising.specs.Rising.{sorted}
@@ -9,9 +9,9 @@ use Rattle.rdf_term.specs.Order.{triple_cmp}
 use Rattle.entity_model.specs.declared.id.EntityId.{EntityId}
 use Rattle.replay_model.specs.Versions.{meaning_by}
 use Rattle.subgraph.specs.declared.routes.Route.{Route}
-use Rattle.subgraph.specs.Entries.{Entries}
+use Rattle.subgraph.specs.Entries.{Entries, graph_triples, terms_with}
 use Rattle.subgraph.specs.Laws.{IsSplitOf, Routing}
-use Rattle.subgraph.specs.Split.{entry}
+use Rattle.subgraph.specs.Split.{entry, graph_of}
 use Rattle.world.specs.declared.applied.Outcome.{Outcome}
 use Rattle.world.specs.declared.applied.Outcome.TheVariants.{Same, Stored, Dropped, Sided}
 use Rattle.world.specs.declared.applied.RoutedPage.{RoutedPage}
@@ -19,9 +19,11 @@ use Rattle.world.specs.Meaning.{meaning}
 use Rattle.world.specs.Routed.{route_of_page}
 use Rattle.world.specs.WorldState.{AreHolders, WorldState}
 
--- graphs: the routes, and the entry of each entity, which is the index of its graph and its triples; none where the graphs are lost
+-- graphs: the routes; how many different terms each graph may have; and the entry of each entity, which is the index of its graph and its
+-- triples, or none where the graphs are lost
 pub record GraphsState : Type 0 where
   pub routes : List Route
+  pub limit : ℕ
   pub entries : Option Entries
 
 -- pages are routed by these routes
@@ -29,14 +31,15 @@ abbrev pub routing_by : List Route → Routing
 routing_by routes x rev bytes = route_of_page routes x bytes
 
 -- each entity has its entry by what it holds: the graph that its page is routed to, and the triples that the page means by the version
--- that it is mapped by
-pub record AreEntriesOf (routes : List Route) (world : WorldState) (entries : Entries) : Type 0 where
+-- that it is mapped by; and each graph may have as many terms as the world
+pub record AreEntriesOf (routes : List Route) (limit : ℕ) (world : WorldState) (entries : Entries) : Type 0 where
   pub split : IsSplitOf (routing_by routes) (meaning_by meaning world.by_two) entries world.replay.played.records
   pub holders : AreHolders world.by_two world.replay.played.records
+  pub limit_is : limit ≡ world.limit
 
 -- graphs follow a world, or are lost
 abbrev pub Follow : GraphsState → WorldState → Type 0
-Follow graphs world = IfSome graphs.entries (AreEntriesOf graphs.routes world)
+Follow graphs world = IfSome graphs.entries (AreEntriesOf graphs.routes graphs.limit world)
 
 -- ---- graphs that there may be
 
@@ -74,3 +77,32 @@ AreEntriesAfter (Sided cause) x page entries now = now ≡ entries
 abbrev pub AreEntriesAnew : Option ℕ → EntityId → List Triple → Entries → Entries → Type 0
 AreEntriesAnew None x triples entries now = now ≡ entries
 AreEntriesAnew (Some graph) x triples entries now = now ≡ map.insert entries x (entry graph (sorted triple_cmp triples))
+
+-- ---- room
+
+-- a graph has room for the triples of a page that an application stored
+abbrev pub HasRoomIn : ℕ → Entries → Outcome → Option RoutedPage → Type 0
+HasRoomIn limit entries Stored None = ⊤
+HasRoomIn limit entries Stored (Some page) = terms_with (graph_triples entries page.graph) page.triples ≤ limit
+HasRoomIn limit entries Same page = ⊤
+HasRoomIn limit entries Dropped page = ⊤
+HasRoomIn limit entries (Sided cause) page = ⊤
+
+-- the same of graphs, unless they are lost, and of graphs that there may be
+abbrev pub HaveRoom : GraphsState → Outcome → Option RoutedPage → Type 0
+HaveRoom graphs outcome page = IfSome graphs.entries (λ (entries : Entries). HasRoomIn graphs.limit entries outcome page)
+
+abbrev pub MayHaveRoom : Option GraphsState → Outcome → Option RoutedPage → Type 0
+MayHaveRoom graphs outcome page = IfSome graphs (λ (g : GraphsState). HaveRoom g outcome page)
+
+-- a graph, if there is one, has room for triples
+abbrev pub HasRoomAnewIn : ℕ → Entries → Option ℕ → List Triple → Type 0
+HasRoomAnewIn limit entries None triples = ⊤
+HasRoomAnewIn limit entries (Some graph) triples = terms_with (graph_triples entries graph) triples ≤ limit
+
+-- the graph that an entity is in has room for triples, unless the graphs are lost
+abbrev pub HaveRoomAnew : GraphsState → EntityId → List Triple → Type 0
+HaveRoomAnew graphs x triples = IfSome graphs.entries (λ (entries : Entries). HasRoomAnewIn graphs.limit entries (graph_of entries x) triples)
+
+abbrev pub MayHaveRoomAnew : Option GraphsState → EntityId → List Triple → Type 0
+MayHaveRoomAnew graphs x triples = IfSome graphs (λ (g : GraphsState). HaveRoomAnew g x triples)

@@ -1,6 +1,6 @@
 // The graphs, which follow a world step by step.
 
-ghost use Rattle.std.specs.Prelude.{◌≡◌, ◌<◌, ℕ, List, Option, Some, IfOk, OnOk};
+ghost use Rattle.std.specs.Prelude.{◌≡◌, ◌<◌, ◌≤◌, ℕ, List, Option, Some, IfOk, OnOk};
 ghost use Rattle.std.specs.FinMap as map;
 ghost use Rattle.std.specs.List.{AllByRecursion};
 ghost use Rattle.rdf_term.specs.Fit.{HasFitAndShortTerms};
@@ -8,27 +8,30 @@ ghost use Rattle.replay_model.specs.Records.{record_of};
 ghost use Rattle.revisions.specs.Revisions.{Contents};
 ghost use Rattle.rdf_term.specs.Order.{triple_cmp};
 ghost use Rattle.rising.specs.Rising.{sorted};
+ghost use Rattle.subgraph.specs.Entries.{graph_triples, terms_with};
 ghost use Rattle.subgraph.specs.Split.{entry, graph_of};
 ghost use Rattle.world.specs.Applying.{Applies};
 ghost use Rattle.world.specs.Routed.{AreTriplesOf, GivesPage};
 ghost use Rattle.world.specs.WorldState.{AreHolders, WorldState, by_two_after, next_stale, remapped};
-ghost use Rattle.splitting.specs.Graphs.{AreEntriesAfter, AreEntriesAnew, Follow, IsSound, IsSoundFor};
+ghost use Rattle.splitting.specs.Graphs.{AreEntriesAfter, AreEntriesAnew, Follow, HasRoomAnewIn, HasRoomIn, HaveRoom, HaveRoomAnew, IsSound, IsSoundFor};
 
 use entity_model::EntityId;
 use rdf_term::OutOfMemory;
 use std::alloc::Global;
 use std::hash::RandomState;
 use std::marker::Model;
-use subgraph::{Routes, Split};
+use subgraph::{Routes, Split, StoreFault};
 use triple_texts::TripleTexts;
 use world::{Applied, Outcome, RoutedPage};
 
 /// Several graphs, by routes: one graph for each route, and a last one. An entity has its triples in one of them, or in none. Once memory
-/// was refused while they followed a step, they are lost, and hold nothing. Contracts see the routes, and the entry of each entity, which is
-/// the index of its graph and its triples; none where the graphs are lost.
+/// was refused while they followed a step, they are lost, and hold nothing. A graph never lacks room where the world that it follows has it.
+/// Contracts see the routes; how many different terms each graph may have; and the entry of each entity, which is the index of its graph and
+/// its triples, or none where the graphs are lost.
 #[derive(Drop)]
 pub struct Graphs {
     pub(crate) routes: Routes,
+    limit: u32,
     pub(crate) split: Option<Split>,
 }
 
@@ -42,9 +45,9 @@ impl Model for Graphs {
 
     ghost coded = { graphs_code };
 
-    ghost view = { λ g. record { routes = g.routes; entries = option_map (λ (s : SplitState). s.entries) g.split } };
+    ghost view = { λ g. record { routes = g.routes; limit = g.limit; entries = option_map (λ (s : SplitState). s.entries) g.split } };
 
-    ghost invariant = { λ g. IfSome g.split (λ (s : SplitState). s.graphs ≡ length g.routes + 1) };
+    ghost invariant = { λ g. IfSome g.split (λ (s : SplitState). (s.graphs ≡ length g.routes + 1) × (s.limit ≡ g.limit)) };
 }
 
 impl Graphs {
@@ -55,11 +58,12 @@ impl Graphs {
         routes: Routes,
         limit: u32,
     ) -> Result<Graphs, OutOfMemory>
-        ensures { IfOk result (λ graphs. graphs ≡ record { routes = routes; entries = Some map.empty }) }
+        ensures { IfOk result (λ graphs. graphs ≡ record { routes = routes; limit = limit; entries = Some map.empty }) }
     {
         let split = Split::new(alloc, keys, routes.graphs(), limit)?;
         Ok(Graphs {
             routes,
+            limit,
             split: Some(split),
         })
     }
@@ -72,13 +76,15 @@ impl Graphs {
     }
 
     /// Follows the application of an event, whose page is given back where it stored one: the entity has its triples in the graph that this
-    /// page is routed to, and in no other, and in none where the page was deleted. Graphs that followed the world before the application
-    /// follow the world after it, or are lost.
+    /// page is routed to, and in no other, and in none where the page was deleted. This graph has room for it. Graphs that followed the world
+    /// before the application follow the world after it, or are lost, where memory was refused.
     pub fn follow_application(&mut self, applied: &Applied, routed: Option<RoutedPage>)
-        requires { IsSound self.old.routes applied.now.outcome routed }
+        requires sound { IsSound self.old.routes applied.now.outcome routed }
+        requires room { HaveRoom self.old applied.now.outcome routed }
         ensures routes { self.new.routes ≡ self.old.routes }
+        ensures limit { self.new.limit ≡ self.old.limit }
         ensures follow { (known : Option Contents) (folder : List ℕ) (before after : WorldState) →
-            Applies known folder before.replay after.replay applied.now →
+            Applies known folder before.replay after.replay applied.now → after.limit ≡ before.limit →
             after.by_two ≡ by_two_after applied.now.outcome before.mapping applied.now.event.entity before.by_two → AreHolders after.by_two after.replay.played.records →
             GivesPage self.old.routes before.mapping applied.now.event.entity applied.now.outcome (record_of after.replay.played.records applied.now.event.entity).held routed →
             Follow self.old before → Follow self.new after }
@@ -91,11 +97,13 @@ impl Graphs {
         }
     }
 
-    /// Follows the mapping of an entity's page anew: these are its triples now, in the graph that it is in. Graphs that followed the world
-    /// before follow the world after it, or are lost.
+    /// Follows the mapping of an entity's page anew: these are its triples now, in the graph that it is in, which has room for them. Graphs
+    /// that followed the world before follow the world after it, or are lost, where memory was refused.
     pub fn follow_remapping(&mut self, id: EntityId, triples: &TripleTexts)
-        requires { AllByRecursion HasFitAndShortTerms triples.now }
+        requires fit { AllByRecursion HasFitAndShortTerms triples.now }
+        requires room { HaveRoomAnew self.old id triples.now }
         ensures routes { self.new.routes ≡ self.old.routes }
+        ensures limit { self.new.limit ≡ self.old.limit }
         ensures follow { (before : WorldState) → next_stale before ≡ Some id →
             AreTriplesOf before.mapping id (record_of before.replay.played.records id).held triples.now → AreHolders (remapped before).by_two before.replay.played.records →
             Follow self.old before → Follow self.new (remapped before) }
@@ -109,13 +117,15 @@ impl Graphs {
     }
 }
 
-// Follows the application of an event. What a graph has is stored in the world too, which has the same room, so it's never full.
+// Follows the application of an event.
 fn apply(
     split: &mut Split,
     applied: &Applied,
     routed: Option<RoutedPage>,
 ) -> Result<(), OutOfMemory>
-    requires { IsSoundFor split.old.graphs applied.now.outcome routed }
+    requires sound { IsSoundFor split.old.graphs applied.now.outcome routed }
+    requires room { HasRoomIn split.old.limit split.old.entries applied.now.outcome routed }
+    ensures limit { split.new.limit ≡ split.old.limit }
     ensures entries { OnOk result (AreEntriesAfter applied.now.outcome applied.now.event.entity routed split.old.entries split.new.entries) }
     ensures graphs { split.new.graphs ≡ split.old.graphs }
 {
@@ -134,7 +144,9 @@ fn apply(
 
 // Follows the mapping of a page anew.
 fn remap(split: &mut Split, id: EntityId, triples: &TripleTexts) -> Result<(), OutOfMemory>
-    requires { AllByRecursion HasFitAndShortTerms triples.now }
+    requires fit { AllByRecursion HasFitAndShortTerms triples.now }
+    requires room { HasRoomAnewIn split.old.limit split.old.entries (graph_of split.old.entries id) triples.now }
+    ensures limit { split.new.limit ≡ split.old.limit }
     ensures entries { OnOk result (AreEntriesAnew (graph_of split.old.entries id) id triples.now split.old.entries split.new.entries) }
     ensures graphs { split.new.graphs ≡ split.old.graphs }
 {
@@ -144,7 +156,7 @@ fn remap(split: &mut Split, id: EntityId, triples: &TripleTexts) -> Result<(), O
     }
 }
 
-// Sets the triples of an entity in a graph.
+// Sets the triples of an entity in a graph, which has room for them.
 fn set(
     split: &mut Split,
     id: EntityId,
@@ -153,11 +165,14 @@ fn set(
 ) -> Result<(), OutOfMemory>
     requires graph { graph < split.old.graphs }
     requires fit { AllByRecursion HasFitAndShortTerms triples.now }
+    requires room { terms_with (graph_triples split.old.entries graph) triples.now ≤ split.old.limit }
+    ensures limit { split.new.limit ≡ split.old.limit }
     ensures entries { OnOk result (split.new.entries ≡ map.insert split.old.entries id (entry graph (sorted triple_cmp triples.now))) }
     ensures graphs { split.new.graphs ≡ split.old.graphs }
 {
     match split.set_texts(id, graph, triples) {
         Ok(()) => Ok(()),
-        Err(_) => Err(OutOfMemory),
+        Err(StoreFault::OutOfMemory) => Err(OutOfMemory),
+        Err(StoreFault::Full) => unreachable!(),
     }
 }

@@ -8,7 +8,7 @@ ghost use Rattle.revisions.specs.Revisions.{Contents};
 ghost use Rattle.world.specs.Applying.{Applies};
 ghost use Rattle.world.specs.Routed.{AreTriplesOf, GivesPage};
 ghost use Rattle.world.specs.WorldState.{AreHolders, WorldState, by_two_after, next_stale, remapped};
-ghost use Rattle.splitting.specs.Graphs.{IsSound, MayFollow, routes_of};
+ghost use Rattle.splitting.specs.Graphs.{IsSound, MayFollow, MayHaveRoom, MayHaveRoomAnew, routes_of};
 
 use crate::graphs::Graphs;
 use entity_model::EntityId;
@@ -26,16 +26,17 @@ pub fn routes_of(graphs: &Option<Graphs>) -> Option<&Routes>
     }
 }
 
-/// Graphs, if there are some, follow the application of an event.
+/// Graphs, if there are some, follow the application of an event. They have room for the page that it stored.
 pub fn follow_application(
     graphs: &mut Option<Graphs>,
     applied: &Applied,
     routed: Option<RoutedPage>,
 )
-    requires { IfSome (routes_of graphs.old) (λ routes. IsSound routes applied.now.outcome routed) }
+    requires sound { IfSome (routes_of graphs.old) (λ routes. IsSound routes applied.now.outcome routed) }
+    requires room { MayHaveRoom graphs.old applied.now.outcome routed }
     ensures routes { routes_of graphs.new ≡ routes_of graphs.old }
     ensures follow { (known : Option Contents) (folder : List ℕ) (before after : WorldState) →
-        Applies known folder before.replay after.replay applied.now →
+        Applies known folder before.replay after.replay applied.now → after.limit ≡ before.limit →
         after.by_two ≡ by_two_after applied.now.outcome before.mapping applied.now.event.entity before.by_two → AreHolders after.by_two after.replay.played.records →
         IfSome (routes_of graphs.old) (λ routes. GivesPage routes before.mapping applied.now.event.entity applied.now.outcome (record_of after.replay.played.records applied.now.event.entity).held routed) →
         MayFollow graphs.old before → MayFollow graphs.new after }
@@ -45,9 +46,10 @@ pub fn follow_application(
     }
 }
 
-/// Graphs, if there are some, follow the mapping of an entity's page anew, which has these triples now.
+/// Graphs, if there are some, follow the mapping of an entity's page anew, which has these triples now, for which they have room.
 pub fn follow_remapping(graphs: &mut Option<Graphs>, id: EntityId, triples: &TripleTexts)
-    requires { AllByRecursion HasFitAndShortTerms triples.now }
+    requires fit { AllByRecursion HasFitAndShortTerms triples.now }
+    requires room { MayHaveRoomAnew graphs.old id triples.now }
     ensures routes { routes_of graphs.new ≡ routes_of graphs.old }
     ensures follow { (before : WorldState) → next_stale before ≡ Some id →
         AreTriplesOf before.mapping id (record_of before.replay.played.records id).held triples.now → AreHolders (remapped before).by_two before.replay.played.records →

@@ -5,6 +5,7 @@ use Rattle.told_pages.proofs.Applying.{applies-fewer}
 use Rattle.term_pool.specs.declared.fault.PoolFault.TheVariants.{Full, OutOfMemory}
 use Rattle.splitting.specs.Graphs.{routes_of}
 use Rattle.splitting.proofs.Following.{may_be_sound}
+use Rattle.splitting.proofs.Roomed.{may_have_room}
 use Rattle.session.specs.Counts.{counts}
 use Rattle.session.specs.Moment.{stage}
 use Rattle.session.proofs.Due.{IsApplied, applies-leads, goes-further, goes-nowhere, gone-on, none_due, starved, untold}
@@ -46,14 +47,18 @@ loop-applied-preserved g c =
       source = gone-on g.R.Revisions _ _ _ before.source (record { known = call.told; faults = call.more_faults; misses = call.more_misses; most = call.most });
       limit = call.limit ∙ before.limit;
       versions = keeps-further c.args.world.now c.loop-applied.world c.apply_next_with.new.self before.versions keeps;
-      follow = c.follow_application.ensures.follow _ _ c.loop-applied.world c.apply_next_with.new.self call.applied call.by_two call.holders (rw c.routes_of.ensures at call.routed) before.follow;
+      follow = c.follow_application.ensures.follow _ _ c.loop-applied.world c.apply_next_with.new.self call.applied call.limit call.by_two call.holders (rw c.routes_of.ensures at call.routed) before.follow;
       routes = c.follow_application.ensures.routes ∙ before.routes;
       written = record { faults = omega (arith, before.written.faults, c.in-Ok-tell.ensures.written.faults); most = c.in-Ok-tell.ensures.written.most ∙ before.written.most };
       silent = λ answers. still_silent _ _ _ _ _ _ answers told ∙ before.silent answers;
     }
 
-pub follow_application-requires : goal.follow_application-requires
-follow_application-requires g c = may_be_sound (routes_of c.loop-applied.graphs) _ _ _ _ _ (rw c.routes_of.ensures at c.in-Ok.ensures.routed)
+pub follow_application-requires-clause-sound : goal.follow_application-requires-clause-sound
+follow_application-requires-clause-sound g c = may_be_sound (routes_of c.loop-applied.graphs) _ _ _ _ _ (rw c.routes_of.ensures at c.in-Ok.ensures.routed)
+
+pub follow_application-requires-clause-room : goal.follow_application-requires-clause-room
+follow_application-requires-clause-room g c =
+    may_have_room c.loop-applied.graphs c.loop-applied.world _ _ _ _ c.loop-applied.invariant.follow (rw c.routes_of.ensures at c.in-Ok.ensures.routed) c.in-Ok.ensures.within
 
 pub loop-applied-smaller : goal.loop-applied-smaller
 loop-applied-smaller g c = applies-fewer _ _ _ _ _ c.in-Ok.ensures.applied

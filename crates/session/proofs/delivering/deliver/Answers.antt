@@ -97,8 +97,10 @@ returns-in_err-answer-in-Event-clause-held g c = rw c.in_err-answer-in-Event.ens
 
 pub returns-in_ok-answer-in-Event-clause-follow : goal.returns-in_ok-answer-in-Event-clause-follow
 returns-in_ok-answer-in-Event-clause-follow g c =
-    follow_same c.args.graphs.now c.args.world.now c.take_event.new.world (ap (λ (w : ReplayState). w.played.records) c.in_ok-answer-in-Event.ensures.ok) (ap (λ (m : Mapped). m.by_two) c.in_ok-answer-in-Event.ensures.versions) c.requires.follow
+    follow_same c.args.graphs.now c.args.world.now c.take_event.new.world (ap (λ (w : ReplayState). w.played.records) c.in_ok-answer-in-Event.ensures.ok) (ap (λ (m : Mapped). m.by_two) c.in_ok-answer-in-Event.ensures.versions)
+    c.in_ok-answer-in-Event.ensures.limit c.requires.follow
 
 pub apply_due-requires : goal.apply_due-requires
 apply_due-requires g c =
-    follow_same c.args.graphs.now c.args.world.now c.raise.new.world (ap (λ (w : ReplayState). w.played.records) c.raise.ensures.mark) (ap (λ (m : Mapped). m.by_two) c.raise.ensures.versions) c.requires.follow
+    follow_same c.args.graphs.now c.args.world.now c.raise.new.world (ap (λ (w : ReplayState). w.played.records) c.raise.ensures.mark) (ap (λ (m : Mapped). m.by_two) c.raise.ensures.versions) c.raise.ensures.limit
+    c.requires.follow

@@ -21,4 +21,5 @@ returns-clause-versions g c = rw c.close.ensures at c.apply_due.ensures.versions
 
 pub apply_due-requires : goal.apply_due-requires
 apply_due-requires g c =
-    follow_same c.args.graphs.now c.args.world.now c.close.new.self (ap (λ (w : WorldState). w.replay.played.records) c.close.ensures) (ap (λ (w : WorldState). w.by_two) c.close.ensures) c.requires
+    follow_same c.args.graphs.now c.args.world.now c.close.new.self (ap (λ (w : WorldState). w.replay.played.records) c.close.ensures) (ap (λ (w : WorldState). w.by_two) c.close.ensures)
+    (ap (λ (w : WorldState). w.limit) c.close.ensures) c.requires

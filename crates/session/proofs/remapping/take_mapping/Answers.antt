@@ -2,6 +2,7 @@
 use Rattle.std.proofs.Common.{◌≡◌, ◌<◌, length, refl, sym, subst, ap, ◌∙◌, arith, Err}
 use Rattle.splitting.specs.Graphs.{MayFollow}
 use Rattle.splitting.proofs.Fresh.{follow_same}
+use Rattle.splitting.proofs.Roomed.{may_have_room_anew}
 use Rattle.world.specs.WorldState.{AreHolders, WorldState, stale}
 use Rattle.term_pool.specs.declared.fault.PoolFault.TheVariants.{Full, OutOfMemory}
 use Rattle.session.specs.Remapping.{HoldsWithin}
@@ -14,7 +15,8 @@ pub loop-world-init : goal.loop-world-init
 loop-world-init g c = record {
   told = told_none _ _ _ _ _ _ c.set_mapping.ensures.set (remaps_none _ _ _ c.set_mapping.ensures.set c.set_mapping.ensures.holders);
   written = record { faults = omega arith; most = refl };
-  follow = follow_same c.args.graphs.now c.args.world.now c.set_mapping.new.self (ap (λ (w : WorldState). w.replay.played.records) c.set_mapping.ensures.set) (ap (λ (w : WorldState). w.by_two) c.set_mapping.ensures.set) c.requires;
+  follow = follow_same c.args.graphs.now c.args.world.now c.set_mapping.new.self (ap (λ (w : WorldState). w.replay.played.records) c.set_mapping.ensures.set) (ap (λ (w : WorldState). w.by_two) c.set_mapping.ensures.set)
+      (ap (λ (w : WorldState). w.limit) c.set_mapping.ensures.set) c.requires;
   routes = refl;
   silent = λ answers. refl;
 }
@@ -37,10 +39,15 @@ loop-world-preserved g c =
       silent = λ answers. still_silent _ _ _ _ _ _ answers told ∙ b.silent answers;
     }
 
-pub follow_remapping-requires : goal.follow_remapping-requires
-follow_remapping-requires g c =
+pub follow_remapping-requires-clause-fit : goal.follow_remapping-requires-clause-fit
+follow_remapping-requires-clause-fit g c =
     let are = rw c.in-Ok-Some.field-0-is at c.in-Ok-Some.ensures.triples in
     are.fit
+
+pub follow_remapping-requires-clause-room : goal.follow_remapping-requires-clause-room
+follow_remapping-requires-clause-room g c =
+    let call = c.in-Ok-Some.ensures in
+    may_have_room_anew c.loop-world.graphs c.loop-world.world _ _ c.loop-world.invariant.follow (sym (rw c.in-Ok-Some.field-0-is at call.entity)) (rw c.in-Ok-Some.field-0-is at call.triples) call.within
 
 pub loop-world-smaller : goal.loop-world-smaller
 loop-world-smaller g c =

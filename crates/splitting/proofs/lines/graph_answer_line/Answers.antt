@@ -1,5 +1,5 @@
 -- The first line of an answer of a graph, from its parts.
-use Rattle.std.proofs.Common.{◌≡◌, ◌∙◌, sym, ap, ℕ, List, ◌++◌, codes, append_assoc}
+use Rattle.std.proofs.Common.{◌≡◌, ◌∙◌, sym, ℕ, List, ◌++◌, codes, append_assoc}
 use Rattle.std.specs.Fmt.{decimal}
 use Rattle.splitting.specs.Sections.{graph_answer_head}
 use Rattle.splitting.proofs.lines.graph_answer_line.Goals as goal

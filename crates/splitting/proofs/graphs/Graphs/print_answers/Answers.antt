@@ -1,5 +1,5 @@
 -- One answer more, and where one isn't begun or isn't ended.
-use Rattle.std.proofs.Common.{◌≡◌, ◌+◌, ◌≤◌, suc, length, subst, Ok, Err, arith}
+use Rattle.std.proofs.Common.{◌≡◌, ◌+◌, ◌≤◌, suc, length, subst, Ok, arith}
 use Rattle.std.proofs.lemmas.Result.{err_from_is_err_and}
 use Rattle.transcript.specs.Printing.{Prints, output}
 use Rattle.transcript.proofs.Parts.{prints_nothing}
@@ -16,7 +16,7 @@ returns-in_err-rows g c =
     let p = err_from_is_err_and c.from_residual.result c.from_residual.ensures.1 in
     let few : c.loop-graph.graph ≤ suc (length c.self.inside.routes) = omega (arith, c.graphs-graph-end.ensures.count, c.loop-graph-test.true) in
     rw (← c.self.view_is, c.in-Some.is, p.1, p.2) (λ world follows.
-    answers_printed c.self.inside.routes c.in-Some.split.entries world follows c.args.number c.args.pattern.now _ _ _
+    answers_printed c.self.inside.routes c.in-Some.split.entries c.self.inside.limit world follows c.args.number c.args.pattern.now _ _ _
     (below_not_begun (answer_in c.self.inside.routes c.in-Some.split.entries c.args.number c.args.pattern.now) c.loop-graph.graph (suc (length c.self.inside.routes)) _ _ few c.loop-graph.invariant))
 
 pub returns-in_err-print_answer : goal.returns-in_err-print_answer
@@ -25,7 +25,7 @@ returns-in_err-print_answer g c =
     let few : c.loop-graph.graph + 1 ≤ suc (length c.self.inside.routes) = omega (arith, c.graphs-graph-end.ensures.count, c.loop-graph-test.true) in
     let prints = rw (c.name.ensures, c.in_ok-rows.ensures) at c.in_err-print_answer.ensures in
     rw (← c.self.view_is, c.in-Some.is, p.1, p.2) (λ world follows.
-    answers_printed c.self.inside.routes c.in-Some.split.entries world follows c.args.number c.args.pattern.now _ _ _
+    answers_printed c.self.inside.routes c.in-Some.split.entries c.self.inside.limit world follows c.args.number c.args.pattern.now _ _ _
     (below_cut_short (answer_in c.self.inside.routes c.in-Some.split.entries c.args.number c.args.pattern.now) _ c.loop-graph.graph (suc (length c.self.inside.routes)) _ _ _ few c.loop-graph.invariant prints))
 
 pub loop-graph-preserved : goal.loop-graph-preserved
@@ -37,5 +37,5 @@ pub returns : goal.returns
 returns g c =
     let all : c.loop-graph.graph ≡ suc (length c.self.inside.routes) = omega (arith, c.graphs-graph-end.ensures.count, c.loop-graph-test.false, c.loop-graph.auto.graph-end) in
     rw (← c.self.view_is, c.in-Some.is) (λ world follows.
-    answers_printed c.self.inside.routes c.in-Some.split.entries world follows c.args.number c.args.pattern.now _ _ _
+    answers_printed c.self.inside.routes c.in-Some.split.entries c.self.inside.limit world follows c.args.number c.args.pattern.now _ _ _
     (subst (λ n. Prints (texts_below n (answer_in c.self.inside.routes c.in-Some.split.entries c.args.number c.args.pattern.now)) (output g.K.Sink c.args.out.now) (output g.K.Sink c.loop-graph.out) (Ok tt)) all c.loop-graph.invariant))
