@@ -13,10 +13,11 @@ status=0
 
 # A checkout with three crates below the program's, one that it doesn't stand on, and no program yet.
 checkout=$room/checkout
-mkdir -p "$room/bin" "$room/run/pages" "$checkout/scripts" "$checkout/docs" "$checkout/crates/"{lower,upper,wdq}/src
+mkdir -p "$room/bin" "$room/run/pages" "$checkout/scripts" "$checkout/docs" "$checkout/crates/"{lower,upper,wdq}/src "$checkout/crates/upper/"{out,must-fail}
 cp "$top/wdq" "$top/install.sh" "$checkout/"
 cp "$top/scripts/build.sh" "$checkout/scripts/"
 cp "$top/docs/wdq.1" "$checkout/docs/"
+echo 'Handles allowed: none.' >"$checkout/HANDLES"
 printf '# layers\nlower:\nupper: lower thiserror\nwdq: upper\ncases: lower\n' >"$checkout/crates.txt"
 
 # The program writes its words down and ends with STAND_IN_STATUS.
@@ -32,50 +33,32 @@ esac
 exit "$STAND_IN_STATUS"
 END
 
-# rt writes its words down, and leaves its marks of built libraries. As RT_FAILS says, a crate isn't proved (crate, last: said at once,
-# or only at the end), a check is killed for memory, or the build sleeps.
+# rt writes down its words, its jobs, and what the copy holds that it is run in. As RT_FAILS says, a crate isn't proved (crate), the program
+# doesn't run well (run), or the build sleeps.
 cat >"$room/bin/rt" <<'END'
 #!/usr/bin/env bash
-echo "$*" >>"${ROOM:?}/calls"
-[ "${PWD##*/}" = wdq ] || exit 2
-build() {
-  mkdir -p "../$1/out/rlib"
-  touch "../$1/out/rlib/stamp"
-}
-case "$1 ${RT_FAILS-}" in
-  'run '*)
-    mkdir -p out
-    cp "$ROOM/program" out/wdq
-    exit
-    ;;
-  'all crate')
-    printf '== lower\nfine\n== upper\nlost at this line\n== wdq\n== summary\nlower: ok\nupper: failed (1)\nwdq: not run, since upper failed\n'
+printf '%s\n' "$* ${RT_JOBS-any}" "$(cut -d: -f1 crates.txt | tr '\n' ' ')$(ls -d .git HANDLES crates/*/*  | tr '\n' ' ')" >>"${ROOM:?}/calls"
+pwd >"$ROOM/copy"
+case ${RT_FAILS-} in
+  crate)
+    printf '== lower\nrt: lower proved\n== upper\nlost at %s/crates/upper/src\nrt: upper NOT PROVED\n' "$PWD"
+    printf 'rt: wdq NOT PROVED: its library upper failed\nrt: FAILED: upper wdq\n1 passed, 2 failed\n'
     exit 1
     ;;
-  'all last')
-    build lower
-    rm -rf ../upper/out
-    printf '== lower\n== upper\nlost at this line\n'
-    sleep 1.5
-    printf '== summary\nlower: ok\nupper: failed (1)\nwdq: not run, since upper failed\n'
+  run)
+    printf 'rt: lower proved\nrt: upper proved\nrt: wdq proved\nrt: wdq: the program ended with status 1\n2 passed, 1 failed\n'
     exit 1
     ;;
-  'all memory')
-    if [ "$4" != 1 ]; then
-      printf '== lower\n== summary\nupper: failed (-9)\n'
-      exit 1
-    fi
-    ;;
-  'all sleep')
-    echo '== lower'
+  sleep)
+    echo 'rt: lower proved'
     exec sleep 60
     ;;
 esac
-build lower
-build upper
-printf '== lower\n== upper\n'
+printf '== lower\nrt: lower proved\nrt: upper is kept: an earlier run proved it\n'
 sleep 1.5
-printf '== wdq\n== summary\n3 of 3 crates ok\n'
+mkdir -p crates/wdq/out
+cp "$ROOM/program" crates/wdq/out/wdq
+printf '== wdq\nrt: wdq proved\n3 passed, 0 failed\n'
 END
 chmod +x "$room/program" "$room/bin/rt"
 export ROOM=$room PATH="$room/bin:$PATH"
@@ -317,40 +300,36 @@ drop_program
 in_terminal "'$checkout/wdq' --help"
 wants 'help needs no build' '1 no log' "$status $(ls "$checkout/build.log" 2>/dev/null || echo no log)"
 shows 'help before the build' $'wdq: words not understood\n\nwdq '
-WDQ_JOBS=3 "$checkout/wdq" replay <events.jsonl >out 2>err
+"$checkout/wdq" replay <events.jsonl >out 2>err
 wants 'a build' '0 {"kind":"edit"}' "$? $(cat out)"
-wants 'what a build says in a file' $'wdq: building: 3 crates are proved, 3 at a time\nwdq: 2 of 3 crates, 0 minutes' "$(sed 's/: 0 of/: 2 of/' err)"
-wants 'how a build calls rt' $'all check --jobs 3\nrun -- replay' "$(cat "$room/calls")"
-free=$(awk '/^MemAvailable:/ { print $2 }' /proc/meminfo)
-if [ "$(nproc)" -gt 1 ] && [ "$free" -gt 7000000 ]; then
-  drop_program
-  "$checkout/wdq" replay <events.jsonl >out 2>err
-  wants 'more than one crate at a time' more "$(grep -q ' proved, 1 at' err && echo one || echo more)"
-fi
+wants 'what a build says in a file' $'wdq: building: 3 crates are proved\nwdq: 2 of 3 crates, 0 minutes' "$(sed 's/: 0 of/: 2 of/' err)"
+wants 'how a build calls rt' $'ci any\nlower upper wdq .git HANDLES crates/lower/src crates/upper/src crates/wdq/src ' "$(cat "$room/calls")"
+wants 'the copy is gone' no "$([ -e "$(cat "$room/copy")" ] && echo yes || echo no)"
 "$checkout/wdq" replay <events.jsonl >out 2>err
 wants 'nothing is built twice' '0 2' "$(wc -c <err) $(wc -l <"$room/calls")"
 touch "$checkout/crates/lower/src/lib.rt"
 in_terminal "'$checkout/wdq' replay --export < events.jsonl"
-shows 'a newer source' 'wdq: building: 3 crates are proved, '
+shows 'a newer source' $'wdq: building: 3 crates are proved\n'
 shows 'the progress at a terminal' 'wdq: 3 of 3 crates, 0 minutes'
 wants 'a build at a terminal' 0 "$status"
+drop_program
+WDQ_JOBS=3 "$checkout/wdq" replay <events.jsonl >out 2>err
+wants 'three crates at a time' '0 ci 3 wdq: building: 3 crates are proved, 3 at a time' "$? $(head -n 1 "$room/calls") $(head -n 1 err)"
 drop_program
 WDQ_JOBS=none "$checkout/wdq" replay </dev/null >out 2>err
 wants 'WDQ_JOBS is no number' "70 wdq: WDQ_JOBS is a number from 1 to 9999, and not 'none'" "$? $(cat err)"
 RT_FAILS=crate "$checkout/wdq" replay </dev/null >out 2>err
-wants 'a crate is not proved' $'70 == upper\nlost at this line\nwdq: upper could not be built; the whole log is build.log' "$? $(tail -n 3 err)"
+wants 'a crate is not proved' "70 lost at $checkout/crates/upper/src"$'\nrt: upper NOT PROVED\nwdq: upper could not be built; the whole log is build.log' "$? $(grep -A 9 ^lost err)"
 drop_program
-RT_FAILS=last "$checkout/wdq" replay </dev/null >out 2>err
-wants 'the last crate below the program is not proved' $'70 == upper\nlost at this line\nwdq: upper could not be built; the whole log is build.log' "$? $(tail -n 3 err)"
-drop_program
-RT_FAILS=memory WDQ_JOBS=2 "$checkout/wdq" replay </dev/null >out 2>err
-wants 'memory ran out' $'0 all check --jobs 2\nall check --jobs 1\nrun -- replay' "$? $(cat "$room/calls")"
+RT_FAILS=run "$checkout/wdq" replay </dev/null >out 2>err
+wants 'the program does not run well' $'70 2 passed, 1 failed\nwdq: the program could not be built; the whole log is build.log' "$? $(tail -n 2 err)"
 drop_program
 RT_FAILS='sleep' "$checkout/wdq" replay </dev/null >out 2>err &
 wait_for "$room/calls"
 kill $!
 wait $!
 wants 'a build is stopped' '143 wdq: the build was interrupted; the next one goes on where it stopped' "$? $(tail -n 1 err)"
+wants 'the copy of a stopped build is gone' no "$([ -e "$(cat "$room/copy")" ] && echo yes || echo no)"
 in_interrupted_terminal "$room/calls" "RT_FAILS=sleep '$checkout/wdq' replay"
 wants 'Ctrl-C stops a build' 130 "${shown##*status }"
 shows 'Ctrl-C in a build' 'the build was interrupted'
