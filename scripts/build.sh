@@ -69,9 +69,9 @@ end_progress() {
 interrupt_build() {
   kill "$builder" 2>/dev/null
   wait "$builder" 2>/dev/null
-  rm -rf "$copy"
   end_progress
   say 'the build was interrupted; the next one goes on where it stopped'
+  rm -rf "$copy"
   trap - "$1"
   kill -s "$1" $$
 }
