@@ -116,7 +116,7 @@ build() {
     jobs=", $WDQ_JOBS at a time"
   fi
   : >"$log" || give_up "$log can't be written"
-  copy=$(mktemp -d) || give_up 'there is no room for a temporary folder'
+  copy=$(TMPDIR=${TMPDIR:-/var/tmp} mktemp -d) || give_up 'there is no room for a temporary folder'
   say "building: ${#order[@]} crates are proved$jobs"
   SECONDS=0
   { copy_crates && prove_copy && mkdir -p "${program%/*}" && mv "$copy/crates/wdq/out/wdq" "$program"; } >>"$log" || give_up_build
