@@ -211,8 +211,8 @@ replay --resume|--resume lacks its value, a file
 patches --resume=|--resume lacks its value, a file
 patches --resum a|'--resum' is no option of patches; did you mean --resume?
 replay --resume a --resume b|--resume is given twice
-split --route people:Q5 --resume a|--resume is an option of replay and patches
-follow --save a|--save is an option of replay and patches
+follow --resume a|--resume is an option of replay, patches and split
+follow --save a|--save is an option of replay, patches and split
 replay --max-terms|--max-terms lacks its value, a number from 1 to 4294967295
 replay --max-terms 0|--max-terms takes a number from 1 to 4294967295, in digits without a leading zero, and not '0'
 replay --max-terms 4294967296|--max-terms takes a number from 1 to 4294967295

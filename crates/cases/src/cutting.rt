@@ -10,7 +10,7 @@ use std::alloc::Global;
 use std::hash::RandomState;
 
 // The files whose cases are cut.
-const FILES: [&str; 7] = [
+const FILES: [&str; 8] = [
     "states: ",
     "late: ",
     "horizon: ",
@@ -18,6 +18,7 @@ const FILES: [&str; 7] = [
     "questions: ",
     "matches: ",
     "patches: ",
+    "split: ",
 ];
 
 // The words for sections, which only the second part has.
@@ -26,14 +27,17 @@ const SECTIONS: [&str; 3] = ["--export", "--state", "--side"];
 // The most lines of a case that is cut: each of its runs costs as much as the whole.
 const MOST_LINES: usize = 64;
 
-// Whether a case is cut: a replay or a patch stream that ends well and isn't saved, none of whose reads and writes fails.
+// The commands whose runs are cut.
+const COMMANDS: [&str; 3] = ["replay", "patches", "split"];
+
+// Whether a case is cut: a run of these commands that ends well and isn't saved, none of whose reads and writes fails.
 pub fn is_cut(case: &Case, given: &Given, expected: &Expected) -> bool {
     let named = FILES
         .iter()
         .any(|file| case.name.as_str().starts_with(file));
-    let command = given.words.first().map(|word| word.as_str());
+    let command = given.words.first().map(|word| word.as_str()).unwrap_or("");
     named
-        && (command == Some("replay") || command == Some("patches"))
+        && COMMANDS.contains(&command)
         && expected.status.as_str() == "0"
         && expected.saved.is_none()
         && given.resumed.is_empty()
@@ -131,9 +135,11 @@ fn second_part(alloc: Global, given: &Given, cut: usize, left: &Left) -> Result<
     Ok(part)
 }
 
-// What the second part must leave: the rest of the output, and all else as the whole; None where the first part printed something else.
+// What the second part must leave: the rest of the output behind the first part's answers, and all else as the whole; None where the first
+// part printed something else.
 fn rest(alloc: Global, whole: &Expected, first: &Left) -> Result<Option<Expected>> {
-    let Some(out) = whole.out.as_slice().strip_prefix(first.out.bytes()) else {
+    let answers = before_graphs(alloc, first.out.bytes())?;
+    let Some(out) = whole.out.as_slice().strip_prefix(answers.as_slice()) else {
         return Ok(None);
     };
     Ok(Some(Expected {
@@ -148,6 +154,18 @@ fn rest(alloc: Global, whole: &Expected, first: &Left) -> Result<Option<Expected
             .map(|count| count.saturating_sub(first.fetches)),
         waiting: whole.waiting,
     }))
+}
+
+// What a part printed before the triples of its graphs, if it has graphs.
+fn before_graphs(alloc: Global, out: &[u8]) -> Result<Vec<u8>> {
+    let mut answers = Vec::new(alloc);
+    for line in split_lines(alloc, out)?.iter() {
+        if line.starts_with(b"# graph ") {
+            return Ok(answers);
+        }
+        answers.extend_from_slice(line)?;
+    }
+    Ok(answers)
 }
 
 // Appends a word.

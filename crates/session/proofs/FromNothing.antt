@@ -20,6 +20,7 @@ use Rattle.session.specs.Along.{along, fetches_of_delivery, state_along, steps_o
 use Rattle.session.specs.Answering.{answer_by, answer_of_delivery, said_by}
 use Rattle.session.specs.Course.{course_ended, course_to_end, led_to, version_at}
 use Rattle.session.specs.Moment.{Beginning, IsFirst, horizon_at, standing}
+use Rattle.session.specs.OneRun.{said_from_start}
 use Rattle.session.proofs.Along.{version-along}
 
 -- where a run stands whose horizon this is
@@ -91,6 +92,9 @@ module _ (start : Beginning) (first : IsFirst start) (replies : Replies) (ds : L
 
   pub said_first : said_by None replies (standing start) ds ≡ said meaning (horizon_at start) replies ds
   said_first = grown_first (horizon_at start) replies (answer_of_delivery None) (said meaning (horizon_at start) replies) (said_grows (horizon_at start) replies) start first refl refl ds
+
+  pub said_by_first : (routes : Option (List Route)) → said_by routes replies (standing start) ds ≡ said_from_start routes (horizon_at start) replies ds
+  said_by_first routes = ap (λ c. said_by routes replies c ds) (first_standing start first replies)
 
   -- with the end of the input
   pub fetches_end_first : (routes : Option (List Route)) → (course_to_end routes ds start).fetched replies ≡ fetches_to_end (horizon_at start) replies ds

@@ -18,12 +18,12 @@ use Rattle.session.specs.declared.status.Status.{Status}
 use Rattle.session.specs.declared.status.Status.TheVariants.{Ok as Ended}
 use Rattle.session.specs.Headline.{Ending, HasFates, numbers_saved}
 use Rattle.session.specs.Moment.{Moment, Run, Stage, behind, start_in, start_of}
-use Rattle.session.specs.OneRun.{CountsQuestions, HoldsAndNames, StandsAfter, printed_in_all, state_ended, steps_ended}
+use Rattle.session.specs.OneRun.{CountsQuestions, HoldsAndNames, StandsAfter, printed_by, printed_in_all, said_from_start, state_ended, steps_ended}
 use Rattle.session.specs.Resuming.{IsResumed, with_loaded}
 use Rattle.session.specs.Saving.{HasSaved, saved_at, snapshot_text}
 use Rattle.session.specs.Sections.{sections_of}
 use Rattle.session.specs.OneRun.{TwoRuns, all_deliveries, all_replies, first_deliveries, first_replies, horizon_of}
-use Rattle.session.proofs.OneRun.{fates_are, first_counts, first_patches, first_stands, holds_are, next_counts, next_patches, next_stands, prints_rest, streams_rest, world_is}
+use Rattle.session.proofs.OneRun.{fates_are, first_counts, first_patches, first_stands, holds_are, next_counts, next_patches, next_stands, prints_by, prints_rest, streams_rest, world_is}
 
 -- such bytes give back one world with one set of counts
 begins_at : (status : Status) (run : Run) (before now : Moment) (stage : Stage) (numbers : Numbers) (resumed : IsResumed status run before now) → IfSome before.resumed.left (λ bytes. saved_in_bytes bytes ≡ Some (saved_at stage numbers)) →
@@ -109,6 +109,15 @@ module _ (one two : Run) (before_one now_one before_two now_two : Moment) (runs 
       (subst (λ n. CountsQuestions (first_deliveries runs) n) (sym numbers_are)
       (next_counts (horizon_of runs) (first_replies runs) [] one before_one now_one first_stood runs.first one_answers (first_counts (start_of one before_one) runs.is_first)))
       whole
+
+  pub printed_by_routes : one.environment.report ≡ Answers → two.environment.report ≡ Answers →
+      (rest : List ℕ) × (now_two.stage.output.bytes ≡ after_known before_two.stage.output.bytes rest)
+      × (said_from_start two.environment.routes (horizon_of runs) (first_replies runs) (first_deliveries runs) ++ rest
+      ≡ printed_by two.environment.routes (closes two.choices) (sections_of two.choices) (horizon_of runs) (all_replies runs) (all_deliveries runs))
+  printed_by_routes one_answers two_answers =
+      prints_by (horizon_of runs) (first_replies runs) (first_deliveries runs) behind_one loaded now_two stands outcome two_answers
+      (subst (λ n. CountsQuestions (first_deliveries runs) n) (sym numbers_are)
+      (next_counts (horizon_of runs) (first_replies runs) [] one before_one now_one first_stood runs.first one_answers (first_counts (start_of one before_one) runs.is_first)))
 
   pub streamed_by_both : one.environment.report ≡ Changes → two.environment.report ≡ Changes →
       (rest : List ℕ) × (now_two.stage.output.bytes ≡ after_known before_two.stage.output.bytes rest)

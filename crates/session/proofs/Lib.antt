@@ -25,5 +25,6 @@ mod Progress
 mod Reading
 mod Reloading
 mod Reports
+mod SaidRuns
 mod StreamRuns
 mod Versions

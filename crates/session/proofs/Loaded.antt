@@ -11,6 +11,7 @@ use Rattle.world.specs.WorldState.{WorldState}
 use Rattle.checkpoint.specs.declared.numbers.Numbers.{Numbers}
 use Rattle.checkpoint.specs.Loading.{HoldsDocuments as AreDocuments, IsResting}
 use Rattle.checkpoint.specs.Saved.{AreWithin, saved_of, world_of}
+use Rattle.splitting.specs.Filling.{IsReadyFor}
 use Rattle.session.specs.Remapping.{HoldsWithin, mapped_in}
 use Rattle.words.specs.Options.{Choices, max_terms_of}
 use Rattle.session.specs.Resuming.{AllowsHorizon, HasOtherHorizon, IsSnapshotOf}
@@ -47,4 +48,11 @@ other_horizon choices left world numbers allowed loaded would isnt = record {
   numbers = numbers;
   loaded = loaded;
   differs = λ allows. let never : true ≡ false = sym (would allows) ∙ isnt in cc;
+}
+
+-- graphs may be made of a world that is loaded
+pub snapshot_ready : (left : Option (List ℕ)) (limit : ℕ) (world : WorldState) (numbers : Numbers) → IsSnapshotOf left limit world numbers → IsReadyFor world
+snapshot_ready left limit world numbers loaded = record {
+  by_one = ap (λ (w : WorldState). w.by_two) loaded.is;
+  room = subst (λ n. HoldsWithin n world) (sym (ap (λ (w : WorldState). w.limit) loaded.is)) loaded.held;
 }

@@ -21,17 +21,18 @@ use Rattle.checkpoint.specs.declared.numbers.Numbers.{Numbers}
 use Rattle.words.specs.Options.{closes}
 use Rattle.session.specs.declared.report.Report.TheVariants.{Answers, Changes}
 use Rattle.session.specs.Along.{along, state_along, steps_of_delivery, stream_text_from, version_since}
-use Rattle.session.specs.Answering.{answer_by, said_by}
+use Rattle.session.specs.Answering.{answer_by, closing_by, said_by}
 use Rattle.session.specs.Course.{all_said, course_ended, led_to, version_at}
 use Rattle.session.specs.Headline.{Ending, HasFates, course_of, numbers_saved}
 use Rattle.session.specs.Moment.{Beginning, IsFirst, Moment, Run, horizon_at, standing, start_in, start_of}
-use Rattle.session.specs.OneRun.{CountsQuestions, HoldsAndNames, StandsAfter, printed_in_all, replies_with, state_ended, steps_ended}
+use Rattle.session.specs.OneRun.{CountsQuestions, HoldsAndNames, StandsAfter, printed_by, printed_in_all, replies_with, said_from_start, state_ended, steps_ended}
 use Rattle.session.specs.Remapping.{Mapped, mapped_by}
 use Rattle.session.specs.Report.{bytes_of}
 use Rattle.session.specs.Saving.{numbers_of}
 use Rattle.session.specs.Sections.{sections_of}
 use Rattle.session.proofs.Along.{version-along}
 use Rattle.session.proofs.Ends.{fates}
+use Rattle.session.proofs.SaidRuns.{said_start-two}
 use Rattle.session.proofs.StreamRuns.{changes-append, steps-two, steps_to_end-two, stream-append}
 
 -- a first run stands after no delivery
@@ -173,6 +174,25 @@ module _ (h : Option ℕ) (first : Replies) (a : List Delivery) (run : Run) (bef
           ∙ ap (λ report. bytes_of report (course_of run b start) start second) answers
           ∙ ap (λ routes. after_known before.stage.output.bytes (all_said routes (closes run.choices) (sections_of run.choices) b start second)) none,
       rest_is,
+    )
+
+    -- the same, where pages are routed by any routes, or by none
+    rest_by : (routes : Option (List Route)) → said_from_start routes h first a ++ all_said routes (closes run.choices) (sections_of run.choices) b start second ≡ printed_by routes (closes run.choices) (sections_of run.choices) h both (a ++ b)
+    rest_by routes =
+        sym (append_assoc (said_from_start routes h first a) (said_by routes second (standing start) b) _)
+        ∙ (λ i. said_all i ++ closing_by routes (version_is i) (sections_of run.choices) (state_is routes (closes run.choices) i).played)
+      where
+        said_all : said_from_start routes h first a ++ said_by routes second (standing start) b ≡ said_from_start routes h both (a ++ b)
+        said_all =
+            ap (λ c. said_from_start routes h first a ++ said_by routes second c b) stands_at
+            ∙ sym (said_start-two routes h first second a b)
+
+    pub prints_by : (rest : List ℕ) × (now.stage.output.bytes ≡ after_known before.stage.output.bytes rest)
+        × (said_from_start run.environment.routes h first a ++ rest ≡ printed_by run.environment.routes (closes run.choices) (sections_of run.choices) h both (a ++ b))
+    prints_by = (
+      all_said run.environment.routes (closes run.choices) (sections_of run.choices) b start second,
+      ending.replayed.replay.played.says ∙ ap (λ report. bytes_of report (course_of run b start) start second) answers,
+      rest_by run.environment.routes,
     )
 
   -- where changes are reported, the records are those of one stream

@@ -6,13 +6,15 @@ use Rattle.replay_model.specs.Entries.{HoldsUnlessOpen, late_events}
 use Rattle.replay_model.specs.Play.{Replies}
 use Rattle.replay_model.specs.ReplayState.{ReplayState, following, following_to_end}
 use Rattle.replay_model.specs.Transcript.{Sections, asks, closing_text, matches, said}
-use Rattle.replay_parts.specs.Checkpoint.{replies_of_runs}
+use Rattle.replay_parts.specs.Checkpoint.{checkpoint_at_start, replies_of_runs}
+use Rattle.subgraph.specs.declared.routes.Route.{Route}
 use Rattle.patch_stream.specs.Stream.{Step, steps_of_play, steps_to_end}
 use Rattle.world.specs.Meaning.{meaning}
 use Rattle.checkpoint.specs.declared.numbers.Numbers.{Numbers}
 use Rattle.snapshot.specs.File.{IsFitSaved}
 use Rattle.words.specs.Options.{closes}
 use Rattle.session.specs.declared.status.Status.TheVariants.{Ok as Ended}
+use Rattle.session.specs.Answering.{closing_by, said_by}
 use Rattle.session.specs.Headline.{Ending, numbers_saved}
 use Rattle.session.specs.Moment.{Beginning, IsFirst, Moment, Run, horizon_at, start_of}
 use Rattle.session.specs.Resuming.{IsResumed}
@@ -42,6 +44,14 @@ steps_ended true h replies ds = steps_to_end h replies ds
 -- what a replay prints at these deliveries, and then in these sections, perhaps after their end
 abbrev pub printed_in_all : Bool → Sections → Option ℕ → Replies → List Delivery → List ℕ
 printed_in_all closed sections h replies ds = said meaning h replies ds ++ closing_text meaning (version_in_force ds) sections (state_ended closed h replies ds).played
+
+-- the same, where pages are routed by these routes, if they are: the answers at these deliveries, and then these sections or the triples of
+-- each graph
+abbrev pub said_from_start : Option (List Route) → Option ℕ → Replies → List Delivery → List ℕ
+said_from_start routes h replies ds = said_by routes replies (checkpoint_at_start h) ds
+
+abbrev pub printed_by : Option (List Route) → Bool → Sections → Option ℕ → Replies → List Delivery → List ℕ
+printed_by routes closed sections h replies ds = said_from_start routes h replies ds ++ closing_by routes (version_in_force ds) sections (state_ended closed h replies ds).played
 
 -- what is held and named after these deliveries: what the state wants, exactly where no revision entry of the entity is open; nothing of a
 -- page that isn't kept; documents of their entities; and an entry for each late delivery, in the order of these

@@ -41,7 +41,7 @@ ghost use Rattle.session.specs.Course.{course_to_end, led_to, version_at};
 ghost use Rattle.session.specs.Complete.{FindsDocument, IsStill, has_document, steps_made, triples_in};
 ghost use Rattle.session.specs.Headline.{Ending, HasFates, Stopped, numbers_saved};
 ghost use Rattle.session.specs.Moment.{Beginning, IsFirst, Moment, Run, Stage, behind, horizon_at, standing, start_in, start_of};
-ghost use Rattle.session.specs.OneRun.{CountsQuestions, HoldsAndNames, StandsAfter, TwoRuns, all_deliveries, all_replies, deliveries_of, first_deliveries, first_replies, horizon_of, printed_in_all, replies_with, state_ended, steps_ended};
+ghost use Rattle.session.specs.OneRun.{CountsQuestions, HoldsAndNames, StandsAfter, TwoRuns, all_deliveries, all_replies, deliveries_of, first_deliveries, first_replies, horizon_of, printed_by, printed_in_all, replies_with, said_from_start, state_ended, steps_ended};
 ghost use Rattle.session.specs.Reading.{AreDeliveries};
 ghost use Rattle.session.specs.Resuming.{AllowsHorizon, IsNotResumed, IsResumed, ResumeEnding, with_loaded};
 ghost use Rattle.session.specs.Saving.{saved_at};
@@ -130,6 +130,8 @@ pub fn first_runs_are_whole_replays()
         (course_to_end routes ds start).fetched replies ≡ fetches_to_end (horizon_at start) replies ds }
     ensures said { (start : Beginning) → IsFirst start → (replies : Replies) (ds : List Delivery) →
         said_by None replies (standing start) ds ≡ said meaning (horizon_at start) replies ds }
+    ensures said_of_graphs { (start : Beginning) → IsFirst start → (replies : Replies) (ds : List Delivery) (routes : Option (List Route)) →
+        said_by routes replies (standing start) ds ≡ said_from_start routes (horizon_at start) replies ds }
     ensures steps { (start : Beginning) → IsFirst start → (replies : Replies) (ds : List Delivery) →
         along steps_of_delivery replies (standing start) ds ≡ steps_of_play (horizon_at start) replies ds }
     ensures steps_to_end { (start : Beginning) → IsFirst start → (replies : Replies) (ds : List Delivery) (routes : Option (List Route)) →
@@ -182,8 +184,8 @@ pub fn a_saved_replay_is_read_back()
 /// A run that begins where a replay of earlier deliveries stands leaves what one replay of all deliveries leaves: the world, the states that
 /// are their fates, what is held and named, and every page mapped by the version in force. The replies to this replay are the earlier ones to
 /// events that the mark had reached then, and the run's own to all others. Where questions are answered, what is printed is what this replay
-/// prints behind what it prints at the earlier deliveries; where changes are reported, the records are those of its stream behind those of the
-/// earlier ones. Where the run saves its world, a later run that goes on from it begins where this replay stands.
+/// prints behind what it prints at the earlier deliveries, with the graphs of the run's routes, if it has routes, whichever the earlier runs
+/// had; where changes are reported, the records are those of its stream behind those of the earlier ones. Where the run saves its world, a later run that goes on from it begins where this replay stands.
 pub fn runs_go_on_as_one()
     ensures world { (h : Option ℕ) (earlier : Replies) (ds : List Delivery) (run : Run) (before now : Moment) → StandsAfter h earlier ds (start_of run before) → (ending : Ending run before now) →
         now.stage.world ≡ state_ended (closes run.choices) h (replies_with earlier ds ending) (ds ++ deliveries_of ending) }
@@ -197,6 +199,10 @@ pub fn runs_go_on_as_one()
         run.environment.report ≡ Answers → CountsQuestions ds run.numbered → run.environment.routes ≡ None →
         (rest : List ℕ) × (now.stage.output.bytes ≡ after_known before.stage.output.bytes rest)
         × (said meaning h earlier ds ++ rest ≡ printed_in_all (closes run.choices) (sections_of run.choices) h (replies_with earlier ds ending) (ds ++ deliveries_of ending)) }
+    ensures routed { (h : Option ℕ) (earlier : Replies) (ds : List Delivery) (run : Run) (before now : Moment) → StandsAfter h earlier ds (start_of run before) → (ending : Ending run before now) →
+        run.environment.report ≡ Answers → CountsQuestions ds run.numbered →
+        (rest : List ℕ) × (now.stage.output.bytes ≡ after_known before.stage.output.bytes rest)
+        × (said_from_start run.environment.routes h earlier ds ++ rest ≡ printed_by run.environment.routes (closes run.choices) (sections_of run.choices) h (replies_with earlier ds ending) (ds ++ deliveries_of ending)) }
     ensures streamed { (h : Option ℕ) (earlier : Replies) (ds : List Delivery) (run : Run) (before now : Moment) → StandsAfter h earlier ds (start_of run before) → (ending : Ending run before now) →
         run.environment.report ≡ Changes → run.numbered.patches ≡ changes (steps_of_play h earlier ds) →
         (rest : List ℕ) × (now.stage.output.bytes ≡ after_known before.stage.output.bytes rest)
@@ -269,8 +275,9 @@ pub fn good_input_goes_on_from_saved_worlds()
 /// Two runs are one: where a first run ended well that saved its world, and a second one goes on from these bytes and ends well, the world is
 /// that of one replay of the deliveries of both, whose replies are the first run's to events that its mark had reached, and the second's to
 /// all others. So are the states, and what is held and named. Where both answer questions, the second prints what this replay prints behind
-/// what it prints at the first run's deliveries; where both report changes, their records are one stream. The numbers that are saved have to
-/// fit 64 bits.
+/// what it prints at the first run's deliveries; and where the second routes pages to graphs, so it is of a replay that routes them so,
+/// whichever routes the first had, if any. Where both report changes, their records are one stream. The numbers that are saved have to fit
+/// 64 bits.
 pub fn two_runs_are_one()
     ensures world { (one two : Run) (before_one now_one before_two now_two : Moment) (runs : TwoRuns one two before_one now_one before_two now_two) →
         now_two.stage.world ≡ state_ended (closes two.choices) (horizon_of runs) (all_replies runs) (all_deliveries runs) }
@@ -283,6 +290,11 @@ pub fn two_runs_are_one()
         (rest : List ℕ) × (now_two.stage.output.bytes ≡ after_known before_two.stage.output.bytes rest)
         × (said meaning (horizon_of runs) (first_replies runs) (first_deliveries runs) ++ rest
         ≡ printed_in_all (closes two.choices) (sections_of two.choices) (horizon_of runs) (all_replies runs) (all_deliveries runs)) }
+    ensures routed { (one two : Run) (before_one now_one before_two now_two : Moment) (runs : TwoRuns one two before_one now_one before_two now_two) →
+        one.environment.report ≡ Answers → two.environment.report ≡ Answers →
+        (rest : List ℕ) × (now_two.stage.output.bytes ≡ after_known before_two.stage.output.bytes rest)
+        × (said_from_start two.environment.routes (horizon_of runs) (first_replies runs) (first_deliveries runs) ++ rest
+        ≡ printed_by two.environment.routes (closes two.choices) (sections_of two.choices) (horizon_of runs) (all_replies runs) (all_deliveries runs)) }
     ensures streamed { (one two : Run) (before_one now_one before_two now_two : Moment) (runs : TwoRuns one two before_one now_one before_two now_two) →
         one.environment.report ≡ Changes → two.environment.report ≡ Changes →
         (rest : List ℕ) × (now_two.stage.output.bytes ≡ after_known before_two.stage.output.bytes rest)

@@ -1,8 +1,11 @@
 // A replay, from its beginning or from a snapshot on.
 
 ghost use Rattle.std.specs.Prelude.{◌≡◌, ◌≢◌, ◌↔◌, None, Some, IfErr, IfOk, IfSome, IsSome, IsTrue, OnOk};
+ghost use Rattle.std.specs.FinMap as map;
 ghost use Rattle.checkpoint.specs.Saved.{AreWithin};
 ghost use Rattle.replay_model.specs.ReplayState.{nothing_delivered};
+ghost use Rattle.splitting.specs.Filling.{IsReadyFor};
+ghost use Rattle.splitting.specs.Graphs.{GraphsState, MayFollow, routes_of};
 ghost use Rattle.words.specs.Options.{max_terms_of};
 ghost use Rattle.wq_io.specs.Streams.{IsAtEnd};
 ghost use Rattle.session.specs.Counts.{HasReadOn, HaveGoneOn};
@@ -13,29 +16,35 @@ ghost use Rattle.session.specs.Resuming.{AllowsHorizon, IsRefusedFor, IsSnapshot
 ghost use Rattle.session.specs.Taking.{IsStanding};
 
 use crate::ports::Ports;
-use crate::replaying::{replay_into, replay_within};
+use crate::replaying::{begin, replay_into, replay_within};
 use crate::status::Status;
 use crate::stop::Stop;
 use crate::task::Task;
 use checkpoint::{LoadFault, Loaded, load};
+use rdf_term::OutOfMemory;
 use revisions::Revisions;
+use splitting::Graphs;
 use std::hash::RandomState;
+use subgraph::Routes;
+use words::ReplayOptions;
 use world::World;
 use wq_io::{Sink, Source};
 
-// Replays without graphs: from the snapshot on that the options name, if they name one, and else from the beginning.
+// Replays, with a graph for each of the routes and one for the rest, where there are routes: from the snapshot on that the options name, if
+// they name one, and else from the beginning.
 pub fn replay<S: Source, R: Revisions, K: Sink, F: Sink>(
     keys: RandomState,
     task: &Task<'_>,
+    routes: Option<Routes>,
     ports: &mut Ports<S, R, K, F>,
     world: &mut World,
 ) -> Status
     requires world { world.old.replay ≡ nothing_delivered }
     requires first { task.now.numbers ≡ no_numbers }
-    ensures begun { task.now.options.now.resume ≡ None → ReplayEnding result (run_of None task.now.report (R.contents ports.old.revisions) task.now.options.now)
+    ensures begun { task.now.options.now.resume ≡ None → ReplayEnding result (run_of routes task.now.report (R.contents ports.old.revisions) task.now.options.now)
         (moment S.Source R.Revisions K.Sink F.Sink ports.old (world_at_start task.now.options.now))
         (moment S.Source R.Revisions K.Sink F.Sink ports.new world.new) }
-    ensures resumed { IsSome task.now.options.now.resume → ResumeEnding result (run_of None task.now.report (R.contents ports.old.revisions) task.now.options.now)
+    ensures resumed { IsSome task.now.options.now.resume → ResumeEnding result (run_of routes task.now.report (R.contents ports.old.revisions) task.now.options.now)
         (moment S.Source R.Revisions K.Sink F.Sink ports.old world.old)
         (moment S.Source R.Revisions K.Sink F.Sink ports.new world.new) }
     ensures understood { result ≢ Status.BadWords }
@@ -44,20 +53,37 @@ pub fn replay<S: Source, R: Revisions, K: Sink, F: Sink>(
     ensures further { HaveGoneOn S.Source R.Revisions K.Sink F.Sink ports.old ports.new }
 {
     match task.options.resume() {
-        None => begin_anew(task, ports, world),
-        Some(_) => resume(keys, task, ports, world),
+        None => begin_anew(keys, task, routes, ports, world),
+        Some(_) => resume(keys, task, routes, ports, world),
+    }
+}
+
+// Leaves the world as it is where memory was refused before a run was begun: at the start of one that begins anew, and else as it was, with
+// the limit of the words.
+pub fn refuse(options: &ReplayOptions<'_>, world: &mut World)
+    requires { world.old.replay ≡ nothing_delivered }
+    ensures begun { options.now.resume ≡ None → world.new ≡ world_at_start options.now }
+    ensures resumed { IsSome options.now.resume → world.new ≡ record world.old { limit = max_terms_of options.now } }
+    ensures limit { world.new.limit ≡ max_terms_of options.now }
+    ensures held { HoldsWithin (max_terms_of options.now) world.new }
+{
+    match options.resume() {
+        None => begin(options, world),
+        Some(_) => world.set_room(options.max_terms()),
     }
 }
 
 // Replays from the beginning.
 fn begin_anew<S: Source, R: Revisions, K: Sink, F: Sink>(
+    keys: RandomState,
     task: &Task<'_>,
+    routes: Option<Routes>,
     ports: &mut Ports<S, R, K, F>,
     world: &mut World,
 ) -> Status
     requires world { world.old.replay ≡ nothing_delivered }
     requires first { task.now.numbers ≡ no_numbers }
-    ensures ending { ReplayEnding result (run_of None task.now.report (R.contents ports.old.revisions) task.now.options.now)
+    ensures ending { ReplayEnding result (run_of routes task.now.report (R.contents ports.old.revisions) task.now.options.now)
         (moment S.Source R.Revisions K.Sink F.Sink ports.old (world_at_start task.now.options.now))
         (moment S.Source R.Revisions K.Sink F.Sink ports.new world.new) }
     ensures understood { result ≢ Status.BadWords }
@@ -65,22 +91,43 @@ fn begin_anew<S: Source, R: Revisions, K: Sink, F: Sink>(
     ensures held { HoldsWithin (max_terms_of task.now.options.now) world.new }
     ensures further { HaveGoneOn S.Source R.Revisions K.Sink F.Sink ports.old ports.new }
 {
-    match replay_into(task, ports, world, &mut None) {
+    let Ok(mut graphs) = new_graphs(keys, task, routes) else {
+        begin(task.options, world);
+        return Status::OutOfMemory;
+    };
+    match replay_into(task, ports, world, &mut graphs) {
         Ok(()) => Status::Ok,
         Err(stop) => stop.status(),
     }
 }
 
-// Replays from the snapshot on. Where it isn't loaded, or has another horizon than the words name, nothing else is read, nothing is written,
-// and the given world is as it was, with the limit of the words.
+// Graphs without entities, where there are routes.
+fn new_graphs(
+    keys: RandomState,
+    task: &Task<'_>,
+    routes: Option<Routes>,
+) -> Result<Option<Graphs>, OutOfMemory>
+    ensures routes { IfOk result (λ graphs. routes_of graphs ≡ routes) }
+    ensures fresh { IfOk result (λ graphs. IfSome graphs (λ (g : GraphsState). (g.entries ≡ Some map.empty) × (g.limit ≡ max_terms_of task.now.options.now))) }
+{
+    let Some(routes) = routes else {
+        return Ok(None);
+    };
+    let graphs = Graphs::new(task.alloc, keys, routes, task.options.max_terms())?;
+    Ok(Some(graphs))
+}
+
+// Replays from the snapshot on. Where it isn't loaded, or has another horizon than the words name, or memory for its graphs is refused,
+// nothing else is read, nothing is written, and the given world is as it was, with the limit of the words.
 fn resume<S: Source, R: Revisions, K: Sink, F: Sink>(
     keys: RandomState,
     task: &Task<'_>,
+    routes: Option<Routes>,
     ports: &mut Ports<S, R, K, F>,
     world: &mut World,
 ) -> Status
     requires { world.old.replay ≡ nothing_delivered }
-    ensures ending { ResumeEnding result (run_of None task.now.report (R.contents ports.old.revisions) task.now.options.now)
+    ensures ending { ResumeEnding result (run_of routes task.now.report (R.contents ports.old.revisions) task.now.options.now)
         (moment S.Source R.Revisions K.Sink F.Sink ports.old world.old)
         (moment S.Source R.Revisions K.Sink F.Sink ports.new world.new) }
     ensures understood { result ≢ Status.BadWords }
@@ -88,8 +135,8 @@ fn resume<S: Source, R: Revisions, K: Sink, F: Sink>(
     ensures held { HoldsWithin (max_terms_of task.now.options.now) world.new }
     ensures further { HaveGoneOn S.Source R.Revisions K.Sink F.Sink ports.old ports.new }
 {
-    match load_snapshot(keys, task, &mut ports.resumed) {
-        Ok(loaded) => go_on(loaded, task, ports, world),
+    match load_start(keys, task, routes, &mut ports.resumed) {
+        Ok(start) => go_on(start, task, ports, world),
         Err(fault) => {
             world.set_room(task.options.max_terms());
             Stop::from(fault).status()
@@ -97,25 +144,35 @@ fn resume<S: Source, R: Revisions, K: Sink, F: Sink>(
     }
 }
 
+// Where a run goes on: the world of a snapshot, with the counts that earlier runs left, and the graphs of what it holds, where there are
+// routes.
+#[derive(Drop)]
+struct Start {
+    loaded: Loaded,
+    graphs: Option<Graphs>,
+}
+
 // Replays from this world on, behind the runs that left its counts.
 fn go_on<S: Source, R: Revisions, K: Sink, F: Sink>(
-    loaded: Loaded,
+    start: Start,
     task: &Task<'_>,
     ports: &mut Ports<S, R, K, F>,
     world: &mut World,
 ) -> Status
-    requires stands { IsStanding loaded.world.replay (mapped_in loaded.world) }
-    requires limit { loaded.world.limit ≡ max_terms_of task.now.options.now }
-    requires held { HoldsWithin loaded.world.limit loaded.world }
-    requires within { AreWithin loaded.numbers }
-    ensures ending { ReplayEnding result (behind loaded.numbers (run_of None task.now.report (R.contents ports.old.revisions) task.now.options.now))
-        (moment S.Source R.Revisions K.Sink F.Sink ports.old loaded.world)
+    requires stands { IsStanding start.loaded.world.replay (mapped_in start.loaded.world) }
+    requires limit { start.loaded.world.limit ≡ max_terms_of task.now.options.now }
+    requires held { HoldsWithin start.loaded.world.limit start.loaded.world }
+    requires within { AreWithin start.loaded.numbers }
+    requires follow { MayFollow start.graphs start.loaded.world }
+    ensures ending { ReplayEnding result (behind start.loaded.numbers (run_of (routes_of start.graphs) task.now.report (R.contents ports.old.revisions) task.now.options.now))
+        (moment S.Source R.Revisions K.Sink F.Sink ports.old start.loaded.world)
         (moment S.Source R.Revisions K.Sink F.Sink ports.new world.new) }
     ensures understood { result ≢ Status.BadWords }
     ensures limit { world.new.limit ≡ max_terms_of task.now.options.now }
     ensures held { HoldsWithin (max_terms_of task.now.options.now) world.new }
     ensures further { HaveGoneOn S.Source R.Revisions K.Sink F.Sink ports.old ports.new }
 {
+    let Start { loaded, mut graphs } = start;
     let Loaded {
         world: restored,
         numbers,
@@ -127,10 +184,53 @@ fn go_on<S: Source, R: Revisions, K: Sink, F: Sink>(
         report: task.report,
         numbers,
     };
-    match replay_within(&behind, ports, world, &mut None) {
+    match replay_within(&behind, ports, world, &mut graphs) {
         Ok(()) => Status::Ok,
         Err(stop) => stop.status(),
     }
+}
+
+// Loads the snapshot, and where there are routes, makes graphs of what it holds.
+fn load_start<S: Source>(
+    keys: RandomState,
+    task: &Task<'_>,
+    routes: Option<Routes>,
+    resumed: &mut S,
+) -> Result<Start, LoadFault>
+    ensures ok { IfOk result (λ start. IsSnapshotOf (S.left resumed.old) (max_terms_of task.now.options.now) start.loaded.world start.loaded.numbers) }
+    ensures allowed { IfOk result (λ start. AllowsHorizon task.now.options.now start.loaded.world.replay.buffer.horizon) }
+    ensures routes { IfOk result (λ start. routes_of start.graphs ≡ routes) }
+    ensures follow { IfOk result (λ start. MayFollow start.graphs start.loaded.world) }
+    ensures err { IfErr result (λ fault. IsRefusedFor fault task.now.options.now (S.left resumed.old) (S.faults resumed.old) (S.faults resumed.new)) }
+    ensures whole { OnOk result (IsAtEnd (S.left resumed.new)) }
+    ensures further { HasReadOn S.Source resumed.old resumed.new }
+{
+    match load_snapshot(keys, task, resumed) {
+        Ok(loaded) => match graphs_of(keys, task, routes, &loaded.world) {
+            Ok(graphs) => Ok(Start { loaded, graphs }),
+            Err(OutOfMemory) => Err(LoadFault::OutOfMemory),
+        },
+        Err(fault) => Err(fault),
+    }
+}
+
+// The graphs of what a world holds, where there are routes.
+fn graphs_of(
+    keys: RandomState,
+    task: &Task<'_>,
+    routes: Option<Routes>,
+    world: &World,
+) -> Result<Option<Graphs>, OutOfMemory>
+    requires ready { IsReadyFor world.now }
+    requires limit { world.now.limit ≡ max_terms_of task.now.options.now }
+    ensures routes { IfOk result (λ graphs. routes_of graphs ≡ routes) }
+    ensures follow { IfOk result (λ graphs. MayFollow graphs world.now) }
+{
+    let Some(routes) = routes else {
+        return Ok(None);
+    };
+    let graphs = Graphs::of_world(task.alloc, keys, routes, task.options.max_terms(), world)?;
+    Ok(Some(graphs))
 }
 
 // Loads the snapshot, with room for as many terms as the options say. Where they name a horizon, it has to be the snapshot's: else its head,

@@ -97,9 +97,14 @@ pub fn run<S: Source, R: Revisions, K: Sink, F: Sink>(
         (moment S.Source R.Revisions K.Sink F.Sink ports.new world.new) }
 
     // So does a split, which is a replay that routes pages to graphs: its output has the answers of each graph, and then the triples of each.
-    ensures split { (choices : SplitChoices) → plan_of (map (λ w. string_bytes w) words.now) ≡ Some (Split choices) → (routes : List Route) → AreRoutesIn choices.route routes →
+    // It goes on from any snapshot: the pages that its world holds are in the graphs that they are routed to now.
+    ensures split { (choices : SplitChoices) → plan_of (map (λ w. string_bytes w) words.now) ≡ Some (Split choices) → (routes : List Route) → AreRoutesIn choices.route routes → choices.replay.resume ≡ None →
         ReplayEnding result (run_of (Some routes) Answers (R.contents ports.old.revisions) choices.replay)
         (moment S.Source R.Revisions K.Sink F.Sink ports.old (world_at_start choices.replay))
+        (moment S.Source R.Revisions K.Sink F.Sink ports.new world.new) }
+    ensures resumed_split { (choices : SplitChoices) → plan_of (map (λ w. string_bytes w) words.now) ≡ Some (Split choices) → (routes : List Route) → AreRoutesIn choices.route routes → IsSome choices.replay.resume →
+        ResumeEnding result (run_of (Some routes) Answers (R.contents ports.old.revisions) choices.replay)
+        (moment S.Source R.Revisions K.Sink F.Sink ports.old world.old)
         (moment S.Source R.Revisions K.Sink F.Sink ports.new world.new) }
 
     // A drill ends well, or stops while it prints or for want of memory. All that it leaves is mapped by the first version, and it
@@ -133,7 +138,7 @@ pub fn run<S: Source, R: Revisions, K: Sink, F: Sink>(
                 report: Report::Answers,
                 numbers: NOTHING_REPORTED,
             };
-            replay(keys, &task, ports, world)
+            replay(keys, &task, None, ports, world)
         }
         Some(Plan::Patches(options)) => {
             let task = Task {
@@ -142,7 +147,7 @@ pub fn run<S: Source, R: Revisions, K: Sink, F: Sink>(
                 report: Report::Changes,
                 numbers: NOTHING_REPORTED,
             };
-            replay(keys, &task, ports, world)
+            replay(keys, &task, None, ports, world)
         }
         Some(Plan::Drill(size)) => match drill(alloc, size, &mut ports.out, world) {
             Ok(()) => Status::Ok,

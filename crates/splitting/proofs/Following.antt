@@ -148,7 +148,7 @@ module _ (known : Option Contents) (folder : List ℕ) (before after : WorldStat
       (by_cases applied.outcome (wants (state_after was.state applied.event) (held_revision was.held)) (is_deleted (state_after was.state applied.event).mode) a.reply
       (state_after was.state applied.event).rev was.held a.outcome))
 
-get-inserted : (entries : Entries) (x y : EntityId) (e : Entry) (b : Bool) → eq_by_cmp entity_cmp y x ≡ b → map.get (map.insert entries x e) y ≡ cond b (Some e) (map.get entries y)
+pub get-inserted : (entries : Entries) (x y : EntityId) (e : Entry) (b : Bool) → eq_by_cmp entity_cmp y x ≡ b → map.get (map.insert entries x e) y ≡ cond b (Some e) (map.get entries y)
 get-inserted entries x y e b is = map.get-insert entity_cmp_total entries x e y ∙ ap (λ c. cond c (Some e) (map.get entries y)) is
 
 get-removed : (entries : Entries) (x y : EntityId) (b : Bool) → eq_by_cmp entity_cmp y x ≡ b → map.get (map.remove entries x) y ≡ cond b None (map.get entries y)

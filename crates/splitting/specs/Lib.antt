@@ -1,3 +1,4 @@
 pub mod Codes
+pub mod Filling
 pub mod Graphs
 pub mod Sections

@@ -31,7 +31,7 @@ use world::{Applied, Outcome, RoutedPage};
 #[derive(Drop)]
 pub struct Graphs {
     pub(crate) routes: Routes,
-    limit: u32,
+    pub(crate) limit: u32,
     pub(crate) split: Option<Split>,
 }
 
@@ -157,7 +157,7 @@ fn remap(split: &mut Split, id: EntityId, triples: &TripleTexts) -> Result<(), O
 }
 
 // Sets the triples of an entity in a graph, which has room for them.
-fn set(
+pub(crate) fn set(
     split: &mut Split,
     id: EntityId,
     graph: usize,

@@ -1,5 +1,5 @@
 -- What a replay, a patch stream, a follower and a split are asked for.
-use Rattle.std.specs.Prelude.{ℕ, ◌≤◌, Bool, false, List, Option, None, IfSome, is_none, unwrap_or, codes}
+use Rattle.std.specs.Prelude.{ℕ, ◌≤◌, Bool, false, List, Option, IfSome, is_none, unwrap_or, codes}
 use Rattle.words.specs.Items.{Item, is_there, number_in, value_in}
 use Rattle.words.specs.Table.{Entry, IsInRange, follow_table, kind_in, replay_table, split_table}
 
@@ -89,7 +89,7 @@ split_choices_of items route = record {
     export = false;
     state = false;
     side = false;
-    save = None;
-    resume = None;
+    save = value_in (codes "--save") items;
+    resume = value_in (codes "--resume") items;
   };
 }

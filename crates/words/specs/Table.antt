@@ -73,6 +73,8 @@ split_table =
     ∷ entry (codes "--max-bytes") (Number 0 1099511627776)
     ∷ entry (codes "--max-terms") (Number 1 4294967295)
     ∷ entry (codes "--horizon") (Number 0 9223372036854775807)
+    ∷ entry (codes "--save") Text
+    ∷ entry (codes "--resume") Text
     ∷ []
 
 -- the items of a command

@@ -235,8 +235,8 @@ impl<'a> SplitOptions<'a> {
             export: false,
             state: false,
             side: false,
-            save: None,
-            resume: None,
+            save: items.text("--save"),
+            resume: items.text("--resume"),
         };
         SplitOptions { route, replay }
     }

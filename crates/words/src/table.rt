@@ -122,6 +122,8 @@ fn split_kind(name: &str) -> Option<ValueKind>
         "--max-bytes" => Some(ValueKind::Number(0, 1_099_511_627_776)),
         "--max-terms" => Some(ValueKind::Number(1, 4_294_967_295)),
         "--horizon" => Some(ValueKind::Number(0, 9_223_372_036_854_775_807)),
+        "--save" => Some(ValueKind::Text),
+        "--resume" => Some(ValueKind::Text),
         _ => None,
     }
 }

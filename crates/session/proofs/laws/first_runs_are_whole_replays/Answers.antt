@@ -1,5 +1,5 @@
 -- By one delivery after the other.
-use Rattle.session.proofs.FromNothing.{ended_first, fetches_end_first, fetches_first, led_first, said_first, steps_end_first, steps_first, stream_first, version_first}
+use Rattle.session.proofs.FromNothing.{ended_first, fetches_end_first, fetches_first, led_first, said_by_first, said_first, steps_end_first, steps_first, stream_first, version_first}
 use Rattle.session.proofs.laws.first_runs_are_whole_replays.Goals as goal
 
 pub returns-clause-state : goal.returns-clause-state
@@ -28,3 +28,6 @@ returns-clause-steps_to_end c = steps_end_first
 
 pub returns-clause-stream : goal.returns-clause-stream
 returns-clause-stream c = stream_first
+
+pub returns-clause-said_of_graphs : goal.returns-clause-said_of_graphs
+returns-clause-said_of_graphs c = said_by_first

@@ -1,5 +1,5 @@
 -- The run goes on from the checkpoint of the replay.
-use Rattle.session.proofs.OneRun.{fates_are, holds_are, mapped_is, next_counts, next_patches, next_stands, prints_rest, streams_rest, world_is}
+use Rattle.session.proofs.OneRun.{fates_are, holds_are, mapped_is, next_counts, next_patches, next_stands, prints_by, prints_rest, streams_rest, world_is}
 use Rattle.session.proofs.laws.runs_go_on_as_one.Goals as goal
 
 pub returns-clause-world : goal.returns-clause-world
@@ -28,3 +28,6 @@ returns-clause-streamed c = streams_rest
 
 pub returns-clause-patches : goal.returns-clause-patches
 returns-clause-patches c = next_patches
+
+pub returns-clause-routed : goal.returns-clause-routed
+returns-clause-routed c = prints_by

@@ -1,5 +1,5 @@
 -- What is saved is read back, and the second run goes on from there.
-use Rattle.session.proofs.GoesOn.{fates_of_both, holds_of_both, printed_by_both, streamed_by_both, world_of_both}
+use Rattle.session.proofs.GoesOn.{fates_of_both, holds_of_both, printed_by_both, printed_by_routes, streamed_by_both, world_of_both}
 use Rattle.session.proofs.laws.two_runs_are_one.Goals as goal
 
 pub returns-clause-world : goal.returns-clause-world
@@ -21,3 +21,7 @@ returns-clause-printed c = λ one two before_one now_one before_two now_two runs
 pub returns-clause-streamed : goal.returns-clause-streamed
 returns-clause-streamed c = λ one two before_one now_one before_two now_two runs.
     streamed_by_both one two before_one now_one before_two now_two runs (c.a_saved_replay_is_read_back.ensures.first one before_one now_one runs.is_first runs.first runs.open_still runs.empty runs.fit)
+
+pub returns-clause-routed : goal.returns-clause-routed
+returns-clause-routed c = λ one two before_one now_one before_two now_two runs.
+    printed_by_routes one two before_one now_one before_two now_two runs (c.a_saved_replay_is_read_back.ensures.first one before_one now_one runs.is_first runs.first runs.open_still runs.empty runs.fit)

@@ -11,13 +11,13 @@ set_room-requires g c = rw c.requires (len-empty _ _)
 
 pub returns-in-Ok-clause-ending : goal.returns-in-Ok-clause-ending
 returns-in-Ok-clause-ending g c = inr (record {
-  world = c.in-Ok.loaded.world;
-  numbers = c.in-Ok.loaded.numbers;
+  world = c.in-Ok.start.loaded.world;
+  numbers = c.in-Ok.start.loaded.numbers;
   loaded = c.in-Ok.ensures.ok;
   allowed = c.in-Ok.ensures.allowed;
-  rest = input g.S.Source c.load_snapshot.new.resumed;
+  rest = input g.S.Source c.load_start.new.resumed;
   read = c.in-Ok.ensures.whole;
-  ending = c.go_on.ensures.ending;
+  ending = rw c.in-Ok.ensures.routes at c.go_on.ensures.ending;
 })
 
 pub returns-in-Err-clause-held : goal.returns-in-Err-clause-held

@@ -1,5 +1,7 @@
 -- What a replay, a drill and a follower leave, by the plan that was read.
-use Rattle.std.proofs.Common.{◌≡◌, ◌∙◌, sym, ap, None, Some, IsSome, inr, refl}
+use Rattle.std.proofs.Common.{◌≡◌, ◌∙◌, sym, ap, List, None, Some, IsSome, inr, refl}
+use Rattle.subgraph.specs.declared.routes.Route.{Route}
+use Rattle.subgraph.specs.Routes.{AreRoutesIn}
 use Rattle.words.specs.declared.plan.Plan.TheVariants.{Replay, Drill, Follow}
 use Rattle.session.specs.declared.report.Report.TheVariants.{Answers}
 use Rattle.session.specs.declared.status.Status.TheVariants.{Ok as Ended}
@@ -14,7 +16,7 @@ use Rattle.session.specs.Room.{limit_of_plan}
 use Rattle.world.specs.WorldState.{WorldState}
 use Rattle.drill_replay.specs.Playing.{IsByFirst}
 use Rattle.session.proofs.Ongoing.{none_gone, written_on}
-use Rattle.session.proofs.Plans.{drill_no_follow, follow_no_drill, follow_no_replay, follow_stopped, for_choices, for_follow, for_plan, for_size, no_drill, no_replay, replay_no_follow}
+use Rattle.session.proofs.Plans.{drill_no_follow, follow_no_drill, follow_no_replay, follow_stopped, for_choices, for_follow, for_plan, for_size, for_split, no_drill, no_replay, replay_no_follow}
 use Rattle.session.proofs.running.run.Goals as goal
 
 -- ---- a replay
@@ -39,6 +41,14 @@ pub returns-in-Some-Replay-clause-limit : goal.returns-in-Some-Replay-clause-lim
 returns-in-Some-Replay-clause-limit g c = λ the plan.
     inr (for_plan (λ x. (c.replay.new.world.limit ≡ limit_of_plan x) × HoldsWithin (limit_of_plan x) c.replay.new.world)
     (Replay c.in-Some-Replay.options) the (ap Some (sym c.in-Some-Replay.field-0-is) ∙ c.in-Some-Replay.ensures.value ∙ plan) (c.replay.ensures.limit, c.replay.ensures.held))
+
+-- ---- a split
+
+pub returns-in-Some-Split-clause-resumed_split : goal.returns-in-Some-Split-clause-resumed_split
+returns-in-Some-Split-clause-resumed_split g c = λ choices plan.
+    for_split (λ x. (routes : List Route) → AreRoutesIn x.route routes → IsSome x.replay.resume → ResumeEnding c.split.result (run_of (Some routes) Answers (g.R.Revisions.contents c.args.ports.now.revisions) x.replay)
+    (moment g.S.Source g.R.Revisions g.K.Sink g.F.Sink c.args.ports.now c.args.world.now) (moment g.S.Source g.R.Revisions g.K.Sink g.F.Sink c.split.new.ports c.split.new.world))
+    c.in-Some-Split.options choices (ap Some (sym c.in-Some-Split.field-0-is) ∙ c.in-Some-Split.ensures.value ∙ plan) c.split.ensures.resumed
 
 -- ---- a drill that ended well
 

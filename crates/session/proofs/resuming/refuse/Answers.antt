@@ -1,0 +1,14 @@
+-- Nothing was delivered, so nothing is held.
+use Rattle.std.specs.FinMap.{len-empty}
+use Rattle.replay_model.specs.Play.{nothing_played}
+use Rattle.world.proofs.Rooming.{nothing_held}
+use Rattle.session.proofs.resuming.refuse.Goals as goal
+
+pub set_room-requires : goal.set_room-requires
+set_room-requires c = rw c.requires (len-empty _ _)
+
+pub returns-in-None-clause-held : goal.returns-in-None-clause-held
+returns-in-None-clause-held c = rw c.begin.ensures (nothing_held _ nothing_played.records _ (len-empty _ _))
+
+pub returns-in-Some-clause-held : goal.returns-in-Some-clause-held
+returns-in-Some-clause-held c = rw (c.set_room.ensures, c.requires) (nothing_held _ nothing_played.records _ (len-empty _ _))

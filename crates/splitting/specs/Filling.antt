@@ -1,0 +1,38 @@
+-- Graphs that are filled with what a world holds.
+use Rattle.std.specs.Prelude.{◌≡◌, cond, List, Option, None, Some}
+use Rattle.std.specs.FinMap as map
+use Rattle.rising.specs.Rising.{has}
+use Rattle.entity_model.specs.declared.id.EntityId.{EntityId}
+use Rattle.entity_model.specs.EntityId.{entity_cmp}
+use Rattle.replay_model.specs.Records.{record_of}
+use Rattle.replay_model.specs.Versions.{all_by, meaning_by}
+use Rattle.subgraph.specs.declared.routes.Route.{Route}
+use Rattle.subgraph.specs.Entries.{Entries, Entry}
+use Rattle.subgraph.specs.Laws.{entry_held}
+use Rattle.world.specs.Meaning.{meaning}
+use Rattle.world.specs.Roomed.{HasRoom}
+use Rattle.world.specs.WorldState.{WorldState}
+use Rattle.splitting.specs.Graphs.{routing_by}
+
+-- a world between two deliveries: every page is mapped by the version in force, and all that is held has room
+pub record IsReadyFor (world : WorldState) : Type 0 where
+  pub by_one : world.by_two ≡ all_by world.mapping world.replay.played.records
+  pub room : HasRoom (meaning_by meaning world.by_two) world.limit world.replay.played.records
+
+module _ (routes : List Route) (world : WorldState) where
+  -- the entry of what an entity of the world holds
+  abbrev pub entry_in : EntityId → Option Entry
+  entry_in x = entry_held (routing_by routes) (meaning_by meaning world.by_two) x (record_of world.replay.played.records x).held
+
+  -- each entry is that of what its entity holds
+  abbrev pub AreAmong : Entries → Type 0
+  AreAmong entries = (x : EntityId) (e : Entry) → map.get entries x ≡ Some e → entry_in x ≡ Some e
+
+  -- these entities have the entries of what they hold, and no other has one
+  abbrev pub HaveEntries : List EntityId → Entries → Type 0
+  HaveEntries ids entries = (x : EntityId) → map.get entries x ≡ cond (has entity_cmp x ids) (entry_in x) None
+
+-- the entries where this entity has this one, if it has one
+abbrev pub with_entry : EntityId → Option Entry → Entries → Entries
+with_entry x None entries = entries
+with_entry x (Some e) entries = map.insert entries x e
