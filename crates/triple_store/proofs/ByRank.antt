@@ -1,5 +1,5 @@
 -- Ranks of terms are ordered as their texts are, so triples by ranks are ordered as the triples.
-use Rattle.std.proofs.Common.{◌≡◌, ℕ, ◌+◌, ◌<◌, ◌≤◌, false, List, [], ◌∷◌, length, get_or, nat_lt, Option, Some, Ordering, Less, Equal, Greater, is_lt, refl, sym, ◌∙◌, ap, subst, arith, lt-ltb, ⊎_elim}
+use Rattle.std.proofs.Common.{◌≡◌, ℕ, ◌+◌, ◌<◌, ◌≤◌, false, List, [], ◌∷◌, length, get_or, Some, Ordering, Less, Equal, Greater, is_lt, refl, sym, ◌∙◌, ap, subst, arith, lt-ltb, ⊎_elim}
 use Rattle.std.specs.Prelude.{map as mapped, ◌==◌, cond, slice_get, true}
 use Rattle.std.specs.Cmp.{nat_cmp_total}
 use Rattle.std.specs.Cmp.Lexicographic.{nat_list_cmp_total}
@@ -7,7 +7,7 @@ use Rattle.std.specs.FinMap.{nat_cmp-IsAntisymmetric, slice_cmp-IsAntisymmetric}
 use Rattle.std.specs.List.{All}
 use Rattle.std.specs.List.Sorted.{IsPermutation, IsSorted}
 use Rattle.std.specs.Option.{option_map}
-use Rattle.std.specs.Ordering.{nat_cmp, ordering_reverse, ordering_then}
+use Rattle.std.specs.Ordering.{nat_cmp, ordering_then}
 use Rattle.std.proofs.lemmas.Bool.{cases_order}
 use Rattle.std.proofs.lemmas.Cmp.{tied_itself}
 use Rattle.std.proofs.lemmas.List.{get_or-map, length-map}
@@ -15,7 +15,6 @@ use Rattle.std.proofs.lemmas.List.Elements.{All-get_or, All-map, All-tail}
 use Rattle.std.proofs.lemmas.Option.{slice_get-get_or, slice_get-map}
 use Rattle.std.proofs.lemmas.List.Sorted.{All-permutation, IsPermutation-map, ranks_by, sorted_far}
 use Rattle.rising.proofs.Rising.{turned}
-use Rattle.rdf_term.specs.declared.triple.Triple.{Triple}
 use Rattle.rdf_term.specs.Order.{bytes_cmp, triple_cmp}
 use Rattle.rdf_term.specs.Text.{term_text}
 use Rattle.rdf_term.specs.Undo.{undo}
@@ -24,9 +23,8 @@ use Rattle.term_pool.specs.declared.pool.Pool.{Pool}
 use Rattle.term_pool.specs.Pool.{IsCanonical, LiesIn, text_in_slot}
 use Rattle.slot_index.specs.declared.key.Key.{Key}
 use Rattle.slot_index.specs.Keys.{key_cmp}
-use Rattle.triple_store.specs.declared.ranking.Ranked.{Ranked}
 use Rattle.triple_store.specs.declared.ranking.SlotText.{SlotText}
-use Rattle.triple_store.specs.Ranks.{AreRankedRows, AreTextsOf, IsRankOf, IsRanked, IsWithin, rank_key, rank_of, text_order, text_with, triple_with}
+use Rattle.triple_store.specs.Ranks.{AreTextsOf, IsRankOf, IsRanked, IsWithin, rank_key, rank_of, text_order, text_with, triple_with}
 use Rattle.triple_store.specs.Slots.{term_in, triple_at, triple_of}
 use Rattle.triple_store.proofs.Matched.{canonical_at}
 use Rattle.triple_store.proofs.Storing.{canonical_back}

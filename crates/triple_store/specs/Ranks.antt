@@ -4,9 +4,8 @@ use Rattle.std.specs.Prelude.{map as mapped}
 use Rattle.std.specs.List.{All}
 use Rattle.std.specs.declared.cmp.Ordering.{Ordering}
 use Rattle.std.specs.Ordering.{on}
-use Rattle.rising.specs.Rising.{IsRising}
 use Rattle.rdf_term.specs.declared.triple.Triple.{Triple}
-use Rattle.rdf_term.specs.Order.{bytes_cmp, triple_cmp}
+use Rattle.rdf_term.specs.Order.{bytes_cmp}
 use Rattle.rdf_term.specs.Undo.{undo}
 use Rattle.text_region.specs.Region.{Texts}
 use Rattle.term_pool.specs.declared.pool.Pool.{Pool}

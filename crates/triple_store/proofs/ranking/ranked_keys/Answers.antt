@@ -1,5 +1,5 @@
 -- The ranks of one key more.
-use Rattle.std.proofs.Common.{◌≡◌, ◌<◌, ◌++◌, ◌∙◌, [], ◌∷◌, take, length, get_or, ap, sym, subst, arith}
+use Rattle.std.proofs.Common.{◌<◌, ◌++◌, ◌∙◌, [], ◌∷◌, take, length, get_or, ap, sym, subst, arith}
 use Rattle.std.specs.Prelude.{map as mapped}
 use Rattle.std.specs.List.{All}
 use Rattle.std.proofs.lemmas.List.{map_push, take_more}

@@ -1,13 +1,10 @@
 -- The triples of all keys, by their ranks or by their texts, are those that are stored.
-use Rattle.std.proofs.Common.{◌≡◌, ◌∙◌, Bool, ◌&&◌, ap, count_by, subst, sym}
+use Rattle.std.proofs.Common.{◌∙◌, ap, count_by, subst}
 use Rattle.std.specs.Prelude.{IfSome}
 use Rattle.std.specs.Prelude.{map as mapped}
-use Rattle.std.specs.FinMap as map
 use Rattle.std.specs.List.Sorted.{IsPermutation, IsSorted}
 use Rattle.std.proofs.lemmas.List.Sorted.{All-permutation}
 use Rattle.rdf_term.specs.Order.{triple_cmp}
-use Rattle.slot_index.specs.declared.key.Key.{Key}
-use Rattle.slot_index.specs.Patterns.{slots_agree}
 use Rattle.triple_store.specs.Ranks.{AreRankedRows, ranked_triples}
 use Rattle.triple_store.specs.Slots.{HasCanonicalTexts, triple_at}
 use Rattle.triple_store.proofs.Matched.{found_stored}

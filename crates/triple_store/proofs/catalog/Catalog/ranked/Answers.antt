@@ -1,5 +1,5 @@
 -- In the order of the ranks the triples are in order.
-use Rattle.std.proofs.Common.{◌≡◌, ◌∙◌, sym, subst, ap, length}
+use Rattle.std.proofs.Common.{◌≡◌, subst}
 use Rattle.std.specs.Prelude.{IfSome}
 use Rattle.std.specs.Prelude.{map as mapped}
 use Rattle.std.specs.List.{All}
