@@ -1,6 +1,6 @@
-// The slot of a term.
+// The slot of a term, and the text in a slot.
 
-ghost use Rattle.std.specs.Prelude.{◌≡◌, ◌≢◌, Some, IfSome, IfNone, IsTrue, ◌↔◌};
+ghost use Rattle.std.specs.Prelude.{◌≡◌, ◌≢◌, None, Some, IfSome, IfNone, IsTrue, ◌↔◌};
 ghost use Rattle.std.specs.List.{All};
 ghost use Rattle.rdf_term.specs.Text.{term_text};
 ghost use Rattle.term_pool.specs.Pool.{LiesIn, IsNowhere, text_in_slot};
@@ -27,6 +27,21 @@ impl Pool {
             }
         }
         self.find_more_terms(region, term)
+    }
+
+    /// The canonical text of the term in the slot of this number, where one is there. It takes no memory.
+    pub fn text_at<'a>(&self, region: &'a Region, number: u32) -> Option<&'a [u8]>
+        requires { LiesIn self.now region.now }
+        ensures found { IfSome result (λ text. text_in_slot self.now region.now number ≡ Some text.now) }
+        ensures none { IfNone result (text_in_slot self.now region.now number ≡ None) }
+    {
+        match self.slots.get(number as usize) {
+            Some(entry) => {
+                let place = entry.piece();
+                Some(region.read(&place))
+            }
+            None => None,
+        }
     }
 
     // Whether this term is in the slot of this number. It takes no memory.

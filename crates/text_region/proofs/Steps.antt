@@ -130,7 +130,7 @@ module _ (shelves : List Shelf) (class : ℕ) (was is : Shelf) (there : class < 
     all = length-set shelves class is ∙ h.all;
     sizes = λ c d l. ⊎_elim
         (λ e. ap (λ k. (get_or (set shelves class is) k d).size) e ∙ ap (λ (s : Shelf). s.size) (get_or-set_same shelves class is d there) ∙ size
-        ∙ ap (λ (s : Shelf). s.size) at ∙ h.sizes class was (subst (λ k. k < 22) e l) ∙ ap size_of (sym e))
+        ∙ ap (λ (s : Shelf). s.size) at ∙ h.sizes class was (subst (λ k. k < 85) e l) ∙ ap size_of (sym e))
         (λ ne. ap (λ (s : Shelf). s.size) (get_or-set_other shelves class c is d ne) ∙ h.sizes c d l) (cases_eq c class);
     classes = λ piece text is_text. ⊎_elim
         (λ e. ⊎_elim

@@ -1,6 +1,6 @@
 //! Texts of up to 32 MiB in blocks that are used again.
 //!
-//! `class` has the 22 classes of block sizes, `piece` the name of a placed text, `shelf` the blocks of one class,
+//! `class` has the 85 classes of block sizes, `piece` the name of a placed text, `shelf` the blocks of one class,
 //! `length` how the length of a text is kept there, and `region` the blocks of all classes: it places, reads and frees
 //! texts, and counts the blocks that are in use and that were ever made. `laws` says that as many blocks were made as were
 //! ever in use at once.

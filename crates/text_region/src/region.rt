@@ -5,7 +5,7 @@ ghost use Rattle.text_region.specs.Class.{IsClassOf};
 ghost use Rattle.text_region.specs.Region.{AreInTheirClass, Frees, Places, Updates, bytes_of, live, made};
 ghost use Rattle.text_region.specs.Peak.{IsNew};
 
-use crate::class::class_of;
+use crate::class::{class_of, size_of};
 use crate::piece::Piece;
 use crate::shelf::Shelf;
 use base::OutOfMemory;
@@ -39,11 +39,9 @@ impl Region {
     pub fn new(alloc: Global) -> Result<Region, OutOfMemory>
         ensures { IfOk result IsNew }
     {
-        let mut shelves = Vec::with_capacity(alloc, 22)?;
-        let mut size: usize = 16;
-        for _class in 0..22u8 {
-            shelves.push(Shelf::new(alloc, size))?;
-            size *= 2;
+        let mut shelves = Vec::with_capacity(alloc, 85)?;
+        for class in 0..85u8 {
+            shelves.push(Shelf::new(alloc, size_of(class)))?;
         }
         Ok(Region { shelves })
     }
@@ -83,7 +81,7 @@ impl Region {
 
     /// How many pieces of a class are live: those whose texts have lengths of the class.
     pub fn live(&self, class: u8) -> u64
-        requires { class < 22 }
+        requires { class < 85 }
         ensures count { result ≡ live self.now class }
         ensures classes { AreInTheirClass self.now }
     {
@@ -92,7 +90,7 @@ impl Region {
 
     /// How many blocks of a class were made.
     pub fn made(&self, class: u8) -> u64
-        requires { class < 22 }
+        requires { class < 85 }
         ensures { result ≡ made self.now class }
     {
         self.shelves[class as usize].made() as u64

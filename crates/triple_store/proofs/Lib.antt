@@ -1,4 +1,5 @@
 pub mod AtHand
+pub mod ByRank
 pub mod Costs
 pub mod Differing
 pub mod Distinct

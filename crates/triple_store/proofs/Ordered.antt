@@ -1,5 +1,5 @@
 -- Triples in the order of their texts are the rising list of what they stand for.
-use Rattle.std.proofs.Common.{◌≡◌, ℕ, zero, suc, ◌+◌, ◌<◌, ◌≤◌, Bool, true, false, cond, ◌&&◌, List, [], ◌∷◌, ◌++◌, length, filter, count_by, nat_lt, Ordering, Less, Equal, Greater, is_eq, is_lt, refl, sym, ◌∙◌, ap, subst, arith, lt-ltb}
+use Rattle.std.proofs.Common.{◌≡◌, ℕ, zero, suc, ◌+◌, ◌<◌, ◌≤◌, Bool, true, false, cond, ◌&&◌, List, [], ◌∷◌, ◌++◌, length, filter, count_by, nat_lt, None, Ordering, Less, Equal, Greater, is_eq, is_lt, refl, sym, ◌∙◌, ap, subst, arith, lt-ltb}
 use Rattle.std.specs.Prelude.{map as mapped}
 use Rattle.std.specs.FinMap as map
 use Rattle.std.specs.Cmp.{IsTotalOrder}
@@ -14,6 +14,7 @@ use Rattle.std.proofs.lemmas.List.Sorted.{All-permutation, IsPermutation-map, le
 use Rattle.std.proofs.lemmas.List.Sums.{length-filter}
 use Rattle.rising.specs.Rising.{IsRising, has, sorted}
 use Rattle.rising.proofs.Bools.{clash, equal, or_false_left}
+use Rattle.rising.proofs.Filtering.{filter_all}
 use Rattle.rising.proofs.Rising.{IsRising-sorted, turned}
 use Rattle.rising.proofs.Sorting.{deduped}
 use Rattle.rdf_term.specs.declared.triple.Triple.{Triple}
@@ -206,3 +207,31 @@ rows_counted st r pattern w h alike =
     ∙ sym (length-map found m)
     ∙ sym (length-distinct triple_cmp-total triple_cmp-IsAntisymmetric (mapped m found) (found_once st r w found h is))
     ∙ ap length (matched st.pool r st.index pattern w found alike is)
+
+-- ---- all triples
+
+-- no term is wanted
+abbrev pub free : Pattern
+free = record { subject = None; predicate = None; object = None }
+
+abbrev pub every : SlotPattern
+every = record { first = None; second = None; third = None }
+
+every_agrees : (st : Catalog) (r : Texts) (k : Key) → map.contains_key st.index k ≡ true → agrees free (triple_at st.pool r k) ≡ slots_agree every k
+every_agrees st r k there = refl
+
+module _ (st : Catalog) (r : Texts) (found : List Key) (h : IsStored st r) (is : (f : Key → Bool) → count_by f found ≡ count_by (λ k. slots_agree every k && f k) (map.keys st.index)) where
+  -- the triples of the keys in order are all that are stored
+  pub every_row : (after : List Triple) → IsPermutation (mapped (triple_at st.pool r) found) after → IsSorted triple_cmp after → after ≡ map.keys (image (triple_at st.pool r) st.index)
+  every_row after p s =
+      distinct_sorted triple_cmp-total triple_cmp-IsAntisymmetric (mapped (triple_at st.pool r) found) after p (found_once st r every found h is) s
+      ∙ matched st.pool r st.index free every found (every_agrees st r) is ∙ filter_all (agrees free) (map.keys (image (triple_at st.pool r) st.index)) (λ _. refl)
+
+  -- and rise
+  pub every_rises : (after : List Triple) → IsPermutation (mapped (triple_at st.pool r) found) after → IsSorted triple_cmp after → IsRising triple_cmp after
+  every_rises after p s = subst (IsRising triple_cmp) (sym (every_row after p s)) (keys_rising (image (triple_at st.pool r) st.index))
+
+  -- by their texts too
+  pub every_by_texts : (before after : List TripleText) → mapped triple_of before ≡ mapped (triple_at st.pool r) found → All HasCanonicalTexts before → IsPermutation before after → IsSorted text_cmp after → mapped triple_of after ≡ map.keys (image (triple_at st.pool r) st.index)
+  every_by_texts before after means canonical p s =
+      rows_matched st r free every found before after h (every_agrees st r) is means canonical p s ∙ filter_all (agrees free) (map.keys (image (triple_at st.pool r) st.index)) (λ _. refl)

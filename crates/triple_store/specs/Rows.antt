@@ -7,8 +7,12 @@ use Rattle.std.specs.Cmp.{IsTotalOrder, on_total, then_total}
 use Rattle.std.specs.Cmp.Lexicographic.{nat_list_cmp_total}
 use Rattle.std.specs.Ordering.{on, then_cmp}
 use Rattle.rising.specs.Rising.{IsRising}
+use Rattle.rdf_term.specs.declared.triple.Triple.{Triple}
 use Rattle.rdf_term.specs.Order.{bytes_cmp, triple_cmp}
 use Rattle.triple_texts.specs.declared.triple_text.TripleText.{TripleText}
+use Rattle.triple_store.specs.declared.rows.Found.{Found}
+use Rattle.triple_store.specs.declared.rows.Found.TheVariants.{ByTexts, ByRanks}
+use Rattle.triple_store.specs.Ranks.{AreRankedRows, ranked_triples}
 use Rattle.triple_store.specs.Slots.{HasCanonicalTexts, triple_of}
 
 -- by the subject's text, then the predicate's, then the object's
@@ -23,7 +27,17 @@ text_cmp-total = then_total (on_total (λ row. row.subject.now) nat_list_cmp_tot
 abbrev pub line_of : TripleText → List ℕ
 line_of row = (row.subject.now ++ 32 ∷ []) ++ (row.predicate.now ++ 32 ∷ []) ++ (row.object.now ++ 32 ∷ []) ++ 46 ∷ 10 ∷ []
 
+-- the triples that are found: by their texts, or by the ranks of their terms
+abbrev pub found_triples : Found → List Triple
+found_triples (ByTexts rows) = mapped triple_of rows.items
+found_triples (ByRanks ranked) = ranked_triples ranked
+
 -- the texts are canonical, and the triples rise strictly
 pub record AreRows (rows : List TripleText) : Type 0 where
   pub canonical : All HasCanonicalTexts rows
   pub rising : IsRising triple_cmp (mapped triple_of rows)
+
+-- what is found can be read, and rises strictly
+abbrev pub AreFound : Found → Type 0
+AreFound (ByTexts rows) = AreRows rows.items
+AreFound (ByRanks ranked) = AreRankedRows ranked × IsRising triple_cmp (ranked_triples ranked)

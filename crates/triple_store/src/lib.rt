@@ -5,8 +5,8 @@
 //! the region stands below: `catalog` is a pool of terms and an index of triples of slots. `interning` uses the terms of a triple once
 //! more, all or none, and once less. `keys` has the keys of one owner, in order and as its triples came. On these `changing` gives a
 //! triple one owner more or less; triple by triple `exchanging` puts the triples of one owner in the place of others, whose keys `finding` finds (`seen` has slots of terms that came a short time ago), `releasing` takes
-//! them away, and `patching` applies a patch. `telling` finds what an exchange changed, in its middle. `rows` finds the triples that agree with a pattern, as slices of their texts; `reading`
-//! reads triples back from these. `matching` counts the owners of a triple, and `room` says how many terms there are.
+//! them away, and `patching` applies a patch. `telling` finds what an exchange changed, in its middle. `rows` finds the triples that agree with a pattern, as slices of their texts, and `ranking` puts all
+//! triples in order; `reading` reads triples back from these. `matching` counts the owners of a triple, and `room` says how many terms there are.
 #![tactic(auto)]
 
 mod catalog;
@@ -18,6 +18,7 @@ mod keys;
 mod matching;
 mod patching;
 mod queries;
+mod ranking;
 mod reading;
 mod releasing;
 mod room;

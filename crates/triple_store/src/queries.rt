@@ -25,11 +25,7 @@ impl Store {
     pub fn rows(&self) -> Result<Rows<'_>, OutOfMemory>
         ensures rows { IfOk result (λ found. found ≡ map.keys (counts_in self.now)) }
     {
-        self.matching(&Pattern {
-            subject: None,
-            predicate: None,
-            object: None,
-        })
+        rows_by::<Brand>(self, Blank::new(1))
     }
 
     /// The stored triples, in memory of their own: each is read from its texts.
@@ -121,6 +117,17 @@ impl Store {
     {
         self.catalog.count(&self.region, triple, steps)
     }
+}
+
+fn rows_by<L: Ledger>(store: &Store, blank: Blank) -> Result<Rows<'_>, OutOfMemory>
+    requires name { blank.name ≡ L.name }
+    requires parts { blank.parts ≡ L.parts }
+    requires some { 0 < blank.parts }
+    ensures rows { IfOk result (λ found. found ≡ map.keys (counts_in store.now)) }
+{
+    store
+        .catalog
+        .all_rows(&store.region, &mut Steps::<L>::new(blank))
 }
 
 fn matching_by<'a, L: Ledger>(

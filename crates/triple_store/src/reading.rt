@@ -1,29 +1,16 @@
-// Triples read back from their texts.
+// A triple read back from its texts.
 
-ghost use Rattle.std.specs.Prelude.{◌≡◌, map as mapped, IfOk};
-ghost use Rattle.std.specs.List.{All};
+ghost use Rattle.std.specs.Prelude.{◌≡◌, IfOk};
 ghost use Rattle.rdf_term.specs.Undo.{undo};
 ghost use Rattle.term_pool.specs.Pool.{IsCanonical};
 ghost use Rattle.triple_store.specs.Slots.{HasCanonicalTexts, triple_of};
 
-use rdf_term::{List, OutOfMemory, Term, Triple, read_term};
+use rdf_term::{OutOfMemory, Term, Triple, read_term};
 use std::alloc::Global;
 use triple_texts::TripleText;
 
-// The triples of their texts, in memory of their own.
-pub(crate) fn read_rows(alloc: Global, rows: &[TripleText<'_>]) -> Result<List<Triple>, OutOfMemory>
-    requires { All HasCanonicalTexts rows.now }
-    ensures { IfOk result (λ triples. triples ≡ mapped triple_of rows.now) }
-{
-    let mut triples = Vec::with_capacity(alloc, rows.len())?;
-    for row in rows {
-        triples.push(read_row(alloc, row)?)?;
-    }
-    Ok(List::from_vec(triples))
-}
-
 // The triple of its texts.
-fn read_row(alloc: Global, row: &TripleText<'_>) -> Result<Triple, OutOfMemory>
+pub(crate) fn read_row(alloc: Global, row: &TripleText<'_>) -> Result<Triple, OutOfMemory>
     requires { HasCanonicalTexts row.now }
     ensures { IfOk result (λ triple. triple ≡ triple_of row.now) }
 {

@@ -20,11 +20,12 @@ ghost use Rattle.triple_store.specs.Stored.{IsStored, counts_in, is_key};
 ghost use Rattle.triple_store.specs.Telling.{AreLinesOf};
 
 use crate::catalog::Catalog;
-use crate::reading::read_rows;
+use crate::ranking::Ranked;
+use crate::reading::read_row;
 use crate::telling::TripleLines;
 use block_index::Steps;
-use rdf_term::{OutOfMemory, Pattern, TripleSet};
-use slot_index::Key;
+use rdf_term::{List, OutOfMemory, Pattern, TripleSet};
+use slot_index::{Key, SlotPattern};
 use std::alloc::Global;
 use std::cmp::Ordering;
 use std::marker::Model;
@@ -36,20 +37,26 @@ use triple_texts::TripleText;
 /// Stored triples in strictly rising order, whose texts lie in the region. Contracts see the list of the triples.
 #[derive(Debug, Drop)]
 pub struct Rows<'a> {
-    rows: Vec<TripleText<'a>>,
+    found: Found<'a>,
+}
+
+// Triples by the texts of their terms, or by the ranks of these.
+#[derive(Debug, Drop)]
+pub(crate) enum Found<'a> {
+    ByTexts(Vec<TripleText<'a>>),
+    ByRanks(Ranked<'a>),
 }
 
 impl<'a> Model for Rows<'a> {
-    ghost use Rattle.std.specs.Prelude.{List, map};
+    ghost use Rattle.std.specs.Prelude.{List};
     ghost use Rattle.rdf_term.specs.declared.triple.Triple.{Triple};
-    ghost use Rattle.triple_store.specs.Rows.{AreRows};
-    ghost use Rattle.triple_store.specs.Slots.{triple_of};
+    ghost use Rattle.triple_store.specs.Rows.{AreFound, found_triples};
 
     ghost Value = { List Triple };
 
-    ghost view = { λ r. map triple_of r.rows.items };
+    ghost view = { λ r. found_triples r.found };
 
-    ghost invariant = { λ r. AreRows r.rows.items };
+    ghost invariant = { λ r. AreFound r.found };
 }
 
 impl<'a> Rows<'a> {
@@ -57,7 +64,30 @@ impl<'a> Rows<'a> {
     pub fn len(&self) -> usize
         ensures { result ≡ length self.now }
     {
-        self.rows.len()
+        self.count()
+    }
+
+    // The same. The triples rise.
+    fn count(&self) -> usize
+        ensures count { result ≡ length self.now }
+        ensures rising { IsRising triple_cmp self.now }
+    {
+        match &self.found {
+            Found::ByTexts(rows) => rows.len(),
+            Found::ByRanks(ranked) => ranked.keys.len(),
+        }
+    }
+
+    // The texts of the triple at an index.
+    fn row(&self, index: usize) -> TripleText<'a>
+        requires { index < length self.now }
+        ensures triple { slice_get self.now index ≡ Some (triple_of result) }
+        ensures canonical { HasCanonicalTexts result }
+    {
+        match &self.found {
+            Found::ByTexts(rows) => rows[index],
+            Found::ByRanks(ranked) => ranked.row(index),
+        }
     }
 
     /// Appends the line of the triple at a place from 0, its LF included. After `OutOfMemory` the buffer has what it had.
@@ -66,7 +96,7 @@ impl<'a> Rows<'a> {
         ensures ok { OnOk result (IfSome (slice_get self.now index) (λ triple. out.new.items ≡ out.old.items ++ triple_text triple)) }
         ensures err { OnErr result (out.new.items ≡ out.old.items) }
     {
-        write_row(&self.rows[index], out)
+        write_row(&self.row(index), out)
     }
 
     /// The lines of the triples, in their order.
@@ -85,8 +115,12 @@ impl<'a> Rows<'a> {
     pub fn to_set(&self, alloc: Global) -> Result<TripleSet, OutOfMemory>
         ensures { IfOk result (λ set. set ≡ self.now) }
     {
-        let triples = read_rows(alloc, self.rows.as_slice())?;
-        Ok(TripleSet::from_rising(triples))
+        let count = self.count();
+        let mut triples = Vec::with_capacity(alloc, count)?;
+        for index in 0..count {
+            triples.push(read_row(alloc, &self.row(index))?)?;
+        }
+        Ok(TripleSet::from_rising(List::from_vec(triples)))
     }
 }
 
@@ -106,13 +140,42 @@ impl Catalog {
     {
         let Some(wanted) = self.slots_of(region, pattern) else {
             return Ok(Rows {
-                rows: Vec::new(self.alloc),
+                found: Found::ByTexts(Vec::new(self.alloc)),
             });
         };
         let keys = self.index.range(wanted, steps)?;
         let mut rows = self.texts_of(region, keys.as_slice())?;
         sort_rows(&mut rows);
-        Ok(Rows { rows })
+        Ok(Rows {
+            found: Found::ByTexts(rows),
+        })
+    }
+
+    // All stored triples, sorted by the ranks of their terms.
+    pub(crate) fn all_rows<'a, L: Ledger>(
+        &self,
+        region: &'a Region,
+        steps: &mut Steps<L>,
+    ) -> Result<Rows<'a>, OutOfMemory>
+        requires { IsStored self.now region.now }
+        ensures { IfOk result (λ found. found ≡ map.keys (counts_in self.now region.now)) }
+    {
+        let every = SlotPattern {
+            first: None,
+            second: None,
+            third: None,
+        };
+        let keys = self.index.range(every, steps)?;
+        if let Some(ranked) = self.ranked(region, keys.as_slice())? {
+            return Ok(Rows {
+                found: Found::ByRanks(ranked),
+            });
+        }
+        let mut rows = self.texts_of(region, keys.as_slice())?;
+        sort_rows(&mut rows);
+        Ok(Rows {
+            found: Found::ByTexts(rows),
+        })
     }
 
     // The triples of keys, in their own order.
@@ -128,7 +191,9 @@ impl Catalog {
     {
         let mut rows = self.texts_of(region, keys)?;
         sort_rows(&mut rows);
-        Ok(Rows { rows })
+        Ok(Rows {
+            found: Found::ByTexts(rows),
+        })
     }
 
     // The texts of stored triples of slots.

@@ -1,5 +1,5 @@
 -- As many triples agree as keys do with the pattern of slots.
-use Rattle.std.proofs.Common.{◌∙◌, length, ap, sym, arith}
+use Rattle.std.proofs.Common.{◌∙◌, length, ap, arith}
 use Rattle.triple_store.proofs.Matched.{none_matched}
 use Rattle.triple_store.proofs.Ordered.{rows_counted}
 use Rattle.triple_store.proofs.Unchanged.{len_image}

@@ -1,0 +1,67 @@
+-- Triples whose terms are named by their ranks: the indices in a rising list of texts.
+use Rattle.std.specs.Prelude.{◌≡◌, ℕ, ◌<◌, List, [], length, Some, slice_index_or}
+use Rattle.std.specs.Prelude.{map as mapped}
+use Rattle.std.specs.List.{All}
+use Rattle.std.specs.declared.cmp.Ordering.{Ordering}
+use Rattle.std.specs.Ordering.{on}
+use Rattle.rdf_term.specs.declared.triple.Triple.{Triple}
+use Rattle.rdf_term.specs.Order.{bytes_cmp}
+use Rattle.rdf_term.specs.Undo.{undo}
+use Rattle.text_region.specs.Region.{Texts}
+use Rattle.term_pool.specs.declared.pool.Pool.{Pool}
+use Rattle.term_pool.specs.Pool.{IsCanonical, text_in_slot}
+use Rattle.slot_index.specs.declared.key.Key.{Key}
+use Rattle.triple_store.specs.declared.ranking.Ranked.{Ranked}
+use Rattle.triple_store.specs.declared.ranking.SlotText.{SlotText}
+
+-- terms by their texts
+abbrev pub text_order : SlotText → SlotText → Ordering
+text_order = on (λ term. term.text.now) bytes_cmp
+
+-- each slot has its text
+abbrev pub AreTextsOf : Pool → Texts → List SlotText → Type 0
+AreTextsOf pool texts = All (λ term. text_in_slot pool texts term.slot ≡ Some term.text.now)
+
+-- the text with this rank
+abbrev pub text_with : List SlotText → ℕ → List ℕ
+text_with terms rank = slice_index_or (mapped (λ term. term.text.now) terms) rank []
+
+-- the triple of the terms with three ranks
+unfoldable pub triple_with : List SlotText → Key → Triple
+triple_with terms key = record {
+  subject = undo (text_with terms key.first);
+  predicate = undo (text_with terms key.second);
+  object = undo (text_with terms key.third);
+}
+
+-- the rank that is told for a slot
+abbrev pub rank_of : List ℕ → ℕ → ℕ
+rank_of ranks slot = slice_index_or ranks slot 0
+
+abbrev pub rank_key : List ℕ → Key → Key
+rank_key ranks key = record { first = rank_of ranks key.first; second = rank_of ranks key.second; third = rank_of ranks key.third }
+
+-- the term with the rank that is told for a slot has this slot
+pub record IsRankOf (terms : List SlotText) (ranks : List ℕ) (slot : ℕ) : Type 0 where
+  pub within : rank_of ranks slot < length terms
+  pub is : (d : SlotText) → (slice_index_or terms (rank_of ranks slot) d).slot ≡ slot
+
+pub record IsRanked (terms : List SlotText) (ranks : List ℕ) (key : Key) : Type 0 where
+  pub first : IsRankOf terms ranks key.first
+  pub second : IsRankOf terms ranks key.second
+  pub third : IsRankOf terms ranks key.third
+
+-- the triples that the ranks stand for
+abbrev pub ranked_triples : Ranked → List Triple
+ranked_triples ranked = mapped (triple_with ranked.terms.items) ranked.keys.items
+
+-- the three ranks are those of terms
+pub record IsWithin (count : ℕ) (key : Key) : Type 0 where
+  pub first : key.first < count
+  pub second : key.second < count
+  pub third : key.third < count
+
+-- the texts are canonical, and each rank is that of a term
+pub record AreRankedRows (ranked : Ranked) : Type 0 where
+  pub canonical : All (λ term. IsCanonical term.text.now) ranked.terms.items
+  pub within : All (IsWithin (length ranked.terms.items)) ranked.keys.items
