@@ -69,6 +69,7 @@ impl Buffer {
     }
 
     // Where a term's text lies: where it is likely to, or else where it was put before or is appended now.
+    #[inline(always)]
     pub(crate) fn put_near(
         &mut self,
         term: &TermRef<'_>,
@@ -86,6 +87,7 @@ impl Buffer {
     }
 
     // Where a term's text lies: where it was put before, or else at the end, where it is appended.
+    #[inline(always)]
     pub(crate) fn put(&mut self, term: &TermRef<'_>) -> Result<Span, OutOfMemory>
         ensures kept { take (length self.old) self.new ≡ self.old }
         ensures span { IfOk result (IsSpanOf self.new (meant term.now)) }
@@ -97,6 +99,7 @@ impl Buffer {
     }
 
     // Where the text of a word lies, which the term is given by.
+    #[inline(always)]
     fn put_word(&mut self, word: Word, term: &TermRef<'_>) -> Result<Span, OutOfMemory>
         requires { word_term word ≡ meant term.now }
         ensures kept { take (length self.old) self.new ≡ self.old }
@@ -111,6 +114,7 @@ impl Buffer {
     }
 
     // Where the text of a word lies, if it is the last that came to its index.
+    #[inline(always)]
     fn find_word(&self, word: Word) -> Option<Span>
         ensures { IfSome result (IsSpanOf self.now (word_term word)) }
     {
@@ -122,7 +126,8 @@ impl Buffer {
         }
     }
 
-    // Appends a term's text and tells where it lies.
+    // Appends a term's text and tells where it lies. It is apart, so that a text that isn't written pays for none.
+    #[inline(never)]
     fn append(&mut self, term: &TermRef<'_>) -> Result<Span, OutOfMemory>
         ensures kept { take (length self.old) self.new ≡ self.old }
         ensures span { IfOk result (IsSpanOf self.new (meant term.now)) }

@@ -164,6 +164,7 @@ fn near(all_spans: &[TripleSpans], long: &[Span], len: Option<usize>) -> Option<
 }
 
 // Puts the texts of a triple into the buffer, as far as they aren't there, and gives their places. What stood there stays, whatever the answer.
+#[inline(always)]
 fn put_triple(
     subject: &TermRef<'_>,
     predicate: &TermRef<'_>,
@@ -180,6 +181,7 @@ fn put_triple(
 }
 
 // The same for a triple whose subject has a place.
+#[inline(always)]
 fn put_behind(
     subject: Span,
     predicate: &TermRef<'_>,

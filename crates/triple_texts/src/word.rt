@@ -13,7 +13,7 @@ const PREDICATES: usize = 64;
 
 const RESOURCES: usize = 32;
 
-const IDS: usize = 96;
+const IDS: usize = 128;
 
 // How many indices words have.
 pub(crate) const INDICES: usize = PREDICATES + RESOURCES + IDS;
@@ -28,6 +28,7 @@ pub(crate) enum Word {
 
 impl Word {
     // The word of the term, where it is given by one.
+    #[inline(always)]
     pub(crate) fn of(term: &TermRef<'_>) -> Option<Word>
         ensures { IfSome result (λ word. word_term word ≡ meant term.now) }
     {
@@ -45,11 +46,12 @@ impl Word {
     }
 
     // Whether it is the other word.
+    #[inline(always)]
     pub(crate) fn is(self, other: Word) -> bool
         ensures { IsTrue result → word_term self ≡ word_term other }
     {
         match (self, other) {
-            (Word::Predicate(one), Word::Predicate(two)) => one.text() == two.text(),
+            (Word::Predicate(one), Word::Predicate(two)) => one == two,
             (Word::Resource(one), Word::Resource(two)) => one == two,
             (Word::Id(one_prefix, one), Word::Id(two_prefix, two)) => {
                 one_prefix == two_prefix && one.kind == two.kind && one.number == two.number
@@ -59,6 +61,7 @@ impl Word {
     }
 
     // Where it is looked for: words that meet there are told apart by themselves.
+    #[inline(always)]
     pub(crate) fn index(self) -> usize {
         match self {
             Word::Predicate(word) => word as usize % PREDICATES,
