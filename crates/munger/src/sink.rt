@@ -1,18 +1,19 @@
 // The sink that munges what it hands on.
 
-ghost use Rattle.std.specs.Prelude.{[], ◌∷◌, OnOk};
+ghost use Rattle.std.specs.Prelude.{◌≡◌, [], ◌∷◌, OnOk};
 ghost use Rattle.std.specs.List.{flat_map};
 ghost use Rattle.triple_sink.specs.Gains.{Gains, KeepsFront};
-ghost use Rattle.triple_sink.specs.TermRef.{meant_triple};
+ghost use Rattle.triple_sink.specs.Subject.{IsKnown};
+ghost use Rattle.triple_sink.specs.TermRef.{meant, meant_triple};
 ghost use Rattle.munger.specs.Munging.{munged};
-ghost use Rattle.munger.specs.Naming.{named_triple};
+ghost use Rattle.munger.specs.Naming.{named, named_triple};
 
 use crate::naming::{is_blank, named};
 use crate::verdict::{Page, Verdict};
 use rdf_term::OutOfMemory;
 use rdf_vocabulary::Prefix;
 use std::alloc::Global;
-use triple_sink::{TermRef, TripleSink};
+use triple_sink::{Subject, TermRef, TripleSink};
 
 /// A sink that hands on to another what munging leaves of the triples of a page: it drops some, moves some from the
 /// page's dataset to the entity, and names blank nodes.
@@ -44,6 +45,28 @@ impl<S: TripleSink> TripleSink for Munged<S> {
             Verdict::Dropped => Ok(()),
             Verdict::Kept => emit_named(alloc, subject, predicate, object, &mut self.inner),
         }
+    }
+
+    fn emit_known(
+        &mut self,
+        alloc: Global,
+        subject: &Subject<'_>,
+        predicate: &TermRef<'_>,
+        object: &TermRef<'_>,
+    ) -> Result<(), OutOfMemory> {
+        match self.page.verdict(&subject.term, predicate, object) {
+            Verdict::Moved => {
+                let entity = TermRef::Id(Prefix::Wd, self.page.id);
+                emit_named(alloc, &entity, predicate, object, &mut self.inner)
+            }
+            Verdict::Dropped => Ok(()),
+            Verdict::Kept => emit_known_named(alloc, subject, predicate, object, &mut self.inner),
+        }
+    }
+
+    // What the other sink holds is what this one does.
+    fn known_index(&self, subject: &TermRef<'_>) -> Option<usize> {
+        self.inner.known_index(subject)
     }
 }
 
@@ -78,4 +101,43 @@ fn emit_renamed<S: TripleSink>(
     ensures front { KeepsFront S.items out.old out.new }
 {
     out.emit(alloc, &named(subject), &named(predicate), &named(object))
+}
+
+// The same for a subject that a triple of the sink may have already.
+#[inline(always)]
+fn emit_known_named<S: TripleSink>(
+    alloc: Global,
+    subject: &Subject<'_>,
+    predicate: &TermRef<'_>,
+    object: &TermRef<'_>,
+    out: &mut S,
+) -> Result<(), OutOfMemory>
+    requires known { IsKnown S.items out.old subject.now }
+    ensures gains { OnOk result (Gains S.items S.keeps out.old out.new (named_triple (meant_triple subject.now.term predicate.now object.now) ∷ [])) }
+    ensures front { KeepsFront S.items out.old out.new }
+{
+    if is_blank(&subject.term) {
+        return emit_renamed(alloc, &subject.term, predicate, object, out);
+    }
+    if is_blank(predicate) || is_blank(object) {
+        return emit_known_renamed(alloc, subject, predicate, object, out);
+    }
+    out.emit_known(alloc, subject, predicate, object)
+}
+
+// Hands on the triple of a subject that is no blank node, with the other blank nodes named.
+#[inline(never)]
+fn emit_known_renamed<S: TripleSink>(
+    alloc: Global,
+    subject: &Subject<'_>,
+    predicate: &TermRef<'_>,
+    object: &TermRef<'_>,
+    out: &mut S,
+) -> Result<(), OutOfMemory>
+    requires known { IsKnown S.items out.old subject.now }
+    requires named { named (meant subject.now.term) ≡ meant subject.now.term }
+    ensures gains { OnOk result (Gains S.items S.keeps out.old out.new (named_triple (meant_triple subject.now.term predicate.now object.now) ∷ [])) }
+    ensures front { KeepsFront S.items out.old out.new }
+{
+    out.emit_known(alloc, subject, &named(predicate), &named(object))
 }

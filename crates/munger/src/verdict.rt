@@ -56,6 +56,7 @@ impl Page {
 
     // What becomes of the triple, by the first rule that names it.
     #[tactic(auto, using(crate::proofs::Namespaces::no_type, crate::proofs::Namespaces::no_preferred_label, crate::proofs::Namespaces::no_name))]
+    #[inline(always)]
     pub(crate) fn verdict(
         &self,
         subject: &TermRef<'_>,

@@ -8,6 +8,7 @@ ghost use Rattle.rdf_vocabulary.specs.Predicate.{about};
 ghost use Rattle.rdf_vocabulary.specs.Unreserved.{escaped_name};
 ghost use Rattle.sitelinks.specs.Replaced.{replaced};
 ghost use Rattle.triple_sink.specs.Gains.{Gains, KeepsFront};
+ghost use Rattle.triple_sink.specs.Subject.{IsKnown};
 ghost use Rattle.triple_sink.specs.TermRef.{meant};
 ghost use Rattle.sitelinks.specs.Article.{article_iri, article_triples, badge_triple, group_triple, article_head_triples, site_triples};
 ghost use Rattle.rdf_term.specs.Grammar.{tagged_of};
@@ -19,7 +20,7 @@ use entity_model::{EntityId, Link};
 use rdf_term::OutOfMemory;
 use rdf_vocabulary::{Predicate, Prefix, Resource, push_escaped_name};
 use std::alloc::Global;
-use triple_sink::{Setting, TermRef, TripleSink, emit_about, emit_class};
+use triple_sink::{Setting, Subject, TermRef, TripleSink, emit_about, emit_class};
 
 // Room for most IRIs of articles, in bytes.
 const IRI_ROOM: usize = 96;
@@ -126,7 +127,7 @@ fn emit_name<S: TripleSink>(
     emit_about(setting.alloc, article, Predicate::Name, &name, out)
 }
 
-// Emits the badges of the article.
+// Emits the badges of the article. Its IRI may be long and the badges many, so it is compared with the subject of the last triple once, and not for each.
 fn emit_badges<S: TripleSink>(
     setting: Setting,
     article: &TermRef<'_>,
@@ -136,9 +137,32 @@ fn emit_badges<S: TripleSink>(
     ensures gains { OnOk result (Gains S.items S.keeps out.old out.new (map (badge_triple (meant article.now)) badges.now)) }
     ensures front { KeepsFront S.items out.old out.new }
 {
+    if badges.is_empty() {
+        return Ok(());
+    }
+    let article = Subject {
+        term: *article,
+        index: out.known_index(article),
+    };
+    emit_all_badges(setting, &article, badges, out)
+}
+
+// Emits the badges of an article that a triple of the sink may have as its subject.
+#[tactic(auto, using(triple_sink::proofs::Known::still_known))]
+fn emit_all_badges<S: TripleSink>(
+    setting: Setting,
+    article: &Subject<'_>,
+    badges: &[EntityId],
+    out: &mut S,
+) -> Result<(), OutOfMemory>
+    requires known { IsKnown S.items out.old article.now }
+    ensures gains { OnOk result (Gains S.items S.keeps out.old out.new (map (badge_triple (meant article.now.term)) badges.now)) }
+    ensures front { KeepsFront S.items out.old out.new }
+{
+    let predicate = TermRef::Predicate(Predicate::Badge);
     for badge in badges {
         let badge = TermRef::Id(Prefix::Wd, *badge);
-        emit_about(setting.alloc, article, Predicate::Badge, &badge, out)?;
+        out.emit_known(setting.alloc, article, &predicate, &badge)?;
     }
     Ok(())
 }

@@ -3,6 +3,7 @@
 ghost use Rattle.std.specs.Prelude.{◌≡◌, [], ◌∷◌, ◌++◌, OnOk};
 ghost use Rattle.std.specs.List.{flat_map};
 ghost use Rattle.triple_sink.specs.Gains.{Gains, KeepsFront};
+ghost use Rattle.triple_sink.specs.Subject.{IsKnown};
 ghost use Rattle.triple_sink.specs.TermRef.{meant};
 ghost use Rattle.value_nodes.specs.Name.{node_name};
 ghost use Rattle.value_nodes.specs.Nodes.{node_triples};
@@ -17,20 +18,22 @@ use entity_model::{Content, EntityId, Snak, Value};
 use rdf_term::OutOfMemory;
 use rdf_vocabulary::{Predicate, Prefix};
 use std::alloc::Global;
-use triple_sink::{Setting, TermRef, TripleSink};
+use triple_sink::{Setting, Subject, TermRef, TripleSink};
 use value_nodes::{emit_parts, emit_simple, node_name};
 
 /// Hands on the triples of snaks in this role of the statement that has these labels.
+#[tactic(auto, using(triple_sink::proofs::Known::still_known))]
 pub fn emit_snaks<S: TripleSink>(
     setting: Setting,
-    subject: &TermRef<'_>,
+    subject: &Subject<'_>,
     labels: &mut Labels<'_>,
     role: &Role,
     snaks: &[Snak],
     out: &mut S,
 ) -> Result<(), OutOfMemory>
+    requires known { IsKnown S.items out.old subject.now }
     ensures gains { OnOk result (Gains S.items S.keeps out.old out.new
-        (flat_map (snak_triples setting.version (meant subject.now) labels.old role.now) snaks.now)) }
+        (flat_map (snak_triples setting.version (meant subject.now.term) labels.old role.now) snaks.now)) }
     ensures front { KeepsFront S.items out.old out.new }
     ensures same { labels.new ≡ labels.old }
 {
@@ -43,14 +46,15 @@ pub fn emit_snaks<S: TripleSink>(
 /// Hands on the triples of a snak in this role of the statement that has these labels.
 pub fn emit_snak<S: TripleSink>(
     setting: Setting,
-    subject: &TermRef<'_>,
+    subject: &Subject<'_>,
     labels: &mut Labels<'_>,
     role: &Role,
     snak: &Snak,
     out: &mut S,
 ) -> Result<(), OutOfMemory>
+    requires known { IsKnown S.items out.old subject.now }
     ensures gains { OnOk result (Gains S.items S.keeps out.old out.new
-        (snak_triples setting.version (meant subject.now) labels.old role.now snak.now)) }
+        (snak_triples setting.version (meant subject.now.term) labels.old role.now snak.now)) }
     ensures front { KeepsFront S.items out.old out.new }
     ensures same { labels.new ≡ labels.old }
 {
@@ -61,22 +65,24 @@ pub fn emit_snak<S: TripleSink>(
             let label = labels.label(setting.alloc, role, snak)?;
             let predicate = TermRef::Id(role.value_prefix(), snak.property);
             let object = TermRef::Blank(label.as_str());
-            out.emit(setting.alloc, subject, &predicate, &object)
+            out.emit_known(setting.alloc, subject, &predicate, &object)
         }
     }
 }
 
 // Hands on the triples of a value: its simple term, and its node.
+#[tactic(auto, using(triple_sink::proofs::Known::still_known))]
 fn emit_value<S: TripleSink>(
     setting: Setting,
-    subject: &TermRef<'_>,
+    subject: &Subject<'_>,
     role: &Role,
     snak: &Snak,
     value: &Value,
     out: &mut S,
 ) -> Result<(), OutOfMemory>
+    requires known { IsKnown S.items out.old subject.now }
     ensures gains { OnOk result (Gains S.items S.keeps out.old out.new
-        (value_triples setting.version (meant subject.now) role.now snak.now value.now)) }
+        (value_triples setting.version (meant subject.now.term) role.now snak.now value.now)) }
     ensures front { KeepsFront S.items out.old out.new }
 {
     emit_object(
@@ -93,14 +99,15 @@ fn emit_value<S: TripleSink>(
 /// Hands on the triple of a value's simple term, where it has one.
 pub fn emit_object<S: TripleSink>(
     alloc: Global,
-    subject: &TermRef<'_>,
+    subject: &Subject<'_>,
     prefix: Prefix,
     snak: &Snak,
     value: &Value,
     out: &mut S,
 ) -> Result<(), OutOfMemory>
+    requires known { IsKnown S.items out.old subject.now }
     ensures gains { OnOk result (Gains S.items S.keeps out.old out.new
-        (object_triples (meant subject.now) (id_term prefix snak.now.property) (simple_term snak.now.datatype value.now))) }
+        (object_triples (meant subject.now.term) (id_term prefix snak.now.property) (simple_term snak.now.datatype value.now))) }
     ensures front { KeepsFront S.items out.old out.new }
 {
     let predicate = TermRef::Id(prefix, snak.property);
@@ -117,14 +124,15 @@ pub fn emit_object<S: TripleSink>(
 // Hands on the triple that leads to a value's node, and the node's own triples, where it has one.
 fn emit_node<S: TripleSink>(
     setting: Setting,
-    subject: &TermRef<'_>,
+    subject: &Subject<'_>,
     prefix: Prefix,
     snak: &Snak,
     value: &Value,
     out: &mut S,
 ) -> Result<(), OutOfMemory>
+    requires known { IsKnown S.items out.old subject.now }
     ensures gains { OnOk result (Gains S.items S.keeps out.old out.new
-        (link_triples (meant subject.now) (id_term prefix snak.now.property) (node_name setting.version value.now)
+        (link_triples (meant subject.now.term) (id_term prefix snak.now.property) (node_name setting.version value.now)
         ++ node_triples setting.version value.now)) }
     ensures front { KeepsFront S.items out.old out.new }
 {
@@ -132,7 +140,7 @@ fn emit_node<S: TripleSink>(
         Some(name) => {
             let predicate = TermRef::Id(prefix, snak.property);
             let node = TermRef::Named(Prefix::Wdv, name.as_str());
-            out.emit(setting.alloc, subject, &predicate, &node)?;
+            out.emit_known(setting.alloc, subject, &predicate, &node)?;
             emit_parts(setting.alloc, &node, value, out)
         }
         None => Ok(()),
@@ -142,15 +150,16 @@ fn emit_node<S: TripleSink>(
 /// Hands on that the subject has no value of the property.
 pub fn emit_no_value<S: TripleSink>(
     alloc: Global,
-    subject: &TermRef<'_>,
+    subject: &Subject<'_>,
     property: EntityId,
     out: &mut S,
 ) -> Result<(), OutOfMemory>
+    requires known { IsKnown S.items out.old subject.now }
     ensures gains { OnOk result (Gains S.items S.keeps out.old out.new
-        (no_value_triple (meant subject.now) property ∷ [])) }
+        (no_value_triple (meant subject.now.term) property ∷ [])) }
     ensures front { KeepsFront S.items out.old out.new }
 {
     let predicate = TermRef::Predicate(Predicate::RdfType);
     let class = TermRef::Id(Prefix::Wdno, property);
-    out.emit(alloc, subject, &predicate, &class)
+    out.emit_known(alloc, subject, &predicate, &class)
 }

@@ -3,6 +3,7 @@
 ghost use Rattle.std.specs.Prelude.{◌≡◌, OnOk};
 ghost use Rattle.std.specs.List.{flat_map};
 ghost use Rattle.triple_sink.specs.Gains.{Gains, KeepsFront};
+ghost use Rattle.triple_sink.specs.Subject.{IsKnown};
 ghost use Rattle.triple_sink.specs.TermRef.{meant};
 ghost use Rattle.statement_rdf.specs.Statement.{direct_triples, head_triples, main_triples, part_triples, qualifier_triples, rank_resource, reference_triples, source_triples, statement_triples};
 
@@ -14,7 +15,7 @@ use entity_model::{Content, Rank, Reference, Snak, Statement};
 use rdf_term::{CowText, OutOfMemory};
 use rdf_vocabulary::{Predicate, Prefix, Resource};
 use std::alloc::Global;
-use triple_sink::{Setting, TermRef, TripleSink, emit_about, emit_class};
+use triple_sink::{Setting, Subject, TermRef, TripleSink, emit_about, emit_class};
 
 /// Hands on the triples of a statement of the entity, which may be any subject: the statement's node with its
 /// class and rank, what it states, its qualifiers and its references. A best statement's node also has the
@@ -36,6 +37,7 @@ pub fn emit_statement<S: TripleSink>(
 }
 
 // Hands on the triples of a statement that has this node.
+#[tactic(auto, using(triple_sink::proofs::Known::still_known))]
 fn emit_all_parts<S: TripleSink>(
     setting: Setting,
     entity: &TermRef<'_>,
@@ -50,10 +52,14 @@ fn emit_all_parts<S: TripleSink>(
 {
     let mut labels = Labels::new(statement.id.as_str());
     emit_head(setting.alloc, entity, node, statement, best, out)?;
-    emit_main(setting, entity, node, statement, best, &mut labels, out)?;
-    emit_qualifiers(setting, node, statement, &mut labels, out)?;
+    let node = Subject {
+        term: *node,
+        index: out.known_index(node),
+    };
+    emit_main(setting, entity, &node, statement, best, &mut labels, out)?;
+    emit_qualifiers(setting, &node, statement, &mut labels, out)?;
     let references = statement.references.as_slice();
-    emit_references(setting, node, references, &mut labels, out)
+    emit_references(setting, &node, references, &mut labels, out)
 }
 
 // Hands on that the entity has the statement, the statement's class and rank, and whether it is best.
@@ -95,15 +101,16 @@ fn rank_resource(rank: Rank) -> Resource
 fn emit_main<S: TripleSink>(
     setting: Setting,
     entity: &TermRef<'_>,
-    node: &TermRef<'_>,
+    node: &Subject<'_>,
     statement: &Statement,
     best: bool,
     labels: &mut Labels<'_>,
     out: &mut S,
 ) -> Result<(), OutOfMemory>
-    requires { labels.old ≡ statement.now.id }
+    requires labels { labels.old ≡ statement.now.id }
+    requires known { IsKnown S.items out.old node.now }
     ensures gains { OnOk result (Gains S.items S.keeps out.old out.new
-        (main_triples setting.version (meant entity.now) (meant node.now) statement.now best)) }
+        (main_triples setting.version (meant entity.now) (meant node.now.term) statement.now best)) }
     ensures front { KeepsFront S.items out.old out.new }
     ensures same { labels.new ≡ labels.old }
 {
@@ -127,13 +134,14 @@ fn emit_direct<S: TripleSink>(
     ensures front { KeepsFront S.items out.old out.new }
     ensures same { labels.new ≡ labels.old }
 {
+    let entity = Subject::new(*entity);
     match &snak.content {
-        Content::Value(value) => emit_object(alloc, entity, Prefix::Wdt, snak, value, out),
-        Content::NoValue => emit_no_value(alloc, entity, snak.property, out),
+        Content::Value(value) => emit_object(alloc, &entity, Prefix::Wdt, snak, value, out),
+        Content::NoValue => emit_no_value(alloc, &entity, snak.property, out),
         Content::SomeValue => {
             let label = labels.label(alloc, &Role::Main, snak)?;
             let predicate = TermRef::Id(Prefix::Wdt, snak.property);
-            out.emit(alloc, entity, &predicate, &TermRef::Blank(label.as_str()))
+            out.emit_known(alloc, &entity, &predicate, &TermRef::Blank(label.as_str()))
         }
     }
 }
@@ -141,14 +149,15 @@ fn emit_direct<S: TripleSink>(
 // Hands on the qualifiers, said of the statement.
 fn emit_qualifiers<S: TripleSink>(
     setting: Setting,
-    node: &TermRef<'_>,
+    node: &Subject<'_>,
     statement: &Statement,
     labels: &mut Labels<'_>,
     out: &mut S,
 ) -> Result<(), OutOfMemory>
-    requires { labels.old ≡ statement.now.id }
+    requires labels { labels.old ≡ statement.now.id }
+    requires known { IsKnown S.items out.old node.now }
     ensures gains { OnOk result (Gains S.items S.keeps out.old out.new
-        (qualifier_triples setting.version (meant node.now) statement.now)) }
+        (qualifier_triples setting.version (meant node.now.term) statement.now)) }
     ensures front { KeepsFront S.items out.old out.new }
     ensures same { labels.new ≡ labels.old }
 {
@@ -157,15 +166,17 @@ fn emit_qualifiers<S: TripleSink>(
 }
 
 // Hands on the references of the statement that has these labels.
+#[tactic(auto, using(triple_sink::proofs::Known::still_known))]
 fn emit_references<S: TripleSink>(
     setting: Setting,
-    node: &TermRef<'_>,
+    node: &Subject<'_>,
     references: &[Reference],
     labels: &mut Labels<'_>,
     out: &mut S,
 ) -> Result<(), OutOfMemory>
+    requires known { IsKnown S.items out.old node.now }
     ensures gains { OnOk result (Gains S.items S.keeps out.old out.new
-        (flat_map (reference_triples setting.version (meant node.now) labels.old) references.now)) }
+        (flat_map (reference_triples setting.version (meant node.now.term) labels.old) references.now)) }
     ensures front { KeepsFront S.items out.old out.new }
     ensures same { labels.new ≡ labels.old }
 {
@@ -178,13 +189,14 @@ fn emit_references<S: TripleSink>(
 // Hands on a reference of the statement that has these labels, and what it says of the source.
 fn emit_reference<S: TripleSink>(
     setting: Setting,
-    node: &TermRef<'_>,
+    node: &Subject<'_>,
     reference: &Reference,
     labels: &mut Labels<'_>,
     out: &mut S,
 ) -> Result<(), OutOfMemory>
+    requires known { IsKnown S.items out.old node.now }
     ensures gains { OnOk result (Gains S.items S.keeps out.old out.new
-        (reference_triples setting.version (meant node.now) labels.old reference.now)) }
+        (reference_triples setting.version (meant node.now.term) labels.old reference.now)) }
     ensures front { KeepsFront S.items out.old out.new }
     ensures same { labels.new ≡ labels.old }
 {
@@ -192,20 +204,22 @@ fn emit_reference<S: TripleSink>(
     emit_source(setting.alloc, node, &source, out)?;
     let role = Role::Reference(CowText::borrowed(reference.hash.as_str()));
     let snaks = reference.snaks.as_slice();
-    emit_snaks(setting, &source, labels, &role, snaks, out)
+    emit_snaks(setting, &Subject::new(source), labels, &role, snaks, out)
 }
 
 // Hands on that the statement is from the source, and the source's class.
 fn emit_source<S: TripleSink>(
     alloc: Global,
-    node: &TermRef<'_>,
+    node: &Subject<'_>,
     source: &TermRef<'_>,
     out: &mut S,
 ) -> Result<(), OutOfMemory>
+    requires known { IsKnown S.items out.old node.now }
     ensures gains { OnOk result (Gains S.items S.keeps out.old out.new
-        (source_triples (meant node.now) (meant source.now))) }
+        (source_triples (meant node.now.term) (meant source.now))) }
     ensures front { KeepsFront S.items out.old out.new }
 {
-    emit_about(alloc, node, Predicate::WasDerivedFrom, source, out)?;
+    let predicate = TermRef::Predicate(Predicate::WasDerivedFrom);
+    out.emit_known(alloc, node, &predicate, source)?;
     emit_class(alloc, source, Resource::Reference, out)
 }

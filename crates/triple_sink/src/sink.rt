@@ -4,6 +4,7 @@ ghost use Rattle.std.specs.Prelude.{[], ◌∷◌, ◌++◌, OnOk};
 ghost use Rattle.triple_sink.specs.Gains.{Gains, KeepsFront};
 ghost use Rattle.triple_sink.specs.TermRef.{meant_triple};
 
+use crate::subject::Subject;
 use crate::term_ref::TermRef;
 use rdf_term::{List, OutOfMemory, Triple};
 use std::alloc::Global;
@@ -11,10 +12,11 @@ use std::alloc::Global;
 /// What takes triples. It says which triples it holds, and what it keeps of a triple that it is handed. Whatever a call answers, what it
 /// held still stands in front.
 pub trait TripleSink {
-    ghost use Rattle.std.specs.Prelude.{List as Items};
+    ghost use Rattle.std.specs.Prelude.{List as Items, IfSome};
     ghost use Rattle.rdf_term.specs.declared.triple.Triple.{Triple};
     ghost use Rattle.triple_sink.specs.Gains.{Gains, KeepsFront};
-    ghost use Rattle.triple_sink.specs.TermRef.{meant_triple};
+    ghost use Rattle.triple_sink.specs.Subject.{HasSubject, IsKnown};
+    ghost use Rattle.triple_sink.specs.TermRef.{meant, meant_triple};
 
     // The triples that it holds, in the order in which they came.
     ghost items: { Self → Items Triple };
@@ -32,6 +34,22 @@ pub trait TripleSink {
     ) -> Result<(), OutOfMemory>
         ensures gains { OnOk result (Gains items keeps self.old self.new (meant_triple subject.now predicate.now object.now ∷ [])) }
         ensures front { KeepsFront items self.old self.new };
+
+    /// The same for a subject that a triple may have already.
+    fn emit_known(
+        &mut self,
+        alloc: Global,
+        subject: &Subject<'_>,
+        predicate: &TermRef<'_>,
+        object: &TermRef<'_>,
+    ) -> Result<(), OutOfMemory>
+        requires known { IsKnown items self.old subject.now }
+        ensures gains { OnOk result (Gains items keeps self.old self.new (meant_triple subject.now.term predicate.now object.now ∷ [])) }
+        ensures front { KeepsFront items self.old self.new };
+
+    /// The index of a triple that has the subject, where the sink knows one.
+    fn known_index(&self, subject: &TermRef<'_>) -> Option<usize>
+        ensures { IfSome result (HasSubject (items self.now) (meant subject.now)) };
 }
 
 // A list keeps each triple, at its end.
@@ -57,6 +75,20 @@ impl TripleSink for List<Triple> {
             predicate,
             object,
         })
+    }
+
+    fn emit_known(
+        &mut self,
+        alloc: Global,
+        subject: &Subject<'_>,
+        predicate: &TermRef<'_>,
+        object: &TermRef<'_>,
+    ) -> Result<(), OutOfMemory> {
+        self.emit(alloc, &subject.term, predicate, object)
+    }
+
+    fn known_index(&self, _subject: &TermRef<'_>) -> Option<usize> {
+        None
     }
 }
 

@@ -1,8 +1,9 @@
 -- What is appended to a buffer leaves the triples before it, and makes one more.
-use Rattle.std.proofs.Common.{◌≡◌, ℕ, ◌-◌, ◌<◌, ◌≤◌, List, [], ◌∷◌, ◌++◌, length, take, drop, map, get_or, refl, sym, ap, subst, ◌∙◌, arith}
+use Rattle.std.proofs.Common.{◌≡◌, ℕ, zero, suc, ◌-◌, ◌<◌, ◌≤◌, List, [], ◌∷◌, ◌++◌, length, take, drop, map, get_or, refl, sym, ap, subst, ◌∙◌, arith}
 use Rattle.std.specs.Prelude.{option_map}
 use Rattle.std.proofs.lemmas.Option.{slice_get-map, slice_get_read}
-use Rattle.std.specs.List.{AllByRecursion}
+use Rattle.std.specs.List.{All, AllByRecursion}
+use Rattle.std.proofs.lemmas.List.Elements.{All-weaker}
 use Rattle.std.proofs.Math.Seq.{drop-append_seam, take-append_seam}
 use Rattle.std.proofs.lemmas.List.{append-nil, take-append-drop, take-append-le, drop-append-le, length-drop, length-append, length-map}
 use Rattle.rdf_term.specs.declared.term.Term.{Term}
@@ -10,10 +11,13 @@ use Rattle.rdf_term.specs.declared.triple.Triple.{Triple}
 use Rattle.rdf_term.specs.Text.{term_text}
 use Rattle.rdf_term.specs.Undo.{undo}
 use Rattle.rdf_term.proofs.Texts.{undo-term_text}
+use Rattle.triple_sink.specs.Subject.{HasSubject}
+use Rattle.triple_texts.specs.declared.buffer.PlacedWord.{PlacedWord}
 use Rattle.triple_texts.specs.declared.span.Span.{Span}
 use Rattle.triple_texts.specs.declared.triple_spans.TripleSpans.{TripleSpans}
 use Rattle.triple_texts.specs.Spans.{AreSpansOf, IsSpanOf, LieIn, span_end, text_in, triple_in}
 use Rattle.triple_texts.specs.Texts.{RepeatsSubject}
+use Rattle.triple_texts.specs.Words.{IsPlaced, word_term}
 
 -- a buffer that begins with another is that one with more
 longer : (before after : List ℕ) → take (length before) after ≡ before → after ≡ before ++ drop (length before) after
@@ -153,3 +157,62 @@ module _ (before after : List ℕ) (kept : take (length before) after ≡ before
 
   pub still_lie : AllByRecursion (LieIn after) all_spans
   still_lie = subst (λ (bytes : List ℕ). AllByRecursion (LieIn bytes) all_spans) (sym (longer before after kept)) (lie_same before (drop (length before) after) all_spans all)
+
+-- the words of a buffer are placed in a buffer that begins with it
+pub words_kept : (before after : List ℕ) (words : List PlacedWord) → take (length before) after ≡ before → All (IsPlaced before) words → All (IsPlaced after) words
+words_kept before after words kept all = All-weaker (IsPlaced before) (IsPlaced after) (λ placed its. span_kept before after (word_term placed.word) placed.span kept its) words all
+
+-- where triples begin with some and one more, the text of its subject lies behind theirs
+place_behind : (bytes : List ℕ) (all_spans : List TripleSpans) (before : List Triple) (this : Triple) (d : TripleSpans) → AllByRecursion (LieIn bytes) all_spans → take (length (before ++ this ∷ [])) (map (triple_in bytes) all_spans) ≡ before ++ this ∷ [] → (length before < length all_spans) × IsSpanOf bytes this.subject (get_or all_spans (length before) d).subject
+place_behind bytes [] [] this d all h =
+    let none : length {A = Triple} [] ≡ length (this ∷ []) = ap length h in
+    absurd (omega (arith, none))
+place_behind bytes [] (b ∷ before) this d all h =
+    let none : length {A = Triple} [] ≡ length (b ∷ before ++ this ∷ []) = ap length h in
+    absurd (omega (arith, none))
+place_behind bytes (x ∷ all_spans) [] this d all h =
+    let same : triple_in bytes x ≡ this = cc in
+    (omega arith, record { within = all.0.subject_within; is = sym all.0.subject ∙ ap (λ t. term_text t.subject) same })
+place_behind bytes (x ∷ all_spans) (b ∷ before) this d all h =
+    let tail : take (length (before ++ this ∷ [])) (map (triple_in bytes) all_spans) ≡ before ++ this ∷ [] = cc in
+    let rest = place_behind bytes all_spans before this d all.1 tail in
+    (omega (arith, rest.0), rest.1)
+
+-- where a triple is known to have a subject, the text of it lies where the triple's does
+pub place_known : (bytes : List ℕ) (all_spans : List TripleSpans) (term : Term) (index : ℕ) (d : TripleSpans) → AllByRecursion (LieIn bytes) all_spans → HasSubject (map (triple_in bytes) all_spans) term index → (index < length all_spans) × IsSpanOf bytes term (get_or all_spans index d).subject
+place_known bytes all_spans term index d all has =
+    let its = place_behind bytes all_spans has.before has.this d all has.begins in
+    let there = subst (λ (t : Term). IsSpanOf bytes t (get_or all_spans (length has.before) d).subject) has.same its.1 in
+    subst (λ (n : ℕ). (n < length all_spans) × IsSpanOf bytes term (get_or all_spans n d).subject) has.place (its.0, there)
+
+-- where the text of a subject lies where a triple's does, the triple has it
+pub has_subject : (bytes : List ℕ) (all_spans : List TripleSpans) (index : ℕ) (term : Term) (this : TripleSpans) → index < length all_spans → this ≡ get_or all_spans index this → IsSpanOf bytes term this.subject → HasSubject (map (triple_in bytes) all_spans) term index
+has_subject bytes [] index term this low is its = absurd (omega arith)
+has_subject bytes (x ∷ all_spans) zero term this low is its = record {
+  before = [];
+  this = triple_in bytes x;
+  begins = refl;
+  place = refl;
+  same = ap (λ (spans : TripleSpans). undo (text_in bytes spans.subject)) (sym is) ∙ (ap undo its.is ∙ undo-term_text term);
+}
+has_subject bytes (x ∷ all_spans) (suc index) term this low is its =
+    let rest = has_subject bytes all_spans index term this (omega arith) is its in
+    record {
+      before = triple_in bytes x ∷ rest.before;
+      this = rest.this;
+      begins = ap (λ l. triple_in bytes x ∷ l) rest.begins;
+      place = ap suc rest.place;
+      same = rest.same;
+    }
+
+-- where a triple is known to have the subject of a new one, and the new one's lies where that triple's does, its three texts are there
+pub known_spans : (before after : List ℕ) (all_spans reserved : List TripleSpans) (subject predicate object : Term) (index : ℕ) (d spans : TripleSpans) → AllByRecursion (LieIn before) all_spans → HasSubject (map (triple_in before) all_spans) subject index → reserved ≡ all_spans → d ≡ get_or reserved index d → take (length before) after ≡ before → spans.subject ≡ d.subject → IsSpanOf after predicate spans.predicate → IsSpanOf after object spans.object → AreSpansOf after (record { subject = subject; predicate = predicate; object = object }) spans
+known_spans before after all_spans reserved subject predicate object index d spans all has is there kept same its_predicate its_object =
+    let known = place_known before all_spans subject index d all has in
+    let place : get_or all_spans index d ≡ d = sym (there ∙ ap (λ l. get_or l index d) is) in
+    let its = subst (λ (s : TripleSpans). IsSpanOf before subject s.subject) place known.1 in
+    record {
+      subject = subst (λ (s : Span). IsSpanOf after subject s) (sym same) (span_kept before after subject d.subject kept its);
+      predicate = its_predicate;
+      object = its_object;
+    }

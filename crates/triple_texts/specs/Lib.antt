@@ -1,2 +1,3 @@
 pub mod Spans
 pub mod Texts
+pub mod Words

@@ -18,12 +18,20 @@ const SHORT: usize = 127;
 // How many sizes there are.
 const SIZES: usize = 64;
 
-// The size by powers of two of an IRI, or of the name in it, where that is long; the longer, the smaller the number.
-pub(crate) fn long_size(term: &TermRef<'_>) -> Option<usize> {
-    match term {
-        TermRef::Named(_, text) | TermRef::Iri(text) if text.len() > SHORT => {
-            Some(text.len().leading_zeros() as usize)
-        }
+// How many bytes the text of an IRI has.
+pub(crate) fn iri_len(term: &TermRef<'_>) -> Option<usize> {
+    let (front, name) = match term {
+        TermRef::Named(prefix, name) => (prefix.text(), *name),
+        TermRef::Iri(text) => ("", *text),
+        _ => return None,
+    };
+    Some(front.len().saturating_add(name.len()).saturating_add(2))
+}
+
+// The size of a long text of this length by powers of two; the longer, the smaller the number.
+pub(crate) fn long_size(len: Option<usize>) -> Option<usize> {
+    match len {
+        Some(len) if len > SHORT => Some(len.leading_zeros() as usize),
         _ => None,
     }
 }

@@ -1,19 +1,19 @@
 // Triples by their texts.
 
-ghost use Rattle.std.specs.Prelude.{◌≡◌, ◌<◌, ◌++◌, [], length, take, slice_get, IfSome, IfOk, OnOk, IsTrue};
-ghost use Rattle.rdf_term.specs.Text.{term_text};
+ghost use Rattle.std.specs.Prelude.{◌≡◌, ◌<◌, ◌≤◌, [], length, take, slice_get, IfSome, IfOk, IsTrue};
 ghost use Rattle.triple_sink.specs.TermRef.{meant, meant_triple};
 ghost use Rattle.triple_texts.specs.Spans.{AreSpansOf, IsSpanOf};
 ghost use Rattle.triple_texts.specs.Texts.{IsTextOf, RepeatsSubject};
 
-use crate::long_text::{is_text, long_size, remember};
+use crate::buffer::{Buffer, lies_there};
+use crate::long_text::{iri_len, long_size, remember};
 use crate::span::Span;
 use crate::triple_spans::TripleSpans;
 use crate::triple_text::TripleText;
 use rdf_term::OutOfMemory;
 use std::alloc::Global;
 use std::marker::Model;
-use triple_sink::{TermRef, TripleSink};
+use triple_sink::{Subject, TermRef, TripleSink};
 
 // How many bytes the texts of a triple have at least, mostly.
 const TRIPLE_BYTES: usize = 128;
@@ -21,7 +21,7 @@ const TRIPLE_BYTES: usize = 128;
 /// Triples by the canonical texts of their terms, in the order in which they came. Contracts see the triples.
 #[derive(Debug, Drop)]
 pub struct TripleTexts {
-    bytes: Vec<u8>,
+    buffer: Buffer,
     all_spans: Vec<TripleSpans>,
     // Where the last long subject of each size lies, once there was one.
     long: Vec<Span>,
@@ -35,9 +35,9 @@ impl Model for TripleTexts {
 
     ghost Value = { List Triple };
 
-    ghost view = { λ texts. map (triple_in texts.bytes.items) texts.all_spans.items };
+    ghost view = { λ texts. map (triple_in texts.buffer) texts.all_spans.items };
 
-    ghost invariant = { λ texts. AllByRecursion (LieIn texts.bytes.items) texts.all_spans.items };
+    ghost invariant = { λ texts. AllByRecursion (LieIn texts.buffer) texts.all_spans.items };
 }
 
 impl TripleTexts {
@@ -46,7 +46,7 @@ impl TripleTexts {
         ensures { result ≡ [] }
     {
         TripleTexts {
-            bytes: Vec::new(alloc),
+            buffer: Buffer::new(alloc),
             all_spans: Vec::new(alloc),
             long: Vec::new(alloc),
         }
@@ -58,7 +58,7 @@ impl TripleTexts {
     {
         Ok(TripleTexts {
             all_spans: Vec::with_capacity(alloc, bytes / TRIPLE_BYTES)?,
-            bytes: Vec::with_capacity(alloc, bytes)?,
+            buffer: Buffer::with_room(alloc, bytes)?,
             long: Vec::new(alloc),
         })
     }
@@ -75,7 +75,7 @@ impl TripleTexts {
         requires { index < length self.now }
         ensures { IfSome (slice_get self.now index) (IsTextOf result) }
     {
-        self.all_spans[index].texts(&self.bytes)
+        self.all_spans[index].texts(self.buffer.as_slice())
     }
 
     /// Whether the triple at a place from 0 is known to have the subject of the one before it: where the text of its subject wasn't
@@ -110,79 +110,94 @@ impl TripleSink for TripleTexts {
         object: &TermRef<'_>,
     ) -> Result<(), OutOfMemory> {
         self.all_spans.reserve(1)?;
-        let size = long_size(subject);
-        let near = near(&self.long, size);
-        let spans = append_triple(subject, predicate, object, near, &mut self.bytes)?;
-        remember(&mut self.long, size, spans.subject);
+        let len = iri_len(subject);
+        let near = near(&self.all_spans, &self.long, len);
+        let spans = put_triple(subject, predicate, object, near, &mut self.buffer)?;
+        remember(&mut self.long, long_size(len), spans.subject);
         self.all_spans.push_reserved(spans);
         Ok(())
     }
+
+    fn emit_known(
+        &mut self,
+        alloc: Global,
+        subject: &Subject<'_>,
+        predicate: &TermRef<'_>,
+        object: &TermRef<'_>,
+    ) -> Result<(), OutOfMemory> {
+        let Some(index) = subject.index else {
+            return self.emit(alloc, &subject.term, predicate, object);
+        };
+        self.all_spans.reserve(1)?;
+        let place = self.all_spans[index].subject;
+        let spans = put_behind(place, predicate, object, &mut self.buffer)?;
+        self.all_spans.push_reserved(spans);
+        Ok(())
+    }
+
+    // The last triple is the only one that is looked at.
+    fn known_index(&self, subject: &TermRef<'_>) -> Option<usize> {
+        let index = self.all_spans.len().checked_sub(1)?;
+        let place = self.all_spans[index].subject;
+        if lies_there(subject, place, self.buffer.as_slice()) {
+            Some(index)
+        } else {
+            None
+        }
+    }
 }
 
-// Where the last long text of the size lies.
-fn near(long: &[Span], size: Option<usize>) -> Option<Span> {
-    long.get(size?).copied()
+// Where the text of a subject of this length is likely to lie: where the last long one of its size does, or that of the triple before or of
+// its object.
+fn near(all_spans: &[TripleSpans], long: &[Span], len: Option<usize>) -> Option<Span> {
+    if let Some(size) = long_size(len) {
+        return long.get(size).copied();
+    }
+    let (len, last) = (len?, all_spans.last()?);
+    if last.subject.len as usize == len {
+        Some(last.subject)
+    } else if last.object.len as usize == len {
+        Some(last.object)
+    } else {
+        None
+    }
 }
 
-// Appends the texts of a triple, but for a subject that is there already, and gives their place. What stood there stays, whatever the answer.
-fn append_triple(
+// Puts the texts of a triple into the buffer, as far as they aren't there, and gives their places. What stood there stays, whatever the answer.
+#[inline(always)]
+fn put_triple(
     subject: &TermRef<'_>,
     predicate: &TermRef<'_>,
     object: &TermRef<'_>,
     near: Option<Span>,
-    bytes: &mut Vec<u8>,
+    buffer: &mut Buffer,
 ) -> Result<TripleSpans, OutOfMemory>
-    ensures kept { take (length bytes.old.items) bytes.new.items ≡ bytes.old.items }
-    ensures spans { IfOk result (AreSpansOf bytes.new.items (meant_triple subject.now predicate.now object.now)) }
+    ensures kept { take (length buffer.old) buffer.new ≡ buffer.old }
+    ensures spans { IfOk result (AreSpansOf buffer.new (meant_triple subject.now predicate.now object.now)) }
 {
-    let subject = put(subject, near, bytes)?;
-    let predicate = append(predicate, bytes)?;
-    let object = append(object, bytes)?;
+    let place = buffer.put_near(subject, near)?;
+    let spans = put_behind(place, predicate, object, buffer)?;
+    Ok(spans)
+}
+
+// The same for a triple whose subject has a place.
+#[inline(always)]
+fn put_behind(
+    subject: Span,
+    predicate: &TermRef<'_>,
+    object: &TermRef<'_>,
+    buffer: &mut Buffer,
+) -> Result<TripleSpans, OutOfMemory>
+    ensures kept { take (length buffer.old) buffer.new ≡ buffer.old }
+    ensures subject { IfOk result (λ spans. spans.subject ≡ subject) }
+    ensures predicate { IfOk result (λ spans. IsSpanOf buffer.new (meant predicate.now) spans.predicate) }
+    ensures object { IfOk result (λ spans. IsSpanOf buffer.new (meant object.now) spans.object) }
+{
+    let predicate = buffer.put(predicate)?;
+    let object = buffer.put(object)?;
     Ok(TripleSpans {
         subject,
         predicate,
         object,
-    })
-}
-
-// Where a term's text lies: where it is likely to, or else at the end, where it is appended.
-fn put(term: &TermRef<'_>, near: Option<Span>, bytes: &mut Vec<u8>) -> Result<Span, OutOfMemory>
-    ensures kept { take (length bytes.old.items) bytes.new.items ≡ bytes.old.items }
-    ensures span { IfOk result (IsSpanOf bytes.new.items (meant term.now)) }
-{
-    if let Some(span) = near {
-        if lies_there(term, span, bytes) {
-            return Ok(span);
-        }
-    }
-    append(term, bytes)
-}
-
-// Whether the term's text lies there.
-fn lies_there(term: &TermRef<'_>, span: Span, bytes: &[u8]) -> bool
-    ensures { IsTrue result → IsSpanOf bytes.now (meant term.now) span }
-{
-    let end = span.start as usize + span.len as usize;
-    end <= bytes.len() && is_text(term, span.text(bytes))
-}
-
-// Appends a term's text and tells where it lies.
-fn append(term: &TermRef<'_>, bytes: &mut Vec<u8>) -> Result<Span, OutOfMemory>
-    ensures kept { take (length bytes.old.items) bytes.new.items ≡ bytes.old.items }
-    ensures span { IfOk result (IsSpanOf bytes.new.items (meant term.now)) }
-{
-    let start = bytes.len();
-    term.write(bytes)?;
-    span_from(start, bytes.len() - start)
-}
-
-// The span of this length from a place on. What has no number of 32 bits is said to want memory.
-fn span_from(start: usize, len: usize) -> Result<Span, OutOfMemory>
-    ensures start { IfOk result (λ span. span.start ≡ start) }
-    ensures len { IfOk result (λ span. span.len ≡ len) }
-{
-    Ok(Span {
-        start: u32::try_from(start).map_err(|_| OutOfMemory)?,
-        len: u32::try_from(len).map_err(|_| OutOfMemory)?,
     })
 }

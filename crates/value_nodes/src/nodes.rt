@@ -13,7 +13,7 @@ use entity_model::{GlobeParts, QuantityParts, TimeParts, Value};
 use rdf_term::{CowText, OutOfMemory};
 use rdf_vocabulary::{Datatype, Predicate, Prefix, Resource};
 use std::alloc::Global;
-use triple_sink::{TermRef, TripleSink, emit_about, emit_class};
+use triple_sink::{Subject, TermRef, TripleSink, emit_about, emit_class};
 
 /// Hands on the triples of the value's node: its class and its parts. A value that has no node has none.
 pub fn emit_parts<S: TripleSink>(
@@ -53,13 +53,19 @@ fn emit_time_parts<S: TripleSink>(
     ensures front { KeepsFront S.items out.old out.new }
 {
     let value = TermRef::Predicate(Predicate::TimeValue);
-    emit_time(alloc, node, &value, time, out)?;
+    emit_time(alloc, &Subject::new(*node), &value, time, out)?;
     let precision = time.precision_text.as_str();
     emit_integer(alloc, node, Predicate::TimePrecision, precision, out)?;
     let timezone = time.timezone.as_str();
     emit_integer(alloc, node, Predicate::TimeTimezone, timezone, out)?;
     let calendar = TermRef::Predicate(Predicate::TimeCalendarModel);
-    emit_iri(alloc, node, &calendar, time.calendar.as_str(), out)
+    emit_iri(
+        alloc,
+        &Subject::new(*node),
+        &calendar,
+        time.calendar.as_str(),
+        out,
+    )
 }
 
 // Hands on the parts of a quantity.
@@ -73,7 +79,13 @@ fn emit_quantity_parts<S: TripleSink>(
     ensures front { KeepsFront S.items out.old out.new }
 {
     let amount = TermRef::Predicate(Predicate::QuantityAmount);
-    emit_amount(alloc, node, &amount, quantity.amount.as_str(), out)?;
+    emit_amount(
+        alloc,
+        &Subject::new(*node),
+        &amount,
+        quantity.amount.as_str(),
+        out,
+    )?;
     emit_unit(alloc, node, quantity.unit.as_str(), out)?;
     let (upper, lower) = (quantity.upper.as_ref(), quantity.lower.as_ref());
     emit_bound(alloc, node, Predicate::QuantityUpperBound, upper, out)?;
@@ -95,7 +107,7 @@ fn emit_bound<S: TripleSink>(
     match bound {
         Some(bound) => {
             let predicate = TermRef::Predicate(predicate);
-            emit_amount(alloc, node, &predicate, bound.as_str(), out)
+            emit_amount(alloc, &Subject::new(*node), &predicate, bound.as_str(), out)
         }
         None => Ok(()),
     }
@@ -117,7 +129,7 @@ fn emit_unit<S: TripleSink>(
     if unit == "1" {
         return out.emit(alloc, node, &predicate, &TermRef::Named(Prefix::Wd, "Q199"));
     }
-    emit_iri(alloc, node, &predicate, unit, out)
+    emit_iri(alloc, &Subject::new(*node), &predicate, unit, out)
 }
 
 // Hands on the parts of a coordinate.
@@ -133,7 +145,13 @@ fn emit_globe_parts<S: TripleSink>(
     emit_position(alloc, node, globe, out)?;
     emit_precision(alloc, node, globe.precision.as_ref(), out)?;
     let predicate = TermRef::Predicate(Predicate::GeoGlobe);
-    emit_iri(alloc, node, &predicate, globe.globe.as_str(), out)
+    emit_iri(
+        alloc,
+        &Subject::new(*node),
+        &predicate,
+        globe.globe.as_str(),
+        out,
+    )
 }
 
 // Hands on the latitude and the longitude of a coordinate.

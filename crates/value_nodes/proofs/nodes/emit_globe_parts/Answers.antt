@@ -22,4 +22,4 @@ returns-clause-gains g c =
     c.in_ok-emit_position.ensures.gains (rw c.as_ref.ensures.value at c.in_ok-emit_precision.ensures.gains) in
     on_ok_weaker c.emit_iri.result
     (λ h. gains_then s.items s.keeps c.args.out.now c.emit_precision.new.out c.emit_iri.new.out (position ++ precision) (about node GeoGlobe (iri_of globe.globe) ∷ []) two h)
-    (rw c.as_str.ensures at c.emit_iri.ensures.gains)
+    (rw (c.new.ensures, c.as_str.ensures) at c.emit_iri.ensures.gains)

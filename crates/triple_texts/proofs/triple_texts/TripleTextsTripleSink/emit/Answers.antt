@@ -7,23 +7,23 @@ use Rattle.triple_texts.proofs.triple_texts.TripleTextsTripleSink.emit.Goals as 
 
 pub invariant_of-self-in_err-spans : goal.invariant_of-self-in_err-spans
 invariant_of-self-in_err-spans c =
-    rw c.reserve.ensures.items (still_lie c.self.inside.bytes.items _ c.append_triple.ensures.kept c.self.inside.all_spans.items c.self.invariant)
+    rw c.reserve.ensures.items (still_lie c.self.inside.buffer _ c.put_triple.ensures.kept c.self.inside.all_spans.items c.self.invariant)
 
 pub returns-in_err-spans-clause-front : goal.returns-in_err-spans-clause-front
 returns-in_err-spans-clause-front c front h =
-    ap (take (length front)) (rw c.reserve.ensures.items (all_kept c.self.inside.bytes.items _ c.append_triple.ensures.kept c.self.inside.all_spans.items c.self.invariant) ∙ c.self.view_is) ∙ h
+    ap (take (length front)) (rw c.reserve.ensures.items (all_kept c.self.inside.buffer _ c.put_triple.ensures.kept c.self.inside.all_spans.items c.self.invariant) ∙ c.self.view_is) ∙ h
 
 pub invariant_of-self-2 : goal.invariant_of-self-2
 invariant_of-self-2 c =
     let triple = meant_triple c.args.subject.now c.args.predicate.now c.args.object.now in
     let pushed = c.push_reserved.ensures.items ∙ ap (λ l. l ++ c.in_ok-spans.spans ∷ []) c.reserve.ensures.items in
-    all_lie c.self.inside.bytes.items _ triple c.in_ok-spans.spans c.append_triple.ensures.kept c.in_ok-spans.ensures.spans c.self.inside.all_spans.items _ pushed c.self.invariant
+    all_lie c.self.inside.buffer _ triple c.in_ok-spans.spans c.put_triple.ensures.kept c.in_ok-spans.ensures.spans c.self.inside.all_spans.items _ pushed c.self.invariant
 
 pub returns-clause-gains : goal.returns-clause-gains
 returns-clause-gains c =
     let triple = meant_triple c.args.subject.now c.args.predicate.now c.args.object.now in
     let pushed = c.push_reserved.ensures.items ∙ ap (λ l. l ++ c.in_ok-spans.spans ∷ []) c.reserve.ensures.items in (
-      one_more c.self.inside.bytes.items _ triple c.in_ok-spans.spans c.append_triple.ensures.kept c.in_ok-spans.ensures.spans c.self.inside.all_spans.items _ pushed c.self.invariant ∙ ap (λ l. l ++ triple ∷ []) c.self.view_is,
+      one_more c.self.inside.buffer _ triple c.in_ok-spans.spans c.put_triple.ensures.kept c.in_ok-spans.ensures.spans c.self.inside.all_spans.items _ pushed c.self.invariant ∙ ap (λ l. l ++ triple ∷ []) c.self.view_is,
       refl,
     )
 
@@ -31,5 +31,5 @@ pub returns-clause-front : goal.returns-clause-front
 returns-clause-front c front h =
     let triple = meant_triple c.args.subject.now c.args.predicate.now c.args.object.now in
     let pushed = c.push_reserved.ensures.items ∙ ap (λ l. l ++ c.in_ok-spans.spans ∷ []) c.reserve.ensures.items in
-    let more = one_more c.self.inside.bytes.items _ triple c.in_ok-spans.spans c.append_triple.ensures.kept c.in_ok-spans.ensures.spans c.self.inside.all_spans.items _ pushed c.self.invariant in
+    let more = one_more c.self.inside.buffer _ triple c.in_ok-spans.spans c.put_triple.ensures.kept c.in_ok-spans.ensures.spans c.self.inside.all_spans.items _ pushed c.self.invariant in
     ap (take (length front)) (more ∙ ap (λ l. l ++ triple ∷ []) c.self.view_is) ∙ front_kept c.args.self.now (triple ∷ []) front h
