@@ -17,6 +17,8 @@ mod indexes;
 #[cfg(test)]
 mod lexemes;
 #[cfg(test)]
+mod matches;
+#[cfg(test)]
 mod munged;
 #[cfg(test)]
 mod names;

@@ -1,6 +1,6 @@
-// Terms that are made of texts which may not stand as they are.
+// Terms that are made of texts which may not stand as they are, and copies of terms.
 
-use rdf_term::{Term, iri, tagged, write_term};
+use rdf_term::{Term, iri, read_term, tagged, write_term};
 use std::alloc::Global;
 use std::process::Abort;
 use std::str;
@@ -16,6 +16,13 @@ const LANGUAGES: &str = "en => \"x\"@en
 en-GB => \"x\"@en-GB
 en_us => \"x\"
  => \"x\"";
+
+// A term of each kind.
+const TERMS: &str = "<http://a/b>
+_:0a
+\"a\"
+\"a\"@en
+\"1\"^^<http://a/c>";
 
 // Checks how a term is written.
 fn check_term(rt: &(impl Abort + Alloc<A = Global>), term: &Term, want: &str) -> Result<(), Fail> {
@@ -39,6 +46,15 @@ fn texts_have_languages(rt: HostRuntime) -> Result<(), Fail> {
     for row in LANGUAGES.lines() {
         let (language, want) = row.split_once(" => ").ok_or("a row")?;
         check_term(&rt, &tagged(rt.alloc(), "x", language)?, want)?;
+    }
+    Ok(())
+}
+
+#[test]
+fn terms_are_copied(rt: HostRuntime) -> Result<(), Fail> {
+    for text in TERMS.lines() {
+        let term = read_term(rt.alloc(), text)?.ok_or("a term")?;
+        check_term(&rt, &term.copy(rt.alloc())?, text)?;
     }
     Ok(())
 }
