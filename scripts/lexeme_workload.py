@@ -71,6 +71,11 @@ def page(chance, name):
             "claims": claims(chance, name, 6), "forms": forms, "senses": senses, "modified": "2024-05-01T12:00:00Z"}
 
 
+def compact(value):
+    """The value as JSON without spaces, as Wikidata writes pages and as compact events are written."""
+    return json.dumps(value, separators=(",", ":"))
+
+
 def second(number):
     """The text of a time so many seconds after a first one."""
     return time.strftime("%Y-%m-%dT%H:%M:%SZ", time.gmtime(1714557600 + number))
@@ -91,15 +96,15 @@ def main():
         for version in range(3):
             made["lemmas"]["en"]["value"] += chance.choice(SYLLABLES)
             pages[lexeme, version] = given.into / f"{lexeme}-{version}.json"
-            pages[lexeme, version].write_text(json.dumps(made, separators=(",", ":")))
+            pages[lexeme, version].write_text(compact(made))
     with open(given.into / "input", "w", encoding="utf-8") as lines:
         for revision in range(1, given.events + 1):
             key = chance.randint(1, max(1, given.events // 50)), chance.randrange(3)
             os.link(pages[key], given.into / "revs" / f"{revision}.json")
             sizes.append(pages[key].stat().st_size)
-            lines.write(json.dumps({"kind": "edit", "entity": f"L{key[0]}", "rev": revision, "time": second(revision)}) + "\n")
+            lines.write(compact({"kind": "edit", "entity": f"L{key[0]}", "rev": revision, "time": second(revision)}) + "\n")
             if revision % 50 == 0:
-                lines.write(json.dumps({"watermark": second(revision)}) + "\n")
+                lines.write(compact({"watermark": second(revision)}) + "\n")
     print(f"{given.events} events, {sum(sizes)} bytes of pages, {sum(sizes) // len(sizes)} on average")
 
 

@@ -1,3 +1,4 @@
+mod Alone
 pub mod Fit
 pub mod Given
 mod Highest

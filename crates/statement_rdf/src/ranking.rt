@@ -1,6 +1,6 @@
 // Which statements of a list are best.
 
-ghost use Rattle.std.specs.Prelude.{◌≡◌, ℕ, ◌||◌, map, IfOk, OnOk};
+ghost use Rattle.std.specs.Prelude.{◌≡◌, ℕ, [], ◌∷◌, ◌||◌, map, IfOk, OnOk};
 ghost use Rattle.std.specs.BTreeMap.{get};
 ghost use Rattle.std.specs.List.{list_any};
 ghost use Rattle.entity_model.specs.declared.id.EntityId.{EntityId as Id};
@@ -18,8 +18,21 @@ pub fn best(alloc: Global, statements: &List<Statement>) -> Result<List<bool>, O
     ensures { IfOk result (λ answers. answers ≡ map (is_best statements.now) statements.now) }
 {
     let statements = statements.as_slice();
+    if let [statement] = statements {
+        return judge_alone(alloc, statement);
+    }
     let highest = highest_ranks(alloc, statements)?;
     judge_all(alloc, &highest, statements)
+}
+
+// Says of a statement that stands alone, as those of forms and senses mostly do, whether it is best.
+#[tactic(auto, using(crate::proofs::Alone::alone))]
+fn judge_alone(alloc: Global, statement: &Statement) -> Result<List<bool>, OutOfMemory>
+    ensures { IfOk result (λ answers. answers ≡ is_best (statement.now ∷ []) statement.now ∷ []) }
+{
+    let mut answers = List::new(alloc);
+    answers.push(is_highest(statement.rank, None))?;
+    Ok(answers)
 }
 
 // The highest rank among the statements of each property.

@@ -3,7 +3,8 @@
 // The texts of a page are its author's. A statement's id or an article's title may have millions of bytes and be the subject of
 // tens of thousands of triples; written for each, a page of 8 MB would take hundreds of gigabytes. So of the long subjects the last
 // of each size (by powers of two) is remembered, and a subject of this size is compared with it before it is written. Two that take
-// turns and have one size cost no more than twice the bytes that the page spends on the other.
+// turns and have one size cost no more than twice the bytes that the page spends on the other. A statement's qualifiers and references and
+// an article's badges have a subject whose index is known, and it isn't even compared.
 
 ghost use Rattle.std.specs.Prelude.{◌≡◌, ◌≢◌, ℕ, List, ◌++◌, IsTrue, MatchOption};
 ghost use Rattle.rdf_term.specs.Text.{in_brackets, term_text};
