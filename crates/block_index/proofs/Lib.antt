@@ -6,6 +6,7 @@ pub mod Lengths
 pub mod Located
 pub mod Parts
 pub mod Ranges
+pub mod Refused
 pub mod Regrouped
 pub mod Removed
 pub mod Searching

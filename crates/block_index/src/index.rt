@@ -132,8 +132,8 @@ impl<K: Ranked> BlockIndex<K> {
         true
     }
 
-    /// The keys from `from` to `to` in rising order, both ends included, in memory of their own. It takes at
-    /// most as many steps as the number of keys has binary digits, 9 more, and one for each key that it gives.
+    /// The keys from `from` to `to` in rising order, both ends included, in memory of their own. Whatever the answer, it takes at
+    /// most as many steps as the number of keys has binary digits, 9 more, and one for each key of that range.
     pub fn range<L: Ledger>(
         &self,
         from: K,
@@ -141,8 +141,7 @@ impl<K: Ranked> BlockIndex<K> {
         steps: &mut Steps<L>,
     ) -> Result<List<K>, OutOfMemory>
         ensures keys { IfOk result (λ keys. keys ≡ keys_between K.cmp from to (keys_of self.now)) }
-        ensures cost { IfOk result (λ keys. WithinSteps (length (keys_of self.now)) (9 + length keys) steps.old steps.new) }
-        ensures forward { steps.old ≤ steps.new }
+        ensures cost { WithinSteps (length (keys_of self.now)) (9 + length (keys_between K.cmp from to (keys_of self.now))) steps.old steps.new }
     {
         let groups = self.groups.as_slice();
         let position = locate(groups, &from, steps);

@@ -1,10 +1,10 @@
 // The keys of a range, copied block by block.
 
-ghost use Rattle.std.specs.Prelude.{◌≡◌, ◌+◌, ◌≤◌, [], ◌<◌, length, map, cond, slice_index_or, IfOk};
+ghost use Rattle.std.specs.Prelude.{◌≡◌, ◌+◌, ◌≤◌, [], ◌<◌, length, map, cond, slice_index_or, IfOk, OnErr};
 ghost use Rattle.block_index.specs.Blocks.{keys_of};
 ghost use Rattle.block_index.specs.Groups.{IsInside, index_of};
 ghost use Rattle.block_index.specs.Search.{keys_from};
-ghost use Rattle.block_index.specs.Taking.{Takes};
+ghost use Rattle.block_index.specs.Taking.{Takes, up_to};
 
 use crate::block::Block;
 use crate::group::Group;
@@ -14,7 +14,7 @@ use crate::steps::Steps;
 use base::OutOfMemory;
 use std::sync::ledger::Ledger;
 
-/// Copies the keys from a position on until the first above `to`; whether there was none.
+/// Copies the keys from a position on until the first above `to`; whether there was none. Each key that is looked at is one step.
 pub fn take_from<K: Ranked, L: Ledger>(
     groups: &[Group<K>],
     position: Position,
@@ -27,6 +27,7 @@ pub fn take_from<K: Ranked, L: Ledger>(
     ensures takes { IfOk result
         (λ more. Takes K.cmp to.now (keys_from (keys_of groups.now) (index_of groups.now position.group position.block) position.at) taken.old.items taken.new.items more) }
     ensures cost { IfOk result (λ more. steps.new + length taken.old.items ≡ steps.old + length taken.new.items + cond more 0 1) }
+    ensures refused { OnErr result (steps.new ≤ steps.old + length (up_to K.cmp to.now (keys_from (keys_of groups.now) (index_of groups.now position.group position.block) position.at))) }
     ensures forward { steps.old ≤ steps.new }
 {
     let blocks = groups[position.group].blocks();
@@ -49,6 +50,7 @@ fn take_within<K: Ranked, L: Ledger>(
     requires within { position.at ≤ length (slice_index_or blocks.now position.block []) }
     ensures takes { IfOk result (λ more. Takes K.cmp to.now (keys_from blocks.now position.block position.at) taken.old.items taken.new.items more) }
     ensures cost { IfOk result (λ more. steps.new + length taken.old.items ≡ steps.old + length taken.new.items + cond more 0 1) }
+    ensures refused { OnErr result (steps.new ≤ steps.old + length (up_to K.cmp to.now (keys_from blocks.now position.block position.at))) }
     ensures forward { steps.old ≤ steps.new }
 {
     let first = blocks[position.block].keys();
@@ -68,6 +70,7 @@ fn take_keys<K: Ranked, L: Ledger>(
 ) -> Result<bool, OutOfMemory>
     ensures takes { IfOk result (λ more. Takes K.cmp to.now keys.now taken.old.items taken.new.items more) }
     ensures cost { IfOk result (λ more. steps.new + length taken.old.items ≡ steps.old + length taken.new.items + cond more 0 1) }
+    ensures refused { OnErr result (steps.new ≤ steps.old + length (up_to K.cmp to.now keys.now)) }
     ensures forward { steps.old ≤ steps.new }
 {
     for key in keys {
@@ -88,6 +91,7 @@ fn take_blocks<K: Ranked, L: Ledger>(
 ) -> Result<bool, OutOfMemory>
     ensures takes { IfOk result (λ more. Takes K.cmp to.now (keys_of blocks.now) taken.old.items taken.new.items more) }
     ensures cost { IfOk result (λ more. steps.new + length taken.old.items ≡ steps.old + length taken.new.items + cond more 0 1) }
+    ensures refused { OnErr result (steps.new ≤ steps.old + length (up_to K.cmp to.now (keys_of blocks.now))) }
     ensures forward { steps.old ≤ steps.new }
 {
     for block in blocks {
@@ -107,6 +111,7 @@ fn take_groups<K: Ranked, L: Ledger>(
 ) -> Result<bool, OutOfMemory>
     ensures takes { IfOk result (λ more. Takes K.cmp to.now (keys_of (map keys_of groups.now)) taken.old.items taken.new.items more) }
     ensures cost { IfOk result (λ more. steps.new + length taken.old.items ≡ steps.old + length taken.new.items + cond more 0 1) }
+    ensures refused { OnErr result (steps.new ≤ steps.old + length (up_to K.cmp to.now (keys_of (map keys_of groups.now)))) }
     ensures forward { steps.old ≤ steps.new }
 {
     for group in groups {

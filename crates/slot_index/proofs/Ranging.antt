@@ -1,5 +1,5 @@
 -- A pattern in which no free place stands before a wanted one is one range, and turning makes one of each.
-use Rattle.std.proofs.Common.{◌≡◌, ℕ, ◌^◌, ◌<◌, ◌≤◌, Bool, true, false, cond, ◌&&◌, List, [], ◌∷◌, Option, Some, None, Ordering, Less, Equal, Greater, is_eq, filter, count_by, unwrap_or, refl, sym, ◌∙◌, ap, arith}
+use Rattle.std.proofs.Common.{◌≡◌, ℕ, ◌+◌, ◌^◌, ◌<◌, ◌≤◌, Bool, true, false, cond, ◌&&◌, List, [], ◌∷◌, Option, Some, None, Ordering, Less, Equal, Greater, is_eq, filter, count_by, unwrap_or, refl, sym, ◌∙◌, ap, arith}
 use Rattle.std.specs.Prelude.{map as mapped}
 use Rattle.std.specs.List.{All}
 use Rattle.std.specs.Cmp.{nat_cmp_total}
@@ -9,6 +9,7 @@ use Rattle.std.proofs.lemmas.List.Elements.{All-head, All-tail}
 use Rattle.rising.proofs.Bools.{clash}
 use Rattle.rising.proofs.Rising as rise
 use Rattle.block_index.specs.Blocks.{keys_between}
+use Rattle.block_index.specs.Steps.{WithinSteps}
 use Rattle.slot_index.specs.declared.key.Key.{Key}
 use Rattle.slot_index.specs.declared.pattern.SlotPattern.{SlotPattern}
 use Rattle.slot_index.specs.Keys.{FitsSlots, key_cmp, turned}
@@ -130,3 +131,7 @@ by_third p xs ys zs found q t u e =
     ∙ t.alike (λ k. slots_agree (turned_pattern (turned_pattern p)) (turned k) && q (turned (turned k)))
     ∙ count-alike (λ k. slots_agree (turned_pattern (turned_pattern p)) (turned (turned k)) && q k) (λ k. slots_agree p k && q k) xs
     (λ k. ap (λ b. b && q k) (agrees_turned (turned_pattern p) (turned k) ∙ agrees_turned p k))
+
+-- a bound on steps, for as many triples of which as many agree
+pub same_steps : (n m some these before after : ℕ) → n ≡ m → some ≡ these → WithinSteps n (9 + some) before after → WithinSteps m (9 + these) before after
+same_steps n m some these before after e f cost = (cost.0, λ d below. let most = cost.1 d (omega arith) in omega arith)

@@ -107,7 +107,7 @@ impl SlotIndex {
     }
 
     /// The stored triples that agree with the pattern, each once, in memory of their own: one range of one
-    /// index.
+    /// index. Its bound on steps holds whatever the answer.
     pub fn range<L: Ledger>(
         &self,
         pattern: SlotPattern,
@@ -115,11 +115,9 @@ impl SlotIndex {
     ) -> Result<List<Key>, OutOfMemory>
         ensures found { IfOk result (λ found. (p : TheKey → Bool) → count_by p found ≡ count_by (λ key. slots_agree pattern key && p key) (map.keys self.now)) }
         ensures rising { IsRising key_cmp (map.keys self.now) }
-        ensures cost { IfOk result (λ found. WithinSteps (map.len self.now) (9 + length found) steps.old steps.new) }
-        ensures forward { steps.old ≤ steps.new }
+        ensures cost { WithinSteps (map.len self.now) (9 + count_by (slots_agree pattern) (map.keys self.now)) steps.old steps.new }
     {
-        let found = self.orders.range(pattern, steps)?;
-        Ok(found)
+        self.orders.range(pattern, steps)
     }
 
     /// How many stored triples agree with the pattern, which takes no memory: the length of one range of one index, of which no triple

@@ -114,7 +114,8 @@ impl Orders {
         there
     }
 
-    /// The triples that agree with the pattern, each once, in memory of their own: one range of one index.
+    /// The triples that agree with the pattern, each once, in memory of their own: one range of one index. Its bound on steps holds
+    /// whatever the answer.
     pub fn range<L: Ledger>(
         &self,
         pattern: SlotPattern,
@@ -122,12 +123,10 @@ impl Orders {
     ) -> Result<List<Key>, OutOfMemory>
         ensures found { IfOk result (λ found. (p : TheKey → Bool) → count_by p found ≡ count_by (λ key. slots_agree pattern key && p key) self.now) }
         ensures rising { IsRising key_cmp self.now }
-        ensures cost { IfOk result (λ found. WithinSteps (length self.now) (9 + length found) steps.old steps.new) }
-        ensures forward { steps.old ≤ steps.new }
+        ensures cost { WithinSteps (length self.now) (9 + count_by (slots_agree pattern) self.now) steps.old steps.new }
     {
         if pattern.leads() {
-            let found = leading(&self.subjects, pattern, steps)?;
-            return Ok(found);
+            return leading(&self.subjects, pattern, steps);
         }
         let second = pattern.turned();
         if second.leads() {
@@ -167,11 +166,9 @@ fn leading<L: Ledger>(
     requires leads { leads pattern ≡ true }
     requires fit { All FitsSlots (keys_of index.now) }
     ensures keys { IfOk result (λ keys. keys ≡ filter (slots_agree pattern) (keys_of index.now)) }
-    ensures cost { IfOk result (λ keys. WithinSteps (length (keys_of index.now)) (9 + length keys) steps.old steps.new) }
-    ensures forward { steps.old ≤ steps.new }
+    ensures cost { WithinSteps (length (keys_of index.now)) (9 + count_by (slots_agree pattern) (keys_of index.now)) steps.old steps.new }
 {
-    let keys = index.range(pattern.low(), pattern.high(), steps)?;
-    Ok(keys)
+    index.range(pattern.low(), pattern.high(), steps)
 }
 
 // How many triples of an index agree with a pattern in which no free place stands before a wanted one.

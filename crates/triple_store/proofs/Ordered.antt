@@ -10,7 +10,7 @@ use Rattle.std.specs.Ordering.{eq_by_cmp, ordering_reverse, ordering_then}
 use Rattle.std.proofs.lemmas.Cmp.{tied_itself}
 use Rattle.std.proofs.lemmas.List.{get_or-map, length-map}
 use Rattle.std.proofs.lemmas.List.Elements.{All-get_or}
-use Rattle.std.proofs.lemmas.List.Sorted.{All-permutation, IsPermutation-map, length_permutation, sum_by-IsPermutation}
+use Rattle.std.proofs.lemmas.List.Sorted.{All-permutation, IsPermutation-map, sum_by-IsPermutation}
 use Rattle.std.proofs.lemmas.List.Sums.{length-filter}
 use Rattle.rising.specs.Rising.{IsRising, has, sorted}
 use Rattle.rising.proofs.Bools.{clash, equal, or_false_left}
@@ -182,12 +182,7 @@ module _ (st : Catalog) (r : Texts) (w : SlotPattern) (found : List Key) (before
   pub rows_rising : IsRising triple_cmp (mapped triple_of after)
   rows_rising = subst (IsRising triple_cmp) (sym in_order) (IsRising-sorted triple_cmp-total (mapped (triple_at st.pool r) found))
 
--- and are as many as the keys
-pub rows_long : (st : Catalog) (r : Texts) (found : List Key) (before after : List TripleText) → mapped triple_of before ≡ mapped (triple_at st.pool r) found → IsPermutation before after → length found ≡ length (mapped triple_of after)
-rows_long st r found before after means p =
-    sym (length-map found (triple_at st.pool r)) ∙ ap length (sym means) ∙ length-map before triple_of ∙ sym (length_permutation before after p) ∙ sym (length-map after triple_of)
-
--- and are the stored triples that agree with the pattern
+-- and they are the stored triples that agree with the pattern
 pub rows_matched : (st : Catalog) (r : Texts) (pattern : Pattern) (w : SlotPattern) (found : List Key) (before after : List TripleText) → IsStored st r
     → ((k : Key) → map.contains_key st.index k ≡ true → agrees pattern (triple_at st.pool r k) ≡ slots_agree w k)
     → ((f : Key → Bool) → count_by f found ≡ count_by (λ k. slots_agree w k && f k) (map.keys st.index))

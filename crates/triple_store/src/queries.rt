@@ -44,16 +44,15 @@ impl Store {
         matching_by::<Brand>(self, pattern, Blank::new(1))
     }
 
-    /// The same, counting the steps in the index: at most nine more than the triples that it gives and the binary digits of the number
-    /// of stored triples together.
+    /// The same, counting the steps in the index: whatever the answer, at most nine more than the triples that agree and the binary
+    /// digits of the number of stored triples together.
     pub fn matching_counting<L: Ledger>(
         &self,
         pattern: &Pattern,
         steps: &mut Steps<L>,
     ) -> Result<Rows<'_>, OutOfMemory>
         ensures rows { IfOk result (λ found. found ≡ rows (map.keys (counts_in self.now)) pattern.now) }
-        ensures cost { IfOk result (λ found. WithinSteps (map.len (counts_in self.now)) (9 + length found) steps.old steps.new) }
-        ensures forward { steps.old ≤ steps.new }
+        ensures cost { WithinSteps (map.len (counts_in self.now)) (9 + length (rows (map.keys (counts_in self.now)) pattern.now)) steps.old steps.new }
     {
         self.catalog.matching(&self.region, pattern, steps)
     }
@@ -89,8 +88,7 @@ impl Store {
         steps: &mut Steps<L>,
     ) -> Result<TripleSet, OutOfMemory>
         ensures rows { IfOk result (λ set. set ≡ rows (map.keys (counts_in self.now)) pattern.now) }
-        ensures cost { IfOk result (λ set. WithinSteps (map.len (counts_in self.now)) (9 + length set) steps.old steps.new) }
-        ensures forward { steps.old ≤ steps.new }
+        ensures cost { WithinSteps (map.len (counts_in self.now)) (9 + length (rows (map.keys (counts_in self.now)) pattern.now)) steps.old steps.new }
     {
         self.matching_counting(pattern, steps)?
             .to_set(self.catalog.alloc)

@@ -135,8 +135,7 @@ impl Catalog {
     ) -> Result<Rows<'a>, OutOfMemory>
         requires { IsStored self.now region.now }
         ensures rows { IfOk result (λ found. found ≡ rows (map.keys (counts_in self.now region.now)) pattern.now) }
-        ensures cost { IfOk result (λ found. WithinSteps (map.len (counts_in self.now region.now)) (9 + length found) steps.old steps.new) }
-        ensures forward { steps.old ≤ steps.new }
+        ensures cost { WithinSteps (map.len (counts_in self.now region.now)) (9 + length (rows (map.keys (counts_in self.now region.now)) pattern.now)) steps.old steps.new }
     {
         let Some(wanted) = self.slots_of(region, pattern) else {
             return Ok(Rows {

@@ -1,12 +1,11 @@
 -- The triples of the range of slots, by their texts, are those that agree.
-use Rattle.std.proofs.Common.{◌+◌, ◌∙◌, ap, count_by, length, subst, sym, arith}
+use Rattle.std.proofs.Common.{◌∙◌, ap, count_by, sym, arith}
 use Rattle.std.specs.Prelude.{map as mapped}
-use Rattle.std.specs.FinMap as map
 use Rattle.std.proofs.lemmas.List.Sorted.{All-permutation}
-use Rattle.block_index.specs.Steps.{WithinSteps}
+use Rattle.slot_index.proofs.Ranging.{same_steps}
 use Rattle.triple_store.specs.Slots.{HasCanonicalTexts, triple_of}
 use Rattle.triple_store.proofs.Matched.{found_stored, none_matched}
-use Rattle.triple_store.proofs.Ordered.{rows_long, rows_matched, rows_rising}
+use Rattle.triple_store.proofs.Ordered.{rows_counted, rows_matched, rows_rising}
 use Rattle.triple_store.proofs.Unchanged.{len_image}
 use Rattle.triple_store.proofs.catalog.Catalog.matching.Goals as goal
 
@@ -14,7 +13,6 @@ pub returns-in_default : goal.returns-in_default
 returns-in_default g c = record {
   rows = ap (mapped triple_of) c.new.ensures.items ∙ none_matched c.args.self.now.pool c.args.region.now c.args.self.now.index c.args.pattern.now c.in_default.ensures;
   cost = (omega arith, λ d few. omega arith);
-  forward = omega arith;
 }
 
 pub texts_of-requires-clause-there : goal.texts_of-requires-clause-there
@@ -35,13 +33,18 @@ returns g c =
     let found = c.as_slice.result.now in
     let before = c.in_ok-rows.rows.items in
     let after = c.sort_rows.new.rows.items in
-    let long = ap length c.as_slice.ensures in
-    let as_many = rows_long st r found before after c.in_ok-rows.ensures.triples c.sort_rows.ensures.same in
     record {
       rows = rows_matched st r c.args.pattern.now c.in-Some.wanted found before after
           c.requires c.in-Some.ensures (λ f. ap (λ ks. count_by f ks) c.as_slice.ensures ∙ c.in_ok-keys.ensures.found f)
           c.in_ok-rows.ensures.triples c.in_ok-rows.ensures.canonical c.sort_rows.ensures.same c.sort_rows.ensures.sorted;
-      cost = subst (λ n. WithinSteps n (9 + length (mapped triple_of after)) c.args.steps.now c.range.new.steps) (sym (len_image st r c.requires))
-          (subst (λ n. WithinSteps (map.len st.index) (9 + n) c.args.steps.now c.range.new.steps) (sym long ∙ as_many) c.in_ok-keys.ensures.cost);
-      forward = c.range.ensures.forward;
+      cost = same_steps _ _ _ _ _ _ (sym (len_image st r c.requires)) (rows_counted st r c.args.pattern.now c.in-Some.wanted c.requires c.in-Some.ensures) c.range.ensures.cost;
     }
+
+-- memory was refused behind the range, or in it
+pub returns-in_err-keys-clause-cost : goal.returns-in_err-keys-clause-cost
+returns-in_err-keys-clause-cost g c =
+    same_steps _ _ _ _ _ _ (sym (len_image c.args.self.now c.args.region.now c.requires)) (rows_counted c.args.self.now c.args.region.now c.args.pattern.now c.in-Some.wanted c.requires c.in-Some.ensures) c.range.ensures.cost
+
+pub returns-in_err-rows-clause-cost : goal.returns-in_err-rows-clause-cost
+returns-in_err-rows-clause-cost g c =
+    same_steps _ _ _ _ _ _ (sym (len_image c.args.self.now c.args.region.now c.requires)) (rows_counted c.args.self.now c.args.region.now c.args.pattern.now c.in-Some.wanted c.requires c.in-Some.ensures) c.range.ensures.cost

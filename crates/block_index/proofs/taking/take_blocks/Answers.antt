@@ -1,0 +1,20 @@
+-- The keys of the block at hand come first among those of the blocks that are left.
+use Rattle.std.proofs.Common.{◌∙◌, ◌+◌, ◌<◌, ◌≤◌, [], length, get_or, drop, suc, sym, subst}
+use Rattle.std.proofs.lemmas.List.{get_or_read}
+use Rattle.std.proofs.Math.Seq.{drop-cons}
+use Rattle.block_index.specs.Blocks.{keys_of}
+use Rattle.block_index.specs.Taking.{up_to}
+use Rattle.block_index.proofs.Refused.{anyway, refused_first, refused_left}
+use Rattle.block_index.proofs.taking.take_blocks.Goals as goal
+
+pub returns-in_err-take_keys-clause-refused : goal.returns-in_err-take_keys-clause-refused
+returns-in_err-take_keys-clause-refused g c =
+    let R = g.K.Ranked.cmp in
+    let i = c.loop-block.block-index in
+    let blocks = c.args.blocks.now in
+    let within : i < length blocks = c.loop-block-test.true in
+    let others = keys_of (drop (suc i) blocks) in
+    let is = c.keys.ensures ∙ get_or_read blocks i c.block-item.result within c.block-item.is [] in
+    let few = subst (λ b. c.take_keys.new.steps ≤ c.loop-block.steps + length (up_to R c.args.to.now b)) is c.in_err-take_keys.ensures.refused in
+    let all = subst (λ bs. c.take_keys.new.steps ≤ c.loop-block.steps + length (up_to R c.args.to.now (keys_of bs))) (sym (drop-cons blocks i [] within)) (refused_first R c.args.to.now (get_or blocks i []) others _ _ few) in
+    anyway _ (refused_left R c.args.to.now (keys_of blocks) (keys_of (drop i blocks)) c.args.taken.now.items c.loop-block.taken.items c.args.steps.now c.loop-block.steps _ c.loop-block.invariant.0 c.loop-block.invariant.1 all)
