@@ -129,7 +129,7 @@ module _ (run : Run) (before now : Moment) (bytes : List ℕ) (ds : List Deliver
 
   brought_at_mapping : StandsAtMapping run before now → Brought
   brought_at_mapping s =
-      let b = first_begins (max_bytes_of run.choices) before.input.left now.input.left bytes (s.deliveries ++ Mapping s.version ∷ []) ds left are s.first in
+      let b = first_begins (max_bytes_of run.choices) before.input.left now.input.left bytes (s.deliveries ++ Mapping s.version ∷ []) ds left are s.first.first in
       let fewer_ones = begins-fewer ds s.deliveries (Mapping s.version ∷ []) b in
       record {
         named = subst (WorldNamed contents (events ds)) (sym (s.played.source contents known))

@@ -61,7 +61,7 @@ follow_stopped status stop choices before now is stopped taken = record { outcom
 
 -- a replay that stopped
 pub replay_stopped : (status : Status) (stop : Stop) (run : Run) (before now : Moment) → stop_of status ≡ Some stop → Stopped stop run before now →
-    IfSome before.input.left (λ bytes. TakesByNeed (max_bytes_of run.choices) bytes now.input.left) → ReplayEnding status run before now
+    IfSome before.input.left (λ bytes. TakesByNeed (max_bytes_of run.choices) bytes now.input.left before.last_read now.last_read) → ReplayEnding status run before now
 replay_stopped status stop run before now is stopped taken = record { outcome = rw is stopped; taken = taken }
 
 pub for_split : (P : SplitChoices → Type 0) (read choices : SplitChoices) → Some (Split read) ≡ Some (Split choices) → P read → P choices

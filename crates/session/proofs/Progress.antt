@@ -45,7 +45,7 @@ use Rattle.session.specs.Headline.{IsPlayed, IsPlayedAfter, StandsAtPage, Stands
 use Rattle.following.specs.Input.{Input}
 use Rattle.session.specs.Moment.{Beginning, Moment, Run, Environment, Stage, no_numbers, onward, standing, start_in, start_of, with_mapped, with_output}
 use Rattle.session.specs.Needed.{HaveRoomBefore, needed_anew}
-use Rattle.session.specs.Reading.{AreFirst, HasRead, TakesByNeed}
+use Rattle.session.specs.Reading.{AreFirst, AreFirstAlone, HasRead, TakesByNeed}
 use Rattle.session.specs.Remapping.{IsLeftStale, Mapped, mapped_by, remapped_some}
 use Rattle.session.specs.Report.{BreaksOffBy, HasAnswered, HasNumberLeft, HasReported, TellsBy, reported_before}
 use Rattle.session.specs.Stop.{stop_of_fault, stop_of_halt}
@@ -72,7 +72,7 @@ FewAnswers Changes numbered reported given = Unit {0}
 pub record Progress (run : Run) (before now : Moment) (reader : Reading) (reported matched : ℕ) : Type 0 where
   pub deliveries : List Delivery
   pub read : HasRead before.input.left reader now.input.left deliveries
-  pub taken : IfSome before.input.left (λ bytes. TakesByNeed (max_bytes_of run.choices) bytes now.input.left)
+  pub taken : IfSome before.input.left (λ bytes. TakesByNeed (max_bytes_of run.choices) bytes now.input.left before.last_read now.last_read)
   pub at_rest : AtRest run.environment deliveries reported (start_of run before) now.stage
   pub earlier : before.input.faults ≤ now.input.faults
   pub few : FewAnswers run.environment.report run.numbered reported reader.given
@@ -160,7 +160,7 @@ pub nothing_begun : (run : Run) (before : Moment) → IsStanding before.stage.wo
 nothing_begun run before stands = record {
   deliveries = [];
   read = nothing_read (max_bytes_of run.choices) before.input.left;
-  taken = nothing_taken_of (max_bytes_of run.choices) before.input.left;
+  taken = nothing_taken_of (max_bytes_of run.choices) before.input.left before.last_read;
   at_rest = nothing_taken_from run.environment run.numbered before.stage stands;
   earlier = omega arith;
   few = no_answers run.environment.report run.numbered 0;
@@ -172,6 +172,10 @@ nothing_begun run before stands = record {
   ended = λ never. cc;
 }
 
+-- where there is no last line
+no_last : {P : Type 0} (d : Delivery) → None ≡ Some d → P
+no_last d never = cc
+
 -- memory was refused before the first line
 pub starved_at_once : (run : Run) (before : Moment) → IsStanding before.stage.world before.stage.mapped → Stopped OutOfMemory run before before
 starved_at_once run before stands =
@@ -181,6 +185,7 @@ starved_at_once run before stands =
       within = rest_within run.environment [] (start_of run before) before.stage (reported_before run.environment.report run.numbered) (nothing_taken_from run.environment run.numbered before.stage stands);
       mapped = stands.by_one;
       first = nothing_first (max_bytes_of run.choices) before.input.left;
+      alone = λ d never. no_last d never;
     } in
     inl (inl (inl (inl stops)))
 
@@ -189,10 +194,10 @@ module _ (run : Run) (before now : Moment) (reader : Reading) (reported matched 
   played = is_played run.environment (course_after run.environment.routes so_far.deliveries (start_of run before)) reported (start_of run before) now.stage so_far.at_rest.leads so_far.at_rest.rests so_far.at_rest.mapped
 
   -- what was taken, after a call of the reader, whatever it answered
-  pub taken_on : (next : Reading) (left_next : Option (List ℕ)) (last last_next : Option LastRead) → ReadsAsNeeded reader next now.input.left left_next last last_next →
-      IfSome before.input.left (λ bytes. TakesByNeed (max_bytes_of run.choices) bytes left_next)
-  taken_on next left_next last last_next reads =
-      takes_on (max_bytes_of run.choices) reader now.input.left so_far.deliveries so_far.max so_far.sound before.input.left next left_next last last_next so_far.read reads so_far.taken
+  pub taken_on : (next : Reading) (left_next : Option (List ℕ)) (last_next : Option LastRead) → ReadsAsNeeded reader next now.input.left left_next now.last_read last_next →
+      IfSome before.input.left (λ bytes. TakesByNeed (max_bytes_of run.choices) bytes left_next before.last_read last_next)
+  taken_on next left_next last_next reads =
+      takes_on (max_bytes_of run.choices) reader now.input.left so_far.deliveries so_far.max so_far.sound before.input.left next left_next before.last_read now.last_read last_next so_far.read reads so_far.taken
 
   -- the lines so far, and none more
   first_still : (next : Reading) (left_next : Option (List ℕ)) (last last_next : Option LastRead) → ReadsAsNeeded reader next now.input.left left_next last last_next →
@@ -203,13 +208,14 @@ module _ (run : Run) (before now : Moment) (reader : Reading) (reported matched 
 
   -- memory was refused: the world is as it was after the lines so far
   pub stands : (next : Reading) (input : Input) (last last_next : Option LastRead) → ReadsAsNeeded reader next now.input.left input.left last last_next →
-      StopsWithin (NotApplied Starved) run before (record now { input = input })
+      StopsWithin (NotApplied Starved) run before (record now { input = input; last_read = last_next })
   stands next input last last_next reads = record {
     deliveries = so_far.deliveries;
     last = None;
     within = rest_within run.environment so_far.deliveries (start_of run before) now.stage reported so_far.at_rest;
     mapped = so_far.at_rest.mapped;
     first = first_still next input.left last last_next reads;
+    alone = λ d never. no_last d never;
   }
 
   -- the number of the next line
@@ -218,7 +224,7 @@ module _ (run : Run) (before now : Moment) (reader : Reading) (reported matched 
 
   -- a fault of the reader stops the taking
   pub fault_stops : (fault : LineFault) (next : Reading) (input : Input) (last last_next : Option LastRead) → HasCause fault reader now.input.left now.input.faults input.faults →
-      Leaves fault reader now.input.left input.left → ReadsAsNeeded reader next now.input.left input.left last last_next → Stopped (stop_of_fault fault) run before (record now { input = input })
+      Leaves fault reader now.input.left input.left → ReadsAsNeeded reader next now.input.left input.left last last_next → Stopped (stop_of_fault fault) run before (record now { input = input; last_read = last_next })
   fault_stops NotRead next input last last_next cause leaves reads = (
     rose_since before.input.faults now.input.faults input.faults so_far.earlier cause,
     record { deliveries = so_far.deliveries; played = played; whole = whole_read (max_bytes_of run.choices) reader now.input.left so_far.deliveries so_far.max so_far.sound before.input.left input.left so_far.read leaves },
@@ -230,8 +236,8 @@ module _ (run : Run) (before now : Moment) (reader : Reading) (reported matched 
   fault_stops NoMemory next input last last_next cause leaves reads = inl (inl (inl (inl (stands next input last last_next reads))))
 
   -- at the end of the input all lines were taken
-  pub end_reached : (input : Input) → IsAtEnd input.left → IsAtEnd (unread reader now.input.left) → HasTaken run reported matched before (record now { input = input })
-  end_reached input read at_end = record {
+  pub end_reached : (input : Input) (last_next : Option LastRead) → IsAtEnd input.left → IsAtEnd (unread reader now.input.left) → HasTaken run reported matched before (record now { input = input; last_read = last_next })
+  end_reached input last_next read at_end = record {
     deliveries = so_far.deliveries;
     read = read;
     are = all_read (max_bytes_of run.choices) reader now.input.left so_far.deliveries so_far.max so_far.sound before.input.left so_far.read at_end;
@@ -239,23 +245,23 @@ module _ (run : Run) (before now : Moment) (reader : Reading) (reported matched 
     matched_are = so_far.counted;
   }
 
-  module _ (line : List ℕ) (next : Reading) (last last_next : Option LastRead) where
+  module _ (line : List ℕ) (next : Reading) where
     -- a line that is refused stops the taking
-    pub line_stops : (stop : Stop) (input : Input) (number : ℕ) → IsNextLine line reader next now.input.left input.left last last_next → number ≡ reader.given + 1 →
-        ((cause : LineCause) × (stop ≡ BadLine number cause) × (delivery_of line ≡ Err cause)) ⊎ (stop ≡ OutOfMemory) → Stopped stop run before (record now { input = input })
-    line_stops stop input number is counted why = ⊎_elim
-        (λ bad. subst (λ s. Stopped s run before (record now { input = input })) (sym bad.1) (record {
+    pub line_stops : (stop : Stop) (input : Input) (last last_next : Option LastRead) (number : ℕ) → IsNextLine line reader next now.input.left input.left last last_next → number ≡ reader.given + 1 →
+        ((cause : LineCause) × (stop ≡ BadLine number cause) × (delivery_of line ≡ Err cause)) ⊎ (stop ≡ OutOfMemory) → Stopped stop run before (record now { input = input; last_read = last_next })
+    line_stops stop input last last_next number is counted why = ⊎_elim
+        (λ bad. subst (λ s. Stopped s run before (record now { input = input; last_read = last_next })) (sym bad.1) (record {
           deliveries = so_far.deliveries;
           played = played;
           counted = numbered number counted;
           bad = bad_line (max_bytes_of run.choices) reader now.input.left so_far.deliveries so_far.max so_far.sound line next input.left last last_next is before.input.left number bad.0 so_far.read counted bad.2;
         }))
-        (λ refused. subst (λ s. Stopped s run before (record now { input = input })) (sym refused) (inl (inl (inl (inl (stands next input last last_next is.reads))))))
+        (λ refused. subst (λ s. Stopped s run before (record now { input = input; last_read = last_next })) (sym refused) (inl (inl (inl (inl (stands next input last last_next is.reads))))))
         why
 
-    module _ (after : Moment) (d : Delivery) (is : IsNextLine line reader next now.input.left after.input.left last last_next) (delivers : delivery_of line ≡ Ok d) where
-      first : AreFirst (max_bytes_of run.choices) before.input.left after.input.left (so_far.deliveries ++ d ∷ [])
-      first = first_with (max_bytes_of run.choices) reader now.input.left so_far.deliveries so_far.max so_far.sound line next after.input.left last last_next is before.input.left d so_far.read delivers
+    module _ (after : Moment) (d : Delivery) (is : IsNextLine line reader next now.input.left after.input.left now.last_read after.last_read) (delivers : delivery_of line ≡ Ok d) where
+      first : AreFirstAlone (max_bytes_of run.choices) before.input.left after.input.left (so_far.deliveries ++ d ∷ [])
+      first = first_with (max_bytes_of run.choices) reader now.input.left so_far.deliveries so_far.max so_far.sound line next after.input.left now.last_read after.last_read is before.input.left d so_far.read delivers
 
       -- what was played before stands with a stage in which nothing else changed but the output
       played_still : after.stage.world ≡ now.stage.world → after.stage.counts ≡ now.stage.counts → (mapped : Mapped) → mapped ≡ now.stage.mapped →
@@ -284,7 +290,7 @@ module _ (run : Run) (before now : Moment) (reader : Reading) (reported matched 
                 ∙ ap (λ (w : ReplayState). answer_text run.environment.routes (run.numbered.asks + asks so_far.deliveries) (run.numbered.matches + matches so_far.deliveries) (meaning (version_at so_far.deliveries (start_of run before)))
                 w.played.records in_part.question) (sym in_part.world))
                 in_part.cut_short;
-            first = subst (λ q. AreFirst (max_bytes_of run.choices) before.input.left after.input.left (so_far.deliveries ++ q ∷ [])) in_part.is first;
+            first = subst (λ q. AreFirstAlone (max_bytes_of run.choices) before.input.left after.input.left (so_far.deliveries ++ q ∷ [])) in_part.is first;
           }
 
       -- a delivery wasn't taken wholly
@@ -293,7 +299,7 @@ module _ (run : Run) (before now : Moment) (reader : Reading) (reported matched 
           let mapped = in_part.mapped (version_at so_far.deliveries (start_of run before)) so_far.at_rest.mapped in
           ⊎_elim
           (untaken halt mapped)
-          (λ begun. record { deliveries = so_far.deliveries; last = Some d; within = begun; mapped = mapped; first = first })
+          (λ begun. record { deliveries = so_far.deliveries; last = Some d; within = begun; mapped = mapped; first = first.first; alone = λ _ _. first.alone })
           (in_part.world so_far.deliveries (start_of run before) so_far.at_rest)
         where
           Within : Stage → Type 0
@@ -313,7 +319,8 @@ module _ (run : Run) (before now : Moment) (reader : Reading) (reported matched 
             last = None;
             within = still same.0 same.1 same.2;
             mapped = mapped;
-            first = first_still next after.input.left last last_next is.reads;
+            first = first_still next after.input.left now.last_read after.last_read is.reads;
+            alone = λ q never. no_last q never;
           }
           untaken (Untold why) mapped never = absurd never
 
@@ -367,8 +374,8 @@ module _ (run : Run) (before now : Moment) (reader : Reading) (reported matched 
               ∙ ap (steps_anew in_part.version now.stage.world.played.records) by_two_is
               ∙ ap (λ (w : ReplayState). steps_anew in_part.version w.played.records (all_by v w.played.records)) (sym in_part.world)
 
-          first_lines_with : AreFirst (max_bytes_of run.choices) before.input.left after.input.left (so_far.deliveries ++ Mapping in_part.version ∷ [])
-          first_lines_with = subst (λ q. AreFirst (max_bytes_of run.choices) before.input.left after.input.left (so_far.deliveries ++ q ∷ [])) in_part.is first
+          first_lines_with : AreFirstAlone (max_bytes_of run.choices) before.input.left after.input.left (so_far.deliveries ++ Mapping in_part.version ∷ [])
+          first_lines_with = subst (λ q. AreFirstAlone (max_bytes_of run.choices) before.input.left after.input.left (so_far.deliveries ++ q ∷ [])) in_part.is first
 
           untold : (report : Report) → report ≡ run.environment.report → (why : Unwritten) (pages others : List Step) (last : Step) → pages ≡ others ++ last ∷ [] → BreaksOffBy report why reported others last now.stage.output after.stage.output →
               (x : RemapsPages (Untold why) run.environment.report run.environment.limit reported in_part.version now.stage.world.played.records now.stage.mapped after.stage.mapped now.stage.output after.stage.output) →
@@ -427,8 +434,8 @@ module _ (run : Run) (before now : Moment) (reader : Reading) (reported matched 
           let at_rest = takes so_far.deliveries (start_of run before) so_far.counted so_far.at_rest in
           record {
             deliveries = so_far.deliveries ++ d ∷ [];
-            taken = taken_on next after.input.left last last_next is.reads;
-            read = read_more (max_bytes_of run.choices) reader now.input.left so_far.deliveries so_far.max so_far.sound line next after.input.left last last_next is before.input.left d so_far.read given delivers;
+            taken = taken_on next after.input.left after.last_read is.reads;
+            read = read_more (max_bytes_of run.choices) reader now.input.left so_far.deliveries so_far.max so_far.sound line next after.input.left now.last_read after.last_read is before.input.left d so_far.read given delivers;
             at_rest = at_rest;
             earlier = omega (arith, so_far.earlier, later);
             few = few_more run.environment.report so_far.at_rest.answered at_rest.answered so_far.few;

@@ -1,19 +1,19 @@
 -- How far the reading of lines has come, and what that says of the input.
-use Rattle.std.proofs.Common.{refl, sym, subst, ◌∙◌, ap, inl, inr, ◌≡◌, ◌⊎◌, ℕ, ◌+◌, ◌-◌, ◌<◌, ◌≤◌, Bool, true, false, cond, List, [], ◌∷◌, ◌++◌, length, drop, Option, None, Some, IfSome, Result, Ok, Err, arith, append_assoc, append-nil, length-append}
+use Rattle.std.proofs.Common.{refl, sym, subst, ◌∙◌, ap, ap₂, inl, inr, ◌≡◌, ◌⊎◌, ℕ, ◌+◌, ◌-◌, ◌<◌, ◌≤◌, Bool, true, false, cond, List, [], ◌∷◌, ◌++◌, length, min, drop, Option, None, Some, IfSome, Result, Ok, Err, arith, append_assoc, append-nil, length-append}
 use Rattle.std.proofs.lemmas.Bool.{le-leb}
 use Rattle.std.proofs.lemmas.Grind.{flat_map-append}
 use Rattle.std.proofs.Math.Seq.{drop-append_seam}
 use Rattle.std.specs.Option.{option_map}
 use Rattle.rising.specs.Rising.{Each}
 use Rattle.wq_io.specs.Streams.{IsAtEnd, LastRead, before_known}
-use Rattle.wq_io.specs.Lines.{GoesOn, IsLineLong, IsNeeded, IsOneLine, IsSound, IsTooLong, IsUndecided, ReadsAsNeeded, Reading, StopsInLine, TakesBytes, before_lines, ended_lines, fresh, input_length, line_feed, lines, input_lines, longest_line, longest_read, room, unread, whole_lines}
+use Rattle.wq_io.specs.Lines.{GoesOn, IsLineLong, IsNeeded, IsOneLine, IsSound, IsTooLong, IsUndecided, ReadsAsNeeded, Reading, StopsInLine, TakesBytes, before_lines, ended_lines, fresh, input_length, line_feed, lines, input_lines, longest_line, longest_read, room, taken, unread, whole_lines}
 use Rattle.wq_io.proofs.LineLists.{whole_lines-ended}
 use Rattle.delivery.specs.declared.Delivery.{Delivery}
 use Rattle.event_line.specs.declared.faults.LineCause.{LineCause}
 use Rattle.event_line.specs.declared.faults.LineCause.TheVariants.{LineLong}
 use Rattle.event_line.specs.Line.{delivery_of}
 use Rattle.replay_model.proofs.ToldContents.{Each-append}
-use Rattle.session.specs.Reading.{AreDeliveries, AreFirst, AreWhole, HasRead, IsPastLimit, IsRefusedLine, TakesByNeed, deliveries_of, last_part, line_delivers, onto_deliveries}
+use Rattle.session.specs.Reading.{AreDeliveries, AreFirst, AreFirstAlone, AreWhole, AsksByNeed, HasRead, IsPastLimit, IsRefusedLine, TakesByNeed, deliveries_of, last_part, line_delivers, onto_deliveries}
 
 -- one line more is one delivery more
 pub onto-push : (r : Result Delivery LineCause) (o more : Option (List Delivery)) (ds : List Delivery) (d : Delivery) →
@@ -101,9 +101,9 @@ not_called reader left read sound = record {
 nothing_undecided : (room : ℕ) → IsUndecided room longest_line []
 nothing_undecided room = record { in_line = refl; within = omega arith; short = omega arith }
 
-pub nothing_taken_of : (limit : ℕ) (left : Option (List ℕ)) → IfSome left (λ bytes. TakesByNeed limit bytes left)
-nothing_taken_of limit None = tt
-nothing_taken_of limit (Some bytes) = record {
+pub nothing_taken_of : (limit : ℕ) (left : Option (List ℕ)) (read : Option LastRead) → IfSome left (λ bytes. TakesByNeed limit bytes left read read)
+nothing_taken_of limit None read = tt
+nothing_taken_of limit (Some bytes) read = record {
   done = [];
   part = [];
   last = [];
@@ -114,7 +114,14 @@ nothing_taken_of limit (Some bytes) = record {
   undecided = nothing_undecided (limit - 0);
   piece = omega arith;
   bounded = omega arith;
+  needed = inl (refl, refl);
 }
+
+-- what was asked for and given, together
+asks_by_need : (limit most before before_is gave : ℕ) (read : Option LastRead) → most ≡ limit → before ≡ before_is → IfSome read (λ r. r.asked ≡ min longest_read (most + 1 - before)) → IfSome read (λ r. r.gave ≡ gave) →
+    AsksByNeed limit before_is gave read
+asks_by_need limit most before before_is gave None limit_is is asked given = tt
+asks_by_need limit most before before_is gave (Some r) limit_is is asked given = (asked ∙ ap₂ (λ n m. min longest_read (n + 1 - m)) limit_is is, given)
 
 -- and the first lines are none
 pub nothing_first : (limit : ℕ) (left : Option (List ℕ)) → AreFirst limit left left []
@@ -284,9 +291,9 @@ module _ (limit : ℕ) (reader : Reading) (left : Option (List ℕ)) (ds : List 
           first_before bytes left_next [] reader.held read (behind ∙ ap (λ xs. before_known (reader.held ++ xs) left_next) none.0 ∙ ap (λ xs. before_known xs left_next) (append-nil reader.held)) (nothing_undecided (room reader)) sound.buffered
 
   -- a call of the reader took what it needed
-  needed : (bytes : List ℕ) (next : Reading) (left_next : Option (List ℕ)) (last last_next : Option LastRead) → HasRead (Some bytes) reader left ds →
-      (reads : ReadsAsNeeded reader next left left_next last last_next) → IsNeeded reader reads.before reads.last last last_next → TakesByNeed limit bytes left_next
-  needed bytes next left_next last last_next read reads is =
+  needed : (bytes : List ℕ) (next : Reading) (left_next : Option (List ℕ)) (first last last_next : Option LastRead) → HasRead (Some bytes) reader left ds →
+      (reads : ReadsAsNeeded reader next left left_next last last_next) → IsNeeded reader reads.before reads.last last last_next → TakesByNeed limit bytes left_next first last_next
+  needed bytes next left_next first last last_next read reads is =
       let parts = known_now bytes read in
       let ends : read.read ≡ ended_lines read.done = read.whole is.going in
       let size : length (read.read ++ (reader.held ++ reads.before) ++ reads.last) ≡ length read.read + (length reader.held + length (reads.before ++ reads.last)) =
@@ -299,6 +306,8 @@ module _ (limit : ℕ) (reader : Reading) (left : Option (List ℕ)) (ds : List 
       ) in
       let at : left ≡ before_known reads.before (before_known reads.last left_next) = reads.told ∙ sym (before_both reads.before reads.last left_next) in
       let Fits : List ℕ → Type 0 = λ xs. length (xs ++ (reader.held ++ reads.before) ++ reads.last) ≤ limit + 1 in
+      let before_is : taken reader + length reads.before ≡ length (ended_lines read.done ++ (reader.held ++ reads.before)) =
+      omega (arith, length-append read.read (reader.held ++ reads.before), length-append reader.held reads.before, parts.read_is) ∙ ap (λ xs. length (xs ++ (reader.held ++ reads.before))) ends in
       let fits : length (read.read ++ (reader.held ++ reads.before) ++ reads.last) ≤ limit + 1 = omega (arith, size, parts.read_is, reads.counted, reads.sound.bounded, reads.limit, limits.bytes) in
       record {
         done = read.done;
@@ -315,17 +324,18 @@ module _ (limit : ℕ) (reader : Reading) (left : Option (List ℕ)) (ds : List 
         undecided = subst (λ n. IsUndecided n longest_line (reader.held ++ reads.before)) (same_room limit reader read.read limits.bytes parts.read_is ∙ ap (λ xs. limit - length xs) ends) (undecided_as is.undecided);
         piece = reads.piece;
         bounded = subst Fits ends fits;
+        needed = inr (asks_by_need limit reader.max_bytes (taken reader + length reads.before) _ (length reads.last) last_next limits.bytes before_is is.asked is.gave);
       }
 
   -- what was taken, after a call of the reader, whatever it answered
-  pub takes_on : (start : Option (List ℕ)) (next : Reading) (left_next : Option (List ℕ)) (last last_next : Option LastRead) → HasRead start reader left ds →
-      ReadsAsNeeded reader next left left_next last last_next → IfSome start (λ bytes. TakesByNeed limit bytes left) → IfSome start (λ bytes. TakesByNeed limit bytes left_next)
-  takes_on None next left_next last last_next read reads so_far = tt
-  takes_on (Some bytes) next left_next last last_next read reads so_far = by reads.needed
+  pub takes_on : (start : Option (List ℕ)) (next : Reading) (left_next : Option (List ℕ)) (first last last_next : Option LastRead) → HasRead start reader left ds →
+      ReadsAsNeeded reader next left left_next last last_next → IfSome start (λ bytes. TakesByNeed limit bytes left first last) → IfSome start (λ bytes. TakesByNeed limit bytes left_next first last_next)
+  takes_on None next left_next first last last_next read reads so_far = tt
+  takes_on (Some bytes) next left_next first last last_next read reads so_far = by reads.needed
     where
-      by : IsNeeded reader reads.before reads.last last last_next ⊎ ((reads.before ++ reads.last ≡ []) × (last_next ≡ last)) → TakesByNeed limit bytes left_next
-      by (inl is) = needed bytes next left_next last last_next read reads is
-      by (inr none) = subst (λ o. TakesByNeed limit bytes o) (reads.told ∙ ap (λ xs. before_known xs left_next) none.0 ∙ sym (still left_next)) so_far
+      by : IsNeeded reader reads.before reads.last last last_next ⊎ ((reads.before ++ reads.last ≡ []) × (last_next ≡ last)) → TakesByNeed limit bytes left_next first last_next
+      by (inl is) = needed bytes next left_next first last last_next read reads is
+      by (inr none) = subst (λ o. TakesByNeed limit bytes o first last_next) (reads.told ∙ ap (λ xs. before_known xs left_next) none.0 ∙ sym (still left_next)) (subst (λ r. TakesByNeed limit bytes left first r) (sym none.1) so_far)
 
   -- what was read and a part of a line within the limit are within it
   part_within : (start : Option (List ℕ)) (read : HasRead start reader left ds) (part : List ℕ) → length part ≤ room reader → IfSome start (λ bytes. length (read.read ++ part) ≤ limit)
@@ -419,19 +429,22 @@ module _ (limit : ℕ) (reader : Reading) (left : Option (List ℕ)) (ds : List 
         let parts = known_next bytes read in
         omega (arith, parts.read_is, is.goes.sound.within, is.goes.limit, limits.bytes)
 
-    -- the lines so far and this one are the first ones
-    pub first_with : (start : Option (List ℕ)) (d : Delivery) → HasRead start reader left ds → delivery_of line ≡ Ok d → AreFirst limit start left_next (ds ++ d ∷ [])
+    -- the lines so far and this one are the first ones, and nothing behind them was judged
+    pub first_with : (start : Option (List ℕ)) (d : Delivery) → HasRead start reader left ds → delivery_of line ≡ Ok d → AreFirstAlone limit start left_next (ds ++ d ∷ [])
     first_with start d read delivers = record {
-      before = read.done ++ line ∷ [];
-      read = read.read ++ is.takes.moved;
-      part = [];
-      last = next.held;
-      all = bytes_grow start read;
-      are_lines = lines_grow (input_lines start) (input_lines (unread reader left)) (input_lines (unread next left_next)) read.done line read.are is.first;
-      within = line_within start read;
-      delivered = deliveries-push read.done line ds d read.delivered (short_delivers line d short_line delivers);
-      undecided = nothing_undecided (limit - length (read.read ++ is.takes.moved));
-      piece = is.goes.sound.buffered;
+      first = record {
+        before = read.done ++ line ∷ [];
+        read = read.read ++ is.takes.moved;
+        part = [];
+        last = next.held;
+        all = bytes_grow start read;
+        are_lines = lines_grow (input_lines start) (input_lines (unread reader left)) (input_lines (unread next left_next)) read.done line read.are is.first;
+        within = line_within start read;
+        delivered = deliveries-push read.done line ds d read.delivered (short_delivers line d short_line delivers);
+        undecided = nothing_undecided (limit - length (read.read ++ is.takes.moved));
+        piece = is.goes.sound.buffered;
+      };
+      alone = refl;
     }
 
     -- this line is refused

@@ -40,7 +40,7 @@ use Rattle.session.specs.Counts.{HasCounted}
 use Rattle.session.specs.Course.{Course, course_after, course_ended, course_printed, course_remapping, version_at}
 use Rattle.session.specs.Moment.{Beginning, IsFirst, Moment, Run, Environment, Stage, horizon_at, start_of, with_mapped, with_output}
 use Rattle.session.specs.Needed.{HaveRoom, HaveRoomBefore, needed_anew}
-use Rattle.session.specs.Reading.{AreDeliveries, AreFirst, AreWhole, IsPastLimit, IsRefusedLine, TakesByNeed}
+use Rattle.session.specs.Reading.{AreDeliveries, AreFirstAlone, AreWhole, IsPastLimit, IsRefusedLine, TakesByNeed}
 use Rattle.session.specs.Remapping.{IsFullOfStale, mapped_by, remapped_some}
 use Rattle.session.specs.Report.{bytes_of}
 use Rattle.session.specs.Saving.{HasSaved, numbers_of, snapshot_text}
@@ -188,8 +188,8 @@ pub record StandsBeforeLine (number : ℕ) (cause : LineCause) (run : Run) (befo
   pub counted : number ≡ length deliveries + 1
   pub bad : IfSome before.input.left (λ bytes. IsRefusedLine (max_bytes_of run.choices) bytes deliveries number cause)
 
--- the world has taken the deliveries before a question; the answers before it were printed and then a prefix of its own, and
--- nothing else; where a write failed, not all of it
+-- the world has taken the deliveries before a question, and no byte behind its line was judged; the answers before it were printed and then
+-- a prefix of its own, and nothing else; where a write failed, not all of it
 pub record StandsAtQuestion (why : Unwritten) (run : Run) (before now : Moment) : Type 0 where
   pub answers : run.environment.report ≡ Answers
   pub deliveries : List Delivery
@@ -197,10 +197,10 @@ pub record StandsAtQuestion (why : Unwritten) (run : Run) (before now : Moment) 
   pub between : Output
   pub played : IsPlayedAfter run.environment deliveries (start_of run before) (with_output now.stage between)
   pub cut_short : IsCutShort why (answer_text run.environment.routes (run.numbered.asks + asks deliveries) (run.numbered.matches + matches deliveries) (meaning (version_at deliveries (start_of run before))) now.stage.world.played.records question) between now.stage.output
-  pub first : AreFirst (max_bytes_of run.choices) before.input.left now.input.left (deliveries ++ asking question ∷ [])
+  pub first : AreFirstAlone (max_bytes_of run.choices) before.input.left now.input.left (deliveries ++ asking question ∷ [])
 
--- the world has taken the deliveries before a line that changes the mapping, every page being mapped by the version that was in force
--- there; this line's version is in force, and the pages of some entities, the least first, are mapped by it, and had room; what is reported
+-- the world has taken the deliveries before a line that changes the mapping, behind which no byte was judged, every page being mapped by the
+-- version that was in force there; this line's version is in force, and the pages of some entities, the least first, are mapped by it, and had room; what is reported
 -- of these deliveries and of these pages was written, and nothing else
 pub record StandsAtMapping (run : Run) (before now : Moment) : Type 0 where
   pub deliveries : List Delivery
@@ -213,7 +213,7 @@ pub record StandsAtMapping (run : Run) (before now : Moment) : Type 0 where
   pub mapped : now.stage.mapped ≡ remapped_some steps now.stage.world.played.records (record { version = version; by_two = all_by (version_at deliveries (start_of run before)) now.stage.world.played.records })
   pub roomed : HaveRoomBefore run.environment.limit (needed_anew now.stage.world.played.records now.stage.mapped)
       (needed_anew now.stage.world.played.records (record { version = version; by_two = all_by (version_at deliveries (start_of run before)) now.stage.world.played.records }))
-  pub first : AreFirst (max_bytes_of run.choices) before.input.left now.input.left (deliveries ++ Mapping version ∷ [])
+  pub first : AreFirstAlone (max_bytes_of run.choices) before.input.left now.input.left (deliveries ++ Mapping version ∷ [])
 
 -- the same right after the last of these pages, whose record wasn't written wholly behind what is reported of the deliveries and of the
 -- pages before it: a prefix of it was, and nothing else; where a write failed, not all of it
@@ -234,7 +234,7 @@ pub record StandsAtPage (why : Unwritten) (run : Run) (before now : Moment) : Ty
   pub roomed : HaveRoomBefore run.environment.limit (needed_anew now.stage.world.played.records now.stage.mapped)
       (needed_anew now.stage.world.played.records (record { version = version; by_two = all_by (version_at deliveries (start_of run before)) now.stage.world.played.records }))
   pub cut_short : IsCutShort why (record_text (record_of_step (run.numbered.patches + changes ((course_after run.environment.routes deliveries (start_of run before)).steps played.replies ++ pages) + 1) last)) between now.stage.output
-  pub first : AreFirst (max_bytes_of run.choices) before.input.left now.input.left (deliveries ++ Mapping version ∷ [])
+  pub first : AreFirstAlone (max_bytes_of run.choices) before.input.left now.input.left (deliveries ++ Mapping version ∷ [])
 
 -- what a run leaves that stopped while it printed: in the answer to a question, or in the sections; or in the record of an application,
 -- or of a page that was mapped anew
@@ -260,4 +260,4 @@ Stopped (BadSnapshot number) run before now = ⊥
 -- what a replay leaves that was begun: it ended well, or it stopped for a cause; and what it took of its input is bounded
 pub record ReplayEnding (status : Status) (run : Run) (before now : Moment) : Type 0 where
   pub outcome : MatchOption (stop_of status) (Ending run before now) (λ stop. Stopped stop run before now)
-  pub taken : IfSome before.input.left (λ bytes. TakesByNeed (max_bytes_of run.choices) bytes now.input.left)
+  pub taken : IfSome before.input.left (λ bytes. TakesByNeed (max_bytes_of run.choices) bytes now.input.left before.last_read now.last_read)

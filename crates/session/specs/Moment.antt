@@ -1,6 +1,7 @@
 -- A run, and what stands at a moment of it.
 use Rattle.std.specs.Prelude.{◌≡◌, ℕ, List, [], Option}
 use Rattle.std.specs.Option.{option_map}
+use Rattle.wq_io.specs.Streams.{LastRead}
 use Rattle.wq_io.specs.declared.source.Source.{Ghosts as SourceOf}
 use Rattle.wq_io.specs.declared.sink.Sink.{Ghosts as SinkOf}
 use Rattle.revisions.specs.declared.revisions.Revisions.{Ghosts as RevisionsOf}
@@ -94,9 +95,11 @@ with_output s out = record { output = out; counts = s.counts; world = s.world; m
 abbrev pub with_mapped : Stage → Mapped → Stage
 with_mapped s mapped = record { output = s.output; counts = s.counts; world = s.world; mapped = mapped }
 
--- what stands at a moment of a run: the input, the stage, the snapshot that is written, and the one that the run goes on from
+-- what stands at a moment of a run: the input and its last read, where it is told; the stage; the snapshot that is written, and the one that
+-- the run goes on from
 pub record Moment : Type 0 where
   pub input : Input
+  pub last_read : Option LastRead
   pub stage : Stage
   pub snapshot : Output
   pub resumed : Input
@@ -105,6 +108,7 @@ pub record Moment : Type 0 where
 abbrev pub moment : {S R K F : Type 0} → SourceOf S → RevisionsOf R → SinkOf K → SinkOf F → Ports S R K F → WorldState → Moment
 moment events source sink file ports world = record {
   input = input events ports.events;
+  last_read = events.last ports.events;
   stage = stage source sink ports.revisions ports.out world;
   snapshot = output file ports.snapshot;
   resumed = input events ports.resumed;

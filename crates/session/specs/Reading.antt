@@ -1,8 +1,8 @@
 -- The lines of an input as deliveries.
-use Rattle.std.specs.Prelude.{◌≡◌, ◌⊎◌, ℕ, ◌+◌, ◌-◌, ◌<◌, ◌≤◌, false, List, [], ◌∷◌, ◌++◌, length, drop, nat_le, if◌then◌else◌, Option, None, Some, IfSome, Result, Ok, Err}
+use Rattle.std.specs.Prelude.{◌≡◌, ◌⊎◌, ℕ, ◌+◌, ◌-◌, ◌<◌, ◌≤◌, false, List, [], ◌∷◌, ◌++◌, length, min, drop, nat_le, if◌then◌else◌, Option, None, Some, IfSome, Result, Ok, Err}
 use Rattle.std.specs.Option.{option_map}
 use Rattle.rising.specs.Rising.{Each}
-use Rattle.wq_io.specs.Streams.{before_known}
+use Rattle.wq_io.specs.Streams.{LastRead, before_known}
 use Rattle.wq_io.specs.Lines.{Reading, IsLineLong, IsOneLine, IsTooLong, IsUndecided, ended_lines, input_length, lines, input_lines, longest_line, longest_read, unread, whole_lines}
 use Rattle.delivery.specs.declared.Delivery.{Delivery}
 use Rattle.event_line.specs.declared.faults.LineCause.{LineCause}
@@ -55,6 +55,11 @@ pub record AreFirst (limit : ℕ) (left left_now : Option (List ℕ)) (ds : List
   pub undecided : IsUndecided (limit - length read) longest_line part
   pub piece : length last ≤ longest_read
 
+-- the same, and behind these lines no byte was judged: what was taken there is what one read gave at most
+pub record AreFirstAlone (limit : ℕ) (left left_now : Option (List ℕ)) (ds : List Delivery) : Type 0 where
+  pub first : AreFirst limit left left_now ds
+  pub alone : first.part ≡ []
+
 -- the bytes behind the last line feed
 abbrev pub last_part : List ℕ → List ℕ
 last_part bytes = drop (length (ended_lines (whole_lines bytes))) bytes
@@ -68,9 +73,15 @@ pub record AreWhole (limit : ℕ) (left left_now : Option (List ℕ)) (ds : List
   pub delivered : deliveries_of (whole_lines read) ≡ Some ds
   pub short : length (last_part read) ≤ longest_line
 
+-- the last read, where it is told, asked for as many bytes as one read may, or for those up to the byte after the limit where these are
+-- fewer; so many were taken before it, and so many by it
+abbrev pub AsksByNeed : ℕ → ℕ → ℕ → Option LastRead → Type 0
+AsksByNeed limit before gave read = IfSome read (λ r. (r.asked ≡ min longest_read (limit + 1 - before)) × (r.gave ≡ gave))
+
 -- what was taken of an input with these bytes: whole lines, each of them a delivery, a part of a line that decided nothing, and
--- `last`, at most as many bytes as one read may give; all of it is at most one byte past the limit
-pub record TakesByNeed (limit : ℕ) (bytes : List ℕ) (left : Option (List ℕ)) : Type 0 where
+-- `last`, at most as many bytes as one read may give; all of it is at most one byte past the limit. Where the last read is told, it gave
+-- `last`, so it was made while all before it decided nothing; or none was made, and nothing was taken
+pub record TakesByNeed (limit : ℕ) (bytes : List ℕ) (left : Option (List ℕ)) (read read_now : Option LastRead) : Type 0 where
   pub done : List (List ℕ)
   pub part : List ℕ
   pub last : List ℕ
@@ -81,6 +92,7 @@ pub record TakesByNeed (limit : ℕ) (bytes : List ℕ) (left : Option (List ℕ
   pub undecided : IsUndecided (limit - length (ended_lines done)) longest_line part
   pub piece : length last ≤ longest_read
   pub bounded : length (ended_lines done ++ part ++ last) ≤ limit + 1
+  pub needed : ((read_now ≡ read) × (left ≡ Some bytes)) ⊎ AsksByNeed limit (length (ended_lines done ++ part)) (length last) read_now
 
 -- the line with this number is no delivery, for this reason, and those before it are these deliveries; it ends within
 -- the limit

@@ -1,6 +1,6 @@
 -- What stands where memory was refused, or the store was full, or a record wasn't written wholly, while no page was being mapped
 -- anew, and where all lines were taken.
-use Rattle.std.specs.Prelude.{◌≡◌, ◌⊎◌, ℕ, ◌+◌, List, ◌++◌, Option, IfSome}
+use Rattle.std.specs.Prelude.{◌≡◌, ◌⊎◌, ℕ, ◌+◌, List, [], ◌++◌, Option, Some, IfSome}
 use Rattle.std.specs.Option.{option_to_list}
 use Rattle.wq_io.specs.Streams.{IsAtEnd}
 use Rattle.delivery.specs.declared.Delivery.{Delivery}
@@ -24,13 +24,14 @@ pub record HasTaken (run : Run) (reported matched : ℕ) (before now : Moment) :
   pub matched_are : matched ≡ run.numbered.matches + matches deliveries
 
 -- at a line: the world of the first lines of what was taken, of which the last is perhaps a watermark with some of the events that
--- it makes due; every page is mapped by the version in force
+-- it makes due, behind which no byte was judged; every page is mapped by the version in force
 pub record StopsWithin (halt : Halt) (run : Run) (before now : Moment) : Type 0 where
   pub deliveries : List Delivery
   pub last : Option Delivery
   pub within : IsWithin halt run.environment (course_begun run.environment.routes deliveries last (start_of run before)) (λ replies. entered_perhaps (led_to deliveries (start_of run before) replies) last) (start_of run before) now.stage
   pub mapped : now.stage.mapped ≡ mapped_by (version_at deliveries (start_of run before)) now.stage.world.played.records
   pub first : AreFirst (max_bytes_of run.choices) before.input.left now.input.left (deliveries ++ option_to_list last)
+  pub alone : (d : Delivery) → last ≡ Some d → first.part ≡ []
 
 -- after the last line, the input being read to its end: the world of all lines and the end, with some of the events that the end
 -- makes due; every page is mapped by the version in force

@@ -56,7 +56,7 @@ pub fn replay_into<S: Source, R: Revisions, K: Sink, F: Sink>(
     ensures err { IfErr result (λ stop. Stopped stop (behind task.now.numbers (run_of (routes_of graphs.old) task.now.report (R.contents ports.old.revisions) task.now.options.now))
         (moment S.Source R.Revisions K.Sink F.Sink ports.old (world_at_start task.now.options.now))
         (moment S.Source R.Revisions K.Sink F.Sink ports.new world.new)) }
-    ensures taken { IfSome (S.left ports.old.events) (λ bytes. TakesByNeed (max_bytes_of task.now.options.now) bytes (S.left ports.new.events)) }
+    ensures taken { IfSome (S.left ports.old.events) (λ bytes. TakesByNeed (max_bytes_of task.now.options.now) bytes (S.left ports.new.events) (S.last ports.old.events) (S.last ports.new.events)) }
     ensures limit { world.new.limit ≡ max_terms_of task.now.options.now }
     ensures held { HoldsWithin (max_terms_of task.now.options.now) world.new }
     ensures further { HaveGoneOn S.Source R.Revisions K.Sink F.Sink ports.old ports.new }
@@ -106,7 +106,7 @@ pub fn replay_within<S: Source, R: Revisions, K: Sink, F: Sink>(
     ensures err { IfErr result (λ stop. Stopped stop (behind task.now.numbers (run_of (routes_of graphs.old) task.now.report (R.contents ports.old.revisions) task.now.options.now))
         (moment S.Source R.Revisions K.Sink F.Sink ports.old world.old)
         (moment S.Source R.Revisions K.Sink F.Sink ports.new world.new)) }
-    ensures taken { IfSome (S.left ports.old.events) (λ bytes. TakesByNeed (max_bytes_of task.now.options.now) bytes (S.left ports.new.events)) }
+    ensures taken { IfSome (S.left ports.old.events) (λ bytes. TakesByNeed (max_bytes_of task.now.options.now) bytes (S.left ports.new.events) (S.last ports.old.events) (S.last ports.new.events)) }
     ensures limit { world.new.limit ≡ max_terms_of task.now.options.now }
     ensures held { HoldsWithin (max_terms_of task.now.options.now) world.new }
     ensures further { HaveGoneOn S.Source R.Revisions K.Sink F.Sink ports.old ports.new }
@@ -136,7 +136,7 @@ fn take_and_print<S: Source, R: Revisions, K: Sink, F: Sink>(
     ensures err { IfErr result (λ stop. Stopped stop (behind task.now.numbers (run_of (routes_of graphs.old) task.now.report (R.contents ports.old.revisions) task.now.options.now))
         (moment S.Source R.Revisions K.Sink F.Sink ports.old world.old)
         (moment S.Source R.Revisions K.Sink F.Sink ports.new world.new)) }
-    ensures taken { IfSome (S.left ports.old.events) (λ bytes. TakesByNeed (max_bytes_of task.now.options.now) bytes (S.left ports.new.events)) }
+    ensures taken { IfSome (S.left ports.old.events) (λ bytes. TakesByNeed (max_bytes_of task.now.options.now) bytes (S.left ports.new.events) (S.last ports.old.events) (S.last ports.new.events)) }
     ensures limit { world.new.limit ≡ world.old.limit }
     ensures held { HoldsWithin world.old.limit world.new }
     ensures snapshot { ports.new.snapshot ≡ ports.old.snapshot }
@@ -199,7 +199,7 @@ fn take_all<S: Source, R: Revisions, K: Sink, F: Sink>(
     ensures err { IfErr result (λ stop. Stopped stop (behind task.now.numbers (run_of (routes_of graphs.old) task.now.report (R.contents ports.old.revisions) task.now.options.now))
         (moment S.Source R.Revisions K.Sink F.Sink ports.old world.old)
         (moment S.Source R.Revisions K.Sink F.Sink ports.new world.new)) }
-    ensures taken { IfSome (S.left ports.old.events) (λ bytes. TakesByNeed (max_bytes_of task.now.options.now) bytes (S.left ports.new.events)) }
+    ensures taken { IfSome (S.left ports.old.events) (λ bytes. TakesByNeed (max_bytes_of task.now.options.now) bytes (S.left ports.new.events) (S.last ports.old.events) (S.last ports.new.events)) }
     ensures follow { OnOk result (MayFollow graphs.new world.new) }
     ensures routes { routes_of graphs.new ≡ routes_of graphs.old }
     ensures limit { world.new.limit ≡ world.old.limit }

@@ -12,7 +12,7 @@ pub returns-in_default-clause-ending : goal.returns-in_default-clause-ending
 returns-in_default-clause-ending g c = rw c.begin.ensures (record {
   outcome = starved_at_once (run_of c.args.routes c.args.task.now.report (g.R.Revisions.contents c.args.ports.now.revisions) c.args.task.now.options.now)
       (moment g.S.Source g.R.Revisions g.K.Sink g.F.Sink c.args.ports.now (world_at_start c.args.task.now.options.now)) (nothing_stands c.args.task.now.options.now.horizon);
-  taken = nothing_taken_of (max_bytes_of c.args.task.now.options.now) (g.S.Source.left c.args.ports.now.events);
+  taken = nothing_taken_of (max_bytes_of c.args.task.now.options.now) (g.S.Source.left c.args.ports.now.events) (g.S.Source.last c.args.ports.now.events);
 })
 
 pub returns-in_default-clause-held : goal.returns-in_default-clause-held

@@ -46,7 +46,7 @@ returns-in_err-done-clause-err g c =
     let bytes = rw c.in-Some.is at c.in_ok-number.ensures.bytes in
     let delivered = rw c.as_slice.ensures.value at c.in_ok-delivery.ensures.ok in
     let cuts = rw (c.loop-line.invariant.1.revisions.known, c.folder-folder.ensures, c.loop-line.invariant.2 ∙ c.requires.limit, c.loop-line.invariant.4) at c.in_err-done.ensures.err in
-    rw (p.1, p.2) (delivery_stops _ _ _ _ _ _ c.loop-line.invariant.0 c.next.new.line.items c.next.new.self _ _
+    rw (p.1, p.2) (delivery_stops _ _ _ _ _ _ c.loop-line.invariant.0 c.next.new.line.items c.next.new.self
     (moment g.S.Source g.R.Revisions g.K.Sink g.F.Sink (record c.loop-line.ports { events = c.next.new.source; revisions = c.deliver.new.revisions; out = c.deliver.new.out }) c.deliver.new.world) c.in_ok-delivery.delivery
     (record { first = line; total = c.in_ok-number.ensures.length; takes = bytes; goes = c.in_ok-number.ensures.goes_on; reads = c.next.ensures.reads }) delivered _ cuts)
 
@@ -57,7 +57,7 @@ loop-line-preserved g c =
     let bytes = rw c.in-Some.is at c.in_ok-number.ensures.bytes in
     let delivered = rw c.as_slice.ensures.value at c.in_ok-delivery.ensures.ok in
     let takes = rw (c.loop-line.invariant.1.revisions.known, c.folder-folder.ensures, c.loop-line.invariant.2 ∙ c.requires.limit, c.loop-line.invariant.4) at c.in_ok-done.ensures.ok in (
-      rw c.matches_in-matched.ensures (line_taken _ _ _ _ _ _ c.loop-line.invariant.0 c.next.new.line.items c.next.new.self _ _
+      rw c.matches_in-matched.ensures (line_taken _ _ _ _ _ _ c.loop-line.invariant.0 c.next.new.line.items c.next.new.self
           (moment g.S.Source g.R.Revisions g.K.Sink g.F.Sink (record c.loop-line.ports { events = c.next.new.source; revisions = c.deliver.new.revisions; out = c.deliver.new.out }) c.deliver.new.world) c.in_ok-delivery.delivery
           (record { first = line; total = c.in_ok-number.ensures.length; takes = bytes; goes = c.in_ok-number.ensures.goes_on; reads = c.next.ensures.reads }) delivered _
           c.in_ok-number.ensures.later (sym number.1 ∙ number.0) c.in_ok-number.ensures.ended takes),
@@ -77,19 +77,19 @@ deliver-requires-clause-number g c =
 pub returns-clause-ok : goal.returns-clause-ok
 returns-clause-ok g c =
     let line = rw c.in_default.is at c.in_ok-number.ensures.line in
-    end_reached _ _ _ _ _ _ c.loop-line.invariant.0 _ (nothing_left c.next.new.self.held _ (rw line.1 line.0)) line.0
+    end_reached _ _ _ _ _ _ c.loop-line.invariant.0 _ _ (nothing_left c.next.new.self.held _ (rw line.1 line.0)) line.0
 
 pub returns-clause-taken : goal.returns-clause-taken
-returns-clause-taken g c = taken_on _ _ _ _ _ _ c.loop-line.invariant.0 c.next.new.self _ _ _ c.next.ensures.reads
+returns-clause-taken g c = taken_on _ _ _ _ _ _ c.loop-line.invariant.0 c.next.new.self _ _ c.next.ensures.reads
 
 pub returns-in_err-number-clause-taken : goal.returns-in_err-number-clause-taken
-returns-in_err-number-clause-taken g c = taken_on _ _ _ _ _ _ c.loop-line.invariant.0 c.next.new.self _ _ _ c.next.ensures.reads
+returns-in_err-number-clause-taken g c = taken_on _ _ _ _ _ _ c.loop-line.invariant.0 c.next.new.self _ _ c.next.ensures.reads
 
 pub returns-in_err-delivery-clause-taken : goal.returns-in_err-delivery-clause-taken
-returns-in_err-delivery-clause-taken g c = taken_on _ _ _ _ _ _ c.loop-line.invariant.0 c.next.new.self _ _ _ c.next.ensures.reads
+returns-in_err-delivery-clause-taken g c = taken_on _ _ _ _ _ _ c.loop-line.invariant.0 c.next.new.self _ _ c.next.ensures.reads
 
 pub returns-in_err-done-clause-taken : goal.returns-in_err-done-clause-taken
-returns-in_err-done-clause-taken g c = taken_on _ _ _ _ _ _ c.loop-line.invariant.0 c.next.new.self _ _ _ c.next.ensures.reads
+returns-in_err-done-clause-taken g c = taken_on _ _ _ _ _ _ c.loop-line.invariant.0 c.next.new.self _ _ c.next.ensures.reads
 
 pub returns-clause-further : goal.returns-clause-further
 returns-clause-further g c = read_on g.S.Source g.R.Revisions g.K.Sink g.F.Sink _ c.loop-line.ports _ c.loop-line.invariant.1 c.next.ensures.later c.next.ensures.most
