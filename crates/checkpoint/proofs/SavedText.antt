@@ -16,9 +16,9 @@ use Rattle.snapshot.specs.declared.line.Line.TheVariants.{Head as Begins, Rememb
 use Rattle.snapshot.specs.File.{file_text}
 use Rattle.snapshot.specs.LineText.{line_text}
 use Rattle.snapshot.specs.Whole.{Saved, entity_line, head_of, lines_before_end, snapshot_lines}
-use Rattle.transcript.specs.Printing.{Output, Prints}
-use Rattle.transcript.specs.declared.write.Unwritten.{Unwritten}
-use Rattle.transcript.proofs.Parts.{prints_both, prints_first}
+use Rattle.text_output.specs.Printing.{Output, Prints}
+use Rattle.text_output.specs.declared.write.Unwritten.{Unwritten}
+use Rattle.text_output.proofs.Parts.{prints_both, prints_first}
 use Rattle.world.proofs.Entries.{over_ids}
 use Rattle.checkpoint.specs.Saved.{ended}
 

@@ -5,7 +5,7 @@ ghost use Rattle.replay_model.specs.Records.{record_of};
 ghost use Rattle.snapshot.specs.declared.line.Line.TheVariants.{Entity, Remembered, Side};
 ghost use Rattle.snapshot.specs.File.{file_text};
 ghost use Rattle.snapshot.specs.Whole.{head_of};
-ghost use Rattle.transcript.specs.Printing.{Prints, output};
+ghost use Rattle.text_output.specs.Printing.{Prints, output};
 ghost use Rattle.checkpoint.specs.Saved.{ended, saved_of};
 
 use crate::numbers::Numbers;
@@ -16,7 +16,7 @@ use side_output::Entry;
 use snapshot::{Head, Line, documents_are_text, write};
 use std::alloc::Global;
 use std::str;
-use transcript::{Unwritten, write_all};
+use text_output::{Unwritten, write_all};
 use world::World;
 use wq_io::Sink;
 

@@ -11,8 +11,8 @@ use Rattle.replica.specs.Reader.{HasCause}
 use Rattle.replica.specs.Replica.{ReplicaState}
 use Rattle.term_pool.specs.declared.fault.PoolFault.{PoolFault}
 use Rattle.term_pool.specs.declared.fault.PoolFault.TheVariants.{Full, OutOfMemory as Unfed}
-use Rattle.transcript.specs.declared.write.Unwritten.{Unwritten}
-use Rattle.transcript.specs.declared.write.Unwritten.TheVariants.{WriteFault as NotWritten, OutOfMemory as Refused}
+use Rattle.text_output.specs.declared.write.Unwritten.{Unwritten}
+use Rattle.text_output.specs.declared.write.Unwritten.TheVariants.{WriteFault as NotWritten, OutOfMemory as Refused}
 use Rattle.following.specs.declared.stop.RecordCause.{RecordCause}
 use Rattle.following.specs.declared.stop.RecordCause.TheVariants.{LineLong, Head, Triple, Order, Short}
 use Rattle.following.specs.declared.stop.FollowStop.{FollowStop}

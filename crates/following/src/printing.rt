@@ -2,13 +2,14 @@
 
 ghost use Rattle.std.specs.Prelude.{◌≡◌, [], cond, IfOk, string_bytes};
 ghost use Rattle.replay_model.specs.Transcript.{export_section};
-ghost use Rattle.transcript.specs.Printing.{Prints, output};
+ghost use Rattle.text_output.specs.Printing.{Prints, output};
 ghost use Rattle.following.specs.Following.{replica_line, replica_text};
 
 use rdf_term::OutOfMemory;
 use replica::Replica;
 use std::alloc::Global;
-use transcript::{Unwritten, print_triples, write_all};
+use text_output::{Unwritten, write_all};
+use transcript::print_triples;
 use wq_io::Sink;
 
 // Prints how many records were applied, and, where it is wanted, the section of the triples.

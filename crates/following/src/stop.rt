@@ -6,7 +6,7 @@ ghost use Rattle.following.specs.declared.stop.FollowStop.TheVariants.{OutOfMemo
 
 use rdf_term::OutOfMemory;
 use replica::{PatchFault, ReplicaFault};
-use transcript::Unwritten;
+use text_output::Unwritten;
 use wq_io::LineFault;
 
 /// Why a line of records is refused.

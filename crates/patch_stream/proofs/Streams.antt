@@ -3,7 +3,7 @@ use Rattle.std.proofs.Common.{◌≡◌, refl, sym, ◌∙◌, ap, ℕ, ◌+◌,
 use Rattle.std.proofs.lemmas.List.Elements.{filter-append}
 use Rattle.std.proofs.lemmas.Grind.{flat_map-append}
 use Rattle.wq_io.specs.Streams.{after_known}
-use Rattle.transcript.proofs.Parts.{after_twice}
+use Rattle.text_output.proofs.Parts.{after_twice}
 use Rattle.replica.specs.Record.{record_text}
 use Rattle.patch_stream.specs.Stream.{Step, changes, is_change, numbered_from, record_of_step, step_text, stream, stream_text, told_after}
 

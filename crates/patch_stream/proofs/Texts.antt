@@ -14,10 +14,10 @@ use Rattle.world.specs.Changing.{IsChangeOf}
 use Rattle.replica.specs.Head.{head_line}
 use Rattle.replica.specs.Record.{record_text}
 use Rattle.replica.proofs.Records.{record_parts}
-use Rattle.transcript.specs.declared.write.Unwritten.{Unwritten}
-use Rattle.transcript.specs.declared.write.Unwritten.TheVariants.{OutOfMemory}
-use Rattle.transcript.specs.Printing.{Output, Prints}
-use Rattle.transcript.proofs.Parts.{IsWriting, after_nothing, cut_short_at_once, prints_both, prints_first}
+use Rattle.text_output.specs.declared.write.Unwritten.{Unwritten}
+use Rattle.text_output.specs.declared.write.Unwritten.TheVariants.{OutOfMemory}
+use Rattle.text_output.specs.Printing.{Output, Prints}
+use Rattle.text_output.proofs.Parts.{IsWriting, after_nothing, cut_short_at_once, prints_both, prints_first}
 use Rattle.patch_stream.specs.Stream.{Step, TellsStep, change_text, is_change, record_of_step, step}
 
 -- ---- lines

@@ -18,8 +18,8 @@ use Rattle.replay_model.specs.Versions.{all_by, meaning_by, with_version}
 use Rattle.triple_store.specs.declared.telling.Change.{Change}
 use Rattle.world.specs.Meaning.{meaning}
 use Rattle.world.specs.WorldState.{stale_by}
-use Rattle.transcript.specs.declared.write.Unwritten.{Unwritten}
-use Rattle.transcript.specs.Printing.{IsCutShort, Output}
+use Rattle.text_output.specs.declared.write.Unwritten.{Unwritten}
+use Rattle.text_output.specs.Printing.{IsCutShort, Output}
 use Rattle.replica.specs.declared.record.PatchRecord.{PatchRecord}
 use Rattle.replica.specs.Head.{head_line}
 use Rattle.replica.specs.Record.{record_text}

@@ -3,7 +3,7 @@
 ghost use Rattle.std.specs.Prelude.{◌≡◌, ◌≤◌, ◌<◌, ◌+◌, List, ◌++◌, ◌∷◌, ◌==◌, ◌||◌, nat_lt, [], length, position, string_bytes, IfOk, MatchOption};
 ghost use Rattle.rdf_term.specs.declared.triple.Triple.{Triple};
 ghost use Rattle.replica.specs.Head.{head_line};
-ghost use Rattle.transcript.specs.Printing.{Prints, output};
+ghost use Rattle.text_output.specs.Printing.{Prints, output};
 ghost use Rattle.triple_store.specs.declared.telling.Telling.TheVariants.{Change as TheChange};
 ghost use Rattle.world.specs.Changing.{Tells};
 ghost use Rattle.patch_stream.specs.Stream.{TellsStep, change_text, step};
@@ -11,7 +11,7 @@ ghost use Rattle.patch_stream.specs.Stream.{TellsStep, change_text, step};
 use rdf_term::OutOfMemory;
 use replica::Head;
 use std::alloc::Global;
-use transcript::{Unwritten, write_all};
+use text_output::{Unwritten, write_all};
 use triple_store::Change;
 use wq_io::Sink;
 

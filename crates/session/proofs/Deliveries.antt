@@ -24,9 +24,9 @@ use Rattle.replay_model.proofs.Fetching.{failed-taken, missing-taken}
 use Rattle.replay_parts.specs.Checkpoint.{Checkpoint, advanced, advanced_by}
 use Rattle.world.specs.Meaning.{meaning}
 use Rattle.session.specs.Counts.{SourceCounts, HasCounted, RoseBy}
-use Rattle.transcript.specs.declared.write.Unwritten.{Unwritten}
-use Rattle.transcript.specs.Printing.{Output}
-use Rattle.transcript.proofs.Parts.{after_twice}
+use Rattle.text_output.specs.declared.write.Unwritten.{Unwritten}
+use Rattle.text_output.specs.Printing.{Output}
+use Rattle.text_output.proofs.Parts.{after_twice}
 use Rattle.patch_stream.specs.Stream.{Step, changes, steps_anew, steps_due}
 use Rattle.session.specs.declared.report.Report.{Report}
 use Rattle.session.specs.declared.report.Report.TheVariants.{Answers, Changes}

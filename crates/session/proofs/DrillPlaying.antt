@@ -15,7 +15,7 @@ use Rattle.replay_model.specs.Replies.{failed_events, source_replies}
 use Rattle.replay_model.specs.ReplayState.{ReplayState, after_end, after_some, entered, following, following_to_end, nothing_delivered, nothing_delivered_within}
 use Rattle.replay_model.specs.Transcript.{Question, for_triples, for_bindings, asking, asks, matches, question_of}
 use Rattle.world.specs.WorldState.{WorldState}
-use Rattle.transcript.specs.Printing.{Output}
+use Rattle.text_output.specs.Printing.{Output}
 use Rattle.drill.specs.Drill.{IsSize, contents_of, drill}
 use Rattle.drill.specs.Source.{Source}
 use Rattle.drill_replay.specs.declared.counts.DrillCounts.{DrillCounts}

@@ -3,10 +3,10 @@ use Rattle.std.proofs.Common.{◌≡◌, ◌∙◌, refl, ap, ℕ, arith, List, 
 use Rattle.std.specs.List.{flat_map}
 use Rattle.replay_model.specs.ReplayState.{ReplayState}
 use Rattle.wq_io.specs.declared.sink.Sink.{Ghosts as SinkOf}
-use Rattle.transcript.specs.declared.write.Unwritten.{Unwritten}
-use Rattle.transcript.specs.declared.write.Unwritten.TheVariants.{WriteFault as NotWritten, OutOfMemory as Refused}
-use Rattle.transcript.specs.Printing.{Output, Prints, output}
-use Rattle.transcript.proofs.Parts.{cut_short_at_once}
+use Rattle.text_output.specs.declared.write.Unwritten.{Unwritten}
+use Rattle.text_output.specs.declared.write.Unwritten.TheVariants.{WriteFault as NotWritten, OutOfMemory as Refused}
+use Rattle.text_output.specs.Printing.{Output, Prints, output}
+use Rattle.text_output.proofs.Parts.{cut_short_at_once}
 use Rattle.drill_replay.specs.Playing.{HasBegun}
 use Rattle.drill_replay.specs.Summary.{drilled, summary_lines, summary_of}
 use Rattle.session.specs.Counts.{HasWrittenOn}

@@ -22,9 +22,9 @@ use Rattle.replay_model.proofs.Settled.{Tells-played, settled-played}
 use Rattle.replay_model.proofs.ToldContents.{entries-told, held-told}
 use Rattle.entity_model.specs.declared.mapping.MappingVersion.{MappingVersion}
 use Rattle.world.specs.Meaning.{meaning}
-use Rattle.transcript.specs.declared.write.Unwritten.{Unwritten}
-use Rattle.transcript.specs.declared.write.Unwritten.TheVariants.{WriteFault as NotWritten, OutOfMemory as Refused}
-use Rattle.transcript.specs.Printing.{Output, Prints}
+use Rattle.text_output.specs.declared.write.Unwritten.{Unwritten}
+use Rattle.text_output.specs.declared.write.Unwritten.TheVariants.{WriteFault as NotWritten, OutOfMemory as Refused}
+use Rattle.text_output.specs.Printing.{Output, Prints}
 use Rattle.patch_stream.specs.Stream.{changes}
 use Rattle.session.specs.Counts.{RoseBy, HasCounted}
 use Rattle.session.specs.Course.{Course, course_after, course_ended, course_to_end, version_at}

@@ -11,9 +11,9 @@ use Rattle.replay_model.specs.Union.{union}
 use Rattle.replay_model.specs.Versions.{meaning_by, with_version}
 use Rattle.world.specs.Meaning.{meaning}
 use Rattle.world.specs.WorldState.{WorldState, first_of, remapped, stale, stored_of, with_version_of}
-use Rattle.transcript.specs.declared.write.Unwritten.{Unwritten}
-use Rattle.transcript.specs.declared.write.Unwritten.TheVariants.{WriteFault, OutOfMemory as NoMemory}
-use Rattle.transcript.specs.Printing.{Output}
+use Rattle.text_output.specs.declared.write.Unwritten.{Unwritten}
+use Rattle.text_output.specs.declared.write.Unwritten.TheVariants.{WriteFault, OutOfMemory as NoMemory}
+use Rattle.text_output.specs.Printing.{Output}
 use Rattle.patch_stream.specs.Stream.{Step, step, steps_anew, steps_remapped}
 use Rattle.session.specs.declared.report.Report.{Report}
 use Rattle.session.specs.declared.report.Report.TheVariants.{Answers, Changes}

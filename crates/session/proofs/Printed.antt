@@ -8,10 +8,10 @@ use Rattle.replay_model.specs.Replies.{failed_events, source_replies}
 use Rattle.replay_model.specs.ReplayState.{ReplayState}
 use Rattle.replay_model.specs.Transcript.{Sections}
 use Rattle.subgraph.specs.declared.routes.Route.{Route}
-use Rattle.transcript.specs.declared.write.Unwritten.{Unwritten}
-use Rattle.transcript.specs.declared.write.Unwritten.TheVariants.{WriteFault as NotWritten, OutOfMemory as Refused}
-use Rattle.transcript.specs.Printing.{IsCutShort, Output, Prints}
-use Rattle.transcript.proofs.Parts.{after_twice}
+use Rattle.text_output.specs.declared.write.Unwritten.{Unwritten}
+use Rattle.text_output.specs.declared.write.Unwritten.TheVariants.{WriteFault as NotWritten, OutOfMemory as Refused}
+use Rattle.text_output.specs.Printing.{IsCutShort, Output, Prints}
+use Rattle.text_output.proofs.Parts.{after_twice}
 use Rattle.checkpoint.specs.declared.numbers.Numbers.{Numbers}
 use Rattle.session.specs.Answering.{closing_by, said_by}
 use Rattle.session.specs.Course.{Course, course_ended, course_printed, version_at}

@@ -23,9 +23,9 @@ use Rattle.replay_model.specs.Transcript.{asks, matches}
 use Rattle.world.specs.Meaning.{meaning}
 use Rattle.replay_model.proofs.FetchCounts.{risen_by-none}
 use Rattle.replay_model.proofs.RecordOf.{record_of-empty}
-use Rattle.transcript.specs.declared.write.Unwritten.{Unwritten}
-use Rattle.transcript.specs.Printing.{IsCutShort, Output}
-use Rattle.transcript.proofs.Parts.{after_nothing}
+use Rattle.text_output.specs.declared.write.Unwritten.{Unwritten}
+use Rattle.text_output.specs.Printing.{IsCutShort, Output}
+use Rattle.text_output.proofs.Parts.{after_nothing}
 use Rattle.replica.specs.Record.{record_text}
 use Rattle.patch_stream.specs.Stream.{Step, changes, record_of_step, steps_anew}
 use Rattle.session.specs.Answering.{answer_held, answer_text}

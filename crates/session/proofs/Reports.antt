@@ -16,13 +16,13 @@ use Rattle.replay_model.specs.ReplayState.{ReplayState, after_applying, after_ma
 use Rattle.replay_model.specs.Union.{union}
 use Rattle.replay_model.specs.Versions.{all_by}
 use Rattle.world.specs.Meaning.{meaning}
-use Rattle.transcript.specs.declared.write.Unwritten.{Unwritten}
-use Rattle.transcript.specs.declared.write.Unwritten.TheVariants.{WriteFault, OutOfMemory as NoMemory}
+use Rattle.text_output.specs.declared.write.Unwritten.{Unwritten}
+use Rattle.text_output.specs.declared.write.Unwritten.TheVariants.{WriteFault, OutOfMemory as NoMemory}
 use Rattle.replica.specs.Record.{record_text}
-use Rattle.transcript.specs.Printing.{IsCutShort, Output}
+use Rattle.text_output.specs.Printing.{IsCutShort, Output}
 use Rattle.patch_stream.specs.Stream.{Step, changes, is_change, numbered_from, record_of_step, step, step_text, steps_anew, steps_applied, steps_due, told_after}
 use Rattle.patch_stream.proofs.Streams.{numbered-append}
-use Rattle.transcript.proofs.Parts.{after_twice}
+use Rattle.text_output.proofs.Parts.{after_twice}
 use Rattle.replay_parts.specs.Checkpoint.{Checkpoint}
 use Rattle.session.specs.declared.report.Report.{Report}
 use Rattle.session.specs.declared.report.Report.TheVariants.{Answers, Changes}

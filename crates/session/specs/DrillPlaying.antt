@@ -4,7 +4,7 @@ use Rattle.revisions.specs.Revisions.{Contents}
 use Rattle.delivery.specs.declared.Delivery.{Delivery}
 use Rattle.replay_model.specs.ReplayState.{nothing_delivered}
 use Rattle.world.specs.WorldState.{WorldState}
-use Rattle.transcript.specs.Printing.{Output}
+use Rattle.text_output.specs.Printing.{Output}
 use Rattle.drill.specs.Drill.{contents_of}
 use Rattle.drill.specs.Source.{Source}
 use Rattle.drill_replay.specs.Playing.{Counted, IsByFirst}

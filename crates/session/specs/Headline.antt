@@ -22,9 +22,9 @@ use Rattle.replay_model.specs.ReplayState.{ReplayState}
 use Rattle.replay_model.specs.Transcript.{Question, asking, asks, matches}
 use Rattle.replay_model.specs.Versions.{all_by}
 use Rattle.world.specs.Meaning.{meaning}
-use Rattle.transcript.specs.declared.write.Unwritten.{Unwritten}
-use Rattle.transcript.specs.declared.write.Unwritten.TheVariants.{WriteFault as NotWritten, OutOfMemory as Refused}
-use Rattle.transcript.specs.Printing.{IsCutShort, Output}
+use Rattle.text_output.specs.declared.write.Unwritten.{Unwritten}
+use Rattle.text_output.specs.declared.write.Unwritten.TheVariants.{WriteFault as NotWritten, OutOfMemory as Refused}
+use Rattle.text_output.specs.Printing.{IsCutShort, Output}
 use Rattle.replica.specs.Record.{record_text}
 use Rattle.patch_stream.specs.Stream.{Step, changes, is_change, record_of_step, steps_anew}
 use Rattle.checkpoint.specs.declared.numbers.Numbers.{Numbers}

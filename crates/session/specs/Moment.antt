@@ -11,7 +11,7 @@ use Rattle.replay_model.specs.Records.{Bytes}
 use Rattle.replay_model.specs.ReplayState.{ReplayState, nothing_delivered_within}
 use Rattle.replay_parts.specs.Checkpoint.{Checkpoint}
 use Rattle.world.specs.WorldState.{WorldState}
-use Rattle.transcript.specs.Printing.{Output, output}
+use Rattle.text_output.specs.Printing.{Output, output}
 use Rattle.following.specs.Input.{Input, input}
 use Rattle.checkpoint.specs.declared.numbers.Numbers.{Numbers}
 use Rattle.session.specs.declared.ports.Ports.{Ports}

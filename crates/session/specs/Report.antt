@@ -7,8 +7,8 @@ use Rattle.replay_model.specs.Transcript.{Question, asking, asks}
 use Rattle.replay_model.specs.Play.{Replies}
 use Rattle.replica.specs.Record.{record_text}
 use Rattle.delivery.specs.declared.Delivery.{Delivery}
-use Rattle.transcript.specs.declared.write.Unwritten.{Unwritten}
-use Rattle.transcript.specs.Printing.{IsCutShort, Output, Prints}
+use Rattle.text_output.specs.declared.write.Unwritten.{Unwritten}
+use Rattle.text_output.specs.Printing.{IsCutShort, Output, Prints}
 use Rattle.patch_stream.specs.Stream.{Step, TellsStep, changes, is_change, record_of_step, steps_due}
 use Rattle.checkpoint.specs.declared.numbers.Numbers.{Numbers}
 use Rattle.session.specs.declared.report.Report.{Report}

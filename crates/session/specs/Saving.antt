@@ -4,7 +4,7 @@ use Rattle.wq_io.specs.Streams.{after_known}
 use Rattle.delivery.specs.declared.Delivery.{Delivery}
 use Rattle.replay_model.specs.Play.{Replies}
 use Rattle.replay_model.specs.Transcript.{asks, matches}
-use Rattle.transcript.specs.Printing.{Output}
+use Rattle.text_output.specs.Printing.{Output}
 use Rattle.patch_stream.specs.Stream.{Step, changes}
 use Rattle.snapshot.specs.File.{file_text}
 use Rattle.snapshot.specs.Whole.{Saved}

@@ -16,9 +16,9 @@ use Rattle.replay_model.specs.Replies.{GivesDocument, HoldsDocument, Judgement, 
 use Rattle.replay_model.specs.ReplayState.{ReplayState, after_some, entered, fetches_due}
 use Rattle.replay_model.specs.Explained.{AgreeOnApplied, Explained, is_applied, is_fetching, revision_wanted}
 use Rattle.replay_model.specs.Transcript.{Question, asking, matches}
-use Rattle.transcript.specs.declared.write.Unwritten.{Unwritten}
-use Rattle.transcript.specs.declared.write.Unwritten.TheVariants.{WriteFault, OutOfMemory as NoMemory}
-use Rattle.transcript.specs.Printing.{IsCutShort, Output}
+use Rattle.text_output.specs.declared.write.Unwritten.{Unwritten}
+use Rattle.text_output.specs.declared.write.Unwritten.TheVariants.{WriteFault, OutOfMemory as NoMemory}
+use Rattle.text_output.specs.Printing.{IsCutShort, Output}
 use Rattle.patch_stream.specs.Stream.{Step, steps_anew}
 use Rattle.session.specs.declared.stop.Stop.{Stop}
 use Rattle.session.specs.declared.report.Report.{Report}

@@ -6,7 +6,7 @@ ghost use Rattle.reorder_buffer.specs.Buffered.{answer_to};
 ghost use Rattle.replay_model.specs.ReplayState.{after_end, after_event, after_mark};
 ghost use Rattle.replay_model.specs.Transcript.{question_of};
 ghost use Rattle.splitting.specs.Graphs.{MayFollow, routes_of};
-ghost use Rattle.transcript.specs.Printing.{output};
+ghost use Rattle.text_output.specs.Printing.{output};
 ghost use Rattle.session.specs.declared.report.Report.TheVariants.{Answers};
 ghost use Rattle.session.specs.Counts.{HasGoneOn, HasWrittenOn};
 ghost use Rattle.session.specs.Moment.{environment, stage, with_world};

@@ -2,7 +2,7 @@
 
 ghost use Rattle.std.specs.Prelude.{◌≡◌, ◌+◌, ◌*◌, ◌<◌, IfOk, OnErr, OnOk};
 ghost use Rattle.replay_model.specs.ReplayState.{nothing_delivered};
-ghost use Rattle.transcript.specs.Printing.{Output, output};
+ghost use Rattle.text_output.specs.Printing.{Output, output};
 ghost use Rattle.drill.specs.Drill.{IsSize, drill};
 ghost use Rattle.drill_replay.specs.Playing.{Counted, HasBegun, HasFew, IsByFirst, IsPartOf, StandsAtEnd};
 ghost use Rattle.drill_replay.specs.Summary.{drilled};

@@ -2,7 +2,7 @@
 
 ghost use Rattle.std.specs.Prelude.{◌≡◌, ◌≤◌, IfErr, OnOk};
 ghost use Rattle.replay_model.specs.ReplayState.{nothing_delivered};
-ghost use Rattle.transcript.specs.Printing.{output};
+ghost use Rattle.text_output.specs.Printing.{output};
 ghost use Rattle.drill_replay.specs.Playing.{IsByFirst};
 ghost use Rattle.session.specs.Counts.{HasWrittenOn};
 ghost use Rattle.session.specs.Drilling.{DrillStopped, HasDrilled};
@@ -13,7 +13,7 @@ use crate::drill_playing::play;
 use crate::remapping::begin_by_first;
 use drill_replay::{summarize, summary_lines};
 use std::alloc::Global;
-use transcript::{Unwritten, print_lines};
+use text_output::{Unwritten, print_lines};
 use world::World;
 use wq_io::Sink;
 

@@ -4,7 +4,7 @@ ghost use Rattle.std.specs.Prelude.{◌≡◌, IfErr, IfOk, OnOk};
 ghost use Rattle.replay_model.specs.ReplayState.{nothing_delivered};
 ghost use Rattle.drill_replay.specs.Playing.{IsByFirst};
 ghost use Rattle.splitting.specs.Graphs.{MayFollow, routes_of};
-ghost use Rattle.transcript.specs.Printing.{output};
+ghost use Rattle.text_output.specs.Printing.{output};
 ghost use Rattle.patch_stream.specs.Stream.{steps_anew};
 ghost use Rattle.session.specs.declared.report.Report.TheVariants.{Answers};
 ghost use Rattle.session.specs.Counts.{HasWrittenOn};

@@ -9,7 +9,7 @@ use checkpoint::LoadFault;
 use event_line::LineCause;
 use following::{FollowStop, RecordCause};
 use rdf_term::OutOfMemory;
-use transcript::Unwritten;
+use text_output::Unwritten;
 use triple_store::StoreFault;
 use wq_io::LineFault;
 

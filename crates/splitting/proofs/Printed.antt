@@ -9,8 +9,8 @@ use Rattle.subgraph.specs.Entries.{Entries, graph_triples}
 use Rattle.subgraph.specs.Laws.{routed_union}
 use Rattle.subgraph.specs.Routes.{graph_name}
 use Rattle.subgraph.proofs.Routed.{follow_the_records}
-use Rattle.transcript.specs.declared.write.Unwritten.{Unwritten}
-use Rattle.transcript.specs.Printing.{Output, Prints}
+use Rattle.text_output.specs.declared.write.Unwritten.{Unwritten}
+use Rattle.text_output.specs.Printing.{Output, Prints}
 use Rattle.world.specs.Meaning.{meaning}
 use Rattle.world.specs.WorldState.{WorldState}
 use Rattle.splitting.specs.Graphs.{AreEntriesOf, routing_by}

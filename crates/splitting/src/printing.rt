@@ -3,7 +3,7 @@
 ghost use Rattle.rdf_term.specs.Pattern.{rows};
 ghost use Rattle.replay_model.specs.Versions.{meaning_by};
 ghost use Rattle.subgraph.specs.Laws.{routed_union};
-ghost use Rattle.transcript.specs.Printing.{Prints, output};
+ghost use Rattle.text_output.specs.Printing.{Prints, output};
 ghost use Rattle.world.specs.Meaning.{meaning};
 ghost use Rattle.world.specs.WorldState.{WorldState};
 ghost use Rattle.splitting.specs.Graphs.{Follow, routing_by};
@@ -13,7 +13,8 @@ use crate::graphs::Graphs;
 use crate::lines::{graph_answer_line, graph_line};
 use rdf_term::Pattern;
 use std::alloc::Global;
-use transcript::{Unwritten, print_section};
+use text_output::Unwritten;
+use transcript::print_section;
 use triple_store::Rows;
 use wq_io::Sink;
 

@@ -3,12 +3,12 @@
 ghost use Rattle.std.specs.Prelude.{◌≡◌, ◌<◌, [], length, slice_get, unwrap_or};
 ghost use Rattle.std.specs.Option.{option_map};
 ghost use Rattle.replay_model.specs.Transcript.{side_section};
-ghost use Rattle.transcript.specs.Printing.{Prints, output};
+ghost use Rattle.text_output.specs.Printing.{Prints, output};
 ghost use Rattle.transcript.specs.Sections.{entry_text};
 
 use crate::lines::entry_line;
-use crate::write::{Unwritten, write_all};
 use std::alloc::Global;
+use text_output::{Unwritten, write_all};
 use world::World;
 use wq_io::Sink;
 

@@ -1,8 +1,8 @@
 //! What a replay prints: the answers to questions, and the sections after the end, written to a sink; a follower prints with the same calls.
 //!
 //! What the bytes are is said by the definitions of `replay_model`; this crate writes them, or a prefix of them. `sections`
-//! has the answer to an ask and the sections, `bindings` that to a match; `triples`, `states` and `entries` print the parts, `lines` makes a line's text, and `write`
-//! writes bytes whole, and the lines that a caller made.
+//! has the answer to an ask and the sections, `bindings` that to a match; `triples`, `states` and `entries` print the parts, and `lines` makes a
+//! line's text.
 #![tactic(auto)]
 
 mod bindings;
@@ -11,9 +11,7 @@ mod lines;
 mod sections;
 mod states;
 mod triples;
-mod write;
 
 pub use bindings::print_match;
 pub use sections::{Sections, print_answer, print_closing, print_triples};
 pub use triples::print_section;
-pub use write::{Unwritten, print_lines, write_all};

@@ -7,16 +7,16 @@ ghost use Rattle.replay_model.specs.Union.{union};
 ghost use Rattle.replay_model.specs.Versions.{meaning_by};
 ghost use Rattle.rdf_term.specs.Pattern.{rows};
 ghost use Rattle.world.specs.Meaning.{meaning};
-ghost use Rattle.transcript.specs.Printing.{Prints, output};
+ghost use Rattle.text_output.specs.Printing.{Prints, output};
 ghost use Rattle.transcript.specs.Sections.{chosen, closing_of};
 
 use crate::entries::print_entries;
 use crate::lines::{answer_line, export_line};
 use crate::states::print_states;
 use crate::triples::print_section;
-use crate::write::Unwritten;
 use rdf_term::Pattern;
 use std::alloc::Global;
+use text_output::Unwritten;
 use triple_store::Rows;
 use world::World;
 use wq_io::Sink;

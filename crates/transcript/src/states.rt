@@ -3,12 +3,12 @@
 ghost use Rattle.std.specs.Prelude.{◌≡◌, flat_map};
 ghost use Rattle.replay_model.specs.Records.{record_of};
 ghost use Rattle.replay_model.specs.Transcript.{state_line, state_section};
-ghost use Rattle.transcript.specs.Printing.{Prints, output};
+ghost use Rattle.text_output.specs.Printing.{Prints, output};
 
 use crate::lines::state_line;
-use crate::write::{Unwritten, write_all};
 use entity_model::EntityId;
 use std::alloc::Global;
+use text_output::{Unwritten, write_all};
 use world::World;
 use wq_io::Sink;
 

@@ -2,10 +2,10 @@
 
 ghost use Rattle.std.specs.Prelude.{◌≡◌, ◌++◌, ◌<◌, flat_map, length};
 ghost use Rattle.rdf_term.specs.Text.{triple_text};
-ghost use Rattle.transcript.specs.Printing.{Prints, output};
+ghost use Rattle.text_output.specs.Printing.{Prints, output};
 
-use crate::write::{Unwritten, write_all};
 use std::alloc::Global;
+use text_output::{Unwritten, write_all};
 use triple_store::Rows;
 use wq_io::Sink;
 

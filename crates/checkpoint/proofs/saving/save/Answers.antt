@@ -2,8 +2,8 @@
 use Rattle.std.proofs.Common.{arith}
 use Rattle.std.proofs.lemmas.Result.{err_from_is_err_and}
 use Rattle.snapshot.specs.File.{file_text}
-use Rattle.transcript.specs.Printing.{output}
-use Rattle.transcript.proofs.Parts.{cut_short_at_once}
+use Rattle.text_output.specs.Printing.{output}
+use Rattle.text_output.proofs.Parts.{cut_short_at_once}
 use Rattle.checkpoint.specs.Saved.{saved_of}
 use Rattle.checkpoint.proofs.SavedText.{save_all, save_first, save_fourth, save_second, save_third}
 use Rattle.checkpoint.proofs.saving.save.Goals as goal

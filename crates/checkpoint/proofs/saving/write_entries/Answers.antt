@@ -1,7 +1,7 @@
 -- One line more, and where a line isn't ended.
 use Rattle.std.proofs.lemmas.Result.{err_from_is_err_and}
 use Rattle.snapshot.specs.declared.line.Line.TheVariants.{Side}
-use Rattle.transcript.proofs.Parts.{text_cut_short, text_more, text_printed}
+use Rattle.text_output.proofs.Parts.{text_cut_short, text_more, text_printed}
 use Rattle.checkpoint.specs.Saved.{ended}
 use Rattle.checkpoint.proofs.saving.write_entries.Goals as goal
 

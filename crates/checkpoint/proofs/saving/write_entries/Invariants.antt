@@ -2,7 +2,7 @@
 use Rattle.std.proofs.Common.{take, Ok}
 use Rattle.std.specs.List.{flat_map}
 use Rattle.snapshot.specs.declared.line.Line.TheVariants.{Side}
-use Rattle.transcript.specs.Printing.{Prints, output}
+use Rattle.text_output.specs.Printing.{Prints, output}
 use Rattle.checkpoint.specs.Saved.{ended}
 use Rattle.checkpoint.proofs.saving.write_entries.Given as goal
 

@@ -1,7 +1,7 @@
 -- Want of memory before the first byte.
 use Rattle.std.proofs.lemmas.Result.{err_from_is_err_and}
-use Rattle.transcript.specs.Printing.{output}
-use Rattle.transcript.proofs.Parts.{cut_short_at_once}
+use Rattle.text_output.specs.Printing.{output}
+use Rattle.text_output.proofs.Parts.{cut_short_at_once}
 use Rattle.checkpoint.proofs.saving.write_record.Goals as goal
 
 pub returns-in_err-entity : goal.returns-in_err-entity

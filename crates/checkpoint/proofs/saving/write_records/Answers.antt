@@ -2,7 +2,7 @@
 use Rattle.std.proofs.lemmas.Result.{err_from_is_err_and}
 use Rattle.replay_model.specs.Records.{record_of}
 use Rattle.snapshot.specs.declared.line.Line.TheVariants.{Entity}
-use Rattle.transcript.proofs.Parts.{text_cut_short, text_more, text_printed}
+use Rattle.text_output.proofs.Parts.{text_cut_short, text_more, text_printed}
 use Rattle.checkpoint.specs.Saved.{ended}
 use Rattle.checkpoint.proofs.saving.write_records.Goals as goal
 

@@ -2,8 +2,8 @@
 use Rattle.std.proofs.Common.{◌∙◌, ap, ℕ, List, [], cond}
 use Rattle.std.proofs.lemmas.Result.{err_from_is_err_and}
 use Rattle.replay_model.specs.Transcript.{export_section}
-use Rattle.transcript.specs.Printing.{output}
-use Rattle.transcript.proofs.Parts.{cut_short_at_once, prints_both, prints_first}
+use Rattle.text_output.specs.Printing.{output}
+use Rattle.text_output.proofs.Parts.{cut_short_at_once, prints_both, prints_first}
 use Rattle.following.specs.Following.{replica_line}
 use Rattle.following.proofs.printing.print_replica.Goals as goal
 

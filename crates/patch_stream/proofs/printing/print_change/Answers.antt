@@ -1,7 +1,7 @@
 -- The head, the lines of what came, and those of what is gone, or a prefix of them.
 use Rattle.std.proofs.Common.{◌++◌}
 use Rattle.std.proofs.lemmas.Result.{err_from_is_err_and}
-use Rattle.transcript.proofs.Parts.{prints_both, prints_first}
+use Rattle.text_output.proofs.Parts.{prints_both, prints_first}
 use Rattle.patch_stream.proofs.printing.print_change.Goals as goal
 
 pub returns-in_err-print_head : goal.returns-in_err-print_head

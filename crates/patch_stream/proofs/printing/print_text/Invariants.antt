@@ -1,7 +1,7 @@
 -- A prefix was written, and this is the rest.
 use Rattle.std.proofs.Common.{length}
-use Rattle.transcript.specs.Printing.{output}
-use Rattle.transcript.proofs.Parts.{IsWriting}
+use Rattle.text_output.specs.Printing.{output}
+use Rattle.text_output.proofs.Parts.{IsWriting}
 use Rattle.patch_stream.proofs.printing.print_text.Given as goal
 
 abbrev pub invariant-loop-rest : goal.invariant-loop-rest

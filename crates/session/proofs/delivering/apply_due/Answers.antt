@@ -1,6 +1,6 @@
 -- One event more, and fewer wait.
 use Rattle.std.proofs.Common.{refl, ap, ◌∙◌, arith, Err, inl, inr, ⊎_elim}
-use Rattle.transcript.specs.Printing.{output}
+use Rattle.text_output.specs.Printing.{output}
 use Rattle.told_pages.proofs.Applying.{applies-fewer}
 use Rattle.term_pool.specs.declared.fault.PoolFault.TheVariants.{Full, OutOfMemory}
 use Rattle.splitting.specs.Graphs.{routes_of}

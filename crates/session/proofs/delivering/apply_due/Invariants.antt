@@ -1,6 +1,6 @@
 -- The world leads where it led, and fewer events wait each time.
 use Rattle.std.proofs.Common.{◌≡◌, length}
-use Rattle.transcript.specs.Printing.{output}
+use Rattle.text_output.specs.Printing.{output}
 use Rattle.splitting.specs.Graphs.{MayFollow, routes_of}
 use Rattle.session.specs.declared.report.Report.TheVariants.{Answers}
 use Rattle.session.specs.Counts.{HasGoneOn, HasWrittenOn}

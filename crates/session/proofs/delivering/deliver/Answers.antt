@@ -1,7 +1,7 @@
 -- An event or a watermark is taken, a question answered, or what is held mapped anew.
 use Rattle.std.proofs.Common.{ap, refl}
 use Rattle.std.proofs.lemmas.Result.{err_from_is_err_and}
-use Rattle.transcript.specs.Printing.{output}
+use Rattle.text_output.specs.Printing.{output}
 use Rattle.replay_model.specs.ReplayState.{ReplayState}
 use Rattle.replay_model.specs.Transcript.{for_bindings, for_triples}
 use Rattle.splitting.specs.Graphs.{routes_of}

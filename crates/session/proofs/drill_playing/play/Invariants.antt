@@ -1,6 +1,6 @@
 -- The deliveries of the items so far were taken and counted, and nothing was printed.
 use Rattle.std.proofs.Common.{◌≡◌, ◌*◌}
-use Rattle.transcript.specs.Printing.{output}
+use Rattle.text_output.specs.Printing.{output}
 use Rattle.drill.specs.Drill.{drill}
 use Rattle.drill_replay.specs.Playing.{HasFew}
 use Rattle.session.specs.DrillPlaying.{HasTakenFirst}

@@ -3,7 +3,7 @@ use Rattle.std.proofs.Common.{◌≡◌, ◌∙◌, ap, subst, map, string_bytes
 use Rattle.std.specs.FinMap.{len-empty}
 use Rattle.std.proofs.lemmas.Result.{err_from_is_err_and}
 use Rattle.drill_replay.specs.Summary.{drilled, summary_lines, summary_of}
-use Rattle.transcript.specs.Printing.{output}
+use Rattle.text_output.specs.Printing.{output}
 use Rattle.session.specs.Drilling.{DrillStopped, HasDrilled}
 use Rattle.session.proofs.Drills.{all_printed, not_begun, printed_in_part, printed_on, silent_on}
 use Rattle.session.proofs.drilling.drill.Goals as goal

@@ -1,6 +1,6 @@
 -- Some pages were mapped anew and told, and fewer are stale each time.
 use Rattle.std.proofs.Common.{◌≡◌, length}
-use Rattle.transcript.specs.Printing.{output}
+use Rattle.text_output.specs.Printing.{output}
 use Rattle.world.specs.WorldState.{stale}
 use Rattle.splitting.specs.Graphs.{MayFollow, routes_of}
 use Rattle.session.specs.declared.report.Report.TheVariants.{Answers}

@@ -2,7 +2,7 @@
 use Rattle.std.proofs.Common.{None, subst}
 use Rattle.replay_model.specs.Transcript.{Sections}
 use Rattle.replay_model.specs.Versions.{meaning_by}
-use Rattle.transcript.specs.Printing.{Prints, output}
+use Rattle.text_output.specs.Printing.{Prints, output}
 use Rattle.world.specs.Meaning.{meaning}
 use Rattle.session.specs.Answering.{closing_held}
 use Rattle.session.proofs.replaying.close.Goals as goal

@@ -2,7 +2,7 @@
 use Rattle.std.proofs.Common.{◌∙◌, sym, ap}
 use Rattle.std.proofs.lemmas.Result.{err_from_is_err_and}
 use Rattle.splitting.specs.Graphs.{routes_of}
-use Rattle.transcript.specs.Printing.{output}
+use Rattle.text_output.specs.Printing.{output}
 use Rattle.session.specs.Moment.{Moment, Run, behind, moment, run_of}
 use Rattle.session.proofs.Printed.{ending_closed, ending_saved, unsaved}
 use Rattle.session.proofs.replaying.replay_within.Goals as goal

@@ -1,7 +1,7 @@
 -- No memory for the head.
 use Rattle.std.proofs.lemmas.Result.{err_from_is_err_and}
-use Rattle.transcript.specs.Printing.{output}
-use Rattle.transcript.proofs.Parts.{cut_short_at_once}
+use Rattle.text_output.specs.Printing.{output}
+use Rattle.text_output.proofs.Parts.{cut_short_at_once}
 use Rattle.splitting.proofs.printing.print_answer.Goals as goal
 
 pub returns-in_err-head : goal.returns-in_err-head

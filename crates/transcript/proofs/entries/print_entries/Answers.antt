@@ -2,7 +2,7 @@
 use Rattle.std.proofs.Common.{◌<◌, length, arith}
 use Rattle.std.proofs.lemmas.Result.{err_from_is_err_and}
 use Rattle.transcript.specs.Sections.{entry_text}
-use Rattle.transcript.proofs.Parts.{text_cut_short, text_more_at, text_printed}
+use Rattle.text_output.proofs.Parts.{text_cut_short, text_more_at, text_printed}
 use Rattle.transcript.proofs.entries.print_entries.Goals as goal
 
 pub loop-index-preserved : goal.loop-index-preserved

@@ -1,7 +1,7 @@
 -- The lines of the entries so far were written.
 use Rattle.std.proofs.Common.{take, Ok}
 use Rattle.std.specs.List.{flat_map}
-use Rattle.transcript.specs.Printing.{Prints, output}
+use Rattle.text_output.specs.Printing.{Prints, output}
 use Rattle.transcript.specs.Sections.{entry_text}
 use Rattle.transcript.proofs.entries.print_entries.Given as goal
 

@@ -6,7 +6,7 @@ use Rattle.replay_model.specs.Transcript.{export_section, side_section, state_se
 use Rattle.replay_model.specs.Union.{union}
 use Rattle.replay_model.specs.Versions.{meaning_by}
 use Rattle.world.specs.Meaning.{meaning}
-use Rattle.transcript.proofs.Parts.{prints_both, prints_first}
+use Rattle.text_output.proofs.Parts.{prints_both, prints_first}
 use Rattle.transcript.proofs.sections.print_closing.Goals as goal
 
 pub returns-in_err-print_export : goal.returns-in_err-print_export

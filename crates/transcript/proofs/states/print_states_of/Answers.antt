@@ -3,7 +3,7 @@ use Rattle.std.proofs.Common.{◌∙◌}
 use Rattle.std.proofs.lemmas.Result.{err_from_is_err_and}
 use Rattle.replay_model.specs.Records.{record_of}
 use Rattle.replay_model.specs.Transcript.{state_line}
-use Rattle.transcript.proofs.Parts.{text_cut_short, text_more, text_not_begun, text_printed}
+use Rattle.text_output.proofs.Parts.{text_cut_short, text_more, text_not_begun, text_printed}
 use Rattle.transcript.proofs.states.print_states_of.Goals as goal
 
 pub returns-in_err-line : goal.returns-in_err-line

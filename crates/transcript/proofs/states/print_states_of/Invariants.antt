@@ -3,7 +3,7 @@ use Rattle.std.proofs.Common.{take, Ok}
 use Rattle.std.specs.List.{flat_map}
 use Rattle.replay_model.specs.Records.{record_of}
 use Rattle.replay_model.specs.Transcript.{state_line}
-use Rattle.transcript.specs.Printing.{Prints, output}
+use Rattle.text_output.specs.Printing.{Prints, output}
 use Rattle.transcript.proofs.states.print_states_of.Given as goal
 
 abbrev pub invariant-loop-id : goal.invariant-loop-id

@@ -2,7 +2,7 @@
 use Rattle.std.proofs.Common.{take, Ok}
 use Rattle.std.specs.List.{flat_map}
 use Rattle.rdf_term.specs.Text.{triple_text}
-use Rattle.transcript.specs.Printing.{Prints, output}
+use Rattle.text_output.specs.Printing.{Prints, output}
 use Rattle.transcript.proofs.triples.print_rows.Given as goal
 
 abbrev pub invariant-loop-index : goal.invariant-loop-index

@@ -1,6 +1,6 @@
 -- Graphs pass over a match: nothing is printed.
-use Rattle.transcript.specs.Printing.{output}
-use Rattle.transcript.proofs.Parts.{prints_nothing}
+use Rattle.text_output.specs.Printing.{output}
+use Rattle.text_output.proofs.Parts.{prints_nothing}
 use Rattle.session.proofs.context.Context.print_rows.Goals as goal
 
 pub returns-in-Some : goal.returns-in-Some

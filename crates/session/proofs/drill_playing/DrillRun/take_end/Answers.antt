@@ -1,6 +1,6 @@
 -- All that waits is applied, or memory is refused; there is always room.
 use Rattle.std.proofs.Common.{[]}
-use Rattle.transcript.specs.Printing.{output}
+use Rattle.text_output.specs.Printing.{output}
 use Rattle.session.proofs.DrillPlaying.{end_halted, end_reached, end_starved, leaves_end}
 use Rattle.session.proofs.drill_playing.DrillRun.take_end.Goals as goal
 

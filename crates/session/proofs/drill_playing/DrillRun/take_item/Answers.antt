@@ -1,6 +1,6 @@
 -- The deliveries of the item are taken and counted, one after the other.
 use Rattle.std.proofs.Common.{refl, length, ◌≡◌, ◌∙◌, ◌≤◌, ◌+◌, ◌*◌, ◌++◌, [], ◌∷◌, suc, take, drop, sym, subst, append-nil, arith}
-use Rattle.transcript.specs.Printing.{output}
+use Rattle.text_output.specs.Printing.{output}
 use Rattle.drill.specs.Drill.{IsSize, item_deliveries, drill}
 use Rattle.drill_replay.specs.Playing.{IsPartOf}
 use Rattle.drill_replay.proofs.Drills.{few_deliveries, part_in}

@@ -1,8 +1,8 @@
 -- One section more, and where one isn't begun or isn't ended.
 use Rattle.std.proofs.Common.{◌≡◌, ◌+◌, ◌≤◌, suc, length, subst, Ok, arith}
 use Rattle.std.proofs.lemmas.Result.{err_from_is_err_and}
-use Rattle.transcript.specs.Printing.{Prints, output}
-use Rattle.transcript.proofs.Parts.{prints_nothing}
+use Rattle.text_output.specs.Printing.{Prints, output}
+use Rattle.text_output.proofs.Parts.{prints_nothing}
 use Rattle.splitting.specs.Sections.{texts_below}
 use Rattle.splitting.proofs.Pieces.{below_cut_short, below_not_begun, below_printed}
 use Rattle.splitting.proofs.Printed.{section_in, sections_printed}

@@ -1,10 +1,10 @@
 // Bytes, and lines that are made already, are written whole.
 
 ghost use Rattle.std.specs.Prelude.{◌≡◌, flat_map, string_bytes};
-ghost use Rattle.transcript.specs.Printing.{Prints, output};
-ghost use Rattle.transcript.specs.declared.write.Unwritten.TheVariants.{OutOfMemory as Refused};
+ghost use Rattle.text_output.specs.Printing.{Prints, output};
+ghost use Rattle.text_output.specs.declared.write.Unwritten.TheVariants.{OutOfMemory as Refused};
 
-use rdf_term::OutOfMemory;
+use base::OutOfMemory;
 use wq_io::{NoWrite, Sink};
 
 /// Why not all was written.

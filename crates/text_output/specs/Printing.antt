@@ -2,8 +2,8 @@
 use Rattle.std.specs.Prelude.{◌≡◌, ℕ, ◌<◌, ◌≤◌, List, ◌++◌, length, Option, Result, MatchResult}
 use Rattle.wq_io.specs.Streams.{Rose, after_known}
 use Rattle.wq_io.specs.declared.sink.Sink.{Ghosts as SinkOf}
-use Rattle.transcript.specs.declared.write.Unwritten.{Unwritten}
-use Rattle.transcript.specs.declared.write.Unwritten.TheVariants.{WriteFault}
+use Rattle.text_output.specs.declared.write.Unwritten.{Unwritten}
+use Rattle.text_output.specs.declared.write.Unwritten.TheVariants.{WriteFault}
 
 -- an output at a moment: the bytes that it has, where they are known; how many writes failed, as far as 64 bits count them; and the
 -- most that ever fail, where it is told

@@ -7,9 +7,9 @@ use Rattle.std.specs.Option.{option_map, unwrap_or}
 use Rattle.std.proofs.lemmas.Option.{get_or_from_slice_get, slice_get_cases}
 use Rattle.std.proofs.lemmas.List.{length-drop, take-append-drop}
 use Rattle.wq_io.specs.Streams.{Rose, after_known}
-use Rattle.transcript.specs.Printing.{Output, Prints}
-use Rattle.transcript.specs.declared.write.Unwritten.{Unwritten}
-use Rattle.transcript.specs.declared.write.Unwritten.TheVariants.{WriteFault, OutOfMemory}
+use Rattle.text_output.specs.Printing.{Output, Prints}
+use Rattle.text_output.specs.declared.write.Unwritten.{Unwritten}
+use Rattle.text_output.specs.declared.write.Unwritten.TheVariants.{WriteFault, OutOfMemory}
 
 -- two parts, one after the other
 pub after_twice : (bytes : Option (List ℕ)) (first second : List ℕ) → after_known (after_known bytes first) second ≡ after_known bytes (first ++ second)

@@ -1,7 +1,7 @@
 -- One write more of the rest.
-use Rattle.transcript.proofs.Parts.{writing_more}
-use Rattle.transcript.specs.Printing.{output}
-use Rattle.transcript.proofs.write.write_all.Goals as goal
+use Rattle.text_output.proofs.Parts.{writing_more}
+use Rattle.text_output.specs.Printing.{output}
+use Rattle.text_output.proofs.write.write_all.Goals as goal
 
 pub loop-rest-preserved : goal.loop-rest-preserved
 loop-rest-preserved g c =

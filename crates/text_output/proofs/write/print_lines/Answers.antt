@@ -1,8 +1,8 @@
 -- One line more, and where a line isn't ended.
 use Rattle.std.proofs.Common.{◌∙◌, ap, string_bytes}
 use Rattle.std.proofs.lemmas.Result.{err_from_is_err_and}
-use Rattle.transcript.proofs.Parts.{text_cut_short, text_more, text_printed}
-use Rattle.transcript.proofs.write.print_lines.Goals as goal
+use Rattle.text_output.proofs.Parts.{text_cut_short, text_more, text_printed}
+use Rattle.text_output.proofs.write.print_lines.Goals as goal
 
 pub returns-in_err-write_all : goal.returns-in_err-write_all
 returns-in_err-write_all g c =

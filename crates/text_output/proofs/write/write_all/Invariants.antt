@@ -1,8 +1,8 @@
 -- A prefix was written, and this is the rest.
 use Rattle.std.proofs.Common.{length}
-use Rattle.transcript.specs.Printing.{output}
-use Rattle.transcript.proofs.Parts.{IsWriting}
-use Rattle.transcript.proofs.write.write_all.Given as goal
+use Rattle.text_output.specs.Printing.{output}
+use Rattle.text_output.proofs.Parts.{IsWriting}
+use Rattle.text_output.proofs.write.write_all.Given as goal
 
 abbrev pub invariant-loop-rest : goal.invariant-loop-rest
 invariant-loop-rest g l = IsWriting l.bytes l.rest (output g.K.Sink l.fn.out) (output g.K.Sink l.out)
