@@ -60,6 +60,7 @@ while [ "$(find "$work/snapshots" -name '*-*' | wc -l)" -lt $parts ]; do sleep 0
 owner=
 while [ -z "$owner" ]; do
   owner=$(ask get owner:2)
+  owner=${owner%%-*}
 done
 kill -9 "$owner" || { echo "not as expected: no process has part 2"; exit 1; }
 echo "killed: the process $owner, in the middle of part 2"

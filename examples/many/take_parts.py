@@ -2,8 +2,8 @@
 """Takes parts of a stream, one after the other: a process that any number of machines run side by side.
 
 The events of part K are the entries of the Redis stream `events:K`, each with one line. Whoever holds the lease `owner:K` reads the next
-lines, gives them to `wdq patches`, which goes on from the part's snapshot, and adds the records to the stream `records:K`. A lease that
-isn't renewed ends, so another process takes the part over and goes on from its snapshot.
+lines, gives them to `wdq patches`, which goes on from the part's snapshot, and adds the records to the stream `records:K`. A thread renews
+the lease, also while wdq runs. The lease of a process that died ends, so another process takes the part over and goes on from its snapshot.
 
 A snapshot's name is the id of the last entry that it knows, so snapshot and offset change at once. A record's number is its id in
 `records:K`, and Redis refuses an id that isn't above the last one: where a process is killed between its records and its snapshot, the
@@ -18,10 +18,14 @@ import pathlib
 import re
 import subprocess
 import sys
+import threading
 import time
+import uuid
 
 RECORD = re.compile(rb"^# patch (\d+) ", re.MULTILINE)
 END = b'{"end":true}'
+# This process, on whichever machine it runs: its number there, and what no other process has.
+OWNER = f"{os.getpid()}-{uuid.uuid4().hex}"
 
 
 def words():
@@ -62,9 +66,29 @@ class Part:
     def is_held(self):
         """Renews the lease, and tells whether it is still this process's."""
         name = f"owner:{self.number}"
-        if self.server.get(name) != str(os.getpid()).encode():
+        if self.server.get(name) != OWNER.encode():
             return False
         return bool(self.server.pexpire(name, self.given.lease))
+
+    def renew(self, done):
+        """Renews the lease four times in its length, until `done` is set."""
+        while not done.wait(self.given.lease / 4000) and self.is_held():
+            pass
+
+    def take(self):
+        """Takes lines until the part has ended, or another process has its lease."""
+        done = threading.Event()
+        threading.Thread(target=self.renew, args=(done,), daemon=True).start()
+        try:
+            while self.is_held() and not self.server.exists(f"ended:{self.number}"):
+                if not self.step():
+                    time.sleep(0.05)
+        except subprocess.CalledProcessError:
+            # Whoever took the part over has removed the snapshot that wdq was to go on from.
+            if self.is_held():
+                raise
+        finally:
+            done.set()
 
     def step(self):
         """Takes the next lines; tells whether there were any."""
@@ -85,7 +109,7 @@ class Part:
 
     def replay(self, snapshot, offset, lines):
         """Goes on from the snapshot over these lines: adds the records, and then gives the new snapshot its name."""
-        beside = self.folder / f"{offset}.{os.getpid()}"
+        beside = self.folder / f"{offset}.{OWNER}"
         command = [self.given.program, "patches", "--from", self.given.pages, "--save", str(beside)]
         command += ["--resume", str(snapshot)] if snapshot else []
         output = subprocess.run(command, input=lines, stdout=subprocess.PIPE, check=True).stdout
@@ -116,12 +140,8 @@ def main():
         if not left:
             return 0
         for number in left:
-            if not server.set(f"owner:{number}", os.getpid(), nx=True, px=given.lease):
-                continue
-            part = Part(given, server, number)
-            while part.is_held() and not server.exists(f"ended:{number}"):
-                if not part.step():
-                    time.sleep(0.05)
+            if server.set(f"owner:{number}", OWNER, nx=True, px=given.lease):
+                Part(given, server, number).take()
         time.sleep(0.1)
 
 
