@@ -42,7 +42,7 @@ pub record KeepsRest (old new : StoreState) : Type 0 where
   pub limit : limit_of new ≡ limit_of old
   pub sound : IsSound new
 
--- triples came in the place of those of the keys, or a fault changed no count; `Full` is said where there is no room for them
+-- triples came in the place of those of the keys, or a fault changed no count; the fault is `Full` if there is no room for them
 pub record IsExchange (old new : StoreState) (gone : List Key) (came : List Triple) (result : Result Keys PoolFault) : Type 0 where
   pub ok : OnOk result ((triples : List Triple) → AreKeysOf old gone triples → Exchanges (counts_in old) (counts_in new) triples came)
   pub err : OnErr result (counts_in new ≡ counts_in old)

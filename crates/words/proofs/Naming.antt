@@ -1,4 +1,4 @@
--- Names without `=`: the item of a word, and the words that follow one another.
+-- Names without `=`: the item of an argument, and the arguments that follow one another.
 use Rattle.std.proofs.Common.{◌≡◌, refl, sym, ◌∙◌, ap, ap₂, ℕ, suc, ◌+◌, Bool, true, false, cond, not, ◌&&◌, nat_lt, List, [], ◌∷◌, ◌++◌, length, take, drop, Option, None, Some, arith, append_assoc, true≢false}
 use Rattle.std.specs.List.{after_first, before_first, list_all, position_or_len}
 use Rattle.std.specs.Str.{bytes_eq}
@@ -79,7 +79,7 @@ item_joined name value plain =
     ap (λ b. cond b (item (before_first is_equals_sign word) (Some (after_first is_equals_sign word))) (item word None)) within
     ∙ ap₂ (λ n v. item n (Some v)) before after
 
--- ---- the words that follow
+-- ---- the arguments that follow
 
 -- a name and its value in the next word
 pub items_apart : (table : List Entry) (word next : List ℕ) (others : List (List ℕ)) → has_value (kind_in table word) ≡ true

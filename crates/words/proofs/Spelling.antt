@@ -130,7 +130,7 @@ are_these table (i ∷ items) fit distinct =
     ∙ ap (λ b. not b && are_items table items) (apart_unnamed i.name items distinct.0)
     ∙ are_these table items fit.1 distinct.1
 
--- ---- the words that are understood
+-- ---- the arguments that are understood
 
 spelled : (table : List Entry) (words : List (List ℕ)) (items : List Item) → understood table words ≡ Some items → Spell table words items
 spelled table words items is = by (are_items table (items_of table words)) refl is

@@ -13,7 +13,7 @@ pub record Written : Type 0 where
   pub item : Item
   pub joined : Bool
 
--- the words of an item: `--name`, `--name value` or `--name=value`
+-- the arguments of an item: `--name`, `--name value` or `--name=value`
 abbrev pub words_of_item : List ℕ → Option (List ℕ) → Bool → List (List ℕ)
 words_of_item name None joined = name ∷ []
 words_of_item name (Some value) false = name ∷ value ∷ []
@@ -30,7 +30,7 @@ abbrev pub AreDistinct : List Item → Type 0
 AreDistinct [] = Unit {0}
 AreDistinct (i ∷ items) = Each (λ (other : Item). bytes_eq other.name i.name ≡ false) items × AreDistinct items
 
--- the words are these items, as they are written; each is in the table and fits it, and no two have the same name
+-- the arguments are these items, as they are written; each is in the table and fits it, and no two have the same name
 pub record Spell (table : List Entry) (words : List (List ℕ)) (items : List Item) : Type 0 where
   pub written : List Written
   pub are : words ≡ words_written written
@@ -38,7 +38,7 @@ pub record Spell (table : List Entry) (words : List (List ℕ)) (items : List It
   pub fit : Each (λ (i : Item). fits (kind_in table i.name) i.value ≡ true) items
   pub distinct : AreDistinct items
 
--- the words are the name of a command and such items of its table, in any order, which ask for this plan
+-- the arguments are the name of a command and such items of its table, in any order, which ask for this plan
 pub record IsPlan (words : List (List ℕ)) (plan : Plan) : Type 0 where
   pub command : Command
   pub after : List (List ℕ)

@@ -1,4 +1,4 @@
--- The items that the words after a command are.
+-- The items that the arguments after a command are.
 use Rattle.std.specs.Prelude.{ℕ, ◌&&◌, ◌==◌, not, nat_lt, true, Bool, cond, List, [], ◌∷◌, length, find, Option, None, Some, is_some}
 use Rattle.std.specs.Option.{option_and_then}
 use Rattle.std.specs.List.{after_first, before_first, position_or_len}
@@ -26,7 +26,7 @@ item_of_word word =
     (record { name = before_first is_equals_sign word; value = Some (after_first is_equals_sign word) })
     (record { name = word; value = None })
 
--- the items that the words are: where a word is a name in the table that has a value, the next word is this value
+-- the items that the arguments are: if an argument is a name in the table that has a value, the next argument is this value
 abbrev pub items_of : List Entry → List (List ℕ) → List Item
 items_of table [] = []
 items_of table (word ∷ []) = item_of_word word ∷ []

@@ -20,7 +20,7 @@ abbrev pub ReadTakes : {E : Type 0} → Option (List ℕ) → Option (List ℕ) 
 ReadTakes old new outcome buffer =
     MatchResult outcome (λ n. (old ≡ before_known (take n buffer) new) × (n ≡ 0 → IsAtEnd old)) (λ _. new ≡ old)
 
--- a count in 64 bits after one more: it stays at its last value, and never falls
+-- a count in 64 bits after one more: it saturates
 abbrev pub counted : ℕ → ℕ
 counted n = max n (min (n + 1) (2 ^ 64 - 1))
 
