@@ -107,9 +107,10 @@ impl Replica {
         }
     }
 
-    /// Applies the next record, where it was received, and says whether it was.
+    /// Applies the next record, if it was received, and says whether it was.
     ///
-    /// # Errors There are more distinct terms than the limit says, or memory was refused. Nothing has changed then.
+    /// # Errors
+    /// There are more distinct terms than the limit says, or memory was refused. Nothing has changed then.
     pub fn advance(&mut self) -> Result<bool, StoreFault>
         // It answers false exactly if the next record wasn't received.
         ensures answer { IfOk result (λ moved. (items : List TheRecord) → Follows items self.old → moved ≡ is_some (numbered (self.old.applied + 1) items)) }

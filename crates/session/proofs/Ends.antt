@@ -171,7 +171,7 @@ paused run before now reported matched open_still taken =
       counted = λ same. there.counted;
     }
 
--- no fetch failed where none was named before and the count of faults stands still below its last value
+-- no fetch failed if none was named before and the counter of faults stayed the same and isn't saturated
 pub none_failed : (failed : List Event) (named before now : ℕ) → RoseBy (length failed) before (named + now) → named ≡ 0 → now ≡ before → now < 2 ^ 64 - 1 → failed ≡ []
 none_failed [] named before now rose none same below = refl
 none_failed (e ∷ es) named before now rose none same below =

@@ -84,7 +84,7 @@ no_split (Patches read) choices alone same = cc
 no_split (Follow read) choices alone same = cc
 no_split (Split read) choices alone same = absurd alone
 
--- words of such a plan are understood
+-- arguments of such a plan are understood
 pub is_understood : {P : Type 0} (words : List (List ℕ)) (read : Plan) → IsNoSplit read → Some read ≡ plan_of words → IsNotUnderstood words → P
 is_understood words read alone is (inl none) =
     let never : Some read ≡ None = is ∙ none in

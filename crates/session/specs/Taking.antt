@@ -146,7 +146,7 @@ IsHeldUp (Unapplied OutOfMemory) environment old now = ⊤
 IsHeldUp (Untold WriteFault) environment old now = Rose old.faults now.output.faults
 IsHeldUp (Untold NoMemory) environment old now = ⊤
 
--- a due event wasn't applied, or not told: where the world was under way in a play, by whose version every page was mapped, it is so still
+-- a due event wasn't applied, or not told: if the world was under way in a play, by whose version every page was mapped, it still is
 abbrev pub StaysWithin : Halt → Environment → ℕ → Stage → Stage → Type 0
 StaysWithin halt environment reported before now =
     (course : Course) (begun : Replies → ReplayState) (start : Beginning) → before.mapped ≡ mapped_by course.version before.world.played.records →

@@ -231,8 +231,8 @@ pub fn resumed_runs_begin_where_others_stood()
         StandsAfter h replies ds (start_of (behind resumed.numbers run) (with_loaded before resumed.rest resumed.world)) × (resumed.numbers ≡ numbers) }
 {}
 
-/// A run can go on from whatever a run that ended with Ok saved: it refuses none of these lines unless its options name another horizon,
-/// and lacks room only if there is none for what is held. The numbers have to be such that a run may go on with them.
+/// A run can go on from whatever a run that ended with Ok saved: it refuses no line of that snapshot unless its options name another
+/// horizon, and lacks room only if there is none for what is held. The numbers have to be such that a run may go on with them.
 pub fn saved_worlds_are_gone_on_from()
     ensures lines { (h : Option ℕ) (earlier : Replies) (ds : List Delivery) (run : Run) (before now : Moment) → StandsAfter h earlier ds (start_of run before) → (ending : Ending run before now) →
         closes run.choices ≡ false → before.snapshot.bytes ≡ Some [] → IsFitSaved (saved_at now.stage (numbers_saved ending)) → AreWithin (numbers_saved ending) →

@@ -152,7 +152,7 @@ struct Start {
     graphs: Option<Graphs>,
 }
 
-// Replays from this world on, behind the runs that left its counts.
+// Replays from this world on, after the runs that left its counts.
 fn go_on<S: Source, R: Revisions, K: Sink, F: Sink>(
     start: Start,
     task: &Task<'_>,

@@ -12,7 +12,7 @@ use std::alloc::Global;
 pub enum Status {
     /// The input was read to its end, all due events were applied, and everything was written.
     Ok,
-    /// The words are not understood; nothing was read or written.
+    /// The arguments are not understood; nothing was read or written.
     BadWords,
     /// The line with this number, from 1, is refused.
     BadLine(u64, LineCause),

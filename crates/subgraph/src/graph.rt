@@ -76,7 +76,7 @@ impl Graph {
         ensures full { result ≡ Err Full → self.old.limit < terms_with (union_of self.old.sets) new.now }
         ensures within { OnOk result (terms_with (union_of self.old.sets) new.now ≤ self.old.limit) }
     {
-        // A triple has at most as many owners as there are entities, so no count is at its last value.
+        // A triple has at most as many owners as there are entities, so no count is saturated.
         let entities = self.owned.len();
         prove!(entities < usize::MAX);
         if self.owned.reserve(1).is_err() {

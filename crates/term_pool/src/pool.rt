@@ -133,8 +133,8 @@ impl Pool {
     }
 
     /// Counts one more use of the term with this canonical text, and takes it in if it isn't there. After a fault the pool and the region
-    /// have what they had. A term that is there takes no memory. A count has 48 bits: if the term's is the greatest that these hold, 2^48 -
-    /// 1, the answer is OutOfMemory.
+    /// have what they had. A term that is there takes no memory. A count has 48 bits: if the term's is the greatest that these hold,
+    /// 2^48 - 1, the answer is OutOfMemory.
     pub fn intern_text(&mut self, region: &mut Region, text: &[u8]) -> Result<Slot, PoolFault>
         requires lies { LiesIn self.old region.old }
         requires canonical { IsCanonical text.now }

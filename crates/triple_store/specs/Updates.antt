@@ -21,7 +21,7 @@ use Rattle.triple_store.specs.Room.{room_for}
 use Rattle.triple_store.specs.StoreState.{AreKeysOf, IsSound, KeepsKeys, StoreState, beside, counts_in, is_key, limit_of}
 use Rattle.triple_store.specs.Telling.{TellsIf}
 
--- the triples may come: their terms are fit and short, and no count of owners is at its last value
+-- the triples may come: their terms are fit and short, and no count of owners is saturated
 pub record MayCome (store : StoreState) (triples : List Triple) : Type 0 where
   pub fit : AllByRecursion HasFitAndShortTerms triples
   pub countable : (triple : Triple) → has triple_cmp triple triples ≡ true → count_of (counts_in store) triple < 18446744073709551615

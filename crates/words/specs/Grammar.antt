@@ -1,4 +1,4 @@
--- Which words are a plan: items in any order, each at most once, each with a fit value.
+-- Which arguments are a plan: items in any order, each at most once, each with a fit value.
 use Rattle.std.specs.Prelude.{◌≡◌, ℕ, Bool, true, false, List, [], ◌∷◌, ◌++◌, flat_map, map, Option, None, Some}
 use Rattle.std.specs.Str.{bytes_eq}
 use Rattle.std.specs.List.{AllByRecursion as Each}
@@ -8,7 +8,7 @@ use Rattle.words.specs.Table.{Entry, fits, kind_in, name_of, table_of}
 use Rattle.words.specs.Items.{Item}
 use Rattle.words.specs.Plan.{asked}
 
--- an item as it is written: with a value in one word or in two
+-- an item as it is written: with a value in one argument or in two
 pub record Written : Type 0 where
   pub item : Item
   pub joined : Bool

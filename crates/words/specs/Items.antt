@@ -15,11 +15,11 @@ pub record Item : Type 0 where
 abbrev pub item : List ℕ → Option (List ℕ) → Item
 item name value = record { name = name; value = value }
 
--- the byte that stands between a name and a value in one word
+-- the byte that stands between a name and a value in one argument
 abbrev pub is_equals_sign : ℕ → Bool
 is_equals_sign b = b == 61
 
--- the item that one word is: a name, or a name and a value round the first `=`
+-- the item that one argument is: a name, or a name and a value around the first `=`
 abbrev pub item_of_word : List ℕ → Item
 item_of_word word =
     cond (nat_lt (position_or_len is_equals_sign word) (length word))

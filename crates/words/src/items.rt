@@ -25,7 +25,7 @@ impl<'a> Model for Item<'a> {
     ghost view = { λ i. record { name = i.name.now; value = option_map (λ v. v.now) i.value } };
 }
 
-/// The words after a command, which are items of its table, each at most once and each with a value that fits.
+/// The arguments after a command, which are items of its table, each at most once and each with a value that fits.
 #[derive(Debug, Drop)]
 pub struct Request<'a> {
     command: Command,
@@ -141,7 +141,7 @@ fn next_item<'a>(command: Command, word: &'a str, after: &'a [String]) -> (Item<
     (item_of_word(word), after)
 }
 
-// The item that one word is.
+// The item that one argument is.
 fn item_of_word(word: &str) -> Item<'_>
     ensures { result ≡ item_of_word word.now }
 {

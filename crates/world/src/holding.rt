@@ -57,7 +57,7 @@ impl Holdings {
         if make_room(&mut self.table, id).is_err() {
             return Err(StoreFault::OutOfMemory);
         }
-        // A triple has at most as many owners as there are records, so no count is at its last value.
+        // A triple has at most as many owners as there are records, so no count is saturated.
         let entities = self.table.len();
         prove!(entities < usize::MAX);
         let Ok(added) = self.holders.add(id, how.version) else {

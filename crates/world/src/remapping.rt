@@ -56,7 +56,7 @@ impl Holdings {
         ensures held { HasRoom (meaning_by meaning self.new.by_two) self.new.limit self.new.records }
         ensures holders { AreHolders self.new.by_two self.new.records }
     {
-        // A triple has at most as many owners as there are records, so no count is at its last value.
+        // A triple has at most as many owners as there are records, so no count is saturated.
         let entities = self.table.len();
         prove!(entities < usize::MAX);
         let Ok(triples) = held_texts(self.alloc, &self.store, &self.table, id, version) else {

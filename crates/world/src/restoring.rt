@@ -179,7 +179,7 @@ impl Holdings {
         }
     }
 
-    // Puts back the record of an entity that holds this page; its state may be of another revision, which was fetched in vain.
+    // Puts back the record of an entity that holds this page; its state may be of another revision, whose fetch gave no document.
     fn put_back(&mut self, wanted: Wanted, after: Standing, page: Page) -> Result<(), RestoreFault>
         requires { IsPageOf wanted.version wanted.id wanted.rev page }
         ensures ok { OnOk result (self.new.records ≡ map.insert self.old.records wanted.id (record {

@@ -102,8 +102,8 @@ impl World {
         self.holdings.set_limit(terms);
     }
 
-    /// Sets the horizon, in microseconds: events whose time is further behind the greatest watermark are forgotten, so that
-    /// one that comes again is late again. No delivery was taken yet.
+    /// Sets the horizon, in microseconds: events whose time is further behind the greatest watermark are forgotten, so that one that comes
+    /// again is late again. No delivery was taken yet.
     pub fn set_horizon(&mut self, micros: u64)
         requires { self.old.replay ≡ nothing_delivered_within self.old.replay.buffer.horizon }
         ensures { self.new ≡ record self.old { replay = nothing_delivered_within (Some micros) } }
