@@ -1,4 +1,4 @@
--- One key more in a block, and a full block in two.
+-- One more key in a block, and a full block in two.
 use Rattle.std.proofs.Common.{◌≡◌, ℕ, zero, suc, ◌+◌, ◌-◌, ◌<◌, ◌≤◌, List, [], ◌∷◌, ◌++◌, length, get_or, set, take, drop, refl, sym, ◌∙◌, ap, subst, arith}
 use Rattle.std.specs.List.{insert, remove}
 use Rattle.std.proofs.lemmas.List.{length-take-le, length-drop, take-append-drop, get_or_read}
@@ -43,7 +43,7 @@ module _ {K : Type 0} where
         (omega arith, omega arith),
       )
 
-  -- a block with one key more
+  -- a block with one more key
   pub edits_grown : (bs : List (List K)) (i at : ℕ) (k : K) (b new : List K) → i < length bs → b ≡ get_or bs i b → length (get_or bs i []) < 128 → at ≤ length (get_or bs i []) → new ≡ insert b at k → Edits bs (set bs i new) i (insert (get_or bs i []) at k)
   edits_grown bs i at k b new l read small within put =
       let is = put ∙ ap (λ keys. insert keys at k) (get_or_read bs i b l read []) in

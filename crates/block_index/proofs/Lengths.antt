@@ -19,7 +19,7 @@ use Rattle.block_index.proofs.Standing.{tail_rising}
 -- ---- blocks
 
 module _ {K : Type 0} where
-  -- the keys of one block more
+  -- the keys of one more block
   pub keys_more : (bs : List (List K)) (i : ℕ) → i < length bs → length (keys_of (take i bs)) + length (get_or bs i []) ≡ length (keys_of (take (i + 1) bs))
   keys_more bs i l =
       let one = get_or bs i [] in

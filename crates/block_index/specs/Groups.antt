@@ -39,7 +39,7 @@ module _ {K : Type 0} where
     pub sized : IsSized 64 new_low
     pub rest : (new_high ≡ []) ⊎ IsSized 64 new_high
 
-  -- the group g has room for a block more, and its block b is the block i of all
+  -- the group g has room for one more block, and its block b is the block i of all
   pub record HasRoomAt (groups : List (List (List K))) (g b i : ℕ) : Type 0 where
     pub inside : IsInside groups g b
     pub room : length (slice_index_or groups g []) < 128

@@ -23,7 +23,7 @@ module _ {K : Type 0} (R : K → K → Ordering) (k : K) where
   Below [] = Unit {0}
   Below (x ∷ xs) = (R x k ≡ Less) × Below xs
 
-  -- the list begins with a key that ties with k, where it is found, and else all are above k
+  -- the list begins with a key that ties with k if it is found, and all are above k otherwise
   abbrev pub Begins : Bool → List K → Type 0
   Begins true [] = ⊥
   Begins true (x ∷ xs) = R k x ≡ Equal

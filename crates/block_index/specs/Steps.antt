@@ -5,6 +5,7 @@ use Rattle.std.specs.Prelude.{ℕ, ◌+◌, ◌-◌, ◌^◌, ◌<◌, ◌≤◌
 abbrev pub WithinSteps : ℕ → ℕ → ℕ → ℕ → Type 0
 WithinSteps n more before after = (before ≤ after) × ((d : ℕ) → n < 2 ^ d → after ≤ before + d + more)
 
--- what is left of a binary search over n places that began at `start`: after the steps till now the gap is below what the digits that are left can count
+-- what is left of a binary search over n places that began at `start`: after the steps so far the gap is below 2 to the number of steps
+-- that are left
 abbrev pub Left : ℕ → ℕ → ℕ → ℕ → Type 0
 Left n start now gap = (start ≤ now) × ((d : ℕ) → n < 2 ^ d → (now ≤ start + d) × (gap < 2 ^ (d + start - now)))

@@ -14,7 +14,7 @@ pub const MOST: usize = 128;
 // Where a full block is cut in two.
 const HALF: usize = 64;
 
-// For how many keys more a block without room takes memory at once.
+// How many keys of room a full block gets at once.
 const GROWTH: usize = 16;
 
 /// A run of keys. Contracts see the list of its keys. The first one stands beside their memory too, so that a search
@@ -111,7 +111,7 @@ impl<K: Copy> Block<K> {
         self.first = if at == 0 { self.keys[0] } else { self.first };
     }
 
-    /// The two halves of a full block with one key more.
+    /// The two halves of a full block with one more key.
     pub fn halves(&self, alloc: Global, at: usize, key: K) -> Result<Halves<K>, OutOfMemory>
         requires full { length self.now ≡ 128 }
         requires within { at ≤ 128 }
@@ -131,7 +131,7 @@ impl<K: Copy> Block<K> {
     }
 }
 
-// Sees to room for a key more; after `OutOfMemory` the keys are as they were.
+// Makes room for one more key; after `OutOfMemory` the keys are as they were.
 fn make_room<K>(keys: &mut Vec<K>) -> Result<(), OutOfMemory>
     ensures { keys.new.items ≡ keys.old.items }
 {

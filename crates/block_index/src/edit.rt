@@ -38,8 +38,8 @@ pub fn put_in<K: Copy>(
     groups[room.group].put_in(alloc, room.block, position.at, key)
 }
 
-// Sees to room for a block more in the group of the position: a full group becomes two. The position that comes back is the same among
-// all blocks, which stay as they are.
+// Makes room for one more block in the group of the position: a full group becomes two. All blocks stay as they are; the answer is the same
+// position among them.
 fn make_room<K: Copy>(
     alloc: Global,
     groups: &mut Vec<Group<K>>,
@@ -84,8 +84,8 @@ pub fn take_out<K: Copy>(groups: &mut Vec<Group<K>>, position: Position)
     }
 }
 
-// Sees to enough blocks in a group that may have one too few: it is evened out with a neighbour, and goes where it was the only one and
-// is empty. All blocks stay as they are.
+// Fills a group that may have one block too few from a neighbour, or removes it if it is the only one and empty. All blocks stay as they
+// are.
 fn refill<K: Copy>(groups: &mut Vec<Group<K>>, group: usize)
     requires { IsShortAt groups.old.items group }
     ensures blocks { keys_of groups.new.items ≡ keys_of groups.old.items }

@@ -91,9 +91,9 @@ impl<K: Ranked> BlockIndex<K> {
         locate(&self.groups, &key, steps).found
     }
 
-    /// Puts a key in; false where it was there. After `OutOfMemory`, and where it was there, nothing has
-    /// changed, and else at most two neighbouring blocks in whose place at most two stand. It takes at most as
-    /// many steps as the number of keys has binary digits, and 8 more.
+    /// Puts a key in; false if it was there. After `OutOfMemory`, or if the key was there, nothing has changed. Otherwise at most two
+    /// neighbouring blocks changed, in whose place at most two stand. It takes at most as many steps as the number of keys has binary
+    /// digits, and 8 more.
     pub fn insert<L: Ledger>(&mut self, key: K, steps: &mut Steps<L>) -> Result<bool, OutOfMemory>
         ensures answer { IfOk result (λ added. added ≡ not (has K.cmp key (keys_of self.old))) }
         ensures keys { OnOk result (keys_of self.new ≡ insert_key K.cmp (keys_of self.old) key) }

@@ -15,7 +15,7 @@ use crate::steps::Steps;
 use std::cmp::Ordering;
 use std::sync::ledger::Ledger;
 
-/// A group, a block in it and an index in that: the key's own where it is found, and else the one where it would be put in.
+/// A group, a block in it and an index in that: the key's own if it is found, and the one at which it would be put in otherwise.
 #[derive(Clone, Copy)]
 pub struct Position {
     pub group: usize,
@@ -32,7 +32,7 @@ struct GroupPosition {
     found: bool,
 }
 
-/// The position behind the key where it was found, and else the same.
+/// The position after the key if it was found, and the same otherwise.
 pub fn behind(position: Position) -> Position
     requires { position.at < 18446744073709551615 }
     ensures { result ≡ record position { at = position.at + one_if position.found } }

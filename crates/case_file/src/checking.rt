@@ -4,7 +4,7 @@ use crate::filling::MARKS;
 use crate::sections::{Case, Section};
 use anyhow::{Context, Result, bail};
 
-// The names of the sections that stand as often as there are pages.
+// The names of the sections that a case may have several of: one for each page.
 const PAGES: &[&str] = &["page", "pages to"];
 
 // The names of the other sections that have lines of their own.

@@ -61,9 +61,9 @@ pub enum Turns {
     EachSave,
     // a run for each read of the snapshot that the run goes on from, which fails
     EachLoad,
-    // a run for each front of the page of a revision
+    // a run for each prefix of the page of a revision
     EachFront(u64),
-    // a run for each front of the snapshot that the run goes on from
+    // a run for each prefix of the snapshot that the run goes on from
     EachFrontOfSnapshot,
 }
 
@@ -202,7 +202,7 @@ fn numbers(alloc: Global, words: &str) -> Result<Vec<u64>> {
     Ok(numbers)
 }
 
-/// What the run of a case must leave: without a word of its own it ends well and prints nothing.
+/// What the run of a case must leave: without a word of its own it ends with Ok and prints nothing.
 pub fn expected_of(alloc: Global, case: &Case) -> Result<Expected> {
     let fetches = number(case, "fetches")?.map(|n| n as u64);
     let waiting = number(case, "waiting")?.map(|n| n as u64);

@@ -138,7 +138,7 @@ pub distinct_few : (xs : List Term) → distinct xs ≤ length xs
 distinct_few [] = omega arith
 distinct_few (x ∷ xs) = omega (arith, insert_longer x (sorted term_cmp xs), distinct_few xs)
 
--- covered triples have as few different terms
+-- covered triples have as few distinct terms
 pub distinct_covered : (n : ℕ) (ts : List Triple) → Covered [] n ts → distinct (flat_map terms_of ts) ≤ n
 distinct_covered n ts c =
     let within = fewer term_cmp-total term_cmp-IsAntisymmetric (flat_map terms_of ts) c.others

@@ -16,7 +16,7 @@ pub fn pages_are_json_texts()
 {}
 
 /// The triples that an earlier page of a drill means, in each version of the mapping and as a page of any item at any revision, have at
-/// most 27 different terms, and those that a later page means at most 73. The number of the page's own item has at most 64 bits.
+/// most 27 distinct terms, and those that a later page means at most 73. The number of the page's own item has at most 64 bits.
 pub fn pages_have_few_terms()
     ensures earlier { (version : MappingVersion) (i rev j : ℕ) → j < 2 ^ 64 → distinct (flat_map terms_of (meaning version (item i) rev (earlier_page j))) ≤ 27 }
     ensures later { (version : MappingVersion) (i rev j : ℕ) → j < 2 ^ 64 → distinct (flat_map terms_of (meaning version (item i) rev (later_page j))) ≤ 73 }

@@ -30,7 +30,7 @@ no_event ds d c same_accepted same_late counted = record {
   late = counted.late ∙ ap length (sym same_late);
 }
 
--- how many events pass a test with one event more
+-- how many events pass a test with one more event
 passing_more : (test : List Delivery → Event → Bool) (passing : List Delivery → List Event) (ds : List Delivery) (e : Event) (passes : Bool) (n : ℕ)
     → passing (ds ++ Told e ∷ []) ≡ passing ds ++ cond (test ds e) (e ∷ []) [] → test ds e ≡ passes → n ≡ length (passing ds)
     → n + cond passes 1 0 ≡ length (passing (ds ++ Told e ∷ []))

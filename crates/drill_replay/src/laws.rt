@@ -14,7 +14,7 @@ pub fn drill_is_by_the_first_version()
     ensures part { (size : ℕ) (before after : List Delivery) → drill size ≡ before ++ after → version_in_force before ≡ MappingVersion.One }
 {}
 
-/// The pages that the deliveries of a drill bring have together no more different terms than its world has room for, 20,000,000.
+/// The pages that the deliveries of a drill bring have together no more distinct terms than its world's limit, 20,000,000.
 pub fn drill_has_room()
     ensures { (size : ℕ) → IsSize size → distinct (terms_there (contents_of size) (drill size)) ≤ 20_000_000 }
 {}

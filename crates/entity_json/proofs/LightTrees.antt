@@ -39,7 +39,7 @@ optional_text-length name t (Some s) h = text-length (member_of name t) s h
 pub member-light : (name : List ℕ) (t : Tree) → weight_there (member_of name t) ≤ weight t
 member-light name t = let whole = names_weight (name ∷ []) refl t in omega (arith, whole)
 
--- the value of an entry weighs n at most
+-- the value of an entry has the weight n at most
 abbrev pub Light : {K : Type 0} → ℕ → K × Tree → Type 0
 Light n p = weight p.1 ≤ n
 

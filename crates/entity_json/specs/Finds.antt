@@ -1,4 +1,4 @@
--- What a reader of a part answers: the part, Shape where there is none, or want of memory at any time.
+-- What a reader of a part answers: the part, Shape if there is none, or OutOfMemory at any time.
 use Rattle.std.specs.Prelude.{◌≡◌, Option, Some, None, Result, Ok, Err}
 use Rattle.entity_json.specs.declared.part.PartFault.{PartFault}
 use Rattle.entity_json.specs.declared.part.PartFault.TheVariants.{Shape, OutOfMemory}

@@ -29,9 +29,8 @@ fn own_document<'a>(id: EntityId, page: Page<'a>) -> Result<Document<'a>, Docume
 /// The document that the bytes are of the entity `id`, after Wikibase's JSON data model. Its texts are parts of the bytes,
 /// but for those that the page writes with escapes.
 ///
-/// What isn't one is refused by the first cause that it has: `Large` over 8,388,608 bytes, `Deep` and `NotJson` as
-/// the JSON reader says, `Shape` where the value is no page of an item, a property or a redirect, and `Foreign` where
-/// the page is that of another entity.
+/// What isn't one is refused by the first cause that it has: `Large` over 8,388,608 bytes, `Deep` and `NotJson` as the JSON reader says,
+/// `Shape` if the value is no page of an item, a property, a lexeme or a redirect, and `Foreign` if the page is that of another entity.
 pub fn document<'a>(
     alloc: Global,
     id: EntityId,

@@ -47,7 +47,7 @@ fn key_of<'b>(member: &Member<'b, '_>) -> &'b str
     member.key
 }
 
-// Of each member, whether its key doesn't come again. The flag of the first member is at the end, where it is taken first.
+// For each member, whether it is the last one of its key. The flags are in reverse order, so that they can be popped.
 pub fn last_flags(alloc: Global, members: &[Member<'_, '_>]) -> Result<Vec<bool>, OutOfMemory>
     ensures { IfOk result (λ flags. reverse flags.items ≡ lasts (pairs_of (map member_view members.now))) }
 {

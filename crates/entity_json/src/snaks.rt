@@ -72,7 +72,7 @@ fn snak_content<'a>(alloc: Global, json: &Json<'_, 'a>) -> Result<Content<'a>, P
     Err(PartFault::Shape)
 }
 
-// A place as a snak has it. Where it doesn't fit there, no memory would have held the list.
+// An index in the width that a snak has. A list with greater indices wouldn't fit into memory.
 fn small_place(place: usize) -> Result<u32, PartFault>
     ensures { Finds result (Some place) }
 {

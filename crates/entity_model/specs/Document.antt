@@ -33,7 +33,8 @@ IsSmall (AnEntity entity) = IsSmallEntity entity
 IsSmall (Redirect target) = Unit {0}
 IsSmall (ALexeme lexeme) = IsSmallLexeme lexeme
 
--- the entity has what its kind has and no other does: a property a datatype, and an item perhaps links. A lexeme is none
+-- the entity has what its kind has and no other does: a property a datatype, and an item perhaps links. A lexeme isn't an entity of this
+-- type
 abbrev pub HasPartsOf : IdKind → Entity → Type 0
 HasPartsOf P entity = (is_some entity.datatype ≡ true) × (entity.links ≡ [])
 HasPartsOf Q entity = entity.datatype ≡ None

@@ -118,7 +118,7 @@ fn munged_texts(
     munge_into(setting, id, rev, document, texts)
 }
 
-// The sink with what it keeps of what is left of each triple of the dump.
+// The sink after the walk, with what munging leaves of each triple of the dump.
 fn munge_into<S: TripleSink + Drop>(
     setting: Setting,
     id: EntityId,

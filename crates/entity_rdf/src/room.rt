@@ -7,10 +7,10 @@ use entity_model::{Document, Entity, Lexeme, Part};
 // What is given at most, however large the page is.
 const MOST: usize = 1_048_576;
 
-// What the triples of a page come to that are there whatever it says.
+// The bytes of the triples that every page has.
 const PAGE: usize = 1024;
 
-// What the triples of a statement, of a site link, of a form or sense without texts, and of a text come to, mostly.
+// The usual bytes of the triples of a statement, of a site link, of a form or sense without texts, and of a text.
 const STATEMENT: usize = 2048;
 
 const LINK: usize = 768;
@@ -19,8 +19,8 @@ const PART: usize = 512;
 
 const TEXT: usize = 128;
 
-/// A guess at the bytes of the texts of what munging leaves of a document's triples, and no more than 1 MiB. So the
-/// buffer of most pages grows once or never, and a page that is far from the guess takes little that it doesn't need.
+/// A guess at the bytes of the texts of what munging leaves of a document's triples, and no more than 1 MiB. So the buffer of most pages
+/// grows once or never, and a bad guess wastes little.
 pub(crate) fn room(document: &Document) -> usize
     ensures { result ≤ 1048576 }
 {

@@ -22,8 +22,8 @@ use std::hash::RandomState;
 use std::marker::Model;
 use std::mem;
 
-/// The records of entities, by their ids, whose hashes are keyed, since strangers choose the ids. Contracts
-/// see the map from ids to records, the ids in the order of their places, and the ids that only have room.
+/// The records of entities, by their ids, whose hashes are keyed, since strangers choose the ids. Contracts see the map from ids to
+/// records, the ids by index, and the ids for which room is kept.
 #[derive(Drop)]
 pub struct Table<H> {
     records: IndexMap<EntityId, Record<H>, RandomState>,

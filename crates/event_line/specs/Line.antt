@@ -76,7 +76,7 @@ whole_kind json DeleteName = Some Delete
 whole_kind json UndeleteName = Some Undelete
 whole_kind json Reconcile = option_and_then mode_named (text_at (codes "mode") json)
 
--- what comes next where a value is there, and else the cause
+-- what comes next if a value is there, and the cause otherwise
 abbrev pub else_cause : {A B : Type 0} → LineCause → Option A → (A → Result B LineCause) → Result B LineCause
 else_cause cause None next = Err cause
 else_cause cause (Some a) next = next a

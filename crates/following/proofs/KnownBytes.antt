@@ -98,7 +98,7 @@ same_room limit reader read max is = ap (λ n. n - reader.consumed) max ∙ ap (
 pub too_long : (bytes : List ℕ) (u : List ℕ) (max consumed : ℕ) → IsTooLong (max - consumed) longest_line u → consumed ≤ max → consumed + length u ≡ length bytes → max < length bytes
 too_long bytes u max consumed over within total = omega (arith, over.more)
 
--- one line more behind the others
+-- one more line after the others
 pub lines_grow : (start known next : Option (List (List ℕ))) (done : List (List ℕ)) (line : List ℕ) →
     start ≡ option_map (λ (ls : List (List ℕ)). done ++ ls) known → known ≡ before_lines line next → start ≡ option_map (λ (ls : List (List ℕ)). (done ++ line ∷ []) ++ ls) next
 lines_grow start known None done line are first = rw (are, first) refl

@@ -25,7 +25,7 @@ replica_line applied = codes "# replica " ++ decimal applied ++ codes "\n"
 abbrev pub replica_text : Bool → ℕ → List Triple → List ℕ
 replica_text export applied triples = replica_line applied ++ cond export (export_section triples) []
 
--- for how many different terms a follower has room
+-- for how many distinct terms a follower has room
 abbrev pub follower_limit : ℕ
 follower_limit = 20000000
 
@@ -46,7 +46,7 @@ pub record HasFollowed (choices : FollowChoices) (items : List PatchRecord) (app
   pub greatest : IsGreatest items applied
   pub roomed : HadRoom follower_limit items applied
 
--- a follower ended well: the triples after these records were printed, if they were asked for
+-- a follower ended with Ok: the triples after these records were printed, if they were asked for
 pub record Ending (choices : FollowChoices) (before now : FollowMoment) : Type 0 where
   pub items : List PatchRecord
   pub applied : ℕ

@@ -79,7 +79,7 @@ pub record HasNoRoomForRecord (limit room : ℕ) (before now : Input) : Type 0 w
   pub full : IsRecordOverfull room (taken.items ++ item ∷ [])
   pub first : AreFirstLines limit before.left now.left (taken.done ++ line ∷ [])
 
--- why the taking of lines stopped, where an input may have so many bytes, and a store so many different terms
+-- why the taking of lines stopped, if an input may have so many bytes, and a store so many distinct terms
 abbrev pub TakingStopped : FollowStop → ℕ → ℕ → Input → Input → Type 0
 TakingStopped (BadLine number cause) limit room before now = StandsAtLine cause limit room number before.left
 TakingStopped ReadFault limit room before now = IsUnread limit room before now

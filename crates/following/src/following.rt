@@ -14,7 +14,7 @@ use std::hash::RandomState;
 use words::FollowOptions;
 use wq_io::{Sink, Source};
 
-/// For how many different terms a follower has room.
+/// For how many distinct terms a follower has room.
 const TERMS_LIMIT: u32 = 20_000_000;
 
 /// Reads records from `events`, as `replica::PatchReader` does; each is received as soon as its last line was read, and then all that

@@ -1,5 +1,5 @@
-// What follows from the contract of a follower: when it ends well, and at which inputs it stops for which cause. Each law is the contract
-// of a function that does nothing.
+// What follows from the contract of a follower: when it ends with Ok, and at which inputs it stops for which cause. Each law is the
+// contract of a function that does nothing.
 
 ghost use Rattle.std.specs.Prelude.{◌≡◌, ◌≤◌, ◌⊎◌, ℕ, List, length, Some, None};
 ghost use Rattle.wq_io.specs.Streams.{Rose};
@@ -14,8 +14,8 @@ ghost use Rattle.following.specs.Reading.{AreRecords};
 ghost use Rattle.following.specs.Stop.{HasNoRoomForRecord, StandsAtLine};
 ghost use Rattle.following.specs.Taking.{HadRoom};
 
-/// A follower ends well, or for want of memory, where the lines of its input are those of records, the input is within the limit, there is
-/// room for each record that is due, and no read and no write fails.
+/// A follower ends with Ok or OutOfMemory if its input has the lines of records and is within the limit, each due record has room, and no
+/// read or write fails.
 pub fn good_records_are_followed()
     ensures { (choices : FollowChoices) (before now : FollowMoment) (stop : FollowStop) (bytes : List ℕ) (items : List PatchRecord) (applied : ℕ) →
         StoppedFollowing stop choices before now → before.input.left ≡ Some bytes → AreRecords (follow_max_bytes_of choices) bytes items None →
@@ -23,8 +23,8 @@ pub fn good_records_are_followed()
         (Rose before.input.faults now.input.faults → ⊥) → (Rose before.output.faults now.output.faults → ⊥) → stop ≡ FollowStop.OutOfMemory }
 {}
 
-/// Where a line of the input is refused behind lines of records that had room, the input is within the limit and no read fails, a follower
-/// stops for this cause at this line, or for want of memory. So an input is refused at one line, for one cause.
+/// If a line of the input is refused after lines of records that had room, the input is within the limit and no read fails, a follower
+/// stops at this line for this cause, or with OutOfMemory. So an input is refused at one line, for one cause.
 pub fn refused_lines_are_named()
     ensures { (choices : FollowChoices) (before now : FollowMoment) (bytes : List ℕ) (cause : RecordCause) (number : ℕ) →
         before.input.left ≡ Some bytes → length bytes ≤ follow_max_bytes_of choices →
@@ -32,8 +32,8 @@ pub fn refused_lines_are_named()
         (Ending choices before now → ⊥) × ((stop : FollowStop) → StoppedFollowing stop choices before now → (stop ≡ FollowStop.BadLine number cause) ⊎ (stop ≡ FollowStop.OutOfMemory)) }
 {}
 
-/// Where a line of the input ends a record for which there is no room, or makes one due that waited and for which there is none, the input
-/// is within the limit and no read fails, a follower stops for want of room, or of memory.
+/// If a line of the input ends a record for which there is no room, or makes one due that waited and for which there is none, the input is
+/// within the limit and no read fails, a follower stops with StoreFull or OutOfMemory.
 pub fn records_without_room_are_named()
     ensures { (choices : FollowChoices) (before now : FollowMoment) (bytes : List ℕ) (there : Input) →
         before.input.left ≡ Some bytes → length bytes ≤ follow_max_bytes_of choices →

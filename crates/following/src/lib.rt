@@ -1,7 +1,7 @@
 //! Follows a producer's triples by the records of their changes, which are read from an input.
 //!
-//! `follow` is the whole command but for its words: `following` has it. `taking` takes the lines of the input, and the records that they
-//! are; `printing` prints what a follower has then; `stop` is why it stopped. `laws` says when it doesn't stop, and at which inputs it
+//! `follow` is the whole command but for its arguments: `following` has it. `taking` takes the lines of the input, and the records that
+//! they are; `printing` prints what a follower has then; `stop` is why it stopped. `laws` says when it doesn't stop, and at which inputs it
 //! stops for which cause.
 #![tactic(auto)]
 

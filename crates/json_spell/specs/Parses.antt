@@ -1,4 +1,4 @@
--- What a reader of a part answers: what is there at the front of the bytes, NotJson where nothing is, or at any time Deep or want of memory.
+-- What a reader of a part answers: what is there at the front of the bytes, NotJson if nothing is, or Deep or OutOfMemory at any time.
 use Rattle.std.specs.Prelude.{Option, Some, None, Result, Ok, Err, ◌≡◌}
 use Rattle.json_spell.specs.declared.fault.JsonFault.{JsonFault}
 use Rattle.json_spell.specs.declared.fault.JsonFault.TheVariants.{Deep, NotJson, OutOfMemory}

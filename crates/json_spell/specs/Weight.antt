@@ -1,4 +1,4 @@
--- How many bytes the texts of a tree have.
+-- The weight of a tree: how many bytes its strings, numbers and names have.
 use Rattle.std.specs.Prelude.{ℕ, ◌+◌, length, Bool, true, not, ◌&&◌, List, [], ◌∷◌, Option, Some, None}
 use Rattle.std.specs.List.{list_any}
 use Rattle.std.specs.Str.{bytes_eq}
@@ -22,7 +22,7 @@ abbrev mutual
   members_weight no_pairs = 0
   members_weight (pair k t ps) = length k + (weight t + members_weight ps)
 
--- the weight of a value, where it is there
+-- the weight of a value, if it is there
 abbrev pub weight_there : Option Tree → ℕ
 weight_there None = 0
 weight_there (Some t) = weight t

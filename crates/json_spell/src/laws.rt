@@ -20,7 +20,7 @@ pub fn weighs_no_more_than_text()
     ensures { (bytes : List ℕ) (t : Tree) → Reads bytes t → weight t ≤ length bytes }
 {}
 
-/// The members of a value with different names weigh together no more than the value.
+/// Members of a value with different names have together no more bytes than the value.
 #[tactic(auto, using(crate::proofs::Names::names_weight))]
 pub fn members_weigh_no_more_than_value()
     ensures { (names : List (List ℕ)) (t : Tree) → are_distinct names ≡ true → weights_at names t ≤ weight t }

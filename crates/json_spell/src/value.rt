@@ -60,7 +60,7 @@ fn read_other_name<'b, 'a: 'b>(
     Ok((content.name(), skip_ws(rest)))
 }
 
-// A name with white space around it. What only a few want has a function of its own here and below, which is inlined.
+// A name with white space around it. Rare cases have functions of their own, here and below, which are inlined.
 #[inline(always)]
 fn read_name<'b, 'a: 'b>(arena: &'b Bump, bytes: &'a [u8]) -> Result<(&'b str, &'a [u8]), JsonFault>
     ensures read { Parses (λ p. (p.0.now, p.1.now)) result (spaced name_at bytes.now) }

@@ -10,7 +10,7 @@ use rdf_term::OutOfMemory;
 use rdf_vocabulary::Prefix;
 use triple_sink::{Setting, TermRef, TripleSink};
 
-/// Emits what is said of the dataset of the revision's page. A lexeme has no site links, and their number isn't said.
+/// Emits what is said of the dataset of the revision's page. A lexeme has no site links, so no count of them.
 pub(crate) fn emit_lexeme_page<S: TripleSink>(
     setting: Setting,
     id: EntityId,

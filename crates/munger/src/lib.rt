@@ -1,5 +1,5 @@
-//! Munging: what of the dump's triples of a page the store keeps, and under which subject, after the data
-//! differences that the Wikidata Query Service documents for its Streaming Updater.
+//! Munging: which triples of a page's dump the store keeps, and under which subject, after the data differences that the Wikidata Query
+//! Service documents for its Streaming Updater.
 //!
 //! `iris` compares borrowed terms with IRIs, `verdict` judges a triple, and `naming` gives blank nodes IRIs. `sink`
 //! has the sink that munges what it hands on, and `munging` munges a set with it.

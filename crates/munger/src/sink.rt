@@ -88,7 +88,7 @@ fn emit_named<S: TripleSink>(
     out.emit(alloc, subject, predicate, object)
 }
 
-// Hands on the triple with its blank nodes named. It is apart, so that a triple without one pays for no copy of a term.
+// Hands on the triple with its blank nodes named. This is a function of its own, so that a triple without one copies no term.
 #[inline(never)]
 fn emit_renamed<S: TripleSink>(
     alloc: Global,

@@ -152,7 +152,7 @@ fn moves(word: Predicate) -> bool
     )
 }
 
-// Whether the triple has a type that isn't told.
+// Whether the triple has a type that is dropped.
 fn has_untold_type(subject: &TermRef<'_>, predicate: &TermRef<'_>, object: &TermRef<'_>) -> bool
     ensures { result ≡ has_untold_type (meant_triple subject.now predicate.now object.now) }
 {
@@ -178,7 +178,7 @@ fn tells_type(word: Predicate) -> bool
     matches!(word, Predicate::RdfType)
 }
 
-// Whether the term is a type that isn't told.
+// Whether the term is a type that is dropped.
 fn is_untold(class: &TermRef<'_>) -> bool
     ensures { result ≡ is_untold (meant class.now) }
 {
@@ -192,7 +192,7 @@ fn is_untold(class: &TermRef<'_>) -> bool
     }
 }
 
-// Whether the word is a type that isn't told.
+// Whether the word is a type that is dropped.
 #[tactic(auto, unfolding(rdf_vocabulary::specs::Resource::resource_text))]
 fn is_untold_word(word: Resource) -> bool
     ensures { result ≡ is_untold (resource_term word) }

@@ -58,7 +58,7 @@ chain_applied version replies p (e ∷ es) = (between (meaning version) (meaning
 
 -- ---- remappings
 
--- the entities that hold by version Two once these were mapped anew
+-- the entities that hold by version Two once these were remapped
 abbrev by_two_then : MappingVersion → List EntityId → List EntityId → List EntityId
 by_two_then version by_two xs = fold (λ others x. with_version version x others) by_two xs
 

@@ -15,7 +15,7 @@ use Rattle.patch_stream.proofs.Texts.{differs}
 
 -- ---- the steps that change something
 
--- they hang together as all do
+-- the steps that change something: each begins where the last one ended
 pub chain_of_changes : (first last : List Triple) (steps : List Step) → IsChain first steps last → IsChain first (filter is_change steps) last
 chain_of_changes first last [] chain = chain
 chain_of_changes first last (s ∷ steps) chain = by (is_change s) refl (chain_of_changes s.after last steps chain.1)

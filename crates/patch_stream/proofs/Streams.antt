@@ -1,4 +1,4 @@
--- What one step more adds to a stream.
+-- What one more step adds to a stream.
 use Rattle.std.proofs.Common.{◌≡◌, refl, sym, ◌∙◌, ap, ℕ, ◌+◌, Bool, true, false, cond, List, [], ◌∷◌, ◌++◌, length, filter, flat_map, Option, append-nil, length-append, arith}
 use Rattle.std.proofs.lemmas.List.Elements.{filter-append}
 use Rattle.std.proofs.lemmas.Grind.{flat_map-append}
@@ -15,7 +15,7 @@ numbered-append n (x ∷ xs) ys =
     let next : (n + 1) + length xs ≡ n + length (x ∷ xs) = omega arith in
     ap (λ l. record_of_step n x ∷ l) (numbered-append (n + 1) xs ys ∙ ap (λ m. numbered_from (n + 1) xs ++ numbered_from m ys) next)
 
--- the steps that change something, with one step more
+-- the steps that change something, with one more step
 changing-push : (steps : List Step) (s : Step) → filter is_change (steps ++ s ∷ []) ≡ filter is_change steps ++ cond (is_change s) (s ∷ []) []
 changing-push steps s = filter-append is_change steps (s ∷ [])
 

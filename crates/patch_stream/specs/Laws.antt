@@ -1,4 +1,4 @@
--- How the steps of a replay hang together, and records that are those of its stream.
+-- That each step of a replay begins where the last one ended, and records that are those of its stream.
 use Rattle.std.specs.Prelude.{◌≡◌, ℕ, ◌<◌, ◌≤◌, ◌^◌, List, [], ◌∷◌, length, flat_map, IsSome}
 use Rattle.std.specs.List.{AllByRecursion}
 use Rattle.std.specs.Str.{IsUtf8}

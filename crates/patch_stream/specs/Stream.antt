@@ -44,8 +44,7 @@ steps_applied version replies p (e ∷ es) =
 abbrev pub steps_due : MappingVersion → Replies → ReplayState → List Step
 steps_due version replies w = steps_applied version replies w.played (due_now w.buffer)
 
--- the pages of these entities are mapped anew by this version, one after the other, where the other list names those that are by version
--- Two
+-- the pages of these entities are remapped by this version, one after the other; the other list names those that are by version Two
 abbrev pub steps_remapped : MappingVersion → Records → List EntityId → List EntityId → List Step
 steps_remapped version records by_two [] = []
 steps_remapped version records by_two (x ∷ xs) =

@@ -41,8 +41,8 @@ pub fn a_replica_of_a_stream_has_its_union()
         state.triples ≡ union triple_cmp (meaning (version_in_force ds)) (play_to_end h replies ds).records }
 {}
 
-/// A replay of n deliveries makes at most n × n + n steps: each event is applied once at most, and each change of the mapping maps no more
-/// pages anew than events were applied.
+/// A replay of n deliveries makes at most n × n + n steps: each event is applied once at most, and each change of the mapping remaps no
+/// more pages than events were applied.
 pub fn steps_of_a_play_are_few()
     ensures { (h : Option ℕ) (replies : Replies) (ds : List Delivery) → length (steps_to_end h replies ds) ≤ length ds * length ds + length ds }
 {}

@@ -1,8 +1,8 @@
 //! The stream of a replay: a record for each step that changes which triples are stored.
 //!
-//! `specs/Stream.antt` says what the steps of a replay are, and which records they give. `printing` prints the record of a step, and
-//! `laws` has what holds of the definitions themselves: how the steps hang together, how many there are, and what a replica has that
-//! received their records.
+//! `specs/Stream.antt` says what the steps of a replay are, and which records they give. `printing` prints the record of a step, and `laws`
+//! has what holds of the definitions themselves: that each step begins where the last one ended, how many there are, and what a replica has
+//! that received their records.
 #![tactic(auto)]
 
 mod laws;

@@ -15,13 +15,13 @@ use text_output::{Unwritten, write_all};
 use triple_store::Change;
 use wq_io::Sink;
 
-/// Prints the record of a step whose change is told, where it changed what is stored: a line `# patch NUMBER +ADDS -REMOVES`, the lines of
-/// the triples that came, and those of the triples that are gone. Each line with its line feed is handed to the sink by itself. So many
-/// records were told before, from 1 on; says how many were told then. None is told of a step that left the store alone.
+/// Prints the record of a step whose change is told, if it changed what is stored: a line `# patch NUMBER +ADDS -REMOVES`, the lines of the
+/// triples that came, and those of the triples that are gone. Each line with its line feed is handed to the sink by itself. The arguments
+/// say how many records were written before; the answer says how many are written now. None is written for a step that left the store
+/// alone.
 ///
-/// # Errors
-/// The output could not be written, or memory was refused: then a prefix of the record was written, and nothing else. Where the next number
-/// doesn't fit 64 bits, it is said that memory was refused, and nothing is written.
+/// # Errors The output could not be written, or memory was refused: then a prefix of the record was written, and nothing else. If the next
+/// number doesn't fit 64 bits, the answer is OutOfMemory, and nothing is written.
 pub fn print_step<K: Sink>(
     alloc: Global,
     told: u64,

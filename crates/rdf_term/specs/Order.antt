@@ -8,7 +8,7 @@ use Rattle.rdf_term.specs.declared.term.Term.{Term}
 use Rattle.rdf_term.specs.declared.triple.Triple.{Triple}
 use Rattle.rdf_term.specs.Text.{term_text}
 
--- the first different byte decides, and else the length
+-- the first byte that differs decides, and the length if there is none
 abbrev pub bytes_cmp : List ℕ → List ℕ → Ordering
 bytes_cmp = slice_cmp nat_cmp
 

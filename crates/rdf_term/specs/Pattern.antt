@@ -6,7 +6,7 @@ use Rattle.rdf_term.specs.declared.triple.Triple.{Triple}
 use Rattle.rdf_term.specs.declared.pattern.Pattern.{Pattern}
 use Rattle.rdf_term.specs.Order.{term_cmp}
 
--- a place that is free agrees with every term, and else the terms are equal
+-- a free place agrees with every term, and at another place the terms are equal
 abbrev pub agrees_at : Option Term → Term → Bool
 agrees_at None term = true
 agrees_at (Some wanted) term = eq_by_cmp term_cmp wanted term

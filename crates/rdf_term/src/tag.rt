@@ -9,8 +9,8 @@ use crate::term::Term;
 use base::{OutOfMemory, Text};
 use std::alloc::Global;
 
-/// The literal of a text in a language: `Lang` where the tag is in the grammar of N-Triples,
-/// `[a-zA-Z]+(-[a-zA-Z0-9]+)*`, and `Plain` else. The tag keeps its case.
+/// The literal of a text in a language: `Lang` if the tag is in the grammar of N-Triples, `[a-zA-Z]+(-[a-zA-Z0-9]+)*`, and `Plain`
+/// otherwise. The tag keeps its case.
 pub fn tagged(alloc: Global, text: &str, tag: &str) -> Result<Term, OutOfMemory>
     ensures value { IfOk result (λ term. term ≡ tagged_of text.now tag.now) }
     ensures fit { IfOk result (λ term. is_fit term ≡ true) }

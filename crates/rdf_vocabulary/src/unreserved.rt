@@ -6,7 +6,7 @@ ghost use Rattle.rdf_vocabulary.specs.Unreserved.{escaped_name};
 use percent_encoding::{AsciiSet, NON_ALPHANUMERIC, ascii_set, utf8_percent_encode};
 use rdf_term::OutOfMemory;
 
-/// What is escaped: all that RFC 3986 has not as unreserved (section 2.3).
+/// The bytes to escape: all but the unreserved characters of RFC 3986 (section 2.3).
 const RESERVED: AsciiSet = ascii_set!(
     NON_ALPHANUMERIC
         .remove(b'-')
@@ -15,8 +15,8 @@ const RESERVED: AsciiSet = ascii_set!(
         .remove(b'~')
 );
 
-/// Appends a name with each byte percent-encoded, by upper-case digits, that is no ASCII letter, no
-/// digit and none of `-._~`. After `OutOfMemory` the text is as it was.
+/// Appends a name, in which every byte but ASCII letters, digits and `-._~` is percent-encoded with upper-case digits. After `OutOfMemory`
+/// the text is as it was.
 pub fn push_escaped_name(name: &str, iri: &mut String) -> Result<(), OutOfMemory>
     ensures ok { OnOk result (string_bytes iri.new ≡ string_bytes iri.old ++ escaped_name name.now) }
     ensures err { OnErr result (string_bytes iri.new ≡ string_bytes iri.old) }

@@ -30,7 +30,7 @@ nothing_taken_within h = record nothing_taken { horizon = h }
 abbrev pub floor_of : Buffered → Option ℤ
 floor_of b = floor b.horizon b.mark
 
--- what an event is at its delivery: a repeat where an equal one is kept, late where the mark reached it, else new
+-- what an event is at its delivery: a repeat if an equal one is kept, late if the mark reached it, and new otherwise
 abbrev pub answer_to : Buffered → Event → Taken
 answer_to b e = cond (has event_cmp e b.kept) Repeat (cond (reached b.mark e.time) Late New)
 

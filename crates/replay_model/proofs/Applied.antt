@@ -57,7 +57,7 @@ applied-mark w m q h =
 pub applied-end : (w : ReplayState) (q : Event) → is_applied w q ≡ true → is_applied (after_end w) q ≡ true
 applied-end w q h = and_right (is_due w.buffer.closed w.buffer.mark q) _ h
 
--- ---- one event more is applied
+-- ---- one more event is applied
 
 -- a list has the first that passes a test, and what is left without it
 pub has-first_or_left : (p : Event → Bool) (q x : Event) (xs : List Event) → find p xs ≡ Some x → has event_cmp q xs ≡ (eq_by_cmp event_cmp q x || has event_cmp q (remove_key p xs))

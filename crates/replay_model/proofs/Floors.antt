@@ -45,7 +45,7 @@ has-kept f q es =
     has-filter event_cmp event_cmp_same (λ (e : Event). not (is_below f e.time)) q (in_order es)
     ∙ ap (λ b. not (is_below f q.time) && b) (has-sorted event_cmp_total q es)
 
--- one event more is kept, where it isn't below the floor
+-- one more event is kept, if it isn't below the floor
 pub kept-push : (f : Option ℤ) (es : List Event) (e : Event) → unforgotten f (in_order (es ++ e ∷ [])) ≡ cond (is_below f e.time) (unforgotten f (in_order es)) (insert_key event_cmp (unforgotten f (in_order es)) e)
 kept-push f es e =
     sym (sorted-filter event_cmp_total event_cmp_same (λ (x : Event). not (is_below f x.time)) (es ++ e ∷ []))

@@ -105,7 +105,7 @@ has-taken q (x ∷ xs) by_two rising =
     by false true = refl
     by false false = refl
 
--- where those that hold by version Two hold a document each, all that hold one do by the version that all are mapped by anew
+-- if those that hold by version Two hold a document each, all that hold one do by the version that all are remapped by
 pub by_two-remapped : (version : MappingVersion) (records : Records) (by_two : List EntityId) → IsRising entity_cmp by_two
     → ((q : EntityId) → has entity_cmp q by_two ≡ true → is_holder records q ≡ true) → by_two_remapped version records by_two ≡ all_by version records
 by_two-remapped One records by_two rising holding =

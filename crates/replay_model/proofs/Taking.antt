@@ -27,7 +27,7 @@ AreKept f ks es = (q : Event) → has event_cmp q ks ≡ (not (is_below f q.time
 as_made : (f : Option ℤ) (ks es : List Event) → AreKept f ks es → (q : Event) → has event_cmp q ks ≡ has event_cmp q (unforgotten f (in_order es))
 as_made f ks es kept q = kept q ∙ sym (has-kept f q es)
 
--- one event more, which is kept where it isn't below the floor
+-- one more event, which is kept if it isn't below the floor
 kept-one_more : (f : Option ℤ) (ks es : List Event) (e : Event) (low : Bool) → is_below f e.time ≡ low → AreKept f ks es → AreKept f (cond low ks (with_event ks e)) (es ++ e ∷ [])
 kept-one_more f ks es e low is kept q =
     by low

@@ -29,11 +29,11 @@ late_events side = filter_map late_event side
 abbrev pub is_later : Event → Event → Bool
 is_later e r = is_reconciliation r.kind && is_lt (event_cmp e r)
 
--- whether the event r is such a reconciliation of the entity of e
+-- whether the event r is a reconciliation of the entity of e, later than e in the order of events
 abbrev pub settles : Event → Event → Bool
 settles e r = is_of e.entity r && is_later e r
 
--- whether a late event is open: none of the due events is such a reconciliation
+-- whether a late event is open: none of the due events is a reconciliation of its entity, later than it in the order of events
 abbrev pub is_open_late : List Event → Event → Bool
 is_open_late due e = not (list_any (settles e) due)
 

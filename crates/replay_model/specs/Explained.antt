@@ -34,9 +34,7 @@ is_fetching w e = wants (state_after (record_of w.played.records e.entity).state
 abbrev pub IsHonest : Judgement → (ℕ → Option Bytes) → Event → ℕ → Result Bytes Cause → Type 0
 IsHonest unfit contents e r reply = (reply ≡ Err Failed) ⊎ (reply ≡ reply_there unfit e.entity (contents r))
 
--- the state leads, when all due events are applied, to that of a play with some replies, and the fetches made so far with those still
--- to be made are the play's; where the contents are told, the replies so far are those of the contents and of the failed events that
--- the side output names
+-- the state leads, when all due events are applied, to that of a play with some replies
 pub record Explained (unfit : Judgement) (known : Option (ℕ → Option Bytes)) (play_of : Replies → ReplayState) (fetches_of : Replies → List Fetch) (made : ℕ) (w : ReplayState) : Type 0 where
   -- the replies
   pub replies : Replies
@@ -44,13 +42,14 @@ pub record Explained (unfit : Judgement) (known : Option (ℕ → Option Bytes))
   pub rises : IsRising event_cmp w.buffer.waiting
   -- the state leads to the play's, whatever is replied to events that wait or come later
   pub leads : (others : Replies) → AgreeOnApplied w replies others → after_due others w ≡ play_of others
+  -- the fetches made so far, with those still to be made, are as many as the play's
   pub counts : (others : Replies) → AgreeOnApplied w replies others → made + length (fetches_due others w) ≡ length (fetches_of others)
-  -- the replies are the source's
+  -- if the contents are told, the replies are those of the contents and of the failed events that the side output names
   pub honest : (contents : ℕ → Option Bytes) → known ≡ Some contents → (e : Event) (r : ℕ) →
       replies e r ≡ source_replies unfit contents (failed_events w.played.side) e r
   -- each reply that gives bytes gives a document
   pub fit : (e : Event) (r : ℕ) → GivesDocument unfit e.entity (replies e r)
-  -- fetches failed for such events alone
+  -- fetches failed only for applied events
   pub failed_applied : (e : Event) → has event_cmp e (failed_events w.played.side) ≡ true → is_applied w e ≡ true
 
 -- explained by the play of a list of deliveries with this horizon

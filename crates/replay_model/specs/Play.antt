@@ -37,7 +37,7 @@ abbrev pub held_after_fetch : ℕ → Result Bytes Cause → Option (Held Bytes)
 held_after_fetch r (Ok bytes) held = Some (record { revision = r; content = bytes })
 held_after_fetch r (Err cause) held = held
 
--- what is held in a new state: what a fetch gives where the state wants one, nothing where the page was deleted, and else what was held
+-- what is held in a new state: what a fetch gives if the state wants one, nothing if the page was deleted, and what was held otherwise
 abbrev pub held_after : State → Result Bytes Cause → Option (Held Bytes) → Option (Held Bytes)
 held_after s reply held = cond (wants s (held_revision held)) (held_after_fetch s.rev reply held) (cond (is_deleted s.mode) None held)
 
@@ -131,6 +131,6 @@ fetches h replies ds = flat_map (fetches_at h replies) (arrivals ds)
 abbrev pub fetches_to_end : Option ℕ → Replies → List Delivery → List Fetch
 fetches_to_end h replies ds = fetches h replies ds ++ fetches_of_all replies (play h replies ds) (newly_due h ds true ds)
 
--- a count of 64 bits that rose n times: it stays at its last value, and it never falls
+-- a counter of 64 bits that rose n times, and saturates
 abbrev pub risen_by : ℕ → ℕ → ℕ
 risen_by n count = max count (min (count + n) (2 ^ 64 - 1))

@@ -20,7 +20,7 @@ Records = map.FinMap entity_cmp (Record Bytes)
 abbrev pub record_of : Records → EntityId → Record Bytes
 record_of records x = unwrap_or (map.get records x) blank
 
--- whether what is held is what a state of this mode and revision wants: the revision of a page that is kept, and else nothing
+-- whether what is held is what a state of this mode and revision wants: the revision of a page that is kept, and nothing otherwise
 abbrev pub settles_at : Mode → ℕ → Option ℕ → Bool
 settles_at Unknown r held = is_none held
 settles_at Kept r held = is_held r held

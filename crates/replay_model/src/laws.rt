@@ -52,7 +52,7 @@ pub fn same_events_give_same_records()
         (play_to_end h replies ds).records ≡ (play_to_end h replies es).records }
 {}
 
-/// A reconciliation forgets what precedes it: the events before it may be left out, and any may be added.
+/// A reconciliation makes the events before it irrelevant: they may be left out, and others added.
 pub fn reconciliation_forgets()
     ensures left_out { (before after : List Event) (r : Event) → is_reconciliation r.kind ≡ true →
         fate (before ++ r ∷ after) ≡ fate (r ∷ after) }

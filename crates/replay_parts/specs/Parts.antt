@@ -117,7 +117,7 @@ module _ (meaning : MappingVersion → Meaning Triple) where
   abbrev pub rows_together : Option ℕ → List Part → List Delivery → Pattern → List Triple
   rows_together h parts ds pattern = merged triple_cmp (λ (part : Part). rows_played h part.replies (routed part.contains ds) pattern) parts
 
-  -- the answer to an ask that is made of the parts' rows: they are merged and counted anew. The answer to a match is made of the parts'
+  -- the answer to an ask that is made of the parts' rows: they are merged and counted again. The answer to a match is made of the parts'
   -- triples, and not of their answers: the shapes of a binding may be triples of different parts
   abbrev pub answered_together : Option ℕ → List Part → List Delivery → Option Question → List ℕ
   answered_together h parts before None = []
@@ -128,8 +128,8 @@ module _ (meaning : MappingVersion → Meaning Triple) where
   abbrev pub said_together : Option ℕ → List Part → List Delivery → List ℕ
   said_together h parts ds = flat_map (λ (a : Arrival). answered_together h parts a.before (question_of a.delivery)) (arrivals ds)
 
-  -- the sections after the end that are made of the parts': the triples merged and counted anew, the states in the order of the ids,
-  -- and the entries of one part after those of the other
+  -- the sections after the end that are made of the parts': the triples merged and counted again, the states in the order of the ids, and
+  -- the entries of one part after those of the other
   abbrev pub closing_together : Option ℕ → Sections → List Part → List Delivery → List ℕ
   closing_together h sections parts ds =
       cond sections.export (export_section (union_together h true parts ds)) []

@@ -83,9 +83,9 @@ pub fn union_is_made_of_the_parts<Triple>()
         ↔ ((k : ℕ) × (has order t (union order meaning (part_of_records (is_in_part number k) records)) ≡ true)) }
 {}
 
-/// The parts of a partition together print what one replay of all deliveries prints: the rows of each ask, merged and counted
-/// anew, are its answer, the bindings over the parts' triples together are the answer to a match, and the triples and records after the end are its export and its states. So what all print together is what it
-/// prints, where the side output isn't asked for: that one comes in the order of the parts.
+/// The parts of a partition together print what one replay of all deliveries prints: the rows of each ask, merged and counted again, are
+/// its answer, the bindings over the parts' triples together are the answer to a match, and the triples and records after the end are its
+/// export and its states. So together they print what it prints, but for the side output, which comes in the order of the parts.
 pub fn parts_together_print_what_the_whole_prints()
     ensures rows { (meaning : MappingVersion → Meaning Triple) (replies : Replies) (parts : List Part) → IsPartition replies parts →
         (h : Option ℕ) (before : List Delivery) (pattern : Pattern) →
@@ -122,9 +122,9 @@ pub fn parts_together_have_what_the_whole_has()
         ≡ sum_by (λ (part : Part). count_by test (fetches_to_end h part.replies (routed part.contains ds))) parts }
 {}
 
-/// What splits entities is a partition: a set of entities and all others, each replied to as the whole; the parts that numbers give,
-/// whatever each of them is replied; and so the parts that an entity's number gives modulo their count. Where the numbers have no
-/// greatest, a triple is still in the whole exactly where it is in some part.
+/// Three splits of the entities are partitions: a set of entities and all others, each replied to as the whole; the parts by a number of
+/// each entity, whatever each of them is replied; and the parts by an entity's number modulo their count. If the numbers of the parts have
+/// no greatest, a triple is still in the whole exactly if it is in some part.
 pub fn splits_by_entity_are_partitions()
     ensures two { (replies : Replies) (contains : EntityId → Bool) →
         IsPartition replies (record { contains = contains; replies = replies } ∷ record { contains = λ x. not (contains x); replies = replies } ∷ []) }

@@ -77,7 +77,7 @@ pub is_next_by_last : (xs : List Triple) (x t : Triple) → Some x ≡ slice_get
 is_next_by_last [] x t at = cc
 is_next_by_last (y ∷ ys) x t at = last_decides (length (y ∷ ys) - 1) (y ∷ ys) x t (omega arith) (sym at)
 
--- ---- one line more
+-- ---- one more line
 
 lacking : (a most_a r most_r : ℕ) → a ≤ most_a → nat_lt a most_a ≡ false → r ≤ most_r → ((a == most_a) && (r == most_r)) ≡ false → r < most_r
 lacking a most_a r most_r few full few_r lacks = grind (arith, nat_tests)

@@ -238,7 +238,7 @@ stops_here bytes state i b within is none so_far =
     ∙ with_front-Some (take i bytes) [] (drop (i + 1) bytes)
     ∙ ap (λ xs. Some (xs, drop (i + 1) bytes)) (append-nil (take i bytes)))
 
--- and else the split goes on behind it
+-- and otherwise the split goes on after it
 pub goes_on : (bytes : List ℕ) (state next : TermState) (i b : ℕ) → i < length bytes → b ≡ get_or bytes i 0 → next_state state b ≡ Some next →
     split_term Outside bytes ≡ with_front (take i bytes) (split_term state (drop i bytes)) →
     split_term Outside bytes ≡ with_front (take (i + 1) bytes) (split_term next (drop (i + 1) bytes))

@@ -87,7 +87,7 @@ pub record IsUnfinished (begun : Begun) : Type 0 where
   pub part : IsPart begun
   pub lacks : all_read begun ≡ false
 
--- why a line is refused: a head is due, and it is none; a triple is due, and it is none's; or this triple may not follow
+-- why a line is refused: it should be a head, or a triple, and isn't; or this triple may not follow
 abbrev pub HasCause : PatchFault → Option Begun → List ℕ → Type 0
 HasCause NoHead begun line = (begun ≡ None) × ((head : Head) → IsHead line head → ⊥)
 HasCause NoTriple begun line = (begun ≢ None) × ((triple : Triple) → IsTripleLine line triple → ⊥)

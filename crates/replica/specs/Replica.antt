@@ -34,7 +34,7 @@ after items zero = []
 after items (suc n) = patched_if (after items n) (numbered (suc n) items)
 
 -- what a replica has: its triples, the number of the last record that was applied, the records that wait by their numbers, and how many
--- different terms there may be
+-- distinct terms there may be
 pub record ReplicaState : Type 0 where
   pub triples : List Triple
   pub applied : ℕ
@@ -60,7 +60,7 @@ pub record Follows (items : List PatchRecord) (state : ReplicaState) : Type 0 wh
   pub received : (number : ℕ) → 0 < number → number ≤ state.applied → IsSome (numbered number items)
   pub waits : (number : ℕ) → state.applied < number → waiting_at state.waiting number ≡ numbered number items
 
--- the number of different terms of the triples and of those that come, together
+-- the number of distinct terms of the triples and of those that come, together
 abbrev pub terms_with : List Triple → List Triple → ℕ
 terms_with triples adds = distinct (flat_map terms_of (triples ++ adds))
 

@@ -2,8 +2,8 @@
 
 ghost use Rattle.replica.specs.Laws.{FollowsItsProducer, LeadsToItsProducer, ReadsOneWay, ReadsRecords, ReadsTheirLines, SplitsIntoLines};
 
-/// A replica that received records of a producer alone, in any order, some of them more than once or not at all, has the triples that the
-/// producer had after the last record up to which all were received, once no record is due.
+/// A replica that received only records of one producer, in any order, some of them more than once or not at all, has the triples that the
+/// producer had after the last record up to which all were received, as soon as no record is due.
 pub fn a_replica_follows_its_producer()
     ensures { FollowsItsProducer }
 {}

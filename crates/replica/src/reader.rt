@@ -17,7 +17,7 @@ use std::alloc::Global;
 use std::marker::Model;
 use thiserror::Error;
 
-/// Why a line is refused. The first of these that is so comes.
+/// Why a line is refused: the first of these that applies.
 #[derive(Clone, Copy, Debug, PartialEq, Eq, Error)]
 pub enum PatchFault {
     /// A record has to begin here, and the line is no first line of one.
@@ -97,7 +97,7 @@ impl PatchReader {
         }
     }
 
-    // Gives the record where all its lines were read, and keeps it else.
+    // Gives the record if all its lines were read; otherwise keeps it.
     #[tactic(auto, unfolding(crate::specs::Reader::given, crate::specs::Reader::left))]
     fn settle(&mut self, begun: Begun) -> Option<PatchRecord>
         requires { IsPart begun }

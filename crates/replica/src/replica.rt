@@ -52,8 +52,8 @@ impl Model for Replica {
 }
 
 impl Replica {
-    /// A replica that received no record. There are at most as many different terms as the limit says; they are found by hashes under
-    /// these keys.
+    /// A replica that received no record. There are at most as many distinct terms as the limit says; they are found by hashes under these
+    /// keys.
     pub fn new(alloc: Global, keys: RandomState, limit: u32) -> Result<Replica, OutOfMemory>
         ensures new { IfOk result (λ replica. replica ≡ nothing_received limit) }
         ensures follows { IfOk result (Follows []) }
@@ -107,12 +107,12 @@ impl Replica {
         }
     }
 
-    /// Applies the next record, where it was received, and says whether it was.
+    /// Applies the next record, if it was received, and says whether it was.
     ///
     /// # Errors
-    /// There are more different terms than the limit says, or memory was refused. Nothing has changed then.
+    /// There are more distinct terms than the limit says, or memory was refused. Nothing has changed then.
     pub fn advance(&mut self) -> Result<bool, StoreFault>
-        // It says no exactly where the next record wasn't received.
+        // It answers false exactly if the next record wasn't received.
         ensures answer { IfOk result (λ moved. (items : List TheRecord) → Follows items self.old → moved ≡ is_some (numbered (self.old.applied + 1) items)) }
         ensures follows { OnOk result ((items : List TheRecord) → Follows items self.old → Follows items self.new) }
         ensures counted { IfOk result (λ moved. self.new.applied ≡ self.old.applied + cond moved 1 0) }

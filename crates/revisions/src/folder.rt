@@ -64,8 +64,8 @@ impl<R: Files> Folder<R> {
     }
 }
 
-// For how many bytes a file gets room before it is read: its length and one, so that the end shows without more room.
-// The length is a hint. Where it is missing or wrong, the file is read to its end all the same.
+// How much room a file gets before it is read: its length and one byte, so that its end shows without more room. The length is only a hint:
+// if it is missing or wrong, the file is still read to its end.
 fn room<F: OpenFile>(file: &F) -> usize {
     let length = file.metadata().map_or(0, |found| found.len());
     length.saturating_add(1).min(LONGEST_READ) as usize

@@ -1,4 +1,4 @@
--- Rising lists: what `insert_key` and `sorted` keep and have, and that a rising list is fixed by its elements.
+-- Rising lists: `insert_key` and `sorted` give rising lists with the same elements, and a rising list is determined by its elements.
 use Rattle.std.proofs.Common.{◌≡◌, Bool, true, false, ◌||◌, List, [], ◌∷◌, ◌++◌, Ordering, Less, Equal, Greater, is_eq, refl, sym, ◌∙◌, ap, true≢false}
 use Rattle.std.specs.FinMap.{IsAntisymmetric}
 use Rattle.std.specs.Cmp.{IsTotalOrder}
@@ -90,7 +90,7 @@ rest_alike {K} {R} o x y xs ys hx hy t e q =
     past : is_eq (R q x) ≡ false → has R q xs ≡ has R q ys
     past a = ap (λ b. b || has R q xs) (sym a) ∙ e q ∙ ap (λ b. b || has R q ys) (ap is_eq (sym (alike_right o x y q t)) ∙ a)
 
--- a rising list is fixed by its elements
+-- a rising list is determined by its elements
 pub same_rising : {K : Type 0} {R : K → K → Ordering} → IsTotalOrder R → IsAntisymmetric R → (xs ys : List K) → IsRising R xs → IsRising R ys → ((q : K) → has R q xs ≡ has R q ys) → xs ≡ ys
 same_rising o same [] [] hx hy e = refl
 same_rising {R = R} o same [] (y ∷ ys) hx hy e = clash (has_itself o y ys) (sym (e y))

@@ -443,7 +443,7 @@ module _ (environment : Environment) (ds : List Delivery) (start : Beginning) wh
     later = omega (arith, at_rest.later, more);
   }
 
-  -- pages were mapped anew and told behind the play of these deliveries
+  -- pages were remapped and told after the play of these deliveries
   pub remapping_reported : (report : Report) (now : Stage) (reported reported_now : ℕ) (pages : List Step) (mapped : Mapped) (out : Output) (others : Replies) → first_due now.world.buffer ≡ None →
       TellsBy report reported pages reported_now now.output out → HasReported report (course_after environment.routes ds start) reported start now others →
       HasReported report (course_remapping environment.routes pages ds start) reported_now start (with_mapped (with_output now out) mapped) others
@@ -502,7 +502,7 @@ pub ask_cut_off : (report : Report) (why : Unwritten) (environment : Environment
 ask_cut_off Answers why environment q reported matched now out is prints = inl (why, refl, record { answers = is; question = q; is = refl; world = refl; mapped = refl; counts = refl; cut_short = prints.outcome })
 ask_cut_off Changes why environment q reported matched now out is never = absurd never
 
--- another version of the mapping came into force, and some of what is held was mapped anew
+-- another version of the mapping came into force, and some of what is held was remapped
 pub mapping_cut_off : (halt : Halt) (environment : Environment) (v : MappingVersion) (reported matched : ℕ) (now : Stage) (mapped : Mapped) (out : Output) →
     RemapsPages halt environment.report environment.limit reported v now.world.played.records now.mapped mapped now.output out →
     CutsOff (stop_of_halt halt) environment (turn reported matched (Mapping v)) now (with_mapped (with_output now out) mapped)

@@ -353,7 +353,7 @@ module _ (run : DrillRun) (folder : List ℕ) (out : Output) (world : WorldState
             ∙ ap (λ w. after_some (replies_of run.size) within.steps (after_end w)) (led_nothing run.size (drill run.size) taken.start taken.first taken.nothing);
       }
 
-  -- for want of memory alone
+  -- only with OutOfMemory
   pub end_starved : IsSize run.size → (halt : Halt) → StaysWithin halt (environment None Answers (told_of run.pages.size) folder world.limit) 0 (with_world stage_before (after_end world.replay)) stage_now →
       KeepsVersion (mapped_in world) (mapped_in world_now) world.replay.played.records world_now.replay.played.records → IsHeldUp halt (environment None Answers (told_of run.pages.size) folder world.limit) out stage_now → halt ≡ NotApplied OutOfMemory
   end_starved is_size (NotApplied OutOfMemory) stays keeps held_up = refl

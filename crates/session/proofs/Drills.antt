@@ -17,7 +17,7 @@ joined : {X : Type 0} (f : X → List ℕ) (xs : List X) → flat_map f xs ≡ f
 joined f [] = refl
 joined f (x ∷ xs) = ap (λ l. f x ++ l) (joined f xs)
 
--- nothing was printed, for want of memory
+-- nothing was printed, since memory was refused
 pub not_begun : (size : ℕ) (old new : Output) (world : ReplayState) → new ≡ old → HasBegun size world → DrillStopped Refused size old new world
 not_begun size old new world same begun = rw same (record { has_come = begun; cut_short = (cut_short_at_once (summary_text size) old).outcome })
 

@@ -171,7 +171,7 @@ paused run before now reported matched open_still taken =
       counted = λ same. there.counted;
     }
 
--- no fetch failed where none was named before and the count of faults stands still below its last value
+-- no fetch failed if none was named before and the counter of faults stayed the same and isn't saturated
 pub none_failed : (failed : List Event) (named before now : ℕ) → RoseBy (length failed) before (named + now) → named ≡ 0 → now ≡ before → now < 2 ^ 64 - 1 → failed ≡ []
 none_failed [] named before now rose none same below = refl
 none_failed (e ∷ es) named before now rose none same below =
@@ -204,12 +204,12 @@ halted (NotApplied Starved) run before now between earlier held_up stands = inl 
 halted (Untold NotWritten) run before now between earlier rose stands = inl (rose_since before.stage.output.faults between.faults now.stage.output.faults earlier rose, inr (inl stands))
 halted (Untold Refused) run before now between earlier rose stands = inl (inr (inr (inl stands)))
 
--- not all that is held was mapped anew
+-- not all that is held was remapped
 pub left_stale : (why : StoreFault) (run : Run) (before now : Moment) → IsLeftStale why run.environment.limit now.stage.world.played.records now.stage.mapped → StandsAtMapping run before now → Stopped (stop_of_unapplied why) run before now
 left_stale NoRoom run before now full stands = inr (full, stands)
 left_stale Starved run before now stale stands = inl (inl (inr stands))
 
--- a page was mapped anew, and not told wholly
+-- a page was remapped, and not told wholly
 pub page_untold : (why : Unwritten) (run : Run) (before now : Moment) (limit : ℕ) (records : Records) (between : Output) → before.stage.output.faults ≤ between.faults →
     IsLeft (Untold why) limit records now.stage.mapped between now.stage.output → StandsAtPage why run before now → Stopped (stop_of_unwritten why) run before now
 page_untold NotWritten run before now limit records between earlier rose stands = inl (rose_since before.stage.output.faults between.faults now.stage.output.faults earlier rose, inr (inr stands))

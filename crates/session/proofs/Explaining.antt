@@ -33,7 +33,7 @@ use Rattle.replay_parts.specs.Checkpoint.{Checkpoint}
 use Rattle.session.specs.Along.{along, fetches_of_delivery, state_along}
 use Rattle.session.proofs.Along.{along-push, along-still, state-push}
 
--- ---- a buffer that rests, and one event more
+-- ---- a buffer that rests, and one more event
 
 none_any : (p : Event → Bool) (xs : List Event) → find p xs ≡ None → list_any p xs ≡ false
 none_any p [] none = refl

@@ -40,7 +40,7 @@ is_snapshot left limit world numbers saved is rests documents applied within hel
   within = within;
 }
 
--- one with another horizon than the words name is refused
+-- one with another horizon than the options name is refused
 pub other_horizon : (choices : Choices) (left : Option (List ℕ)) (world : WorldState) (numbers : Numbers) (allowed : Bool) → IsSnapshotOf left (max_terms_of choices) world numbers →
     (AllowsHorizon choices world.replay.buffer.horizon → allowed ≡ true) → allowed ≡ false → HasOtherHorizon choices left
 other_horizon choices left world numbers allowed loaded would isnt = record {

@@ -190,9 +190,9 @@ applied_has_room contents folder limit old new applied a within version is =
     (ap (λ (v : ReplayState). (record_of v.played.records e.entity).held) a.new_is ∙ held_applied old.replay e (λ q r. a.reply))
     (λ stored. by_one limit version records (triples_held (meaning version) e.entity held) (subst Within is (within stored)))
 
--- ---- one page is mapped anew
+-- ---- one page is remapped
 
--- where the least stale entity's page was mapped anew, the others are left
+-- if the least stale entity's page was remapped, the others are left
 pub stale_after : (w : WorldState) → IsRising entity_cmp w.by_two → (x : EntityId) (rest : List EntityId) → stale w ≡ x ∷ rest → stale_by w.mapping (with_version w.mapping x w.by_two) w.replay.played.records ≡ rest
 stale_after w rising x rest is =
     stale_remapped w.by_two rising x w.mapping w.replay.played.records ∙ ap (remove_key (eq_by_cmp entity_cmp x)) is
@@ -202,7 +202,7 @@ module _ (limit : ℕ) (needs : List ℕ) (w : WorldState) (rising : IsRising en
   abbrev records : Records
   records = w.replay.played.records
 
-  -- for how many terms the page of an entity needs room that is mapped anew now
+  -- for how many terms the page of an entity that is remapped now needs room
   abbrev need : EntityId → ℕ
   need x = room_with (meaning_by meaning w.by_two) records (triples_held (meaning w.mapping) x (record_of records x).held)
 
@@ -216,7 +216,7 @@ module _ (limit : ℕ) (needs : List ℕ) (w : WorldState) (rising : IsRising en
       ap (needed_by_pages w.mapping records w.by_two) is
       ∙ ap (λ l. need x ∷ needed_by_pages w.mapping records (with_version w.mapping x w.by_two) l) (sym (stale_after w rising x rest is))
 
-  -- the page of the least stale entity is mapped anew, and had room
+  -- the page of the least stale entity is remapped, and had room
   pub remapped_has_room : room_with (meaning_by meaning w.by_two) records (triples_anew w) ≤ limit → HaveRoomBefore limit (left_by w.by_two) needs → HaveRoomBefore limit (left_by (remapped w).by_two) needs
   remapped_has_room within so_far = by (stale w) refl
     where

@@ -1,4 +1,4 @@
--- The pages that are mapped anew, one after the other, and what is told of them.
+-- The remapped pages, one after the other, and what is told of them.
 use Rattle.std.proofs.Common.{◌≡◌, refl, sym, subst, ◌∙◌, ap, ℕ, ◌<◌, ◌≤◌, List, [], ◌∷◌, ◌++◌, length, append_assoc, append-nil, Ok, Err, arith}
 use Rattle.rising.specs.Rising.{IsRising}
 use Rattle.rdf_term.specs.Order.{triple_cmp}
@@ -44,7 +44,7 @@ pages_first w rising some = by (stale w) refl some
         ∙ ap (λ l. step (stored_of w) (union triple_cmp (meaning_by meaning (with_version w.mapping x w.by_two)) records) ∷ steps_remapped w.mapping records (with_version w.mapping x w.by_two) l) (sym (stale_after w rising x rest is))
         ∙ ap (λ o. Left (with_version_of w.mapping o w.by_two)) (sym (ap first_of is))
 
--- some pages were mapped anew, and are told
+-- some pages were remapped, and are told
 pub record RemapsTold (report : Report) (reported reported_now : ℕ) (version : MappingVersion) (old now : WorldState) (out_old out_now : Output) : Type 0 where
   pub remaps : Remaps version old now
   pub pages : List Step
@@ -104,7 +104,7 @@ module _ (report : Report) (reported between : ℕ) (version : MappingVersion) (
     told = (so_far.pages, this, refl, tells_but_last report why reported between so_far.pages this out_old out_now out_new so_far.tells tells);
   }
 
--- the next one isn't mapped anew
+-- the next one isn't remapped
 pub told_before : (report : Report) (why : StoreFault) (reported reported_now : ℕ) (version : MappingVersion) (old now new : WorldState) (out_old out_now : Output) → RemapsTold report reported reported_now version old now out_old out_now → new ≡ now →
     IsLeftStale why old.limit old.replay.played.records (mapped_in new) → RemapsPages (NotApplied why) report old.limit reported version old.replay.played.records (mapped_in old) (mapped_in new) out_old out_now
 told_before report why reported reported_now version old now new out_old out_now so_far same left = record {

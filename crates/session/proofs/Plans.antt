@@ -1,4 +1,4 @@
--- What a replay, a drill and a follower leave, by the plan that the words are.
+-- What a replay, a drill and a follower leave, by the plan that the arguments are.
 use Rattle.std.proofs.Common.{◌≡◌, ◌∙◌, subst, ℕ, List, None, Some, IfSome, inl, inr}
 use Rattle.following.specs.Following.{FollowMoment}
 use Rattle.following.specs.Reading.{TakesLinesByNeed}
@@ -15,7 +15,7 @@ use Rattle.session.specs.Stop.{stop_of}
 use Rattle.session.specs.Understood.{IsNotUnderstood}
 use Rattle.words.specs.Plan.{plan_of}
 
--- what holds of the plan that was read holds of the plan that the words are
+-- what holds of the plan that was read holds of the plan that the arguments are
 pub for_plan : (P : Plan → Type 0) (read plan : Plan) → Some read ≡ Some plan → P read → P plan
 for_plan P read plan same p =
     let is : read ≡ plan = cc in
@@ -84,7 +84,7 @@ no_split (Patches read) choices alone same = cc
 no_split (Follow read) choices alone same = cc
 no_split (Split read) choices alone same = absurd alone
 
--- words of such a plan are understood
+-- arguments of such a plan are understood
 pub is_understood : {P : Type 0} (words : List (List ℕ)) (read : Plan) → IsNoSplit read → Some read ≡ plan_of words → IsNotUnderstood words → P
 is_understood words read alone is (inl none) =
     let never : Some read ≡ None = is ∙ none in

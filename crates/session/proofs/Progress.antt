@@ -324,7 +324,7 @@ module _ (run : Run) (before now : Moment) (reader : Reading) (reported matched 
           }
           untaken (Untold why) mapped never = absurd never
 
-      -- not all that is held was mapped anew, or told
+      -- not all that is held was remapped, or told
       remaps : (halt : Halt) → RemapsInPart halt run.environment (turn reported matched d) now.stage after.stage → Stopped (stop_of_halt halt) run before after
       remaps halt in_part = by halt in_part.remaps
         where

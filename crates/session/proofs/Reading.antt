@@ -15,7 +15,7 @@ use Rattle.event_line.specs.Line.{delivery_of}
 use Rattle.replay_model.proofs.ToldContents.{Each-append}
 use Rattle.session.specs.Reading.{AreDeliveries, AreFirst, AreFirstAlone, AreWhole, AsksByNeed, HasRead, IsPastLimit, IsRefusedLine, TakesByNeed, deliveries_of, last_part, line_delivers, onto_deliveries}
 
--- one line more is one delivery more
+-- one more line is one more delivery
 pub onto-push : (r : Result Delivery LineCause) (o more : Option (List Delivery)) (ds : List Delivery) (d : Delivery) →
     ((others : List Delivery) → o ≡ Some others → more ≡ Some (others ++ d ∷ [])) → onto_deliveries r o ≡ Some ds → onto_deliveries r more ≡ Some (ds ++ d ∷ [])
 onto-push (Ok first) (Some others) more ds d grows is =
@@ -155,7 +155,7 @@ untold : (xs : List ℕ) (known : Option (List ℕ)) → None ≡ before_known x
 untold xs None is = refl
 untold xs (Some ys) is = cc
 
--- where the bytes aren't told, nothing is said of what was taken behind the lines
+-- if the bytes aren't told, nothing is said of what was taken after the lines
 first_untold : (limit : ℕ) (left_now : Option (List ℕ)) (done : List (List ℕ)) (ds : List Delivery) → deliveries_of done ≡ Some ds → None ≡ left_now → AreFirst limit None left_now ds
 first_untold limit None done ds delivered is = record {
   before = done;
@@ -209,7 +209,7 @@ same_room limit reader read max is = ap (λ n. n - reader.consumed) max ∙ ap (
 too_long : (bytes : List ℕ) (u : List ℕ) (max consumed : ℕ) → IsTooLong (max - consumed) longest_line u → consumed ≤ max → consumed + length u ≡ length bytes → max < length bytes
 too_long bytes u max consumed over within total = omega (arith, over.more)
 
--- one line more behind the others
+-- one more line after the others
 lines_grow : (start known next : Option (List (List ℕ))) (done : List (List ℕ)) (line : List ℕ) →
     start ≡ option_map (λ (ls : List (List ℕ)). done ++ ls) known → known ≡ before_lines line next → start ≡ option_map (λ (ls : List (List ℕ)). (done ++ line ∷ []) ++ ls) next
 lines_grow start known None done line are first = rw (are, first) refl

@@ -44,7 +44,7 @@ if_stopped Done P (Some s) ended = ended
 pub stopped_of : (status : Status) (run : Run) (before now : Moment) → MatchOption (stop_of status) (Ending run before now) (λ stop. Stopped stop run before now) → IfSome (stop_of status) (λ stop. Stopped stop run before now)
 stopped_of status run before now ended = if_stopped (Ending run before now) (λ stop. Stopped stop run before now) (stop_of status) ended
 
--- the status of a run that stopped for want of memory
+-- the status of a run that stopped with OutOfMemory
 of_memory : (status : Status) → stop_of status ≡ Some OutOfMemory → status ≡ MemoryRefused
 of_memory Ended is = cc
 of_memory BadWords is = cc

@@ -166,7 +166,7 @@ untold_held_up Answers why environment reported s old now middle more never = ab
 untold_held_up Changes WriteFault environment reported s old now middle more tells = omega (arith, more, (tells.outcome.1.failed refl).1)
 untold_held_up Changes NoMemory environment reported s old now middle more tells = tt
 
--- ---- pages that are mapped anew
+-- ---- remapped pages
 
 -- none is told yet
 pub tells_none : (report : Report) (reported : ℕ) (out : Output) → TellsBy report reported [] reported out out

@@ -140,7 +140,7 @@ remaps_all version old now so_far all =
     ∙ ap (λ v. mapped_by v now.replay.played.records) so_far.version_is
     ∙ ap (λ (w : ReplayState). mapped_by version w.played.records) so_far.replay
 
--- there was room for those that were mapped anew
+-- there was room for the remapped pages
 pub remaps_roomed : (version : MappingVersion) (old now new : WorldState) → Remaps version old now → new ≡ now →
     HaveRoomBefore old.limit (needed_anew old.replay.played.records (mapped_in new)) (needed_anew old.replay.played.records (record { version = version; by_two = old.by_two }))
 remaps_roomed version old now new so_far same =

@@ -1,4 +1,4 @@
--- Words for what follows where nothing goes wrong: a count that stands still, documents that are there, the triples of an entity, and the
+-- Definitions for the laws on runs without failures: a count that stands still, documents that are there, the triples of an entity, and the
 -- steps of a run.
 use Rattle.std.specs.Prelude.{◌≡◌, ℕ, ◌-◌, ◌^◌, ◌<◌, Bool, true, cond, List, [], Option, is_ok}
 use Rattle.entity_model.specs.declared.id.EntityId.{EntityId}
@@ -13,7 +13,7 @@ use Rattle.patch_stream.specs.Stream.{Step}
 use Rattle.session.specs.Headline.{Ending, course_of}
 use Rattle.session.specs.Moment.{Moment, Run, start_of}
 
--- a count of 64 bits didn't rise, and says so: it is below its last value
+-- a counter stayed the same and isn't saturated
 pub record IsStill (before now : ℕ) : Type 0 where
   pub same : now ≡ before
   pub below : now < 2 ^ 64 - 1
@@ -26,11 +26,11 @@ has_document unfit contents x r = is_ok (reply_there unfit x (contents r))
 abbrev pub FindsDocument : Judgement → (ℕ → Option Bytes) → Event → Type 0
 FindsDocument unfit contents e = keeps_page e.kind ≡ true → has_document unfit contents e.entity e.rev ≡ true
 
--- the triples of an entity in a state: those of what is there at its revision where the page is kept, and else none
+-- the triples of an entity in a state: those of what is there at its revision if the page is kept, and none otherwise
 abbrev pub triples_in : {Triple : Type 0} → Meaning Triple → (ℕ → Option Bytes) → EntityId → State → List Triple
 triples_in meaning contents x s = cond (is_kept s.mode) (triples_there meaning contents x s.rev) []
 
--- the steps of a run that ended well: those of its play, with the end of the deliveries where the input ends them. Where changes are
--- reported, the output has their records
+-- the steps of a run that ended with Ok: those of its play, with the end of the deliveries if the input ends them. If changes are reported,
+-- the output has their records
 abbrev pub steps_made : (run : Run) (before now : Moment) → Ending run before now → List Step
 steps_made run before now ending = (course_of run ending.replayed.deliveries (start_of run before)).steps ending.replayed.replay.played.replies

@@ -22,7 +22,7 @@ pub record SourceCounts : Type 0 where
 abbrev pub counts : {R : Type 0} → RevisionsOf R → R → SourceCounts
 counts members revisions = record { calls = members.calls revisions; misses = members.misses revisions; faults = members.faults revisions }
 
--- a count of 64 bits rose by at least n; at its last value it says nothing
+-- a counter rose by at least n, or is saturated
 abbrev pub RoseBy : ℕ → ℕ → ℕ → Type 0
 RoseBy n before now = now < 2 ^ 64 - 1 → before + n ≤ now
 
@@ -33,8 +33,8 @@ pub record HasCounted (start now : SourceCounts) (before : List Entry) (made : �
   pub failed : RoseBy (length (failed_events side)) start.faults (length (failed_events before) + now.faults)
   pub missing : RoseBy (length (missing_events side)) start.misses (length (missing_events before) + now.misses)
 
--- the same where an event wasn't applied: for want of room one fetch more was made, which gave its page, and for want of memory
--- perhaps one more
+-- the same if an event wasn't applied: if there is no room, one more fetch was made, which gave its page; if memory was refused, perhaps
+-- one more
 abbrev pub HasCountedUnapplied : StoreFault → SourceCounts → SourceCounts → List Entry → ℕ → List Entry → Type 0
 HasCountedUnapplied Full start now before made side = HasCounted start now before (made + 1) side
 HasCountedUnapplied OutOfMemory start now before made side = HasCounted start now before made side ⊎ HasCounted start now before (made + 1) side
@@ -44,14 +44,14 @@ abbrev pub HasCountedAt : Halt → SourceCounts → SourceCounts → List Entry 
 HasCountedAt (NotApplied why) start now before made side = HasCountedUnapplied why start now before made side
 HasCountedAt (Untold why) start now before made side = HasCounted start now before made side
 
--- a source was asked further: its contents and the most calls that ever fail are the same, and no count of what went wrong fell
+-- a source was asked further: its contents and the most calls that ever fail are the same, and no failure counter decreased
 pub record HasGoneOn {R : Type 0} (members : RevisionsOf R) (old new : R) : Type 0 where
   pub known : members.contents new ≡ members.contents old
   pub faults : members.faults old ≤ members.faults new
   pub misses : members.misses old ≤ members.misses new
   pub most : members.most_faults new ≡ members.most_faults old
 
--- an output was written further: the most calls that ever fail are the same, and the count of those that failed didn't fall
+-- an output was written further: the most calls that ever fail are the same, and the failure counter didn't decrease
 pub record HasWrittenOn {K : Type 0} (members : SinkOf K) (old new : K) : Type 0 where
   pub faults : members.faults old ≤ members.faults new
   pub most : members.most_faults new ≡ members.most_faults old
@@ -61,7 +61,7 @@ pub record HasReadOn {S : Type 0} (members : SourceOf S) (old new : S) : Type 0 
   pub faults : members.faults old ≤ members.faults new
   pub most : members.most_faults new ≡ members.most_faults old
 
--- all went on
+-- each of the five ports was used further
 pub record HaveGoneOn {S R K F : Type 0} (input : SourceOf S) (source : RevisionsOf R) (sink : SinkOf K) (file : SinkOf F) (old new : Ports S R K F) : Type 0 where
   pub events : HasReadOn input old.events new.events
   pub revisions : HasGoneOn source old.revisions new.revisions

@@ -54,7 +54,7 @@ course_after routes ds start = record {
 abbrev pub course_begun : Option (List Route) → List Delivery → Option Delivery → Beginning → Course
 course_begun routes ds last start = record (course_after routes (ds ++ option_to_list last) start) { bytes = said_behind routes ds start }
 
--- the play of these deliveries, behind which these pages were mapped anew
+-- the play of these deliveries, after which these pages were remapped
 abbrev pub course_remapping : Option (List Route) → List Step → List Delivery → Beginning → Course
 course_remapping routes pages ds start = record (course_after routes ds start) { steps = λ replies. along steps_of_delivery replies (standing start) ds ++ pages }
 

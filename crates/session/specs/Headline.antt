@@ -49,21 +49,27 @@ use Rattle.session.specs.Stop.{stop_of}
 use Rattle.session.specs.Stops.{IsHalted}
 use Rattle.session.specs.Taking.{HoldsDocuments, IsFull, judgement, replies_there}
 
--- the world is where a play leads, with some replies to its fetches, each a document of its entity or a reason, the output has what is
--- reported of the play, there was room for each page that a fetch gave or that was mapped anew, with all that was held then, and the counts of the
--- source rose by these fetches; what is held are documents of their entities, each mapped by the version in force; each event whose fetch
--- failed, by the side output, was applied; where it is known
--- what the source has, the replies are those of what is there, but for the events whose fetches failed, which the side output names
+-- the play of a course from a beginning
 pub record IsPlayed (environment : Environment) (course : Course) (start : Beginning) (now : Stage) : Type 0 where
+  -- some replies to its fetches
   pub replies : Replies
+  -- each reply is a document of its entity or a reason
   pub fit : (e : Event) (r : ℕ) → GivesDocument judgement e.entity (replies e r)
+  -- the world is where the play leads with them
   pub is : now.world ≡ course.state replies
+  -- the output has its report
   pub says : now.output.bytes ≡ bytes_of environment.report course start replies
+  -- each fetched or remapped page had room, with all that was held then
   pub roomed : HaveRoom environment.limit (course.needed replies)
+  -- what is held are documents of their entities
   pub documents : HoldsDocuments now.world
+  -- each event whose fetch failed, by the side output, was applied
   pub applied : (e : Event) → has event_cmp e (failed_events now.world.played.side) ≡ true → is_applied now.world e ≡ true
+  -- each held page is mapped by the version in force
   pub mapped : now.mapped ≡ mapped_by course.version now.world.played.records
+  -- the counts of the source rose by these fetches
   pub counted : HasCounted start.counts now.counts start.world.played.side (length (course.fetched replies)) now.world.played.side
+  -- if the source tells what it has, the replies are what is there, but for the failed fetches that the side output names
   pub source : (contents : ℕ → Option Bytes) → environment.known ≡ Some contents → now.world ≡ course.state (replies_there contents now.world)
   pub source_says : (contents : ℕ → Option Bytes) → environment.known ≡ Some contents → now.output.bytes ≡ bytes_of environment.report course start (replies_there contents now.world)
   pub source_roomed : (contents : ℕ → Option Bytes) → environment.known ≡ Some contents → HaveRoom environment.limit (course.needed (replies_there contents now.world))
@@ -94,8 +100,8 @@ pub record NamesRightly (environment : Environment) (h : Option ℕ) (ds : List 
   pub late_ones : late_events world.played.side ≡ late h ds
   pub there : (contents : ℕ → Option Bytes) → environment.known ≡ Some contents → Each (TellsWhatIsThere judgement contents (failed_events world.played.side)) world.played.side
 
--- a play of these deliveries: the world is where it leads; and where nothing was delivered before, the world has the states, holds and names
--- what it should
+-- a play of these deliveries: the world is where it leads; and if nothing was delivered before, states, held pages and side output are as
+-- they should be
 pub record IsReplayed (environment : Environment) (course : Course) (ds : List Delivery) (start : Beginning) (now : Stage) : Type 0 where
   pub played : IsPlayed environment course start now
   pub fates : IsFirst start → HasFates course.closed (horizon_at start) ds now.world
@@ -139,8 +145,8 @@ pub record HasPrinted (run : Run) (numbers : Numbers) (before now : Moment) : Ty
   pub function : IsFunction run.environment (course_of run replayed.deliveries (start_of run before)) (start_of run before) now.stage
   pub counted : closes run.choices ≡ false → numbers ≡ numbers_of run.environment.report (course_of run replayed.deliveries (start_of run before)).steps replayed.deliveries (start_of run before) replayed.replay.played.replies
 
--- all that a run leaves that ended well: the input was replayed and what is reported of it was printed, and where the world is saved, its
--- snapshot was written
+-- what a run that ended with Ok leaves: the input was replayed, the report on it was printed, and if the world is saved, its snapshot was
+-- written
 pub record Ending (run : Run) (before now : Moment) : Type 0 where
   pub replayed : Replayed run (course_of run) before now
   pub function : IsFunction run.environment (course_of run replayed.deliveries (start_of run before)) (start_of run before) now.stage
@@ -153,16 +159,16 @@ abbrev pub numbers_saved : {run : Run} {before now : Moment} → Ending run befo
 numbers_saved {run} {before} ending =
     numbers_of run.environment.report (course_of run ending.replayed.deliveries (start_of run before)).steps ending.replayed.deliveries (start_of run before) ending.replayed.replay.played.replies
 
--- what a run leaves that stopped while it wrote the snapshot: the input was replayed and what is reported of it was printed, and a prefix of
--- the snapshot was written, and nothing else; where a write failed, not all of it
+-- what a run that stopped while it wrote the snapshot leaves: the input was replayed, the report on it was printed, and a prefix of the
+-- snapshot was written, and nothing else; if a write failed, not all of it
 pub record Unsaved (why : Unwritten) (run : Run) (before now : Moment) : Type 0 where
   pub saves : closes run.choices ≡ false
   pub numbers : Numbers
   pub printed : HasPrinted run numbers before now
   pub cut_short : IsCutShort why (snapshot_text numbers now.stage) before.snapshot now.snapshot
 
--- what a run leaves that stopped while it printed the sections: the answers were printed and then a prefix of the sections of
--- the world, and nothing else; where a write failed, not all of them
+-- what a run that stopped while it printed the sections leaves: the answers were printed and then a prefix of the sections of the world,
+-- and nothing else; if a write failed, not all of them
 pub record BrokenOff (why : Unwritten) (run : Run) (before now : Moment) : Type 0 where
   pub answers : run.environment.report ≡ Answers
   pub between : Output
@@ -181,7 +187,7 @@ pub record StandsAtLimit (run : Run) (before now : Moment) : Type 0 where
   pub played : IsPlayedAfter run.environment deliveries (start_of run before) now.stage
   pub past : IfSome before.input.left (λ bytes. IsPastLimit (max_bytes_of run.choices) bytes deliveries)
 
--- the world has taken the deliveries before the line with this number, which is refused: each line before it was one
+-- the world has taken the deliveries before the line with this number, which is refused; each line before it is a delivery
 pub record StandsBeforeLine (number : ℕ) (cause : LineCause) (run : Run) (before now : Moment) : Type 0 where
   pub deliveries : List Delivery
   pub played : IsPlayedAfter run.environment deliveries (start_of run before) now.stage
@@ -215,8 +221,8 @@ pub record StandsAtMapping (run : Run) (before now : Moment) : Type 0 where
       (needed_anew now.stage.world.played.records (record { version = version; by_two = all_by (version_at deliveries (start_of run before)) now.stage.world.played.records }))
   pub first : AreFirstAlone (max_bytes_of run.choices) before.input.left now.input.left (deliveries ++ Mapping version ∷ [])
 
--- the same right after the last of these pages, whose record wasn't written wholly behind what is reported of the deliveries and of the
--- pages before it: a prefix of it was, and nothing else; where a write failed, not all of it
+-- the same, right after the last of these pages, whose record was cut off: after what is reported of the deliveries and of the pages before
+-- it, only a prefix of this record was written, and nothing else; if a write failed, not all of it
 pub record StandsAtPage (why : Unwritten) (run : Run) (before now : Moment) : Type 0 where
   pub changes_reported : run.environment.report ≡ Changes
   pub deliveries : List Delivery
@@ -236,8 +242,8 @@ pub record StandsAtPage (why : Unwritten) (run : Run) (before now : Moment) : Ty
   pub cut_short : IsCutShort why (record_text (record_of_step (run.numbered.patches + changes ((course_after run.environment.routes deliveries (start_of run before)).steps played.replies ++ pages) + 1) last)) between now.stage.output
   pub first : AreFirstAlone (max_bytes_of run.choices) before.input.left now.input.left (deliveries ++ Mapping version ∷ [])
 
--- what a run leaves that stopped while it printed: in the answer to a question, or in the sections; or in the record of an application,
--- or of a page that was mapped anew
+-- what a run that stopped while it printed leaves: in the answer to a question, or in the sections; or in the record of an application, or
+-- of a remapped page
 abbrev pub IsInterrupted : Unwritten → Run → Moment → Moment → Type 0
 IsInterrupted why run before now = (StandsAtQuestion why run before now ⊎ BrokenOff why run before now) ⊎ (IsHalted (Untold why) run before now ⊎ StandsAtPage why run before now)
 
@@ -257,7 +263,7 @@ Stopped OutOfMemory run before now =
     ⊎ Unsaved Refused run before now
 Stopped (BadSnapshot number) run before now = ⊥
 
--- what a replay leaves that was begun: it ended well, or it stopped for a cause; and what it took of its input is bounded
+-- what a replay that was begun leaves: it ended with Ok or stopped for a cause; and what it took of its input is bounded
 pub record ReplayEnding (status : Status) (run : Run) (before now : Moment) : Type 0 where
   pub outcome : MatchOption (stop_of status) (Ending run before now) (λ stop. Stopped stop run before now)
   pub taken : IfSome before.input.left (λ bytes. TakesByNeed (max_bytes_of run.choices) bytes now.input.left before.last_read now.last_read)

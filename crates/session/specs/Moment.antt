@@ -21,8 +21,8 @@ use Rattle.session.specs.Counts.{SourceCounts, counts}
 use Rattle.session.specs.Remapping.{Mapped, mapped_in}
 use Rattle.words.specs.Options.{Choices, folder_of, max_terms_of}
 
--- what deliveries are taken under: what the source of revisions has in its folder, where it is known, for how many terms there is room,
--- what is reported, and by which routes pages go to graphs, if they are routed
+-- the environment of the deliveries: what the source of revisions has in its folder, if it is known, the limit on distinct terms, what is
+-- reported, and by which routes pages go to graphs, if they are routed
 pub record Environment : Type 0 where
   pub known : Option (ℕ → Option Bytes)
   pub limit : ℕ
@@ -114,7 +114,7 @@ moment events source sink file ports world = record {
   resumed = input events ports.resumed;
 }
 
--- a run: what was chosen, what deliveries are taken under, and how many asks and matches earlier runs have answered, and how many records
+-- a run: what was chosen, the environment of its deliveries, and how many asks and matches earlier runs have answered, and how many records
 -- of changes they wrote
 pub record Run : Type 0 where
   pub choices : Choices

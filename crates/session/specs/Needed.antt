@@ -1,4 +1,4 @@
--- For how many different terms there must be room as a play goes on: at each page that a fetch gives, and at each that is mapped anew.
+-- For how many distinct terms there must be room as a play goes on: at each page that a fetch gives, and at each remapped page.
 use Rattle.std.specs.Prelude.{◌≡◌, ℕ, ◌≤◌, cond, List, [], ◌∷◌, ◌++◌, Result, Ok, Err}
 use Rattle.rising.specs.Rising.{Each}
 use Rattle.delivery.specs.declared.Delivery.{Delivery}
@@ -35,8 +35,8 @@ pub record HaveRoomBefore (limit : ℕ) (left needs : List ℕ) : Type 0 where
 
 -- ---- applications
 
--- for how many terms there must be room at the reply to the fetch of a revision of x: where it is a document, for the different terms of
--- all that is held and of this document together, every page by this version; else there is no need
+-- for how many terms there must be room at the reply to the fetch of a revision of x: if it is a document, for the distinct terms of all
+-- that is held and of this document together, every page by this version; otherwise there is no need
 abbrev pub needed_for : MappingVersion → Records → EntityId → ℕ → Result Bytes Cause → List ℕ
 needed_for version records x r (Ok bytes) = room_with (meaning version) records (meaning version x r bytes) ∷ []
 needed_for version records x r (Err cause) = []
@@ -57,9 +57,9 @@ needed_by_due version replies w = needed_by_all version replies w.played (due_no
 
 -- ---- remappings
 
--- for how many terms there must be room as the pages of these entities are mapped anew by this version, one after the other, where the
--- other list names those that are by version Two: at each for the different terms of all that is held, as it is mapped until then, and
--- of the page by this version
+-- for how many terms there must be room as the pages of these entities are remapped by this version, one after the other; the other list
+-- names those that are by version Two: at each for the distinct terms of all that is held, as it is mapped until then, and of the page by
+-- this version
 abbrev pub needed_by_pages : MappingVersion → Records → List EntityId → List EntityId → List ℕ
 needed_by_pages version records by_two [] = []
 needed_by_pages version records by_two (x ∷ xs) =

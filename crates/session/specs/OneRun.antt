@@ -60,17 +60,17 @@ pub record HoldsAndNames (h : Option ℕ) (ds : List Delivery) (world : ReplaySt
   pub documents : HoldsDocuments world
   pub late_ones : late_events world.played.side ≡ late h ds
 
--- the deliveries of a run that ended well
+-- the deliveries of a run that ended with Ok
 abbrev pub deliveries_of : {run : Run} {before now : Moment} → Ending run before now → List Delivery
 deliveries_of ending = ending.replayed.deliveries
 
--- the replies to the earlier deliveries, and behind their mark those of a run that ended well
+-- the replies to the earlier deliveries, and after their mark those of a run that ended with Ok
 abbrev pub replies_with : {run : Run} {before now : Moment} → Replies → List Delivery → Ending run before now → Replies
 replies_with earlier ds ending = replies_of_runs (mark ds) earlier ending.replayed.replay.played.replies
 
 -- ---- two runs
 
--- a first run ended well that saved its world, and a second one went on from these bytes and ended well
+-- a first run that saved its world ended with Ok, and a second one went on from these bytes and ended with Ok
 pub record TwoRuns (one two : Run) (before_one now_one before_two now_two : Moment) : Type 0 where
   pub is_first : IsFirst (start_of one before_one)
   pub first : Ending one before_one now_one

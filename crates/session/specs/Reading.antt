@@ -41,8 +41,8 @@ pub record AreDeliveries (limit : ℕ) (bytes : List ℕ) (ds : List Delivery) :
   pub within : length bytes ≤ limit
   pub delivered : deliveries_of (lines bytes) ≡ Some ds
 
--- the first lines of the bytes that were taken are these deliveries, and end within the limit; behind them were taken a part of a
--- line that decided nothing and at most as many bytes as one read may give; what is behind that is left
+-- the first lines of the bytes that were taken are these deliveries, and end within the limit; after them a part of a line was read that
+-- decides neither a line nor a fault, and at most as many bytes as one read may give; what comes after that is left
 pub record AreFirst (limit : ℕ) (left left_now : Option (List ℕ)) (ds : List Delivery) : Type 0 where
   pub before : List (List ℕ)
   pub read : List ℕ
@@ -78,9 +78,9 @@ pub record AreWhole (limit : ℕ) (left left_now : Option (List ℕ)) (ds : List
 abbrev pub AsksByNeed : ℕ → ℕ → ℕ → Option LastRead → Type 0
 AsksByNeed limit before gave read = IfSome read (λ r. (r.asked ≡ min longest_read (limit + 1 - before)) × (r.gave ≡ gave))
 
--- what was taken of an input with these bytes: whole lines, each of them a delivery, a part of a line that decided nothing, and
--- `last`, at most as many bytes as one read may give; all of it is at most one byte past the limit. Where the last read is told, it gave
--- `last`, so it was made while all before it decided nothing; or none was made, and nothing was taken
+-- what was taken of an input with these bytes: whole lines, each of them a delivery, a part of a line that decides neither a line nor a
+-- fault, and `last`, at most as many bytes as one read may give; all of it is at most one byte past the limit. If the last read is told, it
+-- gave `last`, so it was made while all before it decided nothing; or none was made, and nothing was taken
 pub record TakesByNeed (limit : ℕ) (bytes : List ℕ) (left : Option (List ℕ)) (read read_now : Option LastRead) : Type 0 where
   pub done : List (List ℕ)
   pub part : List ℕ

@@ -14,7 +14,7 @@ pub record FollowStopped (stop : Stop) (choices : FollowChoices) (before now : F
   pub is : stop ≡ stop_of_follow why
   pub stopped : StoppedFollowing why choices before now
 
--- what a follower leaves that was begun: it ended well, or it stopped for a cause; and what it took of its input is bounded
+-- what a follower that was begun leaves: it ended with Ok or stopped for a cause; and what it took of its input is bounded
 pub record FollowEnding (status : Status) (choices : FollowChoices) (before now : FollowMoment) : Type 0 where
   pub outcome : MatchOption (stop_of status) (Ending choices before now) (λ stop. FollowStopped stop choices before now)
   pub taken : IfSome before.input.left (λ bytes. TakesLinesByNeed (follow_max_bytes_of choices) bytes now.input.left)

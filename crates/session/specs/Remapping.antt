@@ -1,4 +1,4 @@
--- By which versions of the mapping the pages are mapped that a world holds, and how they are mapped anew.
+-- By which versions of the mapping the pages that a world holds are mapped, and how they are remapped.
 use Rattle.std.specs.Prelude.{◌≡◌, ⊤, ℕ, zero, suc, ◌<◌, List, Option, Some}
 use Rattle.rdf_term.specs.declared.triple.Triple.{Triple}
 use Rattle.rdf_term.specs.Order.{triple_cmp}
@@ -28,7 +28,7 @@ mapped_by version records = record { version = version; by_two = all_by version 
 abbrev pub mapped_in : WorldState → Mapped
 mapped_in world = record { version = world.mapping; by_two = world.by_two }
 
--- where one version was in force and every page mapped by it, this is so still
+-- if all pages were mapped by the version in force, they still are
 abbrev pub KeepsVersion : Mapped → Mapped → Records → Records → Type 0
 KeepsVersion old new before now = (version : MappingVersion) → old ≡ mapped_by version before → new ≡ mapped_by version now
 
@@ -36,11 +36,11 @@ KeepsVersion old new before now = (version : MappingVersion) → old ≡ mapped_
 abbrev pub held_triples : Mapped → Records → List Triple
 held_triples mapped records = union triple_cmp (meaning_by meaning mapped.by_two) records
 
--- what a world holds has no more different terms than this limit
+-- what a world holds has no more distinct terms than this limit
 abbrev pub HoldsWithin : ℕ → WorldState → Type 0
 HoldsWithin limit world = HasRoom (meaning_by meaning world.by_two) limit world.replay.played.records
 
--- the triples of all that is held have, together with those of a page by the version in force, more different terms than this limit
+-- the triples of all that is held have, together with those of a page by the version in force, more distinct terms than this limit
 abbrev pub HasNoRoom : ℕ → Records → Mapped → EntityId → ℕ → Bytes → Type 0
 HasNoRoom limit records mapped x rev bytes = limit < room_with (meaning_by meaning mapped.by_two) records (meaning mapped.version x rev bytes)
 
@@ -52,7 +52,7 @@ next_stale_in records mapped = first_of (stale_by mapped.version mapped.by_two r
 abbrev pub remapped_in : Records → Mapped → Mapped
 remapped_in records mapped = record { version = mapped.version; by_two = with_version_of mapped.version (next_stale_in records mapped) mapped.by_two }
 
--- so many pages are mapped anew, one after the other
+-- so many pages are remapped, one after the other
 abbrev pub remapped_some : ℕ → Records → Mapped → Mapped
 remapped_some zero records mapped = mapped
 remapped_some (suc n) records mapped = remapped_in records (remapped_some n records mapped)
@@ -65,7 +65,7 @@ pub record IsFullOfStale (limit : ℕ) (records : Records) (mapped : Mapped) : T
   pub holds : (record_of records entity).held ≡ Some page
   pub over : HasNoRoom limit records mapped entity page.revision page.content
 
--- why this page isn't mapped anew
+-- why this page isn't remapped
 abbrev pub IsLeftStale : StoreFault → ℕ → Records → Mapped → Type 0
 IsLeftStale Full limit records mapped = IsFullOfStale limit records mapped
 IsLeftStale OutOfMemory limit records mapped = ⊤

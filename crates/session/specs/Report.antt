@@ -77,7 +77,7 @@ HasReportedAt (Untold why) Changes course start now replies = HasBrokenOff why c
 
 -- ---- answers
 
--- a question is answered by this text behind so many asks, where questions are answered, and how many asks were answered then is said
+-- if questions are answered, a question is answered by this text after so many asks, and the new number of asks is returned
 abbrev pub AnswersQuestion : Report → ℕ → Question → List ℕ → Output → Output → Result ℕ Unwritten → Type 0
 AnswersQuestion Answers reported question text old new (Ok now) = (now ≡ reported + asks (asking question ∷ [])) × Prints text old new (Ok tt)
 AnswersQuestion Answers reported question text old new (Err why) = Prints text old new (Err why)
@@ -98,7 +98,7 @@ pub record HasToldSteps (told : ℕ) (steps : List Step) (told_now : ℕ) (old n
   pub bytes : (numbered : ℕ) (earlier : List Step) (start : Option (List ℕ)) → told ≡ numbered + changes earlier → old ≡ after_known start (stream_text_from numbered earlier) →
       new ≡ after_known start (stream_text_from numbered (earlier ++ steps))
 
--- where changes are reported; else nothing is written
+-- if changes are reported; otherwise nothing is written
 abbrev pub TellsBy : Report → ℕ → List Step → ℕ → Output → Output → Type 0
 TellsBy Answers reported steps reported_now old new = (reported_now ≡ reported) × (new ≡ old)
 TellsBy Changes reported steps reported_now old new = HasToldSteps reported steps reported_now old.bytes new.bytes
@@ -111,7 +111,7 @@ pub record BreaksOff (why : Unwritten) (told : ℕ) (steps : List Step) (last : 
   pub tells : HasToldSteps told steps told_then old.bytes between.bytes
   pub cut_short : IsCutShort why (record_text (record_of_step (told_then + 1) last)) between new
 
--- where changes are reported; else this never is
+-- only if changes are reported
 abbrev pub BreaksOffBy : Report → Unwritten → ℕ → List Step → Step → Output → Output → Type 0
 BreaksOffBy Answers why reported steps last old new = ⊥
 BreaksOffBy Changes why reported steps last old new = BreaksOff why reported steps last old new

@@ -26,11 +26,11 @@ pub record IsSnapshotOf (left : Option (List ℕ)) (limit : ℕ) (world : WorldS
   pub held : HoldsWithin limit world
   pub within : AreWithin numbers
 
--- the words name no horizon, or this one
+-- the options name no horizon, or this one
 abbrev pub AllowsHorizon : Choices → Option ℕ → Type 0
 AllowsHorizon choices horizon = IfSome choices.horizon (λ micros. horizon ≡ Some micros)
 
--- these bytes are the snapshot of a world that has another horizon than the words name, or none
+-- these bytes are the snapshot of a world that has another horizon than the options name, or none
 pub record HasOtherHorizon (choices : Choices) (left : Option (List ℕ)) : Type 0 where
   pub world : WorldState
   pub numbers : Numbers
@@ -62,6 +62,6 @@ pub record IsResumed (status : Status) (run : Run) (before now : Moment) : Type 
   pub read : IsAtEnd rest.left
   pub ending : ReplayEnding status (behind numbers run) (with_loaded before rest world) now
 
--- what a run leaves that was to go on from a snapshot
+-- what a run with `--resume` leaves
 abbrev pub ResumeEnding : Status → Run → Moment → Moment → Type 0
 ResumeEnding status run before now = IsNotResumed status run before now ⊎ IsResumed status run before now

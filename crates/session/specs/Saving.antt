@@ -33,7 +33,7 @@ saved_at now numbers = record { version = now.mapped.version; asks = numbers.ask
 abbrev pub snapshot_text : Numbers → Stage → List ℕ
 snapshot_text numbers now = file_text (saved_at now numbers)
 
--- where the input doesn't end the deliveries, these bytes were written as the snapshot; else nothing was
+-- with `--save` these bytes were written as the snapshot; without it nothing was
 abbrev pub HasSaved : Bool → List ℕ → Output → Output → Type 0
 HasSaved true text old new = new ≡ old
 HasSaved false text old new = new.bytes ≡ after_known old.bytes text

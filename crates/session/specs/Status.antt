@@ -23,11 +23,11 @@ cause_name Triple = codes "Triple"
 cause_name Order = codes "Order"
 cause_name Short = codes "Short"
 
--- the line on a line that is refused
+-- the message for a refused line
 abbrev pub bad_line_text : ℕ → LineCause → List ℕ
 bad_line_text number cause = codes "wdq: line " ++ decimal number ++ codes ": " ++ cause_name cause
 
--- the line on a line of a snapshot that is refused
+-- the message for a refused line of a snapshot
 abbrev pub bad_snapshot_text : ℕ → List ℕ
 bad_snapshot_text number = codes "wdq: snapshot: line " ++ decimal number
 

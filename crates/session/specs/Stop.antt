@@ -34,7 +34,7 @@ abbrev pub stop_of_unwritten : Unwritten → Stop
 stop_of_unwritten NotWritten = WriteFault
 stop_of_unwritten Refused = OutOfMemory
 
--- why a run stopped where not all due events were applied, or not all pages mapped anew
+-- why a run stopped if not all due events were applied, or not all pages remapped
 abbrev pub stop_of_unapplied : StoreFault → Stop
 stop_of_unapplied NoRoom = StoreFull
 stop_of_unapplied Starved = OutOfMemory

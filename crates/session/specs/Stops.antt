@@ -1,5 +1,5 @@
--- What stands where memory was refused, or the store was full, or a record wasn't written wholly, while no page was being mapped
--- anew, and where all lines were taken.
+-- What stands if memory was refused, or the store was full, or a record wasn't written wholly, while no page was being remapped, and if all
+-- lines were taken.
 use Rattle.std.specs.Prelude.{◌≡◌, ◌⊎◌, ℕ, ◌+◌, List, [], ◌++◌, Option, Some, IfSome}
 use Rattle.std.specs.Option.{option_to_list}
 use Rattle.wq_io.specs.Streams.{IsAtEnd}
@@ -42,6 +42,6 @@ pub record StopsAtEnd (halt : Halt) (run : Run) (before now : Moment) : Type 0 w
   pub mapped : now.stage.mapped ≡ mapped_by (version_at deliveries (start_of run before)) now.stage.world.played.records
   pub are : IfSome before.input.left (λ bytes. AreDeliveries (max_bytes_of run.choices) bytes deliveries)
 
--- what stands where memory was refused, or the store was full, or a record wasn't written wholly, while no page was being mapped anew
+-- what stands if memory was refused, or the store was full, or a record wasn't written wholly, while no page was being remapped
 abbrev pub IsHalted : Halt → Run → Moment → Moment → Type 0
 IsHalted halt run before now = StopsWithin halt run before now ⊎ StopsAtEnd halt run before now

@@ -146,7 +146,7 @@ IsHeldUp (Unapplied OutOfMemory) environment old now = ⊤
 IsHeldUp (Untold WriteFault) environment old now = Rose old.faults now.output.faults
 IsHeldUp (Untold NoMemory) environment old now = ⊤
 
--- a due event wasn't applied, or not told: where the world was under way in a play, by whose version every page was mapped, it is so still
+-- a due event wasn't applied, or not told: if the world was under way in a play, by whose version every page was mapped, it still is
 abbrev pub StaysWithin : Halt → Environment → ℕ → Stage → Stage → Type 0
 StaysWithin halt environment reported before now =
     (course : Course) (begun : Replies → ReplayState) (start : Beginning) → before.mapped ≡ mapped_by course.version before.world.played.records →
@@ -192,13 +192,13 @@ pub record TakesInPart (halt : Halt) (environment : Environment) (t : Turn) (bef
       IsUntaken halt before now
       ⊎ IsWithin halt environment (course_begun environment.routes ds (Some t.delivery) start) (λ replies. entered (led_to ds start replies) t.delivery) start now
 
--- why not all pages were mapped anew, or the last one isn't told
+-- why not all pages were remapped, or the last one isn't told
 abbrev pub IsLeft : Halt → ℕ → Records → Mapped → Output → Output → Type 0
 IsLeft (Unapplied why) limit records now old new = IsLeftStale why limit records now
 IsLeft (Untold WriteFault) limit records now old new = Rose old.faults new.faults
 IsLeft (Untold NoMemory) limit records now old new = ⊤
 
--- the records of the pages that were mapped anew were written behind so many, but for the last one where that is why
+-- the records of the remapped pages were written after so many, but for the last one if that is why
 abbrev pub TellsPages : Halt → Report → ℕ → List Step → Output → Output → Type 0
 TellsPages (Unapplied why) report reported pages old new = (reported_now : ℕ) × TellsBy report reported pages reported_now old new
 TellsPages (Untold why) report reported pages old new = (others : List Step) × (last : Step) × (pages ≡ others ++ last ∷ []) × BreaksOffBy report why reported others last old new
@@ -222,7 +222,7 @@ pub record RemapsInPart (halt : Halt) (environment : Environment) (t : Turn) (be
   pub remaps : RemapsPages halt environment.report environment.limit t.reported version before.world.played.records before.mapped now.mapped before.output now.output
 
 -- a delivery wasn't taken, or not wholly: its answer wasn't written, or it or what it makes due wasn't applied or not told, or not all that
--- is held was mapped anew, or not told
+-- is held was remapped, or not told
 abbrev pub CutsOff : Stop → Environment → Turn → Stage → Stage → Type 0
 CutsOff stop environment t before now =
     ((why : Unwritten) × (stop ≡ stop_of_unwritten why) × AnswersInPart why environment t before now)

@@ -1,4 +1,4 @@
-// Under what a delivery is taken, and what is reported of it.
+// The context in which a delivery is taken, and the report on it.
 
 ghost use Rattle.std.specs.Prelude.{◌≡◌, ◌+◌, ◌-◌, ◌^◌, ◌<◌, List};
 ghost use Rattle.rdf_term.specs.declared.triple.Triple.{Triple as TheTriple};
@@ -26,8 +26,8 @@ use triple_store::Change;
 use world::World;
 use wq_io::Sink;
 
-// Under what a delivery is taken: memory, the folder of the revisions, what is reported, how many asks were answered or records written
-// before, and how many matches were delivered.
+// The context in which a delivery is taken: memory, the folder of the revisions, what is reported, how many asks were answered or records
+// written before, and how many matches were delivered.
 #[derive(Clone, Copy)]
 pub struct Context<'a> {
     pub alloc: Global,
@@ -37,7 +37,7 @@ pub struct Context<'a> {
     pub matched: u64,
 }
 
-// A delivery, and under what it is taken.
+// A delivery, and the context in which it is taken.
 #[derive(Clone, Copy)]
 pub struct Incoming<'a> {
     pub context: Context<'a>,
@@ -45,7 +45,7 @@ pub struct Incoming<'a> {
 }
 
 impl Context<'_> {
-    // Answers an ask, where questions are answered, and says how many asks were answered then. Each graph answers, where there are graphs.
+    // Answers an ask, if questions are answered, and says how many asks were answered then. In a split each graph answers.
     pub fn answer<K: Sink>(
         &self,
         pattern: &Pattern,
@@ -69,8 +69,8 @@ impl Context<'_> {
         }
     }
 
-    // Answers a match, where questions are answered, and says how many asks were answered then: as many as before. It is passed over where
-    // there are graphs.
+    // Answers a match, if questions are answered, and says how many asks were answered, which a match doesn't change. A split passes it
+    // over.
     pub fn answer_match<K: Sink>(
         &self,
         query: &Query,
@@ -93,7 +93,7 @@ impl Context<'_> {
         }
     }
 
-    // Prints the answer to the next match, where there are no graphs.
+    // Prints the answer to the next match, unless there are graphs.
     fn print_rows<K: Sink>(
         &self,
         query: &Query,
@@ -131,7 +131,7 @@ impl Context<'_> {
         }
     }
 
-    // Tells a step, where changes are reported, behind so many records, and says how many are written then.
+    // If changes are reported, writes the record of a step after the given number of records, and says how many there are then.
     pub fn tell<K: Sink>(
         &self,
         reported: u64,

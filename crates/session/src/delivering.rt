@@ -34,7 +34,7 @@ pub struct Delivered {
     pub reported: u64,
 }
 
-// Takes one delivery: all that it makes due is applied, it is answered if it is a question, and what is held is mapped anew if it changes the
+// Takes one delivery: all that it makes due is applied, it is answered if it is a question, and what is held is remapped if it changes the
 // mapping; what is to be reported of that is written. Says what its event was, if it is one.
 pub fn deliver<R: Revisions, K: Sink>(
     incoming: &Incoming<'_>,

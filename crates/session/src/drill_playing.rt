@@ -127,7 +127,7 @@ impl DrillRun {
     }
 }
 
-// The end of a drill stops for want of memory alone.
+// The end of a drill stops only with OutOfMemory.
 fn starved(halt: Halt) -> OutOfMemory
     requires { halt ≡ Unapplied Starved }
 {
@@ -135,7 +135,7 @@ fn starved(halt: Halt) -> OutOfMemory
     OutOfMemory
 }
 
-// A delivery of a drill stops for want of memory alone.
+// A delivery of a drill stops only with OutOfMemory.
 fn refused(stop: Stop) -> OutOfMemory
     requires { stop ≡ Refused }
 {

@@ -1,4 +1,4 @@
-// What follows from the contract of a run where nothing goes wrong. Each law is the contract of a function that does nothing.
+// What follows from the contract of `run` if nothing goes wrong. Each law is the contract of a function that does nothing.
 
 ghost use Rattle.std.specs.Prelude.{◌≡◌, ◌<◌, ◌≤◌, ◌⊎◌, ◌^◌, ℕ, true, false, length, List, [], Option, None, Some, IfSome, ◌++◌};
 ghost use Rattle.std.specs.FinMap as map;
@@ -53,9 +53,9 @@ ghost use Rattle.session.specs.Taking.{IsFull, judgement};
 use checkpoint::no_line_of_a_saved_world_is_refused;
 use snapshot::{replays_can_be_saved, snapshots_read_back};
 
-/// A replay, with its answers or its changes, ends well, or for want of memory, where the words are understood, each line of the input is
-/// a delivery, the input is within the limit, no read and no write fails, and there is room for the page that the least due event wants and
-/// for the next page that is to be mapped anew.
+/// A replay or a patch stream ends with Ok or OutOfMemory if the arguments are understood, each line of the input is a delivery, the input
+/// is within the limit, no read or write fails, and there is room for the page that the least due event wants and for the next page to be
+/// remapped.
 pub fn good_input_is_replayed()
     ensures { (run : Run) (before now : Moment) (status : Status) (bytes : List ℕ) (ds : List Delivery) →
         (status ≡ Status.BadWords → ⊥) → IfSome (stop_of status) (λ stop. Stopped stop run before now) →
@@ -66,18 +66,18 @@ pub fn good_input_is_replayed()
         (status ≡ Status.Ok) ⊎ (status ≡ Status.OutOfMemory) }
 {}
 
-/// The first replay over told contents never stops for want of room where the different terms of all pages that its input may bring are no
-/// more than the limit. These are the pages at the revisions of all delivered edits, undeletions and reconciliations as kept, where a
-/// document of the entity is there, by the first version of the mapping and by each that a line brings.
+/// A first replay over told contents never runs out of room if all pages that its input may bring have together no more distinct terms than
+/// the limit. These are the pages at the revisions of all delivered edits, undeletions and reconciliations as kept, if a document of the
+/// entity is there, by the first version of the mapping and by each that a line brings.
 pub fn told_pages_have_room()
     ensures { (run : Run) (before now : Moment) (contents : ℕ → Option Bytes) (bytes : List ℕ) (ds : List Delivery) →
         IsFirst (start_of run before) → Stopped Stop.StoreFull run before now → before.input.left ≡ Some bytes → AreDeliveries (max_bytes_of run.choices) bytes ds →
         run.environment.known ≡ Some contents → distinct (terms_there contents ds) ≤ run.environment.limit → ⊥ }
 {}
 
-/// The first replay over told contents, with its answers or its changes, ends well, or for want of memory, where the words are understood, each
-/// line of the input is a delivery, the input is within the limit, no read and no write fails, and the different terms of all pages that
-/// the input may bring are no more than the limit.
+/// A first replay or patch stream over told contents ends with Ok or OutOfMemory if the arguments are understood, each line of the input is
+/// a delivery, the input is within the limit, no read or write fails, and all pages that the input may bring have together no more distinct
+/// terms than the limit.
 pub fn fitting_input_is_replayed()
     ensures { (run : Run) (before now : Moment) (status : Status) (contents : ℕ → Option Bytes) (bytes : List ℕ) (ds : List Delivery) →
         IsFirst (start_of run before) → (status ≡ Status.BadWords → ⊥) → IfSome (stop_of status) (λ stop. Stopped stop run before now) →
@@ -87,8 +87,8 @@ pub fn fitting_input_is_replayed()
         (status ≡ Status.Ok) ⊎ (status ≡ Status.OutOfMemory) }
 {}
 
-/// After the first replay, if it ended well over told contents, and whose fetches didn't fail, each entity that isn't settled is kept at a
-/// revision where nothing is, or no document of it.
+/// If a first replay over told contents ended with Ok and no fetch failed, each entity that isn't settled is kept at a revision that the
+/// source doesn't have, or at which it has no document of the entity.
 pub fn unsettled_pages_have_no_document()
     ensures { (run : Run) (before now : Moment) (contents : ℕ → Option Bytes) → IsFirst (start_of run before) →
         Ending run before now → run.environment.known ≡ Some contents → IsStill before.stage.counts.faults now.stage.counts.faults →
@@ -97,8 +97,8 @@ pub fn unsettled_pages_have_no_document()
         × (has_document judgement contents x (record_of now.stage.world.played.records x).state.rev ≡ false) }
 {}
 
-/// After the first replay, if it ended well over told contents, and that left each entity settled, the triples of all that is held are those
-/// that the kept revisions mean, as the source has them, by the version of the mapping that is in force at the end.
+/// If a first replay over told contents ended with Ok and every entity is settled, the stored triples are those that the kept revisions
+/// mean, as the source has them, by the version of the mapping in force at the end.
 pub fn settled_pages_are_the_union()
     ensures { (run : Run) (before now : Moment) (contents : ℕ → Option Bytes) → IsFirst (start_of run before) → (ending : Ending run before now) →
         run.environment.known ≡ Some contents →
@@ -108,8 +108,8 @@ pub fn settled_pages_are_the_union()
         (map.entries now.stage.world.played.records)) }
 {}
 
-/// After the first replay, if it ended well over told contents, and whose fetches didn't fail, the side output is empty where no delivery is late
-/// and each accepted event that may say that its page is there finds a document at its revision.
+/// If a first replay over told contents ended with Ok, no fetch failed, no delivery was late, and each accepted event that may say that its
+/// page is there finds a document at its revision, the side output is empty.
 pub fn found_pages_leave_no_entries()
     ensures { (run : Run) (before now : Moment) (contents : ℕ → Option Bytes) → IsFirst (start_of run before) → (ending : Ending run before now) →
         run.environment.known ≡ Some contents → IsStill before.stage.counts.faults now.stage.counts.faults →
@@ -118,8 +118,8 @@ pub fn found_pages_leave_no_entries()
         now.stage.world.played.side ≡ [] }
 {}
 
-/// What the deliveries make of a first run, from its beginning on, is what a replay of them makes: where it leads, with the end of the
-/// deliveries or without it, what it fetches, what it answers, its steps and their stream, and the version that is in force then.
+/// A first run is the replay of its deliveries: it leads to the same state, with the end of the deliveries or without it, and has the same
+/// fetches, answers, steps, stream and version in force.
 pub fn first_runs_are_whole_replays()
     ensures state { (start : Beginning) → IsFirst start → (replies : Replies) (ds : List Delivery) → led_to ds start replies ≡ following (horizon_at start) replies ds }
     ensures the_end { (start : Beginning) → IsFirst start → (replies : Replies) (ds : List Delivery) → ended replies (led_to ds start replies) ≡ following_to_end (horizon_at start) replies ds }
@@ -139,8 +139,8 @@ pub fn first_runs_are_whole_replays()
     ensures stream { (start : Beginning) → IsFirst start → (steps : List Step) → stream_text_from start.numbered.patches steps ≡ stream_text steps }
 {}
 
-/// A follower that ended well over the records of a first run's stream, in any order, each of them once or more, printed that all of them were
-/// applied, and, where it is asked for, the triples of all that was held at the end of the run.
+/// A follower that ended with Ok over the records of a first run's stream, in any order and each at least once, printed that it applied all
+/// of them and, if asked, the triples of all that was held at the end of the run.
 pub fn followers_have_what_was_held()
     ensures { (run : Run) (start end : Moment) → IsFirst (start_of run start) → (ended : Ending run start end) (choices : FollowChoices) (before now : FollowMoment) (bytes : List ℕ) (items : List PatchRecord) →
         Followed choices before now → before.input.left ≡ Some bytes → AreRecords (follow_max_bytes_of choices) bytes items None →
@@ -149,15 +149,15 @@ pub fn followers_have_what_was_held()
         (replica_text choices.export (changes (steps_made run start end ended)) (held_triples end.stage.mapped end.stage.world.played.records)) }
 {}
 
-/// The number of each record of a first run's stream fits 64 bits where its input tells its bytes, and may have no more than 4,294,967,295.
+/// The number of each record of a first run's stream fits 64 bits if its input tells its bytes, and may have no more than 4,294,967,295.
 pub fn numbers_of_a_run_fit()
     ensures { (run : Run) (start end : Moment) → IsFirst (start_of run start) → (ended : Ending run start end) (bytes : List ℕ) (item : PatchRecord) →
         start.input.left ≡ Some bytes → max_bytes_of run.choices ≤ 4294967295 → In item (stream (steps_made run start end ended)) → item.number < 2 ^ 64 }
 {}
 
-/// What a first run writes of its stream are the records that a follower reads of it, within any limit that the text fits, where the run's input
-/// tells its bytes and may have no more than 4,294,967,295, and what is stored before and after each step has terms of UTF-8, and as many
-/// triples as 64 bits count.
+/// What a first run writes of its stream are the records that a follower reads of it, within any limit that the text fits. This holds if
+/// the run's input tells its bytes and may have no more than 4,294,967,295, and what is stored before and after each step has terms of
+/// UTF-8 and fewer than 2^64 triples.
 pub fn written_streams_are_records()
     ensures { (run : Run) (start end : Moment) → IsFirst (start_of run start) → (ended : Ending run start end) (bytes : List ℕ) (limit : ℕ) →
         start.input.left ≡ Some bytes → max_bytes_of run.choices ≤ 4294967295 → Each HasWritableSides (steps_made run start end ended) →
@@ -166,9 +166,9 @@ pub fn written_streams_are_records()
         × AreOfStream (steps_made run start end ended) (stream (steps_made run start end ended)) }
 {}
 
-/// Where a replay ended well that saves its world, the bytes that were written are read back as this world, by the version in force, with
-/// the number of its answers or of its records; so a loading of them gives the world back. So it is of a first run, and of one that goes on
-/// from where a replay stands. The numbers in it have to fit 64 bits.
+/// If a replay that saves its world ended with Ok, a loading of the written bytes gives back this world, the version in force, and the
+/// number of answers or of records. This holds for a first run and for one that goes on from where a replay stands. The numbers have to fit
+/// 64 bits.
 pub fn a_saved_replay_is_read_back()
     ensures later { (h : Option ℕ) (earlier : Replies) (ds : List Delivery) (run : Run) (before now : Moment) → StandsAfter h earlier ds (start_of run before) → (ending : Ending run before now) →
         closes run.choices ≡ false → before.snapshot.bytes ≡ Some [] → IsFitSaved (saved_at now.stage (numbers_saved ending)) →
@@ -181,11 +181,11 @@ pub fn a_saved_replay_is_read_back()
     snapshots_read_back();
 }
 
-/// A run that begins where a replay of earlier deliveries stands leaves what one replay of all deliveries leaves: the world, the states that
-/// are their fates, what is held and named, and every page mapped by the version in force. The replies to this replay are the earlier ones to
-/// events that the mark had reached then, and the run's own to all others. Where questions are answered, what is printed is what this replay
-/// prints behind what it prints at the earlier deliveries, with the graphs of the run's routes, if it has routes, whichever the earlier runs
-/// had; where changes are reported, the records are those of its stream behind those of the earlier ones. Where the run saves its world, a later run that goes on from it begins where this replay stands.
+/// A run that begins where a replay of earlier deliveries stands leaves what one replay of all deliveries leaves: the world, the states
+/// that are their fates, what is held and named, and every page mapped by the version in force. The replies to this replay are the earlier
+/// ones for events that the mark had reached then, and the run's own for all others. If the run answers questions, it prints the rest of
+/// what this replay prints, with the graphs of its own routes, if it has routes, whichever the earlier runs had. If it reports changes, it
+/// writes the rest of this replay's stream. If it saves its world, a later run that goes on from it begins where this replay stands.
 pub fn runs_go_on_as_one()
     ensures world { (h : Option ℕ) (earlier : Replies) (ds : List Delivery) (run : Run) (before now : Moment) → StandsAfter h earlier ds (start_of run before) → (ending : Ending run before now) →
         now.stage.world ≡ state_ended (closes run.choices) h (replies_with earlier ds ending) (ds ++ deliveries_of ending) }
@@ -216,7 +216,7 @@ pub fn runs_go_on_as_one()
         (numbers_saved ending).patches ≡ changes (steps_ended (closes run.choices) h (replies_with earlier ds ending) (ds ++ deliveries_of ending)) }
 {}
 
-/// Before the first delivery a first run begins where the replay of none stands.
+/// A first run begins where the replay of no deliveries stands.
 pub fn first_runs_stand_after_nothing()
     ensures stands { (start : Beginning) → IsFirst start → (replies : Replies) → StandsAfter (horizon_at start) replies [] start }
     ensures counts { (start : Beginning) → IsFirst start → CountsQuestions [] start.numbered }
@@ -231,8 +231,8 @@ pub fn resumed_runs_begin_where_others_stood()
         StandsAfter h replies ds (start_of (behind resumed.numbers run) (with_loaded before resumed.rest resumed.world)) × (resumed.numbers ≡ numbers) }
 {}
 
-/// What a run saved that ended well is gone on from: a later run refuses none of its lines, where its words name no other horizon, and there
-/// is no room for it only where there is none for what is held. The numbers have to be such that a run may go on with them.
+/// A run can go on from whatever a run that ended with Ok saved: it refuses no line of that snapshot unless its options name another
+/// horizon, and lacks room only if there is none for what is held. The numbers have to be such that a run may go on with them.
 pub fn saved_worlds_are_gone_on_from()
     ensures lines { (h : Option ℕ) (earlier : Replies) (ds : List Delivery) (run : Run) (before now : Moment) → StandsAfter h earlier ds (start_of run before) → (ending : Ending run before now) →
         closes run.choices ≡ false → before.snapshot.bytes ≡ Some [] → IsFitSaved (saved_at now.stage (numbers_saved ending)) → AreWithin (numbers_saved ending) →
@@ -249,10 +249,10 @@ pub fn saved_worlds_are_gone_on_from()
     no_line_of_a_saved_world_is_refused();
 }
 
-/// A run that goes on from what another run saved ends well, or for want of memory, where the words are understood and name no other horizon,
-/// each line of the input is a delivery, the input is within the limit, and so is the snapshot, no read and no write fails, and there is room
-/// for all that is held, for the page that the least due event wants, and for the next page that is to be mapped anew. The numbers have to
-/// be such that a run may go on with them.
+/// A run that goes on from what another run saved ends with Ok or OutOfMemory if the arguments are understood and name no other horizon,
+/// each line of the input is a delivery, input and snapshot are within the limit, no read or write fails, and there is room for all that is
+/// held, for the page that the least due event wants, and for the next page to be remapped. The numbers have to be such that a run may go
+/// on with them.
 pub fn good_input_goes_on_from_saved_worlds()
     ensures { (h : Option ℕ) (earlier : Replies) (ds : List Delivery) (run : Run) (before now : Moment) → StandsAfter h earlier ds (start_of run before) → (ending : Ending run before now) →
         closes run.choices ≡ false → before.snapshot.bytes ≡ Some [] → IsFitSaved (saved_at now.stage (numbers_saved ending)) → AreWithin (numbers_saved ending) →
@@ -272,12 +272,11 @@ pub fn good_input_goes_on_from_saved_worlds()
     saved_worlds_are_gone_on_from();
 }
 
-/// Two runs are one: where a first run ended well that saved its world, and a second one goes on from these bytes and ends well, the world is
-/// that of one replay of the deliveries of both, whose replies are the first run's to events that its mark had reached, and the second's to
-/// all others. So are the states, and what is held and named. Where both answer questions, the second prints what this replay prints behind
-/// what it prints at the first run's deliveries; and where the second routes pages to graphs, so it is of a replay that routes them so,
-/// whichever routes the first had, if any. Where both report changes, their records are one stream. The numbers that are saved have to fit
-/// 64 bits.
+/// If a first run saved its world, a second one resumed from it, and both ended with Ok, they are one run: the world is that of one replay
+/// of the deliveries of both, with the first run's replies to events that its mark had reached and the second's to all others. The same
+/// holds for states, holds and names. If both answer questions, the second prints the rest of what this replay prints; if it routes pages
+/// to graphs, this replay does too, whatever routes the first run had. If both report changes, their records are one stream. The numbers
+/// that are saved have to fit 64 bits.
 pub fn two_runs_are_one()
     ensures world { (one two : Run) (before_one now_one before_two now_two : Moment) (runs : TwoRuns one two before_one now_one before_two now_two) →
         now_two.stage.world ≡ state_ended (closes two.choices) (horizon_of runs) (all_replies runs) (all_deliveries runs) }

@@ -1,12 +1,13 @@
-//! The top call: the words are judged, the lines are taken one by one, and what was asked for is printed; or records are followed, or a
-//! drill is run.
+//! The top call: it judges the arguments, takes the lines one by one, and prints what was asked for; or it follows records, or runs a
+//! drill.
 //!
-//! `run` is the whole program but for the process around it; `running` has it. `resuming` is a replay from its beginning or from a snapshot on, `replaying` what both do, `split` a replay into several
-//! graphs, `records` the following of records, and `drilling` a drill, whose deliveries `drill_playing` takes.
-//! `task` is what is asked of a replay. `taking` takes the lines of the input, `delivering` one delivery, and the end, and `remapping` a change of the mapping; `report` is what is
-//! reported of them, answers or changes, and `context` writes it.
-//! `ports` are what a run reads and writes, `stop` is why it stopped, and `status` how it ended. The words stand in the crate `words`, what is printed in `transcript`, and
-//! the summary of a drill in `drill_replay`. `laws` says what follows from the contract of `run` where nothing goes wrong.
+//! `run` is the whole program but for the process around it; `running` has it. `resuming` is a replay from its beginning or from a
+//! snapshot, `replaying` what both do, `split` a replay into several graphs, `records` the following of records, and `drilling` a drill,
+//! whose deliveries `drill_playing` takes. `task` is what is asked of a replay. `taking` takes the lines of the input, `delivering` one
+//! delivery, and the end, and `remapping` a change of the mapping; `report` is what is reported of them, answers or changes, and `context`
+//! writes it. `ports` are what a run reads and writes, `stop` is why it stopped, and `status` how it ended. The crate `words` reads the
+//! arguments, `transcript` has what is printed, and `drill_replay` the summary of a drill. `laws` says what follows from the contract of
+//! `run` if nothing goes wrong.
 #![tactic(auto)]
 
 mod context;

@@ -1,4 +1,4 @@
-// The first version of the mapping is in force at the beginning; where another comes into force, what is held is mapped anew.
+// The first version of the mapping is in force at the beginning; if another comes into force, what is held is remapped.
 
 ghost use Rattle.std.specs.Prelude.{◌≡◌, IfErr, IfOk, OnOk};
 ghost use Rattle.replay_model.specs.ReplayState.{nothing_delivered};

@@ -30,8 +30,8 @@ use words::ReplayOptions;
 use world::World;
 use wq_io::{Sink, Source};
 
-// Replays, with a graph for each of the routes and one for the rest, where there are routes: from the snapshot on that the options name, if
-// they name one, and else from the beginning.
+// Replays, with a graph for each of the routes and one for the rest, if there are routes: from the snapshot on that the options name, if
+// they name one, and from the beginning otherwise.
 pub fn replay<S: Source, R: Revisions, K: Sink, F: Sink>(
     keys: RandomState,
     task: &Task<'_>,
@@ -58,8 +58,8 @@ pub fn replay<S: Source, R: Revisions, K: Sink, F: Sink>(
     }
 }
 
-// Leaves the world as it is where memory was refused before a run was begun: at the start of one that begins anew, and else as it was, with
-// the limit of the words.
+// The world if memory is refused before the run begins: that of the start for a first run, the given one for a run with `--resume`, with
+// the limit of the options.
 pub fn refuse(options: &ReplayOptions<'_>, world: &mut World)
     requires { world.old.replay ≡ nothing_delivered }
     ensures begun { options.now.resume ≡ None → world.new ≡ world_at_start options.now }
@@ -117,8 +117,8 @@ fn new_graphs(
     Ok(Some(graphs))
 }
 
-// Replays from the snapshot on. Where it isn't loaded, or has another horizon than the words name, or memory for its graphs is refused,
-// nothing else is read, nothing is written, and the given world is as it was, with the limit of the words.
+// Replays from the snapshot on. If it isn't loaded, or has another horizon than the options name, or memory for its graphs is refused,
+// nothing else is read, nothing is written, and the given world is as it was, with the limit of the options.
 fn resume<S: Source, R: Revisions, K: Sink, F: Sink>(
     keys: RandomState,
     task: &Task<'_>,
@@ -152,7 +152,7 @@ struct Start {
     graphs: Option<Graphs>,
 }
 
-// Replays from this world on, behind the runs that left its counts.
+// Replays from this world on, after the runs that left its counts.
 fn go_on<S: Source, R: Revisions, K: Sink, F: Sink>(
     start: Start,
     task: &Task<'_>,
@@ -233,8 +233,8 @@ fn graphs_of(
     Ok(Some(graphs))
 }
 
-// Loads the snapshot, with room for as many terms as the options say. Where they name a horizon, it has to be the snapshot's: else its head,
-// the first line, is refused.
+// Loads the snapshot, with room for as many terms as the options say. If they name a horizon, it has to be the snapshot's: otherwise its
+// head, the first line, is refused.
 fn load_snapshot<S: Source>(
     keys: RandomState,
     task: &Task<'_>,

@@ -37,25 +37,25 @@ use words::{Plan, read_plan};
 use world::World;
 use wq_io::{Sink, Source};
 
-/// Does what the words ask for. A replay reads the event lines, applies what is due, answers each question at once, maps what is
-/// held anew where a line changes the mapping, and prints at the end what the words ask for; a drill replays
-/// deliveries and pages that are made from its size, and prints its summary.
+/// Runs the command that the arguments name. A replay reads event lines, applies due events, answers each question at once, remaps all held
+/// pages when a line changes the mapping, and at the end prints the sections that the options ask for. A drill makes deliveries and pages
+/// from its size, replays them, and prints its summary.
 ///
-/// A patch stream replays the same lines, and writes in place of answers and sections how the stored triples change: a record for each
-/// application, and for each page that is mapped anew, that changes them. It passes over questions.
+/// `patches` replays the same lines and writes a record for each applied event and each remapped page that changes the stored triples, in
+/// place of answers and sections. It passes over questions.
 ///
-/// Where the words name a snapshot, the replay goes on from its world, and the numbers of answers and records go on from its counts.
+/// With `--resume` the replay goes on from the world of the snapshot, and the numbers of answers and records go on from its counts.
 ///
-/// Where the words say that the world is saved, the end of the input isn't that of the deliveries: what waits goes on waiting, the sections
-/// show the world as it is then, and its snapshot is written last.
+/// With `--save` the end of the input isn't that of the deliveries: what waits goes on waiting, the sections show the world as it is then,
+/// and its snapshot is written last.
 ///
-/// A split replays the same lines into several graphs: an ask is answered for each graph, and at the end the triples of each are printed.
-/// It passes over matches.
+/// `split` replays the same lines into several graphs: it answers each ask for each graph, and at the end prints the triples of each. It
+/// passes over matches.
 ///
-/// A follower reads records of changes, and prints how many of them were applied and, where the words ask for it, the triples then.
+/// `follow` reads records of changes, and prints how many it applied and, if asked, the triples then.
 ///
-/// `words` are those after the program's name; terms of records are found by hashes under `keys`; `world` has taken nothing yet and has no horizon; a run begins with the first version of
-/// the mapping, whichever is in force in it, or with the world of a snapshot.
+/// `words` are the arguments; `keys` key the hashes of terms; `world` has taken nothing yet and has no horizon. A run begins with the first
+/// version of the mapping, whichever is in force in `world`, or with the world of a snapshot.
 pub fn run<S: Source, R: Revisions, K: Sink, F: Sink>(
     alloc: Global,
     keys: RandomState,
@@ -65,15 +65,15 @@ pub fn run<S: Source, R: Revisions, K: Sink, F: Sink>(
 ) -> Status
     requires world { world.old.replay ≡ nothing_delivered }
 
-    // Where the words are not understood, or the text of a split's routes is not, nothing is done; but memory may be refused before the
-    // text of the routes is.
+    // If the arguments aren't understood, or the text of the routes isn't, the run does nothing. The routes are read after memory is asked
+    // for, so the status may be OutOfMemory instead.
     ensures bad_words { result ≡ Status.BadWords → IsNotUnderstood (map (λ w. string_bytes w) words.now) }
     ensures words { plan_of (map (λ w. string_bytes w) words.now) ≡ None → result ≡ Status.BadWords }
     ensures routes { IsNotUnderstood (map (λ w. string_bytes w) words.now) → (result ≡ Status.BadWords) ⊎ (result ≡ Status.OutOfMemory) }
     ensures untouched { result ≡ Status.BadWords → (ports.new ≡ ports.old) × (world.new ≡ world.old) }
 
-    // A replay without a snapshot ends well, or stops for a cause; it begins with the horizon and the limit of the words, and by the first
-    // version.
+    // A replay without `--resume` ends with Ok or stops for a cause. It begins with the horizon and the limit of its options, and with
+    // version One of the mapping.
     ensures replay { (choices : Choices) → plan_of (map (λ w. string_bytes w) words.now) ≡ Some (Replay choices) → choices.resume ≡ None →
         ReplayEnding result (run_of None Answers (R.contents ports.old.revisions) choices)
         (moment S.Source R.Revisions K.Sink F.Sink ports.old (world_at_start choices))
@@ -85,8 +85,8 @@ pub fn run<S: Source, R: Revisions, K: Sink, F: Sink>(
         (moment S.Source R.Revisions K.Sink F.Sink ports.old (world_at_start choices))
         (moment S.Source R.Revisions K.Sink F.Sink ports.new world.new) }
 
-    // Where the words name a snapshot, either it is refused for a cause, before anything else is read or anything is written; or the bytes are
-    // the snapshot of a world, and the replay goes on from this world, behind the runs that left its counts.
+    // With `--resume` the snapshot is refused for a cause, before anything else is read or anything is written; or the bytes are the
+    // snapshot of a world, and the run goes on from this world and its counts.
     ensures resumed { (choices : Choices) → plan_of (map (λ w. string_bytes w) words.now) ≡ Some (Replay choices) → IsSome choices.resume →
         ResumeEnding result (run_of None Answers (R.contents ports.old.revisions) choices)
         (moment S.Source R.Revisions K.Sink F.Sink ports.old world.old)
@@ -107,22 +107,23 @@ pub fn run<S: Source, R: Revisions, K: Sink, F: Sink>(
         (moment S.Source R.Revisions K.Sink F.Sink ports.old world.old)
         (moment S.Source R.Revisions K.Sink F.Sink ports.new world.new) }
 
-    // A drill ends well, or stops while it prints or for want of memory. All that it leaves is mapped by the first version, and it
-    // reads nothing.
+    // A drill ends with Ok, or stops while it prints, or with OutOfMemory. All that it leaves is mapped by the first version, and it reads
+    // nothing.
     ensures drill { (size : ℕ) → plan_of (map (λ w. string_bytes w) words.now) ≡ Some (Drill size) →
         DrillEnding result size
         (stage R.Revisions K.Sink ports.old.revisions ports.old.out world.old)
         (stage R.Revisions K.Sink ports.new.revisions ports.new.out world.new)
         × IsByFirst world.new × (ports.new ≡ record ports.old { out = ports.new.out }) }
 
-    // A follower ends well, or stops for a cause, and what it took of its input is bounded. It fetches nothing, and the world stays empty.
+    // A follower ends with Ok or stops for a cause, and what it took of its input is bounded. It fetches nothing, and the world stays
+    // empty.
     ensures follow { (choices : FollowChoices) → plan_of (map (λ w. string_bytes w) words.now) ≡ Some (Follow choices) →
         FollowEnding result choices
         (follow_moment S.Source K.Sink ports.old.events ports.old.out)
         (follow_moment S.Source K.Sink ports.new.events ports.new.out)
         × (ports.new ≡ record ports.old { events = ports.new.events; out = ports.new.out }) × (world.new ≡ record world.old { limit = 20000000 }) }
 
-    // However a run ends that was begun, the world is left with the limit of the plan, and what it holds stays within it.
+    // Once the arguments are understood, the world ends with the plan's limit, however the run ends, and what it holds stays within it.
     ensures limit { (plan : ThePlan) → plan_of (map (λ w. string_bytes w) words.now) ≡ Some plan →
         (result ≡ Status.BadWords) ⊎ ((world.new.limit ≡ limit_of_plan plan) × HoldsWithin (limit_of_plan plan) world.new) }
 

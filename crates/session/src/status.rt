@@ -12,7 +12,7 @@ use std::alloc::Global;
 pub enum Status {
     /// The input was read to its end, all due events were applied, and everything was written.
     Ok,
-    /// The words are not understood; nothing was read or written.
+    /// The arguments are not understood; nothing was read or written.
     BadWords,
     /// The line with this number, from 1, is refused.
     BadLine(u64, LineCause),
@@ -30,7 +30,7 @@ pub enum Status {
     BadSnapshot(u64),
 }
 
-/// The line that says how a run ended, without its line feed; empty where it ended well.
+/// The line that says how a run ended, without its line feed; empty if it ended with Ok.
 #[tactic(auto, unfolding(crate::specs::Status::cause_name))]
 pub fn status_text(alloc: Global, status: &Status) -> Result<Text, OutOfMemory>
     ensures { IfOk result (λ text. text ≡ status_text status.now) }
@@ -48,7 +48,7 @@ pub fn status_text(alloc: Global, status: &Status) -> Result<Text, OutOfMemory>
     }
 }
 
-// The line on a line that is refused.
+// The message for a refused line.
 fn bad_line(alloc: Global, number: u64, cause: LineCause) -> Result<Text, OutOfMemory>
     ensures { IfOk result (λ text. text ≡ bad_line_text number cause) }
 {
@@ -56,7 +56,7 @@ fn bad_line(alloc: Global, number: u64, cause: LineCause) -> Result<Text, OutOfM
     Ok(Text::from_string(format!(in alloc; "wdq: line {number}: {cause}")?))
 }
 
-// The line on a line of a snapshot that is refused.
+// The message for a refused line of a snapshot.
 fn bad_snapshot(alloc: Global, number: u64) -> Result<Text, OutOfMemory>
     ensures { IfOk result (λ text. text ≡ bad_snapshot_text number) }
 {

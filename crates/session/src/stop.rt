@@ -13,12 +13,12 @@ use text_output::Unwritten;
 use triple_store::StoreFault;
 use wq_io::LineFault;
 
-// Why a delivery wasn't taken wholly: at which step it stopped.
+// At which step a delivery stopped.
 #[derive(Clone, Copy, Debug, PartialEq, Eq)]
 pub enum Halt {
-    // The least due event wasn't applied, and stays due; or a page not mapped anew.
+    // The least due event wasn't applied, and stays due; or a page wasn't remapped.
     Unapplied(StoreFault),
-    // The last event that was applied, or the last page that was mapped anew, wasn't told wholly.
+    // The last event that was applied, or the last remapped page, wasn't told wholly.
     Untold(Unwritten),
 }
 

@@ -37,9 +37,9 @@ pub struct LinesTaken {
     pub matched: u64,
 }
 
-// Takes all lines of the input; after each watermark all due events are applied before the next line is taken, and each
-// question is answered at once; at a change of the mapping all that is held is mapped anew before the next line is taken. Says how many
-// asks were answered or records written then, and how many matches were delivered, with those of earlier runs.
+// Takes all lines of the input; after each watermark all due events are applied before the next line is taken, and each question is
+// answered at once; a change of the mapping remaps all held pages before the next line is taken. Says how many asks were answered or
+// records written then, and how many matches were delivered, with those of earlier runs.
 pub fn take_lines<S: Source, R: Revisions, K: Sink, F: Sink>(
     task: &Task<'_>,
     ports: &mut Ports<S, R, K, F>,

@@ -6,7 +6,7 @@ ghost use Rattle.sitelinks.specs.Replaced.{replaced};
 use rdf_term::{CowText, OutOfMemory, Text};
 use std::alloc::Global;
 
-/// What stands before the first of an ASCII character in the text, and what stands behind it.
+/// The text before the first occurrence of an ASCII character, and the text after it.
 pub(crate) fn around(text: &str, from: char) -> Option<(&str, &str)>
     requires { from < 128 }
     ensures { (to : ℕ) → MatchOption result (replaced from to text.now ≡ text.now)

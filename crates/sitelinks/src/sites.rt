@@ -9,6 +9,6 @@ pub struct Site<'a> {
     pub base: CowText<'a>,
     /// The language of the articles, as `en`.
     pub language: CowText<'a>,
-    /// The group of sites that it counts to, as `wikipedia`.
+    /// The group of sites that it belongs to, as `wikipedia`.
     pub group: CowText<'a>,
 }

@@ -51,7 +51,7 @@ impl SpecialSite {
         }
     }
 
-    /// The group of sites that it counts to.
+    /// The group of sites that it belongs to.
     #[tactic(auto, unfolding(crate::specs::Special::special_group))]
     pub(crate) fn group(self) -> &'static str
         ensures { result.now ≡ special_group self }

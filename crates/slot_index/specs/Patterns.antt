@@ -4,7 +4,7 @@ use Rattle.std.specs.Ordering.{nat_cmp, eq_by_cmp}
 use Rattle.slot_index.specs.declared.key.Key.{Key}
 use Rattle.slot_index.specs.declared.pattern.SlotPattern.{SlotPattern}
 
--- a place that is free agrees with every slot, and else the slots are equal
+-- a free place agrees with every slot, and at another place the slots are equal
 abbrev pub slot_agrees_at : Option ℕ → ℕ → Bool
 slot_agrees_at None slot = true
 slot_agrees_at (Some wanted) slot = eq_by_cmp nat_cmp wanted slot

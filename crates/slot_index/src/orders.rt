@@ -157,7 +157,7 @@ impl Orders {
     }
 }
 
-// The triples of an index that agree with a pattern in which no free place stands before a wanted one.
+// The triples of an index that agree with a pattern whose wanted places come before its free ones.
 fn leading<L: Ledger>(
     index: &BlockIndex<Key>,
     pattern: SlotPattern,
@@ -171,7 +171,7 @@ fn leading<L: Ledger>(
     index.range(pattern.low(), pattern.high(), steps)
 }
 
-// How many triples of an index agree with a pattern in which no free place stands before a wanted one.
+// How many triples of an index agree with a pattern whose wanted places come before its free ones.
 fn leading_len<L: Ledger>(
     index: &BlockIndex<Key>,
     pattern: SlotPattern,

@@ -199,7 +199,7 @@ pub application_followed : (routes : List Route) (entries entries_now : Entries)
 application_followed routes entries entries_now known folder before after applied page a holders by_two given is follows =
     by_outcome routes entries entries_now before after applied.event.entity holders (held_elsewhere known folder before after applied a) applied.outcome page (held_here known folder before after applied a) by_two given is follows
 
--- ---- a page that is mapped anew
+-- ---- a remapped page
 
 module _ (routes : List Route) (entries entries_now : Entries) (before : WorldState) (x : EntityId) (triples : List Triple) (holders : AreHolders before.by_two before.replay.played.records)
     (next : next_stale before ≡ Some x) where
@@ -253,7 +253,7 @@ graphs_applied routes limit entries entries_now applied page is known folder bef
   limit_is = follows.limit_is ∙ sym same;
 }
 
--- and after a page is mapped anew
+-- and after a page is remapped
 pub graphs_remapped : (routes : List Route) (limit : ℕ) (entries entries_now : Entries) (x : EntityId) (triples : List Triple) → AreEntriesAnew (graph_of entries x) x triples entries entries_now
     → (before : WorldState) → next_stale before ≡ Some x → AreTriplesOf before.mapping x (held_in before x) triples → AreHolders (remapped before).by_two before.replay.played.records
     → AreEntriesOf routes limit before entries → AreEntriesOf routes limit (remapped before) entries_now

@@ -47,7 +47,7 @@ module _ (routes : List Route) (limit : ℕ) (entries : Entries) (world : WorldS
   room_applied version x Stored (Some h) None never room = absurd never
   room_applied version x Stored (Some h) (Some page) given room = in_order page.graph page.triples _ given.triples_are.meant (room refl)
 
-  -- for the page that is mapped anew
+  -- for the remapped page
   room_remapped : (x : EntityId) (triples : List Triple) → next_stale world ≡ Some x → AreTriplesOf world.mapping x (held_in world x) triples
       → room_with (meaning_by meaning world.by_two) world.replay.played.records (triples_anew world) ≤ world.limit → (graph : Option ℕ) → HasRoomAnewIn limit entries graph triples
   room_remapped x triples next are room None = tt
@@ -66,7 +66,7 @@ pub may_have_room : (graphs : Option GraphsState) (before : WorldState) (x : Ent
 may_have_room None before x outcome held page follows given room = tt
 may_have_room (Some g) before x outcome held page follows given room = applied_in g g.entries before x outcome held page follows given room
 
--- and for the page that is mapped anew
+-- and for the remapped page
 anew_in : (g : GraphsState) (entries : Option Entries) (before : WorldState) (x : EntityId) (triples : List Triple) → IfSome entries (AreEntriesOf g.routes g.limit before) → next_stale before ≡ Some x → AreTriplesOf before.mapping x (held_in before x) triples
     → room_with (meaning_by meaning before.by_two) before.replay.played.records (triples_anew before) ≤ before.limit → IfSome entries (λ (there : Entries). HasRoomAnewIn g.limit there (graph_of there x) triples)
 anew_in g None before x triples follows next are room = tt

@@ -19,7 +19,7 @@ use Rattle.world.specs.Meaning.{meaning}
 use Rattle.world.specs.Routed.{route_of_page}
 use Rattle.world.specs.WorldState.{AreHolders, WorldState}
 
--- graphs: the routes; how many different terms each graph may have; and the entry of each entity, which is the index of its graph and its
+-- graphs: the routes; how many distinct terms each graph may have; and the entry of each entity, which is the index of its graph and its
 -- triples, or none where the graphs are lost
 pub record GraphsState : Type 0 where
   pub routes : List Route

@@ -27,7 +27,7 @@ use world::{RoutedPage, World};
 
 impl Graphs {
     /// Graphs that follow a world from what it holds on: each page that is held is read and mapped once, and its triples are in the graph
-    /// that it is routed to. Each graph has room for so many different terms: as many as the world, so none lacks it. The hashes of ids and
+    /// that it is routed to. Each graph has room for so many distinct terms: as many as the world, so none lacks it. The hashes of ids and
     /// of terms are keyed by `keys`.
     ///
     /// # Errors

@@ -24,10 +24,10 @@ use subgraph::{Routes, Split, StoreFault};
 use triple_texts::TripleTexts;
 use world::{Applied, Outcome, RoutedPage};
 
-/// Several graphs, by routes: one graph for each route, and a last one. An entity has its triples in one of them, or in none. Once memory
-/// was refused while they followed a step, they are lost, and hold nothing. A graph never lacks room where the world that it follows has it.
-/// Contracts see the routes; how many different terms each graph may have; and the entry of each entity, which is the index of its graph and
-/// its triples, or none where the graphs are lost.
+/// Several graphs, by routes: one graph for each route, and a last one. An entity has its triples in one of them, or in none. If memory is
+/// refused while they follow a step, they are lost: they hold nothing from then on. A graph never lacks room if the world that it follows
+/// has it. Contracts see the routes; how many distinct terms each graph may have; and the entry of each entity, which is the index of its
+/// graph and its triples, or none if the graphs are lost.
 #[derive(Drop)]
 pub struct Graphs {
     pub(crate) routes: Routes,
@@ -51,7 +51,7 @@ impl Model for Graphs {
 }
 
 impl Graphs {
-    /// Graphs without entities, each with room for so many different terms. The hashes of ids and of terms are keyed by `keys`.
+    /// Graphs without entities, each with room for so many distinct terms. The hashes of ids and of terms are keyed by `keys`.
     pub fn new(
         alloc: Global,
         keys: RandomState,
@@ -97,7 +97,7 @@ impl Graphs {
         }
     }
 
-    /// Follows the mapping of an entity's page anew: these are its triples now, in the graph that it is in, which has room for them. Graphs
+    /// Follows the remapping of an entity's page: these are its triples now, in the graph that it is in, which has room for them. Graphs
     /// that followed the world before follow the world after it, or are lost, where memory was refused.
     pub fn follow_remapping(&mut self, id: EntityId, triples: &TripleTexts)
         requires fit { AllByRecursion HasFitAndShortTerms triples.now }
@@ -142,7 +142,7 @@ fn apply(
     }
 }
 
-// Follows the mapping of a page anew.
+// Follows the remapping of a page.
 fn remap(split: &mut Split, id: EntityId, triples: &TripleTexts) -> Result<(), OutOfMemory>
     requires fit { AllByRecursion HasFitAndShortTerms triples.now }
     requires room { HasRoomAnewIn split.old.limit split.old.entries (graph_of split.old.entries id) triples.now }

@@ -1,9 +1,8 @@
 //! Graphs that follow a world: each entity has the triples of what it holds in the graph that its page is routed to.
 //!
-//! `graphs` has the graphs, which follow each application and each page that is mapped anew, and `perhaps` the same where there may be none.
-//! `filling` makes graphs of what a world holds.
-//! `printing` prints an answer of each graph, and the triples of each; `lines` makes the first lines. `specs/Graphs.antt` says when graphs
-//! follow a world, and `specs/Sections.antt` what is printed of them.
+//! `graphs` has the graphs, which follow each application and each remapped page, and `perhaps` the same if there may be none. `filling`
+//! makes graphs of what a world holds. `printing` prints an answer of each graph, and the triples of each; `lines` makes the first lines.
+//! `specs/Graphs.antt` says when graphs follow a world, and `specs/Sections.antt` what is printed of them.
 #![tactic(auto)]
 
 mod filling;

@@ -1,4 +1,4 @@
-// Graphs that there may be: a replay that routes no page has none.
+// Graphs, if there are any: only a split has them.
 
 ghost use Rattle.std.specs.Prelude.{◌≡◌, ℕ, List, Option, Some, IfSome, option_copied};
 ghost use Rattle.std.specs.List.{AllByRecursion};
@@ -46,7 +46,7 @@ pub fn follow_application(
     }
 }
 
-/// Graphs, if there are some, follow the mapping of an entity's page anew, which has these triples now, for which they have room.
+/// Graphs, if there are some, follow the remapping of an entity's page, which has these triples now, for which they have room.
 pub fn follow_remapping(graphs: &mut Option<Graphs>, id: EntityId, triples: &TripleTexts)
     requires fit { AllByRecursion HasFitAndShortTerms triples.now }
     requires room { MayHaveRoomAnew graphs.old id triples.now }

@@ -16,8 +16,8 @@ use rdf_vocabulary::push_field;
 use std::alloc::Global;
 use std::marker::Model;
 
-/// Makes the labels of a statement's unknown values. The statement's id begins what each of them hashes, and it may be
-/// long, so it is hashed once, for the first of them. Contracts see the id.
+/// Makes the labels of a statement's unknown values. Each label hashes the statement's id first. The id may be long, so it is hashed once,
+/// for the first label. Contracts see the id.
 #[derive(Debug, Drop)]
 pub struct Labels<'a> {
     id: &'a str,

@@ -166,7 +166,7 @@ module _ (old new : List GraphState) (x : EntityId) (p : Option Entry) (apart : 
       (id_tells y x)
       ∙ sym (map.get-insert entity_cmp_total (entries_in old) x e y))
 
-  -- or none
+  -- it has no entry then, if it goes to no graph
   pub entries_without : p ≡ None → entries_in new ≡ map.remove (entries_in old) x
   entries_without is = map.same_map entity_cmp_total entity_cmp_same _ _ (λ y.
       ⊎_elim

@@ -60,7 +60,7 @@ few_entries {V} (e ∷ es) = by (map.contains_key (map.from_entries {R = entity_
     by true is few = omega (arith, is, few)
     by false is few = omega (arith, is, few)
 
--- no count is at its last value where there are fewer entities
+-- no count is saturated if there are fewer entities
 pub countable : (s : StoreState) (owned : List (EntityId × Keys)) → IsInStep s owned → (n : ℕ) → length owned < n → (t : Triple) → count_of (counts_in s) t < n
 countable s owned h n few t =
     let owners : owners_of (sets_in s owned) t ≤ map.len (sets_in s owned) = few_owners (λ (e : EntityId × List Triple). e.1) (sets_in s owned) t in

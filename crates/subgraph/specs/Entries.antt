@@ -20,7 +20,7 @@ union_of sets = sorted triple_cmp (flat_map (λ e. e.1) (map.entries sets))
 abbrev pub owners_of : Sets → Triple → ℕ
 owners_of sets triple = count_by (λ e. has triple_cmp triple e.1) (map.entries sets)
 
--- a graph: the sets of its entities, and how many different terms there may be
+-- a graph: the sets of its entities, and how many distinct terms there may be
 pub record GraphState : Type 0 where
   pub sets : Sets
   pub limit : ℕ
@@ -42,12 +42,12 @@ triples_in graph entry = cond (entry.graph == graph) entry.triples []
 abbrev pub graph_triples : Entries → ℕ → List Triple
 graph_triples entries graph = sorted triple_cmp (flat_map (λ e. triples_in graph e.1) (map.entries entries))
 
--- graphs: the entries of their entities, how many graphs there are, and how many different terms each of them may have
+-- graphs: the entries of their entities, how many graphs there are, and how many distinct terms each of them may have
 pub record SplitState : Type 0 where
   pub entries : Entries
   pub graphs : ℕ
   pub limit : ℕ
 
--- the number of different terms of triples and of others together
+-- the number of distinct terms of triples and of others together
 abbrev pub terms_with : List Triple → List Triple → ℕ
 terms_with triples others = distinct (flat_map terms_of (triples ++ others))

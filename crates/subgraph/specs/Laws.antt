@@ -47,7 +47,7 @@ GraphsFollowTheRecords =
     (routing : Routing) (meaning : Meaning Triple) (entries : Entries) (records : Records) → IsSplitOf routing meaning entries records → (graph : ℕ) →
     graph_triples entries graph ≡ routed_union routing meaning records graph
 
--- where each entity has the entry of what it holds, a graph needs room for no more terms with other triples than all that is held does
+-- if each entity has the entry of what it holds, a graph needs no more room, beside any other triples, than all that is held
 abbrev pub GraphsNeedNoMoreRoom : Type 0
 GraphsNeedNoMoreRoom =
     (routing : Routing) (meaning : Meaning Triple) (entries : Entries) (records : Records) → IsSplitOf routing meaning entries records → (graph : ℕ) (triples : List Triple) →

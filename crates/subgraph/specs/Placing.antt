@@ -20,7 +20,7 @@ AreApart graphs = (x : EntityId) (i j : ℕ) → is_some (set_at graphs i x) ≡
 abbrev pub HaveLimit : ℕ → List GraphState → Type 0
 HaveLimit limit graphs = (i : ℕ) (g : GraphState) → slice_get graphs i ≡ Some g → g.limit ≡ limit
 
--- an entity has this set in a graph, or none, and all else is as it was
+-- an entity has this set in a graph, or none, and everything else is as it was
 pub record IsSetAt (old new : List GraphState) (graph : ℕ) (x : EntityId) (set : Option (List Triple)) : Type 0 where
   pub long : length new ≡ length old
   pub at : (i : ℕ) (y : EntityId) → set_at new i y ≡ cond ((i == graph) && eq_by_cmp entity_cmp y x) set (set_at old i y)

@@ -22,7 +22,7 @@ use Rattle.subgraph.specs.declared.routes.Route.{Route}
 abbrev pub instance_of : EntityId
 instance_of = record { kind = P; number = 31 }
 
--- the item or property that a value is
+-- the entity that a value names, if it names one
 abbrev pub entity_in : Value → Option EntityId
 entity_in (Entity text) = id_of text
 entity_in (Str text) = None
@@ -53,7 +53,7 @@ classes_said all = flat_map (λ s. option_to_list (class_if (is_best all s) s)) 
 abbrev pub leads : List EntityId → Route → Bool
 leads classes route = list_any (λ class. has entity_cmp class classes) route.classes
 
--- the graph of a document: that of the first route that has a class of the entity, else the last graph
+-- the graph of a document: that of the first route that has a class of the entity, and the last graph if none has
 abbrev pub route_of : List Route → Document → ℕ
 route_of routes (AnEntity entity) = position_or_len (leads (classes_said entity.statements)) routes
 route_of routes (Redirect target) = length routes

@@ -49,7 +49,7 @@ impl Model for Graph {
 }
 
 impl Graph {
-    /// A graph without entities, with at most so many different terms. The hashes of ids and of terms are keyed by `keys`.
+    /// A graph without entities, with at most so many distinct terms. The hashes of ids and of terms are keyed by `keys`.
     pub fn new(alloc: Global, keys: RandomState, limit: u32) -> Result<Graph, OutOfMemory>
         ensures { IfOk result (λ graph. graph ≡ record { sets = map.empty; limit = limit }) }
     {
@@ -67,8 +67,8 @@ impl Graph {
         self.owned.contains_key(&id)
     }
 
-    /// Sets the triples of an entity. After a fault nothing has changed. `Full` is said where the triples, with those of all entities here,
-    /// have more terms than there may be.
+    /// Sets the triples of an entity. After a fault nothing has changed. The fault is `Full` if the triples, with those of all entities
+    /// here, have more distinct terms than the limit.
     pub fn set(&mut self, id: EntityId, new: &TripleTexts) -> Result<(), StoreFault>
         requires fit { AllByRecursion HasFitAndShortTerms new.now }
         ensures ok { OnOk result (self.new ≡ record self.old { sets = map.insert self.old.sets id (sorted triple_cmp new.now) }) }
@@ -76,7 +76,7 @@ impl Graph {
         ensures full { result ≡ Err Full → self.old.limit < terms_with (union_of self.old.sets) new.now }
         ensures within { OnOk result (terms_with (union_of self.old.sets) new.now ≤ self.old.limit) }
     {
-        // A triple has at most as many owners as there are entities, so no count is at its last value.
+        // A triple has at most as many owners as there are entities, so no count is saturated.
         let entities = self.owned.len();
         prove!(entities < usize::MAX);
         if self.owned.reserve(1).is_err() {

@@ -20,5 +20,5 @@ pub use laws::{
 pub use routes::Routes;
 pub use routing::route;
 pub use split::Split;
-/// Why a graph takes no triples: there are more terms than the limit says, or memory was refused.
+/// Why a graph takes no triples: the limit on distinct terms is reached, or memory was refused.
 pub use triple_store::StoreFault;

@@ -25,7 +25,7 @@ use triple_texts::TripleTexts;
 
 /// The triples of entities in several graphs, each of which has room of its own. An entity has its set of triples in one graph, or in none;
 /// where two entities of a graph have the same triple, it is there once, and stays until neither has it. Contracts see the entry of each
-/// entity, which is the index of its graph and its set, the number of graphs, and how many different terms each may have.
+/// entity, which is the index of its graph and its set, the number of graphs, and how many distinct terms each may have.
 #[derive(Drop)]
 pub struct Split {
     alloc: Global,
@@ -50,7 +50,7 @@ impl Model for Split {
 }
 
 impl Split {
-    /// So many graphs without entities, each with at most so many different terms. The hashes of ids and of terms are keyed by `keys`.
+    /// So many graphs without entities, each with at most so many distinct terms. The hashes of ids and of terms are keyed by `keys`.
     pub fn new(
         alloc: Global,
         keys: RandomState,
@@ -73,8 +73,8 @@ impl Split {
         })
     }
 
-    /// Sets the triples of an entity, in this graph and in no other. After a fault nothing has changed in any graph. `Full` is said where the
-    /// triples, with those of the graph, have more different terms than it may have.
+    /// Sets the triples of an entity, in this graph and in no other. After a fault nothing has changed in any graph. The fault is `Full` if
+    /// the triples, with those of the graph, have more distinct terms than it may have.
     pub fn set(&mut self, id: EntityId, graph: usize, new: &TripleSet) -> Result<(), StoreFault>
         requires graph { graph < self.old.graphs }
         requires fit { AllByRecursion HasFitAndShortTerms new.now }

@@ -15,7 +15,7 @@ pub record IsIndexed (keys : RandomState) (text_in : ℕ → Option (List ℕ)) 
   pub pointed : (hash slot : ℕ) → by_hash hash ≡ Some slot → (text : List ℕ) × (text_in slot ≡ Some text) × (hash_of keys text ≡ hash)
   pub listed : (slot : ℕ) → Contains more slot → IsSome (text_in slot)
 
--- a slot more is found by a hash
+-- one more slot is found by a hash
 pub record Points (old new : ℕ → Option ℕ) (more after : List ℕ) (hash number : ℕ) : Type 0 where
   pub there : (new hash ≡ Some number) ⊎ Contains after number
   pub kept : (h slot : ℕ) → old h ≡ Some slot → new h ≡ Some slot

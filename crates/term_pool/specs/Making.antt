@@ -1,4 +1,4 @@
--- Room for a term more.
+-- Room for one more term.
 use Rattle.std.specs.Prelude.{◌≡◌, ℕ, ◌<◌, ◌==◌, None, vec_len, vec_capacity}
 use Rattle.std.specs.HashMap.{get as map_get, spare}
 use Rattle.slab.specs.Slab.{get, HasRoomFor}
@@ -12,7 +12,7 @@ pub record HasSame (old new : Pool) : Type 0 where
   pub keys : new.keys ≡ old.keys
   pub limit : new.limit ≡ old.limit
 
--- there is room for a term more, in this slot
+-- there is room for one more term, in this slot
 pub record HasSpareSlot (pool : Pool) (number : ℕ) : Type 0 where
   pub slots : HasRoomFor pool.slots 1
   pub by_hash : 0 < spare pool.by_hash

@@ -9,7 +9,7 @@ use crate::slots::Entry;
 use rdf_term::OutOfMemory;
 use slab::Slab;
 
-// Counts a use more, unless the count is the greatest.
+// Counts one more use, unless the count is the greatest.
 pub(crate) fn raise(slots: &mut Slab<Entry>, number: u32) -> Result<(), OutOfMemory>
     requires { 0 < count_of (get slots.old number) }
     ensures ok { OnOk result (Recounts slots.old slots.new number (count_of (get slots.old number) + 1)) }

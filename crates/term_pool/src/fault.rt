@@ -5,7 +5,7 @@ use thiserror::Error;
 /// Why a term isn't taken.
 #[derive(Clone, Copy, Debug, PartialEq, Eq, Error)]
 pub enum PoolFault {
-    /// As many terms are there as the limit says.
+    /// The limit on distinct terms is reached.
     #[error("the pool is full")]
     Full,
     /// A request for memory was refused, or the term has 2^48 - 1 uses, the most that are counted.

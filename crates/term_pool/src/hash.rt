@@ -8,7 +8,7 @@ use crate::walk::{TextSink, put_term};
 use rdf_term::Term;
 use std::hash::{BuildHasher, DefaultHasher, Hasher, RandomState};
 
-// The hash of a text under keys of this process: who chooses the texts doesn't know which of them meet.
+// The hash of a text under keys of this process, so whoever chooses the texts can't make them collide.
 #[tactic(auto, unfolding(crate::specs::Index::hash_of))]
 pub(crate) fn text_hash(keys: &RandomState, text: &[u8]) -> u64
     ensures { result ≡ hash_of keys.now text.now }

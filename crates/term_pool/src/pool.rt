@@ -27,7 +27,7 @@ use text_region::Region;
 pub struct Pool {
     alloc: Global,
     pub(crate) slots: Slab<Entry>,
-    // The slot of the first term with each hash, and the slots of all other terms: hashes of 64 bits hardly ever meet.
+    // The slot of the first term with each hash, and the slots of all other terms: 64-bit hashes hardly ever collide.
     pub(crate) by_hash: HashMap<u64, u32>,
     pub(crate) more: Vec<u32>,
     pub(crate) keys: RandomState,
@@ -107,9 +107,9 @@ impl Pool {
         self.find_more(region, text)
     }
 
-    /// Counts a use more of a term, and takes it in if it isn't there. After a fault the pool and the region have what they
-    /// had. It writes the term's text first; who has the text calls `intern_text`. A count has 48 bits: where the term's is
-    /// the greatest that these hold, 2^48 - 1, the answer is OutOfMemory.
+    /// Counts one more use of a term, and takes it in if it isn't there. After a fault the pool and the region have what they had. It
+    /// writes the term's text first; who has the text calls `intern_text`. A count has 48 bits: if the term's is the greatest that these
+    /// hold, 2^48 - 1, the answer is OutOfMemory.
     pub fn intern(&mut self, region: &mut Region, term: &Term) -> Result<Slot, PoolFault>
         requires lies { LiesIn self.old region.old }
         requires fit { IsFitAndShort term.now }
@@ -118,7 +118,7 @@ impl Pool {
         ensures first { IfOk result (λ slot. IsNowhere self.old region.old (term_text term.now) → count_at self.new slot.number ≡ 1) }
         ensures err { OnErr result (SameSlots self.old region.old self.new region.new) }
 
-        // Full comes just where the term isn't there and as many are as the limit says, unless memory was refused.
+        // The fault is Full exactly if the term is new and the pool has as many terms as its limit, unless memory was refused.
         ensures full { result ≡ Err PoolFault.Full → IsNowhere self.old region.old (term_text term.now) × (self.old.limit ≤ terms self.old) }
         ensures within { OnOk result (IsNowhere self.old region.old (term_text term.now) → terms self.old < self.old.limit) }
         ensures again { OnOk result ((slot : ℕ) → text_in_slot self.old region.old slot ≡ Some (term_text term.now) → count_at self.old slot < most_uses) }
@@ -132,9 +132,9 @@ impl Pool {
         self.intern_text(region, text.as_slice())
     }
 
-    /// Counts a use more of the term with this canonical text, and takes it in if it isn't there. After a fault the pool
-    /// and the region have what they had. A term that is there takes no memory. A count has 48 bits: where the term's is the
-    /// greatest that these hold, 2^48 - 1, the answer is OutOfMemory.
+    /// Counts one more use of the term with this canonical text, and takes it in if it isn't there. After a fault the pool and the region
+    /// have what they had. A term that is there takes no memory. A count has 48 bits: if the term's is the greatest that these hold,
+    /// 2^48 - 1, the answer is OutOfMemory.
     pub fn intern_text(&mut self, region: &mut Region, text: &[u8]) -> Result<Slot, PoolFault>
         requires lies { LiesIn self.old region.old }
         requires canonical { IsCanonical text.now }
@@ -230,7 +230,7 @@ impl Pool {
         None
     }
 
-    // Makes room for a term more, and gives the number of its slot.
+    // Makes room for one more term, and gives the number of its slot.
     fn make_room(&mut self) -> Result<u32, OutOfMemory>
         ensures same { HasSame self.old self.new }
         ensures room { IfOk result (HasSpareSlot self.new) }

@@ -58,7 +58,7 @@ impl Entry {
         self.low == 1 && self.high == 0
     }
 
-    // Counts a use more, unless the count is the greatest that its bits hold.
+    // Counts one more use, unless the count is the greatest that its bits hold.
     pub(crate) fn raise(&mut self) -> Result<(), OutOfMemory>
         ensures ok { OnOk result (self.new ≡ record self.old { count = self.old.count + 1 }) }
         ensures err { OnErr result (self.new ≡ self.old) }

@@ -13,7 +13,7 @@ use Rattle.text_region.specs.Shelves.{AreShelves}
 use Rattle.text_region.proofs.Pieces.{one_piece}
 use Rattle.text_region.proofs.Shelves.{one_used, unused}
 
--- a block more that is in no use changes no text
+-- one more block that is in no use changes no text
 grown_same : (blocks : Blocks) (k : ℕ) → block_at (blocks ++ None ∷ []) k ≡ block_at blocks k
 grown_same [] zero = refl
 grown_same [] (suc k) = refl

@@ -38,7 +38,7 @@ pub record Updates (old new : Texts) (piece : Piece) (text : Option (List ℕ)) 
   pub changed : bytes_of new piece ≡ text
   pub others : (other : Piece) → other ≢ piece → bytes_of new other ≡ bytes_of old other
 
--- one block more of the class is in use; it is a new one only where all were in use
+-- one more block of the class is in use; it is a new one only if all were in use
 pub record Places (old new : Texts) (class : ℕ) : Type 0 where
   pub one_more : live new class ≡ live old class + 1
   pub one_made : made new class ≡ made old class + (if live old class == made old class then 1 else 0)

@@ -1,8 +1,7 @@
 // The name of a placed text.
 
-/// A text that lies in a region: the block, by its class and its number there. A region gives it out when it places the text, and
-/// takes it back when the text is freed. Whoever has the two numbers can make it again, so each call that takes a piece asks that
-/// it is live.
+/// A text that lies in a region: the block, by its class and its number there. A region gives it out when it places the text, and takes it
+/// back when the text is freed. Anyone can make a piece of two numbers, so each call that takes one requires it to be live.
 #[derive(Debug, Drop)]
 pub struct Piece {
     /// The class of the block.

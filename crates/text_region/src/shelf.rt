@@ -97,7 +97,7 @@ impl Shelf {
         self.spare.push_reserved(number);
     }
 
-    // Makes a block more, which is in no use yet.
+    // Makes one more block, which is in no use yet.
     fn grow(&mut self) -> Result<(), OutOfMemory>
         ensures size { self.new.size ≡ self.old.size }
         ensures ok { OnOk result (self.new.blocks ≡ self.old.blocks ++ None ∷ []) }

@@ -5,7 +5,7 @@ ghost use Rattle.std.specs.Prelude.{◌≡◌, None};
 use crate::term_ref::TermRef;
 
 /// The subject of several triples, and the index of one that has it, among those that a sink holds, where one is known. So a sink that
-/// writes texts needs to look at none of a subject that it has.
+/// writes texts needn't look at the text of such a subject.
 #[derive(Clone, Copy, Debug)]
 pub struct Subject<'a> {
     /// The subject.

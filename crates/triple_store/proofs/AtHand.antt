@@ -20,7 +20,7 @@ not_held old added key r rises within at missed none = has-append key_cmp key ol
 pub held_added : (old added : List Key) (key : Key) → has key_cmp key added ≡ true → has key_cmp key (old ++ added) ≡ true
 held_added old added key there = has-append key_cmp key old added ∙ or_true _ _ there
 
--- one key more among those that came
+-- one more key among those that came
 module _ (old added keys : List Key) (held : (key : Key) → has key_cmp key (old ++ added) ≡ has key_cmp key (old ++ keys)) (key : Key) where
   pushed : (k : Key) → has key_cmp k (old ++ (keys ++ key ∷ [])) ≡ (has key_cmp k (old ++ keys) || same_key k key)
   pushed k = ap (has key_cmp k) (sym (append_assoc old keys (key ∷ []))) ∙ has-push key_cmp k (old ++ keys) key

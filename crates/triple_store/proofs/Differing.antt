@@ -209,7 +209,7 @@ sole_among st keys others k h =
     let among : has key_cmp k rest ≡ true = and_right (keyed.count_of st.index k == 1) (has key_cmp k rest) (sym (has-filter key_cmp key_cmp-IsAntisymmetric (λ k. keyed.count_of st.index k == 1) k rest) ∙ h) in
     and_right (not (has key_cmp k others)) (has key_cmp k keys) (sym (has-difference key_cmp-total k keys others) ∙ among)
 
--- one line more
+-- one more line
 pub more_lines : (rows : List Triple) (index : ℕ) (text front : List ℕ) → index < length rows → IfSome (slice_get rows index) (λ t. text ≡ front ++ triple_text t) → front ≡ flat_map triple_text (take index rows) → text ≡ flat_map triple_text (take (index + 1) rows)
 more_lines rows index text front within h is =
     let d : Triple = record { subject = Blank []; predicate = Blank []; object = Blank [] } in

@@ -32,7 +32,7 @@ module _ {A : Type 0} where
   marked_next (x ∷ xs) (true ∷ marks) (suc i) d b l m = ap (λ ys. x ∷ ys) (marked_next xs marks i d b (omega arith) (omega arith))
   marked_next (x ∷ xs) (false ∷ marks) (suc i) d b l m = marked_next xs marks i d b (omega arith) (omega arith)
 
-  -- one place more
+  -- one more place
   marked_more : (xs : List A) (marks : List Bool) (i : ℕ) (d : A) (b : Bool) → i < length xs → i < length marks → marked (take (i + 1) xs) marks ≡ marked (take i xs) marks ++ cond (get_or marks i b) (get_or xs i d ∷ []) []
   marked_more xs marks i d b l m =
       let next : i + 1 ≡ suc i = omega arith in

@@ -99,7 +99,7 @@ module _ (st : Catalog) (r : Texts) (now : Catalog) (s : Texts) (had keys : List
       })
       (one_of (has key_cmp key had) (has key_cmp key keys) (sym (has-append key_cmp key had keys) ∙ there))
 
-  -- with one key more, after which each key stands for what it stood for
+  -- with one more key, after which each key stands for what it stood for
   module _ (new : Catalog) (u : Texts) (later : (k : Key) (t : Triple) → HasKey now s k t → HasKey new u k t) (key : Key) (t : Triple) (one : HasKey new u key t) where
     each_more : (k : Key) → has key_cmp k (keys ++ key ∷ []) ≡ true → (v : Triple) × HasKey new u k v × (has triple_cmp v (done ++ t ∷ []) ≡ true)
     each_more k there =
@@ -119,7 +119,7 @@ module _ (st : Catalog) (r : Texts) (now : Catalog) (s : Texts) (had keys : List
         (λ same. (key, subst (HasKey new u key) (sym (triple_cmp-IsAntisymmetric v t (equal _ same))) one, has-push key_cmp key keys key ∙ or_true (has key_cmp key keys) _ (itself key_cmp-total key)))
         (one_of (has triple_cmp v done) (same_triple v t) (sym (has-push triple_cmp v done t) ∙ there))
 
-  -- one triple more whose key is at hand
+  -- one more triple whose key is at hand
   pub held_taken : (key : Key) (t : Triple) → has key_cmp key (had ++ keys) ≡ true → HasTriple now.pool s key t → TakesIn st r now s had (keys ++ key ∷ []) (done ++ t ∷ [])
   held_taken key t there is =
       let k = known key t there is in
@@ -149,7 +149,7 @@ module _ (st : Catalog) (r : Texts) (now : Catalog) (s : Texts) (had keys : List
         clash (has-append key_cmp one.0 had keys ∙ or_left _ _ one.1) (none one.0 (subst (HasTriple now.pool s one.0) one.2 (had_key one.0 one.1).has)));
   }
 
-  -- one triple more that is counted once more
+  -- one more triple that is counted once more
   pub new_taken : (new : Catalog) (u : Texts) (key : Key) (t : Triple) → ((key : Key) → HasTriple now.pool s key t → has key_cmp key (had ++ keys) ≡ false) → IsStored new u → counts_in new u ≡ raised (counts_in now s) t → HasKey new u key t → ((k : Key) (t : Triple) → HasKey now s k t → HasKey new u k t) → ((piece : Piece) → beside new u piece ≡ beside now s piece) → limit_of new ≡ limit_of now → TakesIn st r new u had (keys ++ key ∷ []) (done ++ t ∷ [])
   new_taken new u key t none after more one later others limit =
       let n = is_new t none in

@@ -12,10 +12,10 @@ use Rattle.triple_store.specs.Counts.{Counts}
 abbrev pub terms_of : Triple → List Term
 terms_of t = t.subject ∷ t.predicate ∷ t.object ∷ []
 
--- how many different terms a list has
+-- how many distinct terms a list has
 abbrev pub distinct : List Term → ℕ
 distinct terms = length (sorted term_cmp terms)
 
--- the number of different terms of the stored triples and of others together
+-- the number of distinct terms of the stored triples and of others together
 abbrev pub room_for : Counts → List Triple → ℕ
 room_for counts triples = distinct (flat_map terms_of (map.keys counts ++ triples))

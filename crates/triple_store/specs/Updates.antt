@@ -21,7 +21,7 @@ use Rattle.triple_store.specs.Room.{room_for}
 use Rattle.triple_store.specs.StoreState.{AreKeysOf, IsSound, KeepsKeys, StoreState, beside, counts_in, is_key, limit_of}
 use Rattle.triple_store.specs.Telling.{TellsIf}
 
--- the triples may come: their terms are fit and short, and no count of owners is at its last value
+-- the triples may come: their terms are fit and short, and no count of owners is saturated
 pub record MayCome (store : StoreState) (triples : List Triple) : Type 0 where
   pub fit : AllByRecursion HasFitAndShortTerms triples
   pub countable : (triple : Triple) → has triple_cmp triple triples ≡ true → count_of (counts_in store) triple < 18446744073709551615
@@ -42,7 +42,7 @@ pub record KeepsRest (old new : StoreState) : Type 0 where
   pub limit : limit_of new ≡ limit_of old
   pub sound : IsSound new
 
--- triples came in the place of those of the keys, or a fault changed no count; `Full` is said where there is no room for them
+-- triples came in the place of those of the keys, or a fault changed no count; the fault is `Full` if there is no room for them
 pub record IsExchange (old new : StoreState) (gone : List Key) (came : List Triple) (result : Result Keys PoolFault) : Type 0 where
   pub ok : OnOk result ((triples : List Triple) → AreKeysOf old gone triples → Exchanges (counts_in old) (counts_in new) triples came)
   pub err : OnErr result (counts_in new ≡ counts_in old)

@@ -47,8 +47,8 @@ struct Met {
 }
 
 impl Catalog {
-    // Puts the triples of one owner in the place of those that it had. What is in both costs its comparisons alone where it comes in
-    // the order of the walk, and else its look-ups.
+    // Puts the triples of one owner in the place of those that it had. A triple of both costs only comparisons if it comes in the order of
+    // the walk, and look-ups otherwise.
     pub(crate) fn exchange<L: Ledger>(
         &mut self,
         region: &mut Region,

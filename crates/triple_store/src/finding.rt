@@ -45,8 +45,8 @@ pub(crate) struct Found {
 }
 
 impl Catalog {
-    // The key of the triple with these texts, where it is among the old ones or those that were added, and else the
-    // slots of its terms that are there.
+    // The key of the triple with these texts, if it is among the old ones or those that were added, and otherwise the slots of its terms
+    // that are there.
     pub(crate) fn find_held(
         &self,
         region: &Region,
@@ -141,7 +141,7 @@ pub(crate) fn known_subject(
     }
 }
 
-// Where the walk goes on behind an index that it comes to soon. A hint alone: where it doesn't, it goes on where it stood.
+// Where the walk goes on after an index that is near. Only a hint: if the index isn't near, the walk stays where it was.
 fn behind(walk: &[u32], next: usize, old_index: u32) -> usize {
     for past in 0..AHEAD {
         let at = next.saturating_add(past);

@@ -11,7 +11,7 @@ use rdf_term::OutOfMemory;
 use slot_index::Key;
 use std::alloc::Global;
 
-// Stands for the place of a key that was in no place.
+// Stands for a key without an old index.
 pub(crate) const NOWHERE: u32 = u32::MAX;
 
 /// The keys of the triples that one owner has, each once, in rising order; beside them their places in the order in which the

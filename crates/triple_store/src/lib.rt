@@ -32,5 +32,5 @@ pub use keys::{KeySlices, Keys};
 pub use rows::Rows;
 pub use store::Store;
 pub use telling::{Change, Exchange, Telling, TripleLines};
-/// Why a store takes no triples: there are more terms than the limit says, or memory was refused.
+/// Why a store takes no triples: the limit on distinct terms is reached, or memory was refused.
 pub use term_pool::PoolFault as StoreFault;

@@ -111,7 +111,7 @@ fn sort_terms(terms: &mut Vec<SlotText<'_>>)
     terms.sort_unstable_by(|a, b| a.text.cmp(b.text));
 }
 
-// The rank of the term in each slot, and `NOWHERE` where there is none. A hint: who reads a rank looks whether the term has the slot.
+// The rank of the term in each slot, and `NOWHERE` if there is none. Only a hint: the reader of a rank checks the slot of its term.
 fn ranks_of(alloc: Global, terms: &[SlotText<'_>], slots: usize) -> Result<Vec<u32>, OutOfMemory> {
     let mut ranks = Vec::new(alloc);
     ranks.resize(slots, NOWHERE)?;

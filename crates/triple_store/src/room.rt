@@ -8,7 +8,7 @@ ghost use Rattle.triple_store.specs.Stored.{IsStored, counts_in};
 use crate::catalog::Catalog;
 
 impl Catalog {
-    // The number of different terms of the stored triples.
+    // The number of distinct terms of the stored triples.
     pub(crate) fn terms(&self) -> u32
         ensures { (region : Texts) → IsStored self.now region → result ≡ room_for (counts_in self.now region) [] }
     {

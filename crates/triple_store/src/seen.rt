@@ -1,7 +1,7 @@
 // Slots of terms that came a short time ago, by a cheap hash of their texts.
 //
 // Triples of one page name the same properties and classes again and again, and a new node comes as an object before it comes as a subject.
-// A slot that is told here is a hint alone: who asks looks at its text.
+// A slot found here is only a hint: the caller checks its text.
 
 ghost use Rattle.std.specs.Prelude.{◌<◌};
 

@@ -115,7 +115,7 @@ impl Store {
         self.catalog.triples()
     }
 
-    /// The number of different terms of the stored triples.
+    /// The number of distinct terms of the stored triples.
     pub fn terms(&self) -> u32
         ensures count { result ≡ room_for (counts_in self.now) [] }
         ensures within { result ≤ limit_of self.now }

@@ -58,7 +58,7 @@ pub(crate) struct Sides<'a> {
 }
 
 impl Catalog {
-    // What the new keys made stored and what the loss of the old ones will end, where that is to be told. The triples of both are stored.
+    // If asked: which triples the new keys made stored, and which will go with the old keys. The triples of both are stored.
     pub(crate) fn change_if<L: Ledger>(
         &self,
         telling: Telling,

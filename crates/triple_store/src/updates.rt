@@ -20,9 +20,9 @@ use triple_patch::Patch;
 use triple_texts::TripleTexts;
 
 impl Store {
-    /// Puts the triples of one owner in the place of those that it had, which its keys tell; the walk beside these is a hint.
-    /// What is in both costs its comparisons alone where it comes in the order of the walk, and else its look-ups. After a fault
-    /// every triple has the count that it had. Without new triples it always succeeds.
+    /// Puts the triples of one owner in the place of those that it had, which its keys tell; the walk beside these is a hint. A triple of
+    /// both costs only comparisons if it comes in the order of the walk, and look-ups otherwise. After a fault every triple has the count
+    /// that it had. Without new triples it always succeeds.
     pub fn exchange(&mut self, old: KeySlices<'_>, new: &TripleTexts) -> Result<Keys, StoreFault>
         requires may_come { MayCome self.old new.now }
         requires stored { AreStored self.old old.rising.now }
@@ -49,9 +49,9 @@ impl Store {
         self.catalog.exchange(&mut self.region, old, new, steps)
     }
 
-    /// Does what `exchange` does, and where it is to tell the change, tells which triples it made stored and which stored no longer.
-    /// Telling takes a look-up at most for each old and each new triple, and memory for the lines of those told. After a fault every
-    /// triple has the count that it had.
+    /// Does what `exchange` does, and if asked, tells which triples it added to the stored ones and which it removed. Telling takes a
+    /// look-up at most for each old and each new triple, and memory for the lines of those told. After a fault every triple has the count
+    /// that it had.
     pub fn exchange_with(
         &mut self,
         old: KeySlices<'_>,

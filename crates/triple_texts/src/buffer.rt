@@ -1,4 +1,4 @@
-// A buffer of texts, in which those of words stand once, mostly.
+// A buffer of texts, in which the text of a word mostly stands once.
 
 ghost use Rattle.std.specs.Prelude.{◌≡◌, ℕ, List, [], length, take, IfOk, IfSome, IsTrue};
 ghost use Rattle.std.specs.List.{All};
@@ -126,7 +126,8 @@ impl Buffer {
         }
     }
 
-    // Appends a term's text and tells where it lies. It is apart, so that a text that isn't written pays for none.
+    // Appends a term's text and tells where it lies. This is a function of its own, so that a text that is there already doesn't pay for
+    // it.
     #[inline(never)]
     fn append(&mut self, term: &TermRef<'_>) -> Result<Span, OutOfMemory>
         ensures kept { take (length self.old) self.new ≡ self.old }
@@ -167,7 +168,7 @@ fn append(term: &TermRef<'_>, bytes: &mut Vec<u8>) -> Result<Span, OutOfMemory>
     span_from(start, bytes.len() - start)
 }
 
-// The span of this length from a place on. What has no number of 32 bits is said to want memory.
+// The span of this length from a place on. A place beyond 32 bits gives OutOfMemory.
 fn span_from(start: usize, len: usize) -> Result<Span, OutOfMemory>
     ensures start { IfOk result (λ span. span.start ≡ start) }
     ensures len { IfOk result (λ span. span.len ≡ len) }

@@ -1,10 +1,10 @@
 // Long texts, which aren't written again where they stand already.
 //
-// The texts of a page are its author's. A statement's id or an article's title may have millions of bytes and be the subject of
-// tens of thousands of triples; written for each, a page of 8 MB would take hundreds of gigabytes. So of the long subjects the last
-// of each size (by powers of two) is remembered, and a subject of this size is compared with it before it is written. Two that take
-// turns and have one size cost no more than twice the bytes that the page spends on the other. A statement's qualifiers and references and
-// an article's badges have a subject whose index is known, and it isn't even compared.
+// The texts of a page are its author's. A statement's id or an article's title may have millions of bytes and be the subject of tens of
+// thousands of triples; written for each, a page of 8 MB would take hundreds of gigabytes. So of the long subjects the last of each size
+// (by powers of two) is remembered, and a subject of this size is compared with it before it is written. Two long subjects of one size that
+// alternate are written again and again; but writing one again costs at most twice the bytes that the page spends on the other. A
+// statement's qualifiers and references and an article's badges have a subject whose index is known, and it isn't even compared.
 
 ghost use Rattle.std.specs.Prelude.{◌≡◌, ◌≢◌, ℕ, List, ◌++◌, IsTrue, MatchOption};
 ghost use Rattle.rdf_term.specs.Text.{in_brackets, term_text};
@@ -50,7 +50,7 @@ pub(crate) fn remember(long: &mut Vec<Span>, size: Option<usize>, span: Span) {
     }
 }
 
-// Whether the text is the canonical one of the term, as far as this is told for the terms whose texts may be long.
+// Whether the text is the canonical one of the term, judged only for terms whose texts may be long; false for others.
 pub(crate) fn is_text(term: &TermRef<'_>, text: &[u8]) -> bool
     ensures { IsTrue result → text.now ≡ term_text (meant term.now) }
 {

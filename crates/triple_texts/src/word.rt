@@ -60,7 +60,7 @@ impl Word {
         }
     }
 
-    // Where it is looked for: words that meet there are told apart by themselves.
+    // The index at which it is looked for. Words that share an index are compared.
     #[inline(always)]
     pub(crate) fn index(self) -> usize {
         match self {

@@ -12,8 +12,8 @@ use std::test::Fail;
 use term_pool::{Pool, PoolFault};
 use text_region::Region;
 
-// For a pool of two terms at most: a use more of a term or one less, how many terms are there then, or that it is full, and
-// whether the term is found. The same text as an IRI and as a literal are two terms.
+// For a pool of two terms at most: one more use of a term or one less, how many terms are there then, or that it is full, and whether the
+// term is found. The same text as an IRI and as a literal are two terms.
 const STEPS: &str = "+ <a> 1 there
 + \"a\" 2 there
 + <b> full gone
@@ -41,7 +41,7 @@ pub(crate) fn term_of(alloc: Global, text: &str) -> Option<Term>
     Some(term)
 }
 
-// Counts a use more, and says whether that was refused since the pool is full. A term that was there stays in its slot. Here and below
+// Counts one more use, and says whether that was refused since the pool is full. A term that was there stays in its slot. Here and below
 // there is no answer where memory is refused, or where a use is taken from a term that isn't there.
 fn is_full_for(rt: &impl Abort, pool: &mut Pool, region: &mut Region, term: &Term) -> Option<bool>
     requires lies { LiesIn pool.old region.old }
@@ -70,7 +70,7 @@ fn release(pool: &mut Pool, region: &mut Region, term: &Term) -> Option<()>
     Some(())
 }
 
-// Counts a use more of a term, or one less, and says whether the pool is full for it.
+// Counts one more use of a term, or one less, and says whether the pool is full for it.
 fn is_full_for_call(
     rt: &impl Abort,
     pool: &mut Pool,

@@ -16,7 +16,7 @@ use Rattle.wb_values.specs.declared.calendar.CalendarDate.{CalendarDate}
 use Rattle.wb_values.specs.Calendar.{is_leap_year, days_in_year, days_in_month, days_of_years, days_of_months, day_count, last_julian_day, first_gregorian_day, nth_date, gregorian_date_of, IsDate, IsSameDay}
 use borrow.Author.Tests.{ltb-true, ltb-false}
 
--- 1 for a Julian leap year, and else 0
+-- 1 for a Julian leap year, and 0 otherwise
 abbrev pub julian_leap_day : ℤ → ℕ
 julian_leap_day year = cond (is_leap_year Julian year) 1 0
 

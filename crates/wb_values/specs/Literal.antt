@@ -30,7 +30,7 @@ abbrev pub literal_meant : List ℕ → Option (CalendarDate × List ℕ) → Ti
 literal_meant text None = Plain text
 literal_meant text (Some (day, clock)) = DateTime (date_time_text day clock)
 
--- the literal of a time's text: a date and time where it means a day, and else the text as it is
+-- the literal of a time's text: a date and time if it means a day, and the text as it is otherwise
 abbrev pub time_literal : List ℕ → ℕ → Bool → TimeText
 time_literal text precision julian = literal_meant text (meant_time text precision julian)
 

@@ -8,9 +8,8 @@ use crate::calendar::{Calendar, CalendarDate, gregorian_date};
 /// The precision of a time that is known to the day.
 const DAY_PRECISION: u8 = 11;
 
-/// The day that a written date means, or `None`: for a year of 0, a month above 12 or a day above 31,
-/// and, in a year from -9999 to 9999, where the calendar that the date is judged by has no such day.
-/// That is the Julian one where the date is converted, else the Gregorian.
+/// The day that a written date means, or `None`: for a year of 0, a month above 12 or a day above 31, and, in a year from -9999 to 9999, if
+/// the calendar that the date is judged by has no such day. That is the Julian one if the date is converted, and the Gregorian otherwise.
 ///
 /// A written year of -1 is the year 0, and there is no written year 0. A month or a day of 0 means
 /// that it isn't known. Years above 9999 or below -9999 have no month and day: 1 January stands for

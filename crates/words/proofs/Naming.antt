@@ -1,4 +1,4 @@
--- Names without `=`: the item of a word, and the words that follow one another.
+-- Names without `=`: the item of an argument, and the arguments that follow one another.
 use Rattle.std.proofs.Common.{◌≡◌, refl, sym, ◌∙◌, ap, ap₂, ℕ, suc, ◌+◌, Bool, true, false, cond, not, ◌&&◌, nat_lt, List, [], ◌∷◌, ◌++◌, length, take, drop, Option, None, Some, arith, append_assoc, true≢false}
 use Rattle.std.specs.List.{after_first, before_first, list_all, position_or_len}
 use Rattle.std.specs.Str.{bytes_eq}
@@ -34,7 +34,7 @@ kind_plain (e ∷ table) name kind plain is =
     by true same here rest is = ap is_plain (same_name name e.name same) ∙ here
     by false other here rest is = rest is
 
--- a name and a value in one word aren't in it
+-- a name and a value in one argument aren't in it
 not_plain : (name value : List ℕ) → is_plain name ≡ true → is_plain (name ++ 61 ∷ value) ≡ false
 not_plain name value plain = list_all-append (λ b. not (is_equals_sign b)) name (61 ∷ value) ∙ ap (λ b. b && false) plain
 
@@ -45,7 +45,7 @@ joined_untold table name value plain alone = by (kind_in table (name ++ 61 ∷ v
     by None is = refl
     by (Some kind) is = absurd (true≢false (sym (kind_plain table (name ++ 61 ∷ value) kind plain is) ∙ not_plain name value alone))
 
--- ---- one word
+-- ---- one argument
 
 sign_after : (name value : List ℕ) → is_plain name ≡ true → position_or_len is_equals_sign (name ++ 61 ∷ value) ≡ length name
 sign_after [] value plain = refl
@@ -79,14 +79,14 @@ item_joined name value plain =
     ap (λ b. cond b (item (before_first is_equals_sign word) (Some (after_first is_equals_sign word))) (item word None)) within
     ∙ ap₂ (λ n v. item n (Some v)) before after
 
--- ---- the words that follow
+-- ---- the arguments that follow
 
--- a name and its value in the next word
+-- a name and its value in the next argument
 pub items_apart : (table : List Entry) (word next : List ℕ) (others : List (List ℕ)) → has_value (kind_in table word) ≡ true
     → items_of table (word ∷ next ∷ others) ≡ item word (Some next) ∷ items_of table others
 items_apart table word next others takes = ap (λ b. cond b (item word (Some next) ∷ items_of table others) (item_of_word word ∷ items_of table (next ∷ others))) takes
 
--- an item in one word
+-- an item in one argument
 pub items_whole : (table : List Entry) (word : List ℕ) (after : List (List ℕ)) → has_value (kind_in table word) ≡ false
     → items_of table (word ∷ after) ≡ item_of_word word ∷ items_of table after
 items_whole table word [] none = refl

@@ -1,4 +1,4 @@
--- Written items are read as these items, and all words are those of the items that are read.
+-- Written items are read as these items, and all arguments are those of the items that are read.
 use Rattle.std.proofs.Common.{◌≡◌, refl, sym, subst, ◌∙◌, ap, ℕ, ◌<◌, Bool, true, false, cond, not, ◌&&◌, nat_lt, List, [], ◌∷◌, ◌++◌, length, find, get_or, Option, None, Some, is_some, eqb-true}
 use Rattle.std.specs.List.{AllByRecursion as Each, position_or_len, before_first, after_first}
 use Rattle.std.specs.Option.{option_and_then}
@@ -56,7 +56,7 @@ module _ (table : List Entry) (plain : are_plain table ≡ true) where
   all_read (w ∷ written) fit =
       one_read w.item.name w.item.value w.joined (words_written written) fit.0 ∙ ap (λ is. w.item ∷ is) (all_read written fit.1)
 
--- a word is that of the item that it is read as
+-- an argument is that of the item that it is read as
 word_written : (word : List ℕ) → words_of_item (item_of_word word).name (item_of_word word).value true ≡ word ∷ []
 word_written word = by (nat_lt (position_or_len is_equals_sign word) (length word)) refl
   where
@@ -70,7 +70,7 @@ word_written word = by (nat_lt (position_or_len is_equals_sign word) (length wor
         split_at_first is_equals_sign word 0 within ∙ ap (λ n. before_first is_equals_sign word ++ n ∷ after_first is_equals_sign word) sign in
         ap (λ w. w ∷ []) (sym parts)
 
--- the items that words are read as, as they are written
+-- the items that arguments are read as, as they are written
 record Writes (table : List Entry) (words : List (List ℕ)) : Type 0 where
   written : List Written
   are : words ≡ words_written written
@@ -130,7 +130,7 @@ are_these table (i ∷ items) fit distinct =
     ∙ ap (λ b. not b && are_items table items) (apart_unnamed i.name items distinct.0)
     ∙ are_these table items fit.1 distinct.1
 
--- ---- the words that are understood
+-- ---- the arguments that are understood
 
 spelled : (table : List Entry) (words : List (List ℕ)) (items : List Item) → understood table words ≡ Some items → Spell table words items
 spelled table words items is = by (are_items table (items_of table words)) refl is
@@ -161,7 +161,7 @@ chained : {A B : Type 0} (f : A → Option B) (o : Option A) (y : B) → option_
 chained f None y is = cc
 chained f (Some x) y is = record { x = x; there = refl; is = is }
 
--- the word that names a command is its name
+-- the argument that names a command is its name
 name_is : (word : List ℕ) (list : List Command) (command : Command) → find (λ c. bytes_eq word (name_of c)) list ≡ Some command → word ≡ name_of command
 name_is word [] command is = cc
 name_is word (first ∷ list) command is = by (bytes_eq word (name_of first)) refl (λ later. name_is word list command later) is

@@ -1,4 +1,4 @@
--- Which words are a plan: items in any order, each at most once, each with a fit value.
+-- Which arguments are a plan: items in any order, each at most once, each with a fit value.
 use Rattle.std.specs.Prelude.{◌≡◌, ℕ, Bool, true, false, List, [], ◌∷◌, ◌++◌, flat_map, map, Option, None, Some}
 use Rattle.std.specs.Str.{bytes_eq}
 use Rattle.std.specs.List.{AllByRecursion as Each}
@@ -8,12 +8,12 @@ use Rattle.words.specs.Table.{Entry, fits, kind_in, name_of, table_of}
 use Rattle.words.specs.Items.{Item}
 use Rattle.words.specs.Plan.{asked}
 
--- an item as it is written: with a value in one word or in two
+-- an item as it is written: with a value in one argument or in two
 pub record Written : Type 0 where
   pub item : Item
   pub joined : Bool
 
--- the words of an item: `--name`, `--name value` or `--name=value`
+-- the arguments of an item: `--name`, `--name value` or `--name=value`
 abbrev pub words_of_item : List ℕ → Option (List ℕ) → Bool → List (List ℕ)
 words_of_item name None joined = name ∷ []
 words_of_item name (Some value) false = name ∷ value ∷ []
@@ -30,7 +30,7 @@ abbrev pub AreDistinct : List Item → Type 0
 AreDistinct [] = Unit {0}
 AreDistinct (i ∷ items) = Each (λ (other : Item). bytes_eq other.name i.name ≡ false) items × AreDistinct items
 
--- the words are these items, as they are written; each is in the table and fits it, and no two have the same name
+-- the arguments are these items, as they are written; each is in the table and fits it, and no two have the same name
 pub record Spell (table : List Entry) (words : List (List ℕ)) (items : List Item) : Type 0 where
   pub written : List Written
   pub are : words ≡ words_written written
@@ -38,7 +38,7 @@ pub record Spell (table : List Entry) (words : List (List ℕ)) (items : List It
   pub fit : Each (λ (i : Item). fits (kind_in table i.name) i.value ≡ true) items
   pub distinct : AreDistinct items
 
--- the words are the name of a command and such items of its table, in any order, which ask for this plan
+-- the arguments are the name of a command and such items of its table, in any order, which ask for this plan
 pub record IsPlan (words : List (List ℕ)) (plan : Plan) : Type 0 where
   pub command : Command
   pub after : List (List ℕ)

@@ -1,4 +1,4 @@
--- The items that the words after a command are.
+-- The items that the arguments after a command are.
 use Rattle.std.specs.Prelude.{ℕ, ◌&&◌, ◌==◌, not, nat_lt, true, Bool, cond, List, [], ◌∷◌, length, find, Option, None, Some, is_some}
 use Rattle.std.specs.Option.{option_and_then}
 use Rattle.std.specs.List.{after_first, before_first, position_or_len}
@@ -15,18 +15,18 @@ pub record Item : Type 0 where
 abbrev pub item : List ℕ → Option (List ℕ) → Item
 item name value = record { name = name; value = value }
 
--- the byte that stands between a name and a value in one word
+-- the byte that stands between a name and a value in one argument
 abbrev pub is_equals_sign : ℕ → Bool
 is_equals_sign b = b == 61
 
--- the item that one word is: a name, or a name and a value round the first `=`
+-- the item that one argument is: a name, or a name and a value around the first `=`
 abbrev pub item_of_word : List ℕ → Item
 item_of_word word =
     cond (nat_lt (position_or_len is_equals_sign word) (length word))
     (record { name = before_first is_equals_sign word; value = Some (after_first is_equals_sign word) })
     (record { name = word; value = None })
 
--- the items that the words are: where a word is a name in the table that has a value, the next word is this value
+-- the items that the arguments are: if an argument is a name in the table that has a value, the next argument is this value
 abbrev pub items_of : List Entry → List (List ℕ) → List Item
 items_of table [] = []
 items_of table (word ∷ []) = item_of_word word ∷ []

@@ -1,4 +1,4 @@
--- The numbers that words have.
+-- The numbers that arguments have.
 use Rattle.std.specs.Prelude.{ℕ, ◌&&◌, nat_le, cond, List, Option, None, Some}
 use Rattle.std.specs.Fmt.{decimal}
 use Rattle.std.specs.Str.{bytes_eq}

@@ -3,18 +3,20 @@ use Rattle.std.specs.Prelude.{ℕ, ◌≤◌, Bool, false, List, Option, IfSome,
 use Rattle.words.specs.Items.{Item, is_there, number_in, value_in}
 use Rattle.words.specs.Table.{Entry, IsInRange, follow_table, kind_in, replay_table, split_table}
 
--- what is asked for: the folder of the revisions, the most bytes of the input, the most terms and the horizon in microseconds, where
--- the words say them, which sections are printed, the file of the snapshot where the world is
--- saved, and that of the one from which the run goes on
+-- what is asked for; each option only if the arguments have it
 pub record Choices : Type 0 where
+  -- the folder of the revisions
   pub folder : Option (List ℕ)
   pub max_bytes : Option ℕ
   pub max_terms : Option ℕ
+  -- in microseconds
   pub horizon : Option ℕ
   pub export : Bool
   pub state : Bool
   pub side : Bool
+  -- the file that the snapshot is written to
   pub save : Option (List ℕ)
+  -- the file of the snapshot that the run goes on from
   pub resume : Option (List ℕ)
 
 -- what items of this table ask for; a patch stream has no sections
@@ -59,7 +61,7 @@ IsAllowed c = IsItemInRange (codes "--max-bytes") c.max_bytes × IsItemInRange (
 abbrev pub IsBounded : Choices → Type 0
 IsBounded c = max_bytes_of c ≤ 4294967295
 
--- what a follower is asked for: the most bytes of the input, where the words say them, and whether its triples are printed
+-- what a follower is asked for: the most bytes of the input, if the arguments have them, and whether its triples are printed
 pub record FollowChoices : Type 0 where
   pub max_bytes : Option ℕ
   pub export : Bool

@@ -1,4 +1,4 @@
--- What the words after the program's name ask for.
+-- What the arguments ask for.
 use Rattle.std.specs.Prelude.{ℕ, ◌≤◌, cond, List, [], ◌∷◌, Option, None, Some, codes, option_map, IfSome}
 use Rattle.std.specs.Option.{option_and_then}
 use Rattle.words.specs.declared.table.Command.{Command}
@@ -13,7 +13,7 @@ use Rattle.words.specs.declared.plan.Plan.TheVariants.{Replay, Drill, Patches, F
 abbrev pub greatest_size : ℕ
 greatest_size = 200000
 
--- the items that the words are, where all are items of the table
+-- the items that the arguments are, if all are items of the table
 abbrev pub understood : List Entry → List (List ℕ) → Option (List Item)
 understood table words = cond (are_items table (items_of table words)) (Some (items_of table words)) None
 
@@ -25,7 +25,7 @@ asked ToPatches items = Some (Patches (choices_of patches_table items))
 asked ToFollow items = Some (Follow (follow_choices_of items))
 asked ToSplit items = option_map (λ route. Split (split_choices_of items route)) (value_in (codes "--route") items)
 
--- the plan that the words are: a command, and then items of its table in any order, each at most once
+-- the plan that the arguments are: a command, and then items of its table in any order, each at most once
 abbrev pub plan_of : List (List ℕ) → Option Plan
 plan_of [] = None
 plan_of (word ∷ words) = option_and_then (λ command. option_and_then (asked command) (understood (table_of command) words)) (command_named word)

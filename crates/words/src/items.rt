@@ -1,4 +1,4 @@
-// The items that the words after a command are.
+// The items that the arguments after a command are.
 
 ghost use Rattle.std.specs.Prelude.{◌≡◌, ◌≤◌, ◌∷◌, length, map, option_map, string_bytes, IfSome};
 ghost use Rattle.words.specs.Table.{IsInRange, fits, is_of_kind, is_value, kind_in, table_of};
@@ -9,7 +9,7 @@ use crate::numbers::read_number;
 use crate::table::{Command, ValueKind, has_value};
 use std::marker::Model;
 
-/// An item as the words have it.
+/// An item as the arguments have it.
 #[derive(Debug, Drop)]
 pub struct Item<'a> {
     name: &'a str,
@@ -25,7 +25,7 @@ impl<'a> Model for Item<'a> {
     ghost view = { λ i. record { name = i.name.now; value = option_map (λ v. v.now) i.value } };
 }
 
-/// The words after a command, which are items of its table, each at most once and each with a value that fits.
+/// The arguments after a command, which are items of its table, each at most once and each with a value that fits.
 #[derive(Debug, Drop)]
 pub struct Request<'a> {
     command: Command,
@@ -46,7 +46,7 @@ impl<'a> Model for Request<'a> {
 }
 
 impl<'a> Request<'a> {
-    /// The request that a command and the words after it are, if the words are items of its table.
+    /// The request that a command and the arguments after it are, if these are items of its table.
     pub fn read(command: Command, words: &'a [String]) -> Option<Request<'a>>
         ensures items { option_map (λ r. r.items) result ≡ understood (table_of command) (map (λ w. string_bytes w) words.now) }
         ensures command { IfSome result (λ r. r.command ≡ command) }
@@ -93,7 +93,7 @@ impl<'a> Request<'a> {
     }
 }
 
-// Whether the words are items of the command's table, each with a value that fits, and no name comes twice.
+// Whether the arguments are items of the command's table, each with a value that fits, and no name comes twice.
 fn are_items(command: Command, words: &[String]) -> bool
     ensures { result ≡ are_items (table_of command) (items_of (table_of command) (map (λ w. string_bytes w) words.now)) }
 {
@@ -126,7 +126,7 @@ fn find_item<'a>(command: Command, words: &'a [String], name: &str) -> Option<It
     None
 }
 
-// The item that begins with the word, and the words after it.
+// The item that begins with the argument, and the arguments after it.
 fn next_item<'a>(command: Command, word: &'a str, after: &'a [String]) -> (Item<'a>, &'a [String])
     ensures item { items_of (table_of command) (word.now ∷ map (λ w. string_bytes w) after.now)
         ≡ result.0 ∷ items_of (table_of command) (map (λ w. string_bytes w) result.1.now) }
@@ -141,7 +141,7 @@ fn next_item<'a>(command: Command, word: &'a str, after: &'a [String]) -> (Item<
     (item_of_word(word), after)
 }
 
-// The item that one word is.
+// The item that one argument is.
 fn item_of_word(word: &str) -> Item<'_>
     ensures { result ≡ item_of_word word.now }
 {

@@ -1,8 +1,8 @@
-//! The words after the program's name: which of them are understood, and what they ask for.
+//! The arguments: which of them are understood, and what they ask for.
 //!
-//! `table` has the items of each command, with the kinds of their values; `items` reads the words by a table; `options` has what a
-//! replay, a patch stream, a follower and a split are asked for; `plan` reads a whole command; `numbers` reads a number in its range. `grammar` says which words are a plan.
-//! Nothing here takes memory, so words that aren't understood are refused whatever memory there is.
+//! `table` has the items of each command, with the kinds of their values; `items` reads the arguments by a table; `options` has what a
+//! replay, a patch stream, a follower and a split are asked for; `plan` reads a whole command; `numbers` reads a number in its range.
+//! `grammar` says which arguments are a plan. Nothing here takes memory, so refusing arguments needs no memory.
 #![tactic(auto)]
 
 mod grammar;

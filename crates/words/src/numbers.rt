@@ -1,4 +1,4 @@
-// The numbers that words have.
+// The numbers that arguments have.
 
 ghost use Rattle.std.specs.Prelude.{◌≡◌, ℕ, ◌<◌, ◌≤◌, ◌^◌, Some, IfSome};
 ghost use Rattle.std.specs.Fmt.{decimal};

@@ -9,16 +9,16 @@ ghost use Rattle.words.specs.declared.table.Command.TheVariants.{Replay, Patches
 use crate::items::Request;
 use std::marker::Model;
 
-/// The folder of the revisions where the words don't say one.
+/// The default of `--from`.
 const FOLDER: &str = ".";
 
-/// The most bytes of the input where the words don't say how many.
+/// The default of `--max-bytes`.
 const MAX_BYTES: u64 = 1_073_741_824;
 
-/// For how many terms there is room where the words don't say how many.
+/// The default of `--max-terms`.
 const MAX_TERMS: u32 = 20_000_000;
 
-/// What a replay or a patch stream is asked for, as the words say it. A patch stream has no sections.
+/// What a replay or a patch stream is asked for, as the arguments say it. A patch stream has no sections.
 #[derive(Debug, Drop)]
 pub struct ReplayOptions<'a> {
     folder: Option<&'a str>,
@@ -160,7 +160,7 @@ fn max_terms_in(items: &Request<'_>) -> Option<u32>
     Some(terms as u32)
 }
 
-/// What a follower is asked for, as the words say it.
+/// What a follower is asked for, as the arguments say it.
 #[derive(Debug, Drop)]
 pub struct FollowOptions {
     max_bytes: Option<u64>,
@@ -206,7 +206,7 @@ impl FollowOptions {
     }
 }
 
-/// What a split is asked for, as the words say it.
+/// What a split is asked for, as the arguments say it.
 #[derive(Debug, Drop)]
 pub struct SplitOptions<'a> {
     route: &'a str,

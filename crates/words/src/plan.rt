@@ -1,4 +1,4 @@
-// What the words after the program's name ask for.
+// What the arguments ask for.
 
 ghost use Rattle.std.specs.Prelude.{◌≡◌, map, string_bytes, IfSome};
 ghost use Rattle.words.specs.Plan.{IsSized, asked, plan_of};
@@ -7,7 +7,7 @@ use crate::items::Request;
 use crate::options::{FollowOptions, ReplayOptions, SplitOptions};
 use crate::table::Command;
 
-/// What a person asked for.
+/// What the arguments ask for.
 #[derive(Debug, Drop)]
 pub enum Plan<'a> {
     /// To replay the event lines of the input.
@@ -22,8 +22,8 @@ pub enum Plan<'a> {
     Split(SplitOptions<'a>),
 }
 
-/// The plan that the words are: a command, and then items of its table in any order, each at most once; a drill has its size, and a split the text of its
-/// routes.
+/// The plan that the arguments are: a command, and then items of its table in any order, each at most once; a drill has its size, and a
+/// split the text of its routes.
 pub fn read_plan<'a>(words: &'a [String]) -> Option<Plan<'a>>
     ensures value { result ≡ plan_of (map (λ w. string_bytes w) words.now) }
     ensures sized { IfSome result IsSized }

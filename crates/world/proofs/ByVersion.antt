@@ -189,7 +189,7 @@ module _ (by_two : List EntityId) (rising : IsRising entity_cmp by_two) (x : Ent
   has_stale : (v : MappingVersion) (ids : List EntityId) (records : Records) (q : EntityId) → has entity_cmp q (stale_by v ids records) ≡ (differ v (version_at ids q) && is_holder records q)
   has_stale v ids records q = has-filter entity_cmp entity_cmp_same (λ y. differ v (version_at ids y)) q (holders records) ∙ ap (λ b. differ v (version_at ids q) && b) (has-holders records q)
 
-  -- an entity that is mapped anew isn't stale any more
+  -- an entity whose page is remapped isn't stale any more
   pub stale_remapped : (v : MappingVersion) (records : Records) → stale_by v (with_version v x by_two) records ≡ remove_key (eq_by_cmp entity_cmp x) (stale_by v by_two records)
   stale_remapped v records =
       let rises : (ids : List EntityId) → IsRising entity_cmp (stale_by v ids records) = λ ids. IsRising-filter entity_cmp (λ y. differ v (version_at ids y)) (holders records) (holders-rise records) in
@@ -282,7 +282,7 @@ module _ (ids : ByVersion) (kept : KeptRecords) (records : Records) (h : AreBy i
   first_is_holder v None is = tt
   first_is_holder v (Some x) is = link x ∙ first_holds v x (sym is)
 
--- each entity that is mapped anew leaves one stale entity fewer
+-- each remapping leaves one stale entity fewer
 pub fewer : (v : MappingVersion) (by_two by_two2 : List EntityId) (records : Records) (entity : Option EntityId) → IsRising entity_cmp by_two
     → entity ≡ first_of (stale_by v by_two records) → by_two2 ≡ with_version_of v entity by_two
     → IfSome entity (λ _. length (stale_by v by_two2 records) + 1 ≡ length (stale_by v by_two records))

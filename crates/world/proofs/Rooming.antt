@@ -88,7 +88,7 @@ room_held m s kept h =
     let room : room_for (counts_in s) [] ≡ room_with m (seen s kept) [] = room_is m s kept h (counts_in s) refl [] [] (λ _. refl) in
     omega arith
 
--- no count is at its last value
+-- no count is saturated
 pub countable_kept : (m : Meaning Triple) (s : StoreState) (kept : KeptRecords) → IsKept m s kept → (c : Counts) → c ≡ counts_in s → (n : ℕ) → map.len kept < n → (t : Triple) → count_of c t < n
 countable_kept m s kept h c is n few t =
     let records : map.len (seen s kept) ≡ map.len kept = values_len (record_with (beside s)) kept in

@@ -125,11 +125,11 @@ module _ (s : StoreState) (ids : ByVersion) (kept : KeptRecords) (x : EntityId) 
   module _ (s2 : StoreState) (keys : Keys) (v : MappingVersion)
       (there : is_some (kept_of kept x).held ≡ true)
       (texts : (p : Piece) → beside s2 p ≡ beside s p) where
-    -- what is seen after the page was mapped anew
+    -- what is seen after the page was remapped
     pub again_seen : seen s2 (map.insert kept x (with_keys (kept_of kept x) keys)) ≡ seen s kept
     again_seen = anew_seen before (after v) x (agree v) s s2 kept keys h.kept there texts
 
-    -- the page was mapped anew by the version
+    -- the page was remapped by the version
     pub again_step : (ids2 : ByVersion) (old : List Key) (ts : List Triple) → ids2 ≡ moved_to ids x v
         → IsSound s2
         → old ≡ keys_held (kept_of kept x).held

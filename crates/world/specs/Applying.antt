@@ -27,8 +27,8 @@ IsJudged x bytes (Err Missing) = ⊥
 IsJudged x bytes (Err Failed) = ⊥
 IsJudged x bytes (Err (NoDocument unfit)) = unfit_of x bytes ≡ Some unfit
 
--- the reply is one that a source may give to the fetch of a revision of x: a document of x, or why there is none;
--- where the source tells what it has, the reply agrees with it, and only a failure may come without regard to it
+-- the reply is one that a source may give to the fetch of a revision of x: a document of x, or why there is none; if the source tells what
+-- it has, the reply agrees with it unless the fetch failed
 abbrev pub IsReply : Option Contents → List ℕ → EntityId → ℕ → Result Bytes Cause → Type 0
 IsReply known folder x r (Ok bytes) = (unfit_of x bytes ≡ None) × IfSome known (λ there. there folder r ≡ Some bytes)
 IsReply known folder x r (Err Missing) = IfSome known (λ there. there folder r ≡ None)

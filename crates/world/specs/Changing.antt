@@ -21,7 +21,7 @@ abbrev pub Tells : Telling → List Triple → List Triple → Option Change →
 Tells telling before after None = telling ≡ TheChange → after ≡ before
 Tells telling before after (Some change) = (telling ≡ TheChange) × IsChangeOf before after change
 
--- the entity that was mapped anew, if one was
+-- the entity whose page was remapped, if one was
 abbrev pub entity_of : Option Remapping → Option EntityId
 entity_of None = None
 entity_of (Some remapping) = Some remapping.entity

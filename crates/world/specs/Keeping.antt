@@ -68,7 +68,7 @@ with_keys r keys = record { state = r.state; held = held_keys r.held keys; recon
 abbrev pub piece_at : KeptRecords → EntityId → Option Piece
 piece_at kept x = piece_held (kept_of kept x).held
 
--- the piece, if there is one, has no text any more, and every other has what it had
+-- the piece, if there is one, is freed; all others are as they were
 abbrev pub FreesPiece : Option Piece → PieceTexts → PieceTexts → Type 0
 FreesPiece None old new = (piece : Piece) → new piece ≡ old piece
 FreesPiece (Some gone) old new = Changes old new gone (old gone) None

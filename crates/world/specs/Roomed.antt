@@ -19,11 +19,11 @@ use Rattle.world.specs.Applying.{IsReply}
 use Rattle.world.specs.Meaning.{meaning}
 use Rattle.world.specs.WorldState.{HoldingsState, WorldState}
 
--- how many different terms the triples of all that is held have together with other triples
+-- how many distinct terms the triples of all that is held have together with other triples
 abbrev pub room_with : Meaning Triple → Records → List Triple → ℕ
 room_with held records triples = distinct (flat_map terms_of (union triple_cmp held records ++ triples))
 
--- the triples of all that is held have no more different terms than there may be
+-- the triples of all that is held have no more distinct terms than there may be
 abbrev pub HasRoom : Meaning Triple → ℕ → Records → Type 0
 HasRoom held limit records = room_with held records [] ≤ limit
 

@@ -1,4 +1,4 @@
--- The graph that a page goes to, and what is given back of a page that was stored, or mapped anew.
+-- The graph that a page goes to, and what is given back of a page that was stored or remapped.
 use Rattle.std.specs.Prelude.{◌≡◌, ℕ, ⊤, List, Option, None, Some, Result, Ok, Err, length, option_map}
 use Rattle.std.specs.List.{AllByRecursion}
 use Rattle.rising.specs.Rising.{sorted}

@@ -7,7 +7,7 @@ use Rattle.replay_model.specs.Records.{Bytes}
 use Rattle.world.specs.declared.applied.Outcome.{Outcome}
 use Rattle.world.specs.declared.applied.Outcome.TheVariants.{Same, Dropped}
 
--- what is held where nothing was fetched: nothing of a page that was deleted, and else what was held
+-- what is held if nothing was fetched: nothing of a page that was deleted, and what was held otherwise
 abbrev pub unless_deleted : Mode → Option (Held Bytes) → Option (Held Bytes)
 unless_deleted mode held = cond (is_deleted mode) None held
 

@@ -19,7 +19,7 @@ pub enum Outcome {
     Stored,
     /// The page was deleted, and nothing is held.
     Dropped,
-    /// A revision was asked for in vain, and the side output says why.
+    /// A fetch gave no document, and the side output says why.
     Sided(Cause),
 }
 
@@ -54,8 +54,8 @@ pub struct Effect {
     pub routed: Option<RoutedPage>,
 }
 
-/// An event that was applied; what that changed of the stored triples, where it is told: none is told of an application that leaves the
-/// store alone; and the page that was stored, where there are routes.
+/// An event that was applied; the change of the stored triples, if it is told (an application that leaves the store alone tells none); and
+/// the page that was stored, if there are routes.
 #[derive(Drop)]
 pub struct Application {
     pub applied: Applied,
@@ -63,15 +63,15 @@ pub struct Application {
     pub routed: Option<RoutedPage>,
 }
 
-/// What mapping a page anew changed of the stored triples, where it is told, and the triples of the page then, by their texts.
+/// How remapping a page changed the stored triples, if it is told, and the triples of the page then, by their texts.
 #[derive(Drop)]
 pub struct Remapped {
     pub change: Option<Change>,
     pub triples: TripleTexts,
 }
 
-/// An entity whose held page was mapped anew; what that changed of the stored triples, where it is told; and the triples of the page then,
-/// by their texts, of which one may stand there more than once.
+/// An entity whose held page was remapped; the change of the stored triples, if it is told; and the triples of the page then, by their
+/// texts, of which one may stand there more than once.
 #[derive(Drop)]
 pub struct Remapping {
     pub entity: EntityId,
@@ -79,14 +79,14 @@ pub struct Remapping {
     pub triples: TripleTexts,
 }
 
-/// Why no event was applied, or no page mapped anew.
+/// Why no event was applied, or no page remapped.
 #[derive(Clone, Copy, Debug, PartialEq, Eq, Error)]
 pub enum WorldFault {
     /// No event is due.
     #[error("no event is due")]
     Nothing,
-    /// The triples of all that is held and of the page that was fetched, or mapped anew, have more terms than there is room
-    /// for; the event stays due, and the page mapped as it was.
+    /// The triples of all that is held and of the page that was fetched, or remapped, have more terms than there is room for; the event
+    /// stays due, and the page mapped as it was.
     #[error("the store is full")]
     Full,
     /// A request for memory was refused; the event stays due, and the page mapped as it was.

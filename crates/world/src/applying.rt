@@ -22,8 +22,8 @@ use side_output::{Entry, Side};
 use triple_store::StoreFault;
 
 impl Holdings {
-    /// Applies an event, with the reply to its fetch where it wants one, whose page is mapped by the version, and tells what that changed
-    /// of the stored triples, where it is to tell that. After a fault nothing has changed.
+    /// Applies an event. If it wants a fetch, the reply is given, and its page is mapped by the version. Tells the change of the stored
+    /// triples if asked to. After a fault nothing has changed.
     pub fn apply(
         &mut self,
         side: &mut Side,

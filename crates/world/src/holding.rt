@@ -1,4 +1,4 @@
-// What an entity holds comes, goes or stays, and the store follows.
+// Pages that come, go or stay, and the store in step with them.
 
 ghost use Rattle.std.specs.Prelude.{◌≡◌, ◌<◌, ◌≤◌, true, None, Some, Ok, Err, IfSome, IfOk, IsSome, IsTrue, OnErr, OnOk};
 ghost use Rattle.std.specs.FinMap as map;
@@ -29,9 +29,9 @@ use rdf_term::OutOfMemory;
 use triple_store::{Change, Exchange, KeySlices, Store, StoreFault, Telling};
 
 impl Holdings {
-    /// Sets the record of an entity, which holds this page from now on, by the version that it is mapped by, and tells what that changed
-    /// of the stored triples, where it is to tell that. After a fault nothing has changed. `Full` is said where its triples, with those of
-    /// all that is held, have more terms than there may be.
+    /// Sets the record of an entity, which holds this page from now on, by the version that it is mapped by, and tells the change of the
+    /// stored triples if asked to. After a fault nothing has changed. The fault is `Full` if its triples, with those of all that is held,
+    /// have more distinct terms than the limit.
     pub fn hold(
         &mut self,
         id: EntityId,
@@ -57,7 +57,7 @@ impl Holdings {
         if make_room(&mut self.table, id).is_err() {
             return Err(StoreFault::OutOfMemory);
         }
-        // A triple has at most as many owners as there are records, so no count is at its last value.
+        // A triple has at most as many owners as there are records, so no count is saturated.
         let entities = self.table.len();
         prove!(entities < usize::MAX);
         let Ok(added) = self.holders.add(id, how.version) else {
@@ -88,8 +88,8 @@ impl Holdings {
         }
     }
 
-    /// Sets the record of an entity where nothing was fetched, and tells what that changed of the stored triples, where it is to tell
-    /// that. After `OutOfMemory` nothing has changed.
+    /// Sets the record of an entity if nothing was fetched, and tells the change of the stored triples if asked to. After `OutOfMemory`
+    /// nothing has changed.
     pub fn settle(
         &mut self,
         id: EntityId,
@@ -165,8 +165,8 @@ impl Holdings {
         keep_record(&mut self.table, id, after);
     }
 
-    /// Sets the record of an entity, which holds nothing from now on, and tells what that changed of the stored triples, where it is to
-    /// tell that. After `OutOfMemory` nothing has changed.
+    /// Sets the record of an entity, which holds nothing from now on, and tells the change of the stored triples if asked to. After
+    /// `OutOfMemory` nothing has changed.
     pub fn release(
         &mut self,
         id: EntityId,

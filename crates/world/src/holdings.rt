@@ -103,7 +103,7 @@ impl Holdings {
         self.store.region()
     }
 
-    /// How many different terms the triples of all that is held have.
+    /// How many distinct terms the triples of all that is held have.
     pub fn terms(&self) -> u32
         ensures count { result ≡ room_with (meaning_by meaning self.now.by_two) self.now.records [] }
         ensures within { result ≤ self.now.limit }

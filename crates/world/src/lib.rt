@@ -1,12 +1,15 @@
 //! The world: events are taken and wait, due events are applied one by one, and what is held means triples.
 //!
-//! `world` is the state of a replay, seen by contracts as the definitions of replay_model see it, and `views` what it tells of it.
-//! `fetching` gets what an application needs, and `meaning` the triples of a page; `applying` sets side output and holdings. `holdings`
-//! is what the entities hold: their records, and the store of all triples and texts, which `holding` keeps in step, and `remapping`
-//! where a held page is mapped anew. `kept` is what is kept of a page, and `holders` names the entities that hold one, by the version of
-//! the mapping that it is mapped by. `versions` has what they say of each version, and maps the pages of the other one anew. `rows`
-//! gives the triples, with or without a copy of their texts, and `restoring` puts a world back as it was saved. `applied` says what an application led to,
-//! and `laws` what holds of the meaning of pages, of their versions, and of the changes that are told.
+//! - `world`: the state of a replay, which contracts see as the definitions of replay_model do; `views`: what it tells of it.
+//! - `fetching`: what an application needs; `meaning`: the triples of a page.
+//! - `applying`: the side output and holdings that an application sets; `applied`: what it led to.
+//! - `holdings`: what the entities hold, that is their records, and the store of all triples and texts.
+//! - `holding` and `remapping`: changes of what is held, with the store in step; the second for a held page that is remapped.
+//! - `kept`: what is kept of a page; `holders`: the entities that hold one, by the version of the mapping that it is mapped by.
+//! - `versions`: the pages of each version, and how those of the other one are remapped.
+//! - `rows`: the triples, with or without a copy of their texts.
+//! - `restoring`: how a saved world is put back.
+//! - `laws`: what holds of the meaning of pages, of their versions, and of the changes that are told.
 #![tactic(auto)]
 
 mod applied;

@@ -1,4 +1,4 @@
-// What an entity holds is mapped anew.
+// What an entity holds is remapped.
 
 ghost use Rattle.std.specs.Prelude.{◌≡◌, ◌<◌, ◌≤◌, true, Some, None, Err, is_some, IfOk, IfSome, IsSome, MatchOption, OnErr, OnOk};
 ghost use Rattle.std.specs.FinMap as map;
@@ -33,8 +33,9 @@ use triple_store::{Exchange, Keys, Store, StoreFault, Telling};
 use triple_texts::TripleTexts;
 
 impl Holdings {
-    /// Maps what an entity holds by a version, gives back its triples, and tells what that changed of the stored triples, where it is to
-    /// tell that. After a fault nothing has changed. `Full` is said where the new triples, with those of all that is held, have more terms than there may be.
+    /// Maps what an entity holds by a version, gives back its triples, and tells the change of the stored triples if asked to. After a
+    /// fault nothing has changed. The fault is `Full` if the new triples, with those of all that is held, have more distinct terms than the
+    /// limit.
     pub fn remap(
         &mut self,
         id: EntityId,
@@ -55,7 +56,7 @@ impl Holdings {
         ensures held { HasRoom (meaning_by meaning self.new.by_two) self.new.limit self.new.records }
         ensures holders { AreHolders self.new.by_two self.new.records }
     {
-        // A triple has at most as many owners as there are records, so no count is at its last value.
+        // A triple has at most as many owners as there are records, so no count is saturated.
         let entities = self.table.len();
         prove!(entities < usize::MAX);
         let Ok(triples) = held_texts(self.alloc, &self.store, &self.table, id, version) else {

@@ -66,10 +66,10 @@ impl World {
         self.side.push(entry)
     }
 
-    /// Puts back the record of an entity; the page that it holds is mapped by the version in force, and nothing is fetched. Where every
-    /// page was mapped by this version, every page is. After a fault nothing has changed. `Unsound` is said of a record that can't stand
-    /// beside the side output, and `Full` exactly where the triples of the page, with those of all that is held, have more terms than
-    /// there is room for.
+    /// Puts back the record of an entity; the page that it holds is mapped by the version in force, and nothing is fetched. If every page
+    /// was mapped by this version before, every page is after. After a fault nothing has changed. The fault is `Unsound` for a record that
+    /// can't stand beside the side output, and `Full` exactly if the triples of the page, with those of all that is held, have more
+    /// distinct terms than the limit.
     pub fn restore(&mut self, id: EntityId, entity: Record<Text>) -> Result<(), RestoreFault>
         ensures ok { OnOk result (self.new ≡ restored self.old id entity) }
         ensures sound { OnOk result (MayStand self.old.replay.played.side id entity) }
@@ -179,7 +179,7 @@ impl Holdings {
         }
     }
 
-    // Puts back the record of an entity that holds this page; its state may be of another revision, which was fetched in vain.
+    // Puts back the record of an entity that holds this page; its state may be of another revision, whose fetch gave no document.
     fn put_back(&mut self, wanted: Wanted, after: Standing, page: Page) -> Result<(), RestoreFault>
         requires { IsPageOf wanted.version wanted.id wanted.rev page }
         ensures ok { OnOk result (self.new.records ≡ map.insert self.old.records wanted.id (record {

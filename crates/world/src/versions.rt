@@ -55,9 +55,9 @@ impl World {
         self.holdings.stale(self.mapping)
     }
 
-    /// Maps the held page of the least stale entity by the version in force, and says which entity that is; none where no
-    /// entity is stale, and then nothing changes and no memory is taken. Nothing is fetched. After a fault nothing has changed. `Full` is said exactly
-    /// where the new triples, with those of all that is held, have more terms than there is room for.
+    /// Maps the held page of the least stale entity by the version in force, and says which entity that is, or none if no entity is stale;
+    /// then nothing changes and no memory is taken. Nothing is fetched. After a fault nothing has changed. The fault is `Full` exactly if
+    /// the new triples, with those of all that is held, have more distinct terms than the limit.
     pub fn remap_next(&mut self) -> Result<Option<EntityId>, WorldFault>
         ensures ok { OnOk result (self.new ≡ remapped self.old) }
         ensures entity { IfOk result (λ entity. entity ≡ next_stale self.old) }
@@ -79,8 +79,8 @@ impl World {
         }
     }
 
-    /// Does what `remap_next` does, and gives back the triples of the page by their texts; where it is to tell the change, it tells which
-    /// triples that made stored and which stored no longer.
+    /// Does what `remap_next` does, and gives back the triples of the page by their texts; if asked, it tells which triples it added to the
+    /// stored ones and which it removed.
     pub fn remap_next_with(&mut self, telling: Telling) -> Result<Option<Remapping>, WorldFault>
         ensures ok { OnOk result (self.new ≡ remapped self.old) }
         ensures entity { IfOk result (λ done. entity_of done ≡ next_stale self.old) }

@@ -29,7 +29,7 @@ impl World {
         self.holdings.region()
     }
 
-    /// How many different terms the triples of all that is held have.
+    /// How many distinct terms the triples of all that is held have.
     pub fn terms(&self) -> u32
         ensures count { result ≡ room_with (meaning_by meaning self.now.by_two) self.now.replay.played.records [] }
         ensures within { result ≤ self.now.limit }
@@ -86,8 +86,8 @@ impl World {
         self.holdings.standing(id).reconciled
     }
 
-    /// The revision that an entity holds, and its bytes. An entity holds what its state wants exactly where no revision entry
-    /// of it is open, and nothing of a page that isn't kept. Its bytes are a document of the entity.
+    /// The revision that an entity holds, and its bytes. An entity holds what its state wants exactly if no revision entry of it is open,
+    /// and holds nothing if its page isn't kept. Its bytes are a document of the entity.
     pub fn held(&self, id: EntityId) -> Option<(u64, &[u8])>
         ensures unless_open { HoldsUnlessOpen self.now.replay.played }
         ensures documents { (x : AnEntity) → HoldsDocument unfit_of x (record_of self.now.replay.played.records x).held }

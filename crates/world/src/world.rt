@@ -94,7 +94,7 @@ impl World {
         })
     }
 
-    /// Sets for how many terms there is room. No event was applied yet.
+    /// Sets the limit on distinct terms. No event was applied yet.
     pub fn set_room(&mut self, terms: u32)
         requires { map.len self.old.replay.played.records ≡ 0 }
         ensures { self.new ≡ record self.old { limit = terms } }
@@ -102,8 +102,8 @@ impl World {
         self.holdings.set_limit(terms);
     }
 
-    /// Sets the horizon, in microseconds: events whose time is further behind the greatest watermark are forgotten, so that
-    /// one that comes again is late again. No delivery was taken yet.
+    /// Sets the horizon, in microseconds: events whose time is further behind the greatest watermark are forgotten, so that one that comes
+    /// again is late again. No delivery was taken yet.
     pub fn set_horizon(&mut self, micros: u64)
         requires { self.old.replay ≡ nothing_delivered_within self.old.replay.buffer.horizon }
         ensures { self.new ≡ record self.old { replay = nothing_delivered_within (Some micros) } }
@@ -145,11 +145,11 @@ impl World {
         self.buffer.pending()
     }
 
-    /// Applies the least due event: its entity's state is set, and where the new state is of a page that is there at a
-    /// revision that isn't held, this revision is fetched once, and mapped by the version in force. After a fault nothing has
-    /// changed, but that a fetch may have been made. Over a source that tells its contents, `Full` is said exactly where the triples
-    /// of the page that is fetched, with those of all that is held, have more terms than there is room for, unless memory is refused;
-    /// over another one it says only that some document of the entity has no room. What is held has room, before and after.
+    /// Applies the least due event: its entity's state is set, and if the new state wants a revision, it is fetched once, and mapped by the
+    /// version in force. After a fault nothing has changed, but that a fetch may have been made. Over a source that tells its contents, the
+    /// fault is `Full` exactly if the triples of the page that is fetched, with those of all that is held, have more distinct terms than
+    /// the limit, unless memory is refused; over a source that doesn't tell, it says only that some document of the entity has no room.
+    /// What is held has room, before and after.
     pub fn apply_next<R: Revisions>(
         &mut self,
         revisions: &mut R,
@@ -185,9 +185,8 @@ impl World {
         }
     }
 
-    /// Does what `apply_next` does, and where it is to tell the change, tells which triples that made stored and which stored no longer:
-    /// their lines, which take memory. Where there are routes, it gives back the page that it stored: its triples by their texts, and its
-    /// graph.
+    /// Does what `apply_next` does, and if asked, tells which triples it added to the stored ones and which it removed: their lines, which
+    /// take memory. If there are routes, it gives back the page that it stored: its triples by their texts, and its graph.
     pub fn apply_next_with<R: Revisions>(
         &mut self,
         revisions: &mut R,

@@ -5,7 +5,7 @@ use Rattle.std.specs.Bool.{OnTrue, OnFalse}
 use Rattle.std.proofs.lemmas.Bool.Decides.{nat_tests}
 use Rattle.std.proofs.lemmas.List.Sums.{sum_by-cons}
 
--- 1 for a number up to the bound, else 0
+-- 1 for a number up to the bound, and 0 otherwise
 abbrev pub one_to : ℕ → ℕ → ℕ
 one_to m k = cond (nat_le k m) 1 0
 

@@ -102,28 +102,31 @@ pub record IsUndecided (room max_line : ℕ) (bytes : List ℕ) : Type 0 where
   pub within : length bytes ≤ room
   pub short : length bytes ≤ max_line
 
--- the last read of a call gave `last`, where the reads before it gave `before`: it was made while all bytes that were held or read
--- decided nothing, and the end of the source wasn't seen. Where it is told, it asked for as many bytes as one read may, or for those
--- up to the byte after the limit where these are fewer; `last` is all that it gave; and, as far as 64 bits count them, each read
--- before it gave at least a byte, so none of them failed
+-- the last read of a call gave `last`, where the reads before it gave `before`
 pub record IsNeeded (old : Reading) (before last : List ℕ) (read read_now : Option LastRead) : Type 0 where
+  -- it was made while all bytes that were held or read decided nothing
   pub undecided : IsUndecided (room old) old.max_line (old.held ++ before)
+  -- and the end of the source wasn't seen
   pub going : old.ended ≡ false
+  -- if it is told, it asked for as many bytes as one read may, or for those up to the byte after the limit if these are fewer
   pub asked : IfSome read_now (λ r. r.asked ≡ min longest_read (old.max_bytes + 1 - (taken old + length before)))
+  -- `last` is all that it gave
   pub gave : IfSome read_now (λ r. r.gave ≡ length last)
+  -- as far as 64 bits count them, each read before it gave at least a byte, so none of them failed
   pub few : AreFewEmpty read read_now (1 - length last)
 
--- what a call took of the source, whatever it answers: the last read gave `last`, and the reads before it gave `before`. The last read
--- was needed, or none was made: then nothing was taken, and the source's last read is that of before. What was taken is counted, and
--- is at most one byte past the limit
+-- what a call took of the source, whatever it answers: the reads before the last one gave `before`, and the last one gave `last`
 pub record ReadsAsNeeded (old new : Reading) (left left_now : Option (List ℕ)) (read read_now : Option LastRead) : Type 0 where
   pub before : List ℕ
   pub last : List ℕ
   pub told : left ≡ before_known (before ++ last) left_now
+  -- what was taken is counted
   pub counted : taken new ≡ taken old + length (before ++ last)
+  -- the last read was needed; or none was made, nothing was taken, and the source's last read is that of before
   pub needed : IsNeeded old before last read read_now ⊎ ((before ++ last ≡ []) × (read_now ≡ read))
   pub piece : length last ≤ longest_read
   pub limit : new.max_bytes ≡ old.max_bytes
+  -- all that was taken is at most one byte past the limit
   pub sound : IsSound new
 
 -- the next line was given, or there was none

@@ -20,7 +20,7 @@ abbrev pub ReadTakes : {E : Type 0} → Option (List ℕ) → Option (List ℕ) 
 ReadTakes old new outcome buffer =
     MatchResult outcome (λ n. (old ≡ before_known (take n buffer) new) × (n ≡ 0 → IsAtEnd old)) (λ _. new ≡ old)
 
--- a count in 64 bits after one more: it stays at its last value, and never falls
+-- a count in 64 bits after one more: it saturates
 abbrev pub counted : ℕ → ℕ
 counted n = max n (min (n + 1) (2 ^ 64 - 1))
 
@@ -48,6 +48,6 @@ AreFewEmpty before now most = IfSome before (λ r. IfSome now (λ s. s.empty ≤
 abbrev pub WritePuts : {E : Type 0} → Option (List ℕ) → Option (List ℕ) → Result ℕ E → List ℕ → Type 0
 WritePuts old new outcome bytes = MatchResult outcome (λ n. new ≡ after_known old (take n bytes)) (λ _. new ≡ old)
 
--- a count of 64 bits rose: it is greater than before, or stands at its last value
+-- a counter of 64 bits rose: it is greater than before, or is saturated
 abbrev pub Rose : ℕ → ℕ → Type 0
 Rose before now = min (before + 1) (2 ^ 64 - 1) ≤ now

@@ -42,9 +42,8 @@ impl From<OutOfMemory> for LineFault {
     }
 }
 
-/// Splits a source at its line feeds, reading no further than it has to: it reads where the bytes that it holds decide neither a
-/// line nor a fault, one read at a time, each for 4,096 bytes, or for those up to the byte after the limit where these are fewer.
-/// After a read that failed it makes no other.
+/// Splits a source at its line feeds, and reads no further than it has to. It reads only if the bytes that it holds decide neither a line
+/// nor a fault. Each read asks for 4,096 bytes, or up to the byte after the limit if that is fewer. After a failed read it makes no other.
 #[derive(Debug, Drop)]
 pub struct Lines {
     buffer: [u8; BUFFER],
@@ -105,8 +104,8 @@ impl Lines {
         }
     }
 
-    /// Puts the next line without its line feed into `line` and answers its number, from 1; `None` is the end of the
-    /// input, and leaves `line` empty. A last line without line feed is a line. The source is the one of the calls before.
+    /// Puts the next line without its line feed into `line` and answers its number, from 1; `None` is the end of the input, and leaves
+    /// `line` empty. A last line without line feed is a line. Give each call the same source.
     ///
     /// `ReadFault` comes where a read failed, `TooLong` at the first byte past the limit of the input, `LineLong` at the first byte past the
     /// limit of a line, whichever is judged first, and `OutOfMemory` where the line can't be held. After a fault `line` has a first part of

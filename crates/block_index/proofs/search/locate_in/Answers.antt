@@ -1,4 +1,4 @@
--- A key that is found stands there, and else one block's keys end before the next block's first.
+-- A key that is found stands there; otherwise one block's keys end before the next block's first.
 use Rattle.std.proofs.Common.{◌∙◌, ◌-◌, ◌<◌, [], length, ap, arith}
 use Rattle.std.proofs.lemmas.List.{get_or_read}
 use Rattle.block_index.proofs.Costs.{in_block, in_group}

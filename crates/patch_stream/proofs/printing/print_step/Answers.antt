@@ -1,4 +1,4 @@
--- Nothing is told where nothing changes; else the record, or a prefix of it.
+-- Nothing is written if nothing changes; otherwise the record, or a prefix of it.
 use Rattle.std.proofs.Common.{◌≡◌, ◌+◌, true, sym, ◌∙◌, refl, rules}
 use Rattle.patch_stream.proofs.Texts.{by_lines, step_cut_short, step_printed, step_silent, still, told_text}
 use Rattle.patch_stream.specs.Stream.{is_change, step}

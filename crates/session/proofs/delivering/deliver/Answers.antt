@@ -1,4 +1,4 @@
--- An event or a watermark is taken, a question answered, or what is held mapped anew.
+-- An event or a watermark is taken, a question answered, or what is held remapped.
 use Rattle.std.proofs.Common.{ap, refl}
 use Rattle.std.proofs.lemmas.Result.{err_from_is_err_and}
 use Rattle.text_output.specs.Printing.{output}

@@ -1,4 +1,4 @@
--- Want of memory in the drill and after it; and the summary, printed or not wholly.
+-- Memory refused in the drill and after it; and the summary, printed or not wholly.
 use Rattle.std.proofs.Common.{◌≡◌, ◌∙◌, ap, subst, map, string_bytes, IfErr, OnOk}
 use Rattle.std.specs.FinMap.{len-empty}
 use Rattle.std.proofs.lemmas.Result.{err_from_is_err_and}

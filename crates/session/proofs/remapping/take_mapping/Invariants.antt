@@ -1,4 +1,4 @@
--- Some pages were mapped anew and told, and fewer are stale each time.
+-- Some pages were remapped and told, and fewer are stale each time.
 use Rattle.std.proofs.Common.{◌≡◌, length}
 use Rattle.text_output.specs.Printing.{output}
 use Rattle.world.specs.WorldState.{stale}

@@ -1,4 +1,4 @@
--- What is loaded is a snapshot, and the words allow its horizon or not.
+-- What is loaded is a snapshot, and the options allow its horizon or not.
 use Rattle.std.proofs.Common.{inr, refl}
 use Rattle.session.proofs.Loaded.{is_snapshot, other_horizon}
 use Rattle.session.proofs.resuming.load_snapshot.Goals as goal

@@ -50,7 +50,7 @@ returns-in-Some-Split-clause-resumed_split g c = λ choices plan.
     (moment g.S.Source g.R.Revisions g.K.Sink g.F.Sink c.args.ports.now c.args.world.now) (moment g.S.Source g.R.Revisions g.K.Sink g.F.Sink c.split.new.ports c.split.new.world))
     c.in-Some-Split.options choices (ap Some (sym c.in-Some-Split.field-0-is) ∙ c.in-Some-Split.ensures.value ∙ plan) c.split.ensures.resumed
 
--- ---- a drill that ended well
+-- ---- a drill that ended with Ok
 
 pub returns-in-Ok-clause-replay : goal.returns-in-Ok-clause-replay
 returns-in-Ok-clause-replay g c = λ choices plan. no_replay _ choices _ (ap Some (sym c.in-Some-Drill.field-0-is) ∙ c.in-Some-Drill.ensures.value ∙ plan)
@@ -88,7 +88,7 @@ returns-in-Err-clause-limit g c = λ the plan.
 pub returns-in-Err-clause-further : goal.returns-in-Err-clause-further
 returns-in-Err-clause-further g c = written_on g.S.Source g.R.Revisions g.K.Sink g.F.Sink c.args.ports.now c.args.ports.now c.drill.new.out (none_gone g.S.Source g.R.Revisions g.K.Sink g.F.Sink _) c.drill.ensures.written
 
--- ---- a follower that ended well
+-- ---- a follower that ended with Ok
 
 pub returns-in-Ok-follow_records-clause-replay : goal.returns-in-Ok-follow_records-clause-replay
 returns-in-Ok-follow_records-clause-replay g c = λ choices plan. follow_no_replay _ _ choices (ap Some (sym c.in-Some-Follow.field-0-is) ∙ c.in-Some-Follow.ensures.value ∙ plan)

@@ -1,4 +1,4 @@
--- A count above 1 is written through, and else the triple is taken out.
+-- A count above 1 is written through, and the triple is taken out otherwise.
 use Rattle.std.proofs.Common.{◌-◌, Some, ◌∙◌, sym, ap, is_some, arith}
 use Rattle.slot_index.specs.Counts.{counts_of, with_count}
 use Rattle.slot_index.proofs.Owners.{found, written, taken_out, not_lowered}

@@ -1,4 +1,4 @@
--- The ranks of one key more.
+-- The ranks of one more key.
 use Rattle.std.proofs.Common.{◌<◌, ◌++◌, ◌∙◌, [], ◌∷◌, take, length, get_or, ap, sym, subst, arith}
 use Rattle.std.specs.Prelude.{map as mapped}
 use Rattle.std.specs.List.{All}

@@ -1,4 +1,4 @@
--- An id that is there has room; else one more id does.
+-- An id that is there has room; otherwise one more id does.
 use Rattle.std.proofs.Common.{◌∙◌, sym, ap, is_some}
 use Rattle.std.specs.Map.{keys_of}
 use Rattle.entity_state.specs.Tabled.{records_of}

@@ -1,4 +1,4 @@
--- A record that is there is replaced; else the id has room.
+-- A record that is there is replaced; otherwise the id has room.
 use Rattle.std.proofs.Common.{Some, is_some, ◌∙◌, sym, ap, arith}
 use Rattle.std.specs.FinMap as map
 use Rattle.entity_state.specs.Tabled.{records_of}

@@ -1,4 +1,4 @@
--- A term more has its text, and the order of the terms changes none.
+-- One more term has its text, and the order of the terms changes none.
 use Rattle.std.proofs.Common.{◌≡◌, Some}
 use Rattle.std.proofs.lemmas.List.Elements.{All-push}
 use Rattle.std.proofs.lemmas.List.Sorted.{All-permutation}

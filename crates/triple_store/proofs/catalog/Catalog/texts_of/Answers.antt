@@ -1,4 +1,4 @@
--- The texts of one triple more.
+-- The texts of one more triple.
 use Rattle.std.proofs.Common.{◌<◌, ◌++◌, ◌∙◌, [], ◌∷◌, take, length, get_or, ap, sym, arith}
 use Rattle.std.specs.Prelude.{map as mapped}
 use Rattle.std.proofs.lemmas.List.{map_push, take_more}
