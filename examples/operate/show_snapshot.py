@@ -4,22 +4,14 @@
     ./show_snapshot.py home/snapshots/000012
 
 The lines are those of `wdq replay --resume home/snapshots/000012 --save scratch --state --side < /dev/null`, which maps all pages anew
-and so takes much longer. The format is that of `crates/snapshot/specs/LineData.antt`. Status 1: the file is no whole snapshot.
+and so takes much longer. The format is that of docs/SNAPSHOTS.md. Status 1: the file is no whole snapshot.
 """
 
 import argparse
 import json
-import re
 import sys
 
 KINDS = ["edit", "delete", "undelete", "reconcile-deleted", "reconcile-kept"]
-# A record's line, but for its page. In the page's text each quote has a backslash, so it can't look like the end of a line.
-FRONT = re.compile(rb'\{"entity":"([A-Z][0-9]+)","held":')
-BACK = re.compile(
-    rb'(?:"held":null|","rev":([0-9]+)\}),"reconciled":'
-    rb'(?:null|\{"entity":"[A-Z][0-9]+","kind":"([a-z-]+)","micros":(-?[0-9]+),"rev":([0-9]+)\}),"rev":([0-9]+),"state":"([a-z]+)"\}$'
-)
-LONGEST_BACK = 400
 
 
 def key(event):
@@ -27,33 +19,32 @@ def key(event):
     return event["micros"], event["rev"], KINDS.index(event["kind"])
 
 
-def read_record(line):
-    """A record: its entity, its state and revision, the revision that is held, and the key of its last reconciliation."""
-    front, back = FRONT.match(line), BACK.search(line, max(0, len(line) - LONGEST_BACK))
-    if not front or not back:
-        value = json.loads(line)
-        held, reconciled = value["held"], value["reconciled"]
-        return value["entity"], value["state"], value["rev"], held and held["rev"], reconciled and key(reconciled)
-    held, kind, micros, rev, revision, state = back.groups()
-    reconciled = (int(micros), int(rev), KINDS.index(kind.decode())) if kind else None
-    return front.group(1).decode(), state.decode(), int(revision), held and int(held), reconciled
+def read_line(line):
+    """What a line says, but for a page that stands behind a TAB."""
+    members, tab, _ = line.rstrip(b"\n").partition(b",\t")
+    return json.loads(members + b"}" if tab else members)
+
+
+def record_of(value):
+    """A record: its state and revision, the revision that is held, and the key of its last reconciliation."""
+    held, reconciled = value["held"], value["reconciled"]
+    return value["state"], value["rev"], held and held["rev"], reconciled and key(reconciled)
 
 
 def read_snapshot(file):
     """The entries and the records of a snapshot; raises ValueError where it isn't whole."""
     entries, records, count = [], {}, 0
     for line in file:
-        line = line.rstrip(b"\n")
-        if line.startswith(b'{"end":'):
-            if json.loads(line)["end"] != count:
+        value = read_line(line)
+        if "end" in value:
+            if value["end"] != count:
                 break
             return entries, records
         count += 1
-        if line.startswith(b'{"entry":'):
-            entries.append(json.loads(line))
-        elif FRONT.match(line):
-            entity, *record = read_record(line)
-            records[entity] = record
+        if "entry" in value:
+            entries.append(value)
+        elif "state" in value:
+            records[value["entity"]] = record_of(value)
     raise ValueError("no whole snapshot")
 
 

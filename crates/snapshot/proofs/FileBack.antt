@@ -14,12 +14,11 @@ use Rattle.replay_model.specs.Records.{Bytes}
 use Rattle.snapshot.specs.declared.line.Line.{Line}
 use Rattle.snapshot.specs.declared.line.Line.TheVariants.{Remembered, Side, End}
 use Rattle.snapshot.specs.Fit.{IsFitEvent, IsFitRecord, IsFitEntry, IsFitLine}
-use Rattle.snapshot.specs.LineData.{line_data}
 use Rattle.snapshot.specs.LineText.{line_text}
 use Rattle.snapshot.specs.Waiting.{IsAtRest}
 use Rattle.snapshot.specs.Whole.{Saved, entity_line, lines_before_end, snapshot_lines, saved_in}
 use Rattle.snapshot.specs.File.{file_text, feeds, onto_line, lines_in, saved_in_bytes, IsFitSaved}
-use Rattle.snapshot.proofs.LineShape.{text_in_line}
+use Rattle.snapshot.proofs.LineShape.{line_in_line}
 use Rattle.snapshot.proofs.LineTextBack.{line_text_back}
 use Rattle.snapshot.proofs.WholeBack.{saved_back}
 
@@ -42,7 +41,7 @@ pub feeds-ended : (lines : List Line) → feeds (ended_lines (map line_text line
 feeds-ended [] = refl
 feeds-ended (line ∷ lines) =
     ap feeds (append_assoc (line_text line) (line_feed ∷ []) (ended_lines (map line_text lines)))
-    ∙ feeds-line (line_text line) (ended_lines (map line_text lines)) (text_in_line (line_data line))
+    ∙ feeds-line (line_text line) (ended_lines (map line_text lines)) (line_in_line line)
     ∙ ap (λ o. option_map (λ ls. line_text line ∷ ls) o) (feeds-ended lines)
 
 pub lines_back : (lines : List Line) → Each IsFitLine lines → lines_in (map line_text lines) ≡ Some lines
@@ -54,7 +53,7 @@ pub lines-ended : (ls : List Line) → lines (ended_lines (map line_text ls)) �
 lines-ended [] = refl
 lines-ended (line ∷ ls) =
     ap lines (append_assoc (line_text line) (line_feed ∷ []) (ended_lines (map line_text ls)))
-    ∙ lines-line (line_text line) (ended_lines (map line_text ls)) (text_in_line (line_data line))
+    ∙ lines-line (line_text line) (ended_lines (map line_text ls)) (line_in_line line)
     ∙ ap (λ others. line_text line ∷ others) (lines-ended ls)
 
 -- ---- the lines of a state that fits do

@@ -12,5 +12,6 @@ mod FileCut
 mod TakenBack
 mod ReplaySaved
 mod Partly
+mod PageParts
 mod PageUtf8
 mod PageText

@@ -1,5 +1,5 @@
 -- The text of a line is no longer than a reader of lines allows: a byte of a string is at most six, and a page has at most 8,388,608.
-use Rattle.std.proofs.Common.{◌≡◌, ℕ, ℤ, pos, negsuc, zero, suc, ◌+◌, ◌*◌, ◌/◌, ◌%◌, ◌≤◌, ◌==◌, Bool, true, false, cond, List, [], ◌∷◌, ◌++◌, length, Option, None, Some, Err, refl, nat_lt, arith, length-append}
+use Rattle.std.proofs.Common.{◌≡◌, ℕ, ℤ, pos, negsuc, zero, suc, ◌+◌, ◌-◌, ◌*◌, ◌/◌, ◌%◌, ◌≤◌, ◌==◌, Bool, true, false, cond, codes, List, [], ◌∷◌, ◌++◌, length, take, Option, None, Some, IfSome, Err, refl, nat_lt, arith, length-append, length-take}
 use Rattle.std.specs.Prelude.{decimal}
 use Rattle.std.specs.Fmt.{digits, digits_onto, digit_glyph}
 use Rattle.std.specs.Char.{digit_char}
@@ -27,8 +27,8 @@ use Rattle.replay_model.specs.Transcript.{kind_word, cause_word, unfit_word}
 use Rattle.snapshot.specs.declared.line.Line.{Line}
 use Rattle.snapshot.specs.declared.line.Line.TheVariants.{Head as Begins, Remembered, Entity, Side, End}
 use Rattle.snapshot.specs.Fit.{HasDocument}
-use Rattle.snapshot.specs.LineData.{if_some, nat_data, int_data, event_data, held_data, line_data}
-use Rattle.snapshot.specs.LineText.{line_text}
+use Rattle.snapshot.specs.LineData.{has_line_feed, held_members, if_some, nat_data, int_data, event_data, held_data, line_data}
+use Rattle.snapshot.specs.LineText.{line_text, page_behind, page_of, with_page}
 use Rattle.snapshot.specs.Words.{mode_word}
 use Rattle.snapshot.proofs.PageText.{some_none}
 
@@ -185,11 +185,15 @@ event_some_bound : (o : Option Event) → bound (if_some event_data o) ≤ 4096
 event_some_bound None = omega arith
 event_some_bound (Some e) = event_bound e
 
+members_bounded : (b : Bool) (h : Held Bytes) → length h.content ≤ 8388608 → bound (object (held_members b h)) ≤ 50335744
+members_bounded true h short = omega arith
+members_bounded false h short = omega arith
+
 held_bound : (x : EntityId) (o : Option (Held Bytes)) → HoldsDocument unfit_of x o → bound (if_some held_data o) ≤ 50335744
 held_bound x None document = omega arith
-held_bound x (Some h) document = omega (arith, page_length x h.content document)
+held_bound x (Some h) document = members_bounded (has_line_feed h.content) h (page_length x h.content document)
 
-line_bound : (line : Line) → HasDocument line → bound (line_data line) ≤ 67108864
+line_bound : (line : Line) → HasDocument line → bound (line_data line) ≤ 58720000
 line_bound (Begins h) document = omega (arith, nat_bound h.horizon, int_bound h.mark)
 line_bound (Remembered e) document = omega (arith, event_bound e)
 line_bound (Entity x r) document = omega (arith, id_length x, mode_length r.state.mode, event_some_bound r.reconciled, held_bound x r.held document)
@@ -197,5 +201,33 @@ line_bound (Side (Late e)) document = omega (arith, event_bound e)
 line_bound (Side (Revision e r cause)) document = omega (arith, event_bound e, cause_length cause)
 line_bound (End n) document = omega arith
 
+page_of_length : (x : EntityId) (o : Option (Held Bytes)) → HoldsDocument unfit_of x o → IfSome (page_of o) (λ page. length page ≤ 8388608)
+page_of_length x None document = tt
+page_of_length x (Some h) document = by (has_line_feed h.content)
+  where
+    by : (b : Bool) → IfSome (cond b None (Some h.content)) (λ page. length page ≤ 8388608)
+    by true = tt
+    by false = page_length x h.content document
+
+behind_length : (line : Line) → HasDocument line → IfSome (page_behind line) (λ page. length page ≤ 8388608)
+behind_length (Begins h) document = tt
+behind_length (Remembered e) document = tt
+behind_length (Entity x r) document = page_of_length x r.held document
+behind_length (Side entry) document = tt
+behind_length (End n) document = tt
+
+with_page_length : (behind : Option Bytes) (text : List ℕ) → IfSome behind (λ page. length page ≤ 8388608) → length (with_page behind text) ≤ length text + 8388618
+with_page_length None text short = omega arith
+with_page_length (Some page) text short =
+    let front : List ℕ = take (length text - 1) text in
+    omega (
+      arith,
+      length-append (front ++ codes ",\t\"page\":" ++ page) (codes "}"),
+      length-append (front ++ codes ",\t\"page\":") page,
+      length-append front (codes ",\t\"page\":"),
+      length-take (length text - 1) text,
+    )
+
 pub line_length : (line : Line) → HasDocument line → length (line_text line) ≤ 67108864
-line_length line document = omega (arith, text_length (line_data line), line_bound line document)
+line_length line document =
+    omega (arith, text_length (line_data line), line_bound line document, with_page_length (page_behind line) (compact_text (line_data line)) (behind_length line document))

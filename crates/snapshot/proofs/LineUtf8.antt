@@ -1,10 +1,11 @@
 -- The text of a line is UTF-8 where its strings are, and a page is as a document.
-use Rattle.std.proofs.Common.{◌≡◌, ℕ, ℤ, pos, negsuc, zero, suc, ◌/◌, ◌%◌, ◌<◌, ◌==◌, Bool, true, false, cond, List, [], ◌∷◌, ◌++◌, Option, None, Some, refl, arith}
+use Rattle.std.proofs.Common.{◌≡◌, ℕ, ℤ, pos, negsuc, zero, suc, ◌-◌, ◌/◌, ◌%◌, ◌<◌, ◌==◌, Bool, true, false, cond, codes, List, [], ◌∷◌, ◌++◌, length, take, Option, None, Some, IfSome, refl, sym, subst, arith}
 use Rattle.std.specs.Prelude.{⊤, decimal}
 use Rattle.std.specs.Fmt.{digits, digits_onto, digit_glyph}
 use Rattle.std.specs.Str.{IsUtf8}
 use Rattle.std.proofs.lemmas.Bool.Decides.{nat_tests}
-use Rattle.std.proofs.lemmas.Str.{IsUtf8-append, IsUtf8-nil}
+use Rattle.std.proofs.lemmas.List.{take_at}
+use Rattle.std.proofs.lemmas.Str.{IsCharBoundary-at_seam, IsUtf8-append, IsUtf8-nil, IsUtf8-take}
 use Rattle.json.specs.Print.{quoted}
 use Rattle.json.proofs.Printed.Utf8.{IsUtf8-are_ascii, IsUtf8-quoted, are_ascii}
 use Rattle.serde_json.specs.Data.{Num, unsigned, negative, float, Data, null, boolean, number, string, array, object, Items, no_items, item, Members, no_members, member}
@@ -31,9 +32,11 @@ use Rattle.replay_model.specs.Transcript.{kind_word, cause_word, unfit_word}
 use Rattle.snapshot.specs.declared.line.Line.{Line}
 use Rattle.snapshot.specs.declared.line.Line.TheVariants.{Head as Begins, Remembered, Entity, Side, End}
 use Rattle.snapshot.specs.Fit.{HasDocument}
-use Rattle.snapshot.specs.LineData.{if_some, nat_data, int_data, event_data, held_data, line_data}
-use Rattle.snapshot.specs.LineText.{line_text}
+use Rattle.snapshot.specs.LineData.{has_line_feed, held_members, if_some, nat_data, int_data, event_data, held_data, line_data}
+use Rattle.snapshot.specs.LineText.{IsClosed, line_text, page_behind, page_of, with_page}
 use Rattle.snapshot.specs.Words.{mode_word}
+use Rattle.snapshot.proofs.LineShape.{line_closed}
+use Rattle.snapshot.proofs.LineTextBack.{front_is}
 use Rattle.snapshot.proofs.PageText.{page_utf8}
 use Rattle.snapshot.proofs.PageUtf8.{before_rest}
 
@@ -161,7 +164,11 @@ event_some_text (Some e) = event_text e
 
 held_text : (x : EntityId) (o : Option (Held Bytes)) → HoldsDocument unfit_of x o → IsText (if_some held_data o)
 held_text x None document = tt
-held_text x (Some h) document = (refl, (page_utf8 x h.content document, (refl, (tt, tt))))
+held_text x (Some h) document = by (has_line_feed h.content)
+  where
+    by : (b : Bool) → AreText (held_members b h)
+    by true = (refl, (page_utf8 x h.content document, (refl, (tt, tt))))
+    by false = (refl, (tt, tt))
 
 line_is_text : (line : Line) → HasDocument line → IsText (line_data line)
 line_is_text (Begins h) document =
@@ -173,5 +180,36 @@ line_is_text (Side (Late e)) document = (refl, (IsUtf8-are_ascii _ refl, (refl, 
 line_is_text (Side (Revision e r cause)) document = (refl, (cause_utf8 cause, (refl, (event_text e, (refl, (tt, tt))))))
 line_is_text (End n) document = (refl, (tt, tt))
 
+page_of_utf8 : (x : EntityId) (o : Option (Held Bytes)) → HoldsDocument unfit_of x o → IfSome (page_of o) IsUtf8
+page_of_utf8 x None document = tt
+page_of_utf8 x (Some h) document = by (has_line_feed h.content)
+  where
+    by : (b : Bool) → IfSome (cond b None (Some h.content)) IsUtf8
+    by true = tt
+    by false = page_utf8 x h.content document
+
+behind_utf8 : (line : Line) → HasDocument line → IfSome (page_behind line) IsUtf8
+behind_utf8 (Begins h) document = tt
+behind_utf8 (Remembered e) document = tt
+behind_utf8 (Entity x r) document = page_of_utf8 x r.held document
+behind_utf8 (Side entry) document = tt
+behind_utf8 (End n) document = tt
+
+-- the text without its closing brace
+front_utf8 : (front : List ℕ) → IsUtf8 (front ++ codes "}") → IsUtf8 front
+front_utf8 front text =
+    let brace : List ℕ = 125 ∷ [] in
+    subst IsUtf8 (take_at front brace (length front) refl)
+    (IsUtf8-take (front ++ brace) (length front) text (IsCharBoundary-at_seam (front ++ brace) front brace refl (IsUtf8-are_ascii brace refl)))
+
+with_page_utf8 : (behind : Option Bytes) (text : List ℕ) → IsClosed text → IsUtf8 text → IfSome behind IsUtf8 → IsUtf8 (with_page behind text)
+with_page_utf8 None text closed utf8 page = utf8
+with_page_utf8 (Some p) text closed utf8 page =
+    let front : IsUtf8 (take (length text - 1) text) = subst IsUtf8 (sym (front_is closed.0 text closed.1)) (front_utf8 closed.0 (subst IsUtf8 closed.1 utf8)) in
+    IsUtf8-append (take (length text - 1) text ++ codes ",\t\"page\":" ++ p) (codes "}")
+    (IsUtf8-append (take (length text - 1) text ++ codes ",\t\"page\":") p
+    (IsUtf8-append (take (length text - 1) text) (codes ",\t\"page\":") front (IsUtf8-are_ascii _ refl)) page) (IsUtf8-are_ascii _ refl)
+
 pub line_utf8 : (line : Line) → HasDocument line → IsUtf8 (line_text line)
-line_utf8 line document = text_utf8 (line_data line) (line_is_text line document)
+line_utf8 line document =
+    with_page_utf8 (page_behind line) (compact_text (line_data line)) (line_closed line) (text_utf8 (line_data line) (line_is_text line document)) (behind_utf8 line document)

@@ -1,5 +1,5 @@
 -- The value of a line that fits is one that is read back from its text.
-use Rattle.std.proofs.Common.{ℕ, ℤ, pos, negsuc, ◌<◌, ◌^◌, Option, None, Some, IfSome, refl, arith}
+use Rattle.std.proofs.Common.{ℕ, ℤ, pos, negsuc, ◌<◌, ◌^◌, Bool, true, false, Option, None, Some, IfSome, refl, arith}
 use Rattle.std.specs.Int.{w64}
 use Rattle.std.specs.Prelude.{FitsSigned}
 use Rattle.entity_model.specs.declared.event.Event.{Event}
@@ -11,9 +11,9 @@ use Rattle.replay_model.specs.Records.{Bytes}
 use Rattle.snapshot.specs.declared.line.Line.{Line}
 use Rattle.snapshot.specs.declared.line.Line.TheVariants.{Head as Begins, Remembered, Entity, Side, End}
 use Rattle.snapshot.specs.Words.{version_number}
-use Rattle.snapshot.specs.LineData.{if_some, nat_data, int_data, event_data, held_data, line_data}
+use Rattle.snapshot.specs.LineData.{has_line_feed, held_members, if_some, nat_data, int_data, event_data, held_data, line_data}
 use Rattle.snapshot.specs.Fit.{IsFitEvent, IsFitLine}
-use Rattle.snapshot.specs.Writable.{IsWritable}
+use Rattle.snapshot.specs.Writable.{AreWritable, IsWritable}
 
 int_writable : (z : ℤ) → FitsSigned w64 z → IsWritable (int_data z)
 int_writable (pos n) fits = let small : n < 2 ^ 63 = fits.sfits in omega arith
@@ -41,7 +41,11 @@ event_some (Some e) fits = event_writable e fits
 
 held_some : (o : Option (Held Bytes)) → IfSome o (λ h. h.revision < 2 ^ 64) → IsWritable (if_some held_data o)
 held_some None fits = tt
-held_some (Some h) fits = ((refl, tt), (tt, (tt, (fits, tt))))
+held_some (Some h) fits = by (has_line_feed h.content)
+  where
+    by : (b : Bool) → AreWritable (held_members b h)
+    by true = ((refl, tt), (tt, (tt, (fits, tt))))
+    by false = (tt, (fits, tt))
 
 pub line_writable : (line : Line) → IsFitLine line → IsWritable (line_data line)
 line_writable (Begins h) fit = (

@@ -1,7 +1,9 @@
 -- The JSON value of each line of a snapshot. The members of an object stand in the order of their keys.
-use Rattle.std.specs.Prelude.{ℕ, ℤ, codes, Option, Some, None}
+use Rattle.std.specs.Prelude.{ℕ, ℤ, ◌==◌, Bool, true, false, List, codes, Option, Some, None}
+use Rattle.std.specs.List.{list_any}
 use Rattle.serde_json.specs.Data.{Data, null, number, string, object, Members, no_members, member, unsigned}
 use Rattle.serde_json.specs.Find.{of_integer}
+use Rattle.wq_io.specs.Lines.{line_feed}
 use Rattle.entity_model.specs.declared.id.EntityId.{EntityId}
 use Rattle.entity_model.specs.declared.event.Event.{Event}
 use Rattle.entity_model.specs.EntityId.{id_text}
@@ -38,8 +40,16 @@ event_members e =
 abbrev pub event_data : Event → Data
 event_data e = object (event_members e)
 
+abbrev pub has_line_feed : List ℕ → Bool
+has_line_feed bytes = list_any (λ b. b == line_feed) bytes
+
+-- the members of what is held: the page is a string where it has a line feed, and else it stands behind the record (LineText)
+abbrev pub held_members : Bool → Held Bytes → Members
+held_members true h = member (codes "page") (string h.content) (member (codes "rev") (nat_data h.revision) no_members)
+held_members false h = member (codes "rev") (nat_data h.revision) no_members
+
 abbrev pub held_data : Held Bytes → Data
-held_data h = object (member (codes "page") (string h.content) (member (codes "rev") (nat_data h.revision) no_members))
+held_data h = object (held_members (has_line_feed h.content) h)
 
 abbrev pub head_data : Head → Data
 head_data h = object (
@@ -49,7 +59,7 @@ head_data h = object (
     (member (codes "mark") (if_some int_data h.mark)
     (member (codes "matches") (nat_data h.matches)
     (member (codes "patches") (nat_data h.patches)
-    (member (codes "snapshot") (nat_data 1) no_members)))))))
+    (member (codes "snapshot") (nat_data 2) no_members)))))))
 
 abbrev pub record_data : EntityId → Record Bytes → Data
 record_data x r = object (
@@ -66,7 +76,7 @@ entry_data (Revision e r cause) = object (
     (member (codes "event") (event_data e)
     (member (codes "rev") (nat_data r) no_members)))
 
--- the value of a line
+-- the value of a line, but for a page that stands behind a record
 abbrev pub line_data : Line → Data
 line_data (Begins h) = head_data h
 line_data (Remembered e) = event_data e

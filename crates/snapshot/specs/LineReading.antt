@@ -1,5 +1,6 @@
--- Which line of a snapshot a JSON value is. Other keys are passed over, and of a key that is repeated the last value counts.
-use Rattle.std.specs.Prelude.{ℕ, ℤ, List, codes, Option, Some, None, option_map, option_and_then, is_some, nat_eq, if◌then◌else◌}
+-- Which line of a snapshot a JSON value is, where a page may stand behind it. Other keys are passed over, and of a key that is repeated
+-- the last value counts.
+use Rattle.std.specs.Prelude.{ℕ, ℤ, ◌||◌, Bool, List, codes, Option, Some, None, option_map, option_and_then, is_some, nat_eq, if◌then◌else◌}
 use Rattle.std.specs.Str.{bytes_eq}
 use Rattle.serde_json.specs.Data.{Data}
 use Rattle.serde_json.specs.Find.{get, as_null, as_number, as_str, as_u64, as_i64}
@@ -46,17 +47,32 @@ event_in d =
     (option_and_then kind_named (at_key as_str (codes "kind") d)))
     (at_key id_in (codes "entity") d)
 
-abbrev pub held_in : Data → Option (Held Bytes)
-held_in d =
+-- the page of an object by the value of its key `page`: that string, or the page behind, where there is no such key
+abbrev pub page_in : Option Bytes → Option Data → Option Bytes
+page_in None own = option_and_then as_str own
+page_in (Some page) None = Some page
+page_in (Some page) (Some own) = None
+
+abbrev pub held_in : Option Bytes → Data → Option (Held Bytes)
+held_in behind d =
     option_and_then (λ revision.
     option_map (λ page. record { revision = revision; content = page })
-    (at_key as_str (codes "page") d))
+    (page_in behind (get (codes "page") d)))
     (at_key nat_in (codes "rev") d)
 
--- the head of an object, whose number of the format is 1
+-- what is held: null says that nothing is, where no page stands behind
+abbrev pub held_or_null : Option Bytes → Data → Option (Option (Held Bytes))
+held_or_null None d = if_there (held_in None) d
+held_or_null (Some page) d = option_map Some (held_in (Some page) d)
+
+-- the numbers of the formats that are read: in a file of format 1 each page is a string
+abbrev pub is_format : ℕ → Bool
+is_format number = nat_eq number 1 || nat_eq number 2
+
+-- the head of an object, with the number of its format
 abbrev pub head_in : Data → Data → Option Head
 head_in d format =
-    option_and_then (λ number. if nat_eq number 1 then
+    option_and_then (λ number. if is_format number then
     option_and_then (λ mark.
     option_and_then (λ horizon.
     option_and_then (λ mapping.
@@ -79,12 +95,12 @@ state_in d word =
     (at_key nat_in (codes "rev") d))
     (option_and_then mode_named (as_str word))
 
-abbrev pub record_in : Data → Data → Option (Record Bytes)
-record_in d word =
+abbrev pub record_in : Option Bytes → Data → Data → Option (Record Bytes)
+record_in behind d word =
     option_and_then (λ state.
     option_and_then (λ reconciled.
     option_map (λ held. record { state = state; held = held; reconciled = reconciled })
-    (at_key (if_there held_in) (codes "held") d))
+    (at_key (held_or_null behind) (codes "held") d))
     (at_key (if_there event_in) (codes "reconciled") d))
     (state_in d word)
 
@@ -103,22 +119,23 @@ entry_in d word =
     if bytes_eq word (codes "late") then option_map Late (at_key event_in (codes "event") d)
     else revision_in d word
 
-abbrev pub entity_in : Data → Data → Option Line
-entity_in d word = option_and_then (λ x. option_map (λ r. Entity x r) (record_in d word)) (at_key id_in (codes "entity") d)
+abbrev pub entity_in : Option Bytes → Data → Data → Option Line
+entity_in behind d word = option_and_then (λ x. option_map (λ r. Entity x r) (record_in behind d word)) (at_key id_in (codes "entity") d)
 
 abbrev pub side_in : Data → Data → Option Line
 side_in d word = option_map Side (option_and_then (entry_in d) (as_str word))
 
--- the line of an object by the values of its keys `snapshot`, `kind`, `state`, `entry` and `end`, of which it has exactly one
-abbrev pub by_form : Data → Option Data → Option Data → Option Data → Option Data → Option Data → Option Line
-by_form d (Some format) None None None None = option_map Begins (head_in d format)
-by_form d None (Some kind) None None None = option_map Remembered (event_in d)
-by_form d None None (Some word) None None = entity_in d word
-by_form d None None None (Some word) None = side_in d word
-by_form d None None None None (Some lines) = option_map End (nat_in lines)
-by_form d _ _ _ _ _ = None
+-- the line of an object by the values of its keys `snapshot`, `kind`, `state`, `entry` and `end`, of which it has exactly one; a page
+-- stands behind records alone
+abbrev pub by_form : Option Bytes → Data → Option Data → Option Data → Option Data → Option Data → Option Data → Option Line
+by_form behind d None None (Some word) None None = entity_in behind d word
+by_form None d (Some format) None None None None = option_map Begins (head_in d format)
+by_form None d None (Some kind) None None None = option_map Remembered (event_in d)
+by_form None d None None None (Some word) None = side_in d word
+by_form None d None None None None (Some lines) = option_map End (nat_in lines)
+by_form behind d _ _ _ _ _ = None
 
--- the line that a JSON value is
-abbrev pub line_in : Data → Option Line
-line_in d =
-    by_form d (get (codes "snapshot") d) (get (codes "kind") d) (get (codes "state") d) (get (codes "entry") d) (get (codes "end") d)
+-- the line that a JSON value is, with the page that stands behind it, if one does
+abbrev pub line_in : Option Bytes → Data → Option Line
+line_in behind d =
+    by_form behind d (get (codes "snapshot") d) (get (codes "kind") d) (get (codes "state") d) (get (codes "entry") d) (get (codes "end") d)

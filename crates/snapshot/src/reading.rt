@@ -1,44 +1,49 @@
-// Which line of a snapshot a JSON value is.
+// Which line of a snapshot a JSON value is, where a page may stand behind it.
 
 ghost use Rattle.std.specs.Prelude.{◌≡◌, IfOk, codes, option_map};
 ghost use Rattle.serde_json.specs.View.{view};
-ghost use Rattle.serde_json.specs.Find.{as_str};
-ghost use Rattle.snapshot.specs.Words.{kind_named, cause_named, mode_named, version_numbered};
-ghost use Rattle.snapshot.specs.LineReading.{nat_in, int_in, id_in, if_there, at_key, event_in, held_in, head_in, state_in, record_in, revision_in, entry_in, entity_in, side_in, line_in};
+ghost use Rattle.serde_json.specs.Find.{get};
+ghost use Rattle.snapshot.specs.LineReading.{nat_in, int_in, id_in, if_there, at_key, event_in, page_in, held_in, held_or_null, is_format, head_in, state_in, record_in, revision_in, entry_in, entity_in, side_in, line_in};
 
 use crate::line::{Head, Line};
-use entity_model::{EntityId, Event, Kind, MappingVersion, Unfit};
-use entity_state::{Held, Mode, Record, State};
+use crate::words::{cause_named, kind_named, mode_named, version_numbered};
+use entity_model::{EntityId, Event};
+use entity_state::{Held, Record, State};
 use rdf_term::{OutOfMemory, Text};
 use serde_json::Value;
-use side_output::{Cause, Entry};
+use side_output::Entry;
 use std::alloc::Global;
 
-/// The line that a value is.
-pub(crate) fn line_in(alloc: Global, value: &Value) -> Result<Option<Line>, OutOfMemory>
-    ensures { IfOk result (λ line. line ≡ line_in (view value.now)) }
+/// The line that a value is, with the page that stands behind it, if one does.
+pub(crate) fn line_in(
+    alloc: Global,
+    value: &Value,
+    behind: Option<&str>,
+) -> Result<Option<Line>, OutOfMemory>
+    ensures { IfOk result (λ line. line ≡ line_in (option_map (λ s. s.now) behind.entry) (view value.now)) }
 {
     match (
+        behind,
         value.get("snapshot"),
         value.get("kind"),
         value.get("state"),
         value.get("entry"),
         value.get("end"),
     ) {
-        (Some(format), None, None, None, None) => Ok(head(value, format).map(Line::Head)),
-        (None, Some(_), None, None, None) => Ok(event(value).map(Line::Remembered)),
-        (None, None, Some(word), None, None) => entity(alloc, value, word),
-        (None, None, None, Some(word), None) => Ok(side(value, word)),
-        (None, None, None, None, Some(lines)) => Ok(lines.as_u64().map(Line::End)),
+        (_, None, None, Some(word), None, None) => entity(alloc, value, word, behind),
+        (None, Some(format), None, None, None, None) => Ok(head(value, format).map(Line::Head)),
+        (None, None, Some(_), None, None, None) => Ok(event(value).map(Line::Remembered)),
+        (None, None, None, None, Some(word), None) => Ok(side(value, word)),
+        (None, None, None, None, None, Some(lines)) => Ok(lines.as_u64().map(Line::End)),
         _ => Ok(None),
     }
 }
 
-// The head that an object says; its format has the number 1.
+// The head that an object says, with the number of its format.
 fn head(object: &Value, format: &Value) -> Option<Head>
     ensures { result ≡ head_in (view object.now) (view format.now) }
 {
-    if format.as_u64()? != 1 {
+    if !is_format(format.as_u64()?) {
         return None;
     }
     let mark = int_or_null(object.get("mark")?)?;
@@ -55,6 +60,13 @@ fn head(object: &Value, format: &Value) -> Option<Head>
         matches,
         patches,
     })
+}
+
+// Whether files of the format with this number are read.
+fn is_format(number: u64) -> bool
+    ensures { result ≡ is_format number }
+{
+    matches!(number, 1 | 2)
 }
 
 // A number of 64 bits, or null.
@@ -90,17 +102,6 @@ fn event_or_null(value: &Value) -> Option<Option<Event>>
     }
 }
 
-// The version of the mapping with that number.
-fn version_numbered(number: u64) -> Option<MappingVersion>
-    ensures { result ≡ version_numbered number }
-{
-    match number {
-        1 => Some(MappingVersion::One),
-        2 => Some(MappingVersion::Two),
-        _ => None,
-    }
-}
-
 // The event that an object is.
 fn event(object: &Value) -> Option<Event>
     ensures { result ≡ event_in (view object.now) }
@@ -125,13 +126,18 @@ fn id(value: &Value) -> Option<EntityId>
 }
 
 // The line of a record: the entity and what is kept of it.
-fn entity(alloc: Global, object: &Value, word: &Value) -> Result<Option<Line>, OutOfMemory>
-    ensures { IfOk result (λ line. line ≡ entity_in (view object.now) (view word.now)) }
+fn entity(
+    alloc: Global,
+    object: &Value,
+    word: &Value,
+    behind: Option<&str>,
+) -> Result<Option<Line>, OutOfMemory>
+    ensures { IfOk result (λ line. line ≡ entity_in (option_map (λ s. s.now) behind.entry) (view object.now) (view word.now)) }
 {
     let Some(id) = entity_id(object) else {
         return Ok(None);
     };
-    match record(alloc, object, word)? {
+    match record(alloc, object, word, behind)? {
         Some(record) => Ok(Some(Line::Entity(id, record))),
         None => Ok(None),
     }
@@ -145,8 +151,13 @@ fn entity_id(object: &Value) -> Option<EntityId>
 }
 
 // What is kept of an entity, whose state has that word.
-fn record(alloc: Global, object: &Value, word: &Value) -> Result<Option<Record<Text>>, OutOfMemory>
-    ensures { IfOk result (λ r. r ≡ record_in (view object.now) (view word.now)) }
+fn record(
+    alloc: Global,
+    object: &Value,
+    word: &Value,
+    behind: Option<&str>,
+) -> Result<Option<Record<Text>>, OutOfMemory>
+    ensures { IfOk result (λ r. r ≡ record_in (option_map (λ s. s.now) behind.entry) (view object.now) (view word.now)) }
 {
     let Some(state) = state(object, word) else {
         return Ok(None);
@@ -154,7 +165,7 @@ fn record(alloc: Global, object: &Value, word: &Value) -> Result<Option<Record<T
     let Some(reconciled) = reconciled(object) else {
         return Ok(None);
     };
-    match held_at(alloc, object)? {
+    match held_at(alloc, object, behind)? {
         Some(held) => Ok(Some(Record {
             state,
             held,
@@ -180,34 +191,46 @@ fn reconciled(object: &Value) -> Option<Option<Event>>
     event_or_null(object.get("reconciled")?)
 }
 
-// The page at the key `held`, or none where it is null.
-fn held_at(alloc: Global, object: &Value) -> Result<Option<Option<Held<Text>>>, OutOfMemory>
-    ensures { IfOk result (λ held. held ≡ at_key (if_there held_in) (codes "held") (view object.now)) }
+// What is held, by the value of the key `held`.
+fn held_at(
+    alloc: Global,
+    object: &Value,
+    behind: Option<&str>,
+) -> Result<Option<Option<Held<Text>>>, OutOfMemory>
+    ensures { IfOk result (λ held. held ≡ at_key (held_or_null (option_map (λ s. s.now) behind.entry)) (codes "held") (view object.now)) }
 {
     match object.get("held") {
-        Some(value) => held_or_null(alloc, value),
+        Some(value) => held_or_null(alloc, value, behind),
         None => Ok(None),
     }
 }
 
-// The page that an entity holds, or null.
-fn held_or_null(alloc: Global, value: &Value) -> Result<Option<Option<Held<Text>>>, OutOfMemory>
-    ensures { IfOk result (λ held. held ≡ if_there held_in (view value.now)) }
+// What is held, or nothing where null says so and no page stands behind.
+fn held_or_null(
+    alloc: Global,
+    value: &Value,
+    behind: Option<&str>,
+) -> Result<Option<Option<Held<Text>>>, OutOfMemory>
+    ensures { IfOk result (λ held. held ≡ held_or_null (option_map (λ s. s.now) behind.entry) (view value.now)) }
 {
-    if value.is_null() {
+    if behind.is_none() && value.is_null() {
         return Ok(Some(None));
     }
-    match held(alloc, value)? {
+    match held(alloc, value, behind)? {
         Some(held) => Ok(Some(Some(held))),
         None => Ok(None),
     }
 }
 
-// The page that an object is, with its revision.
-fn held(alloc: Global, object: &Value) -> Result<Option<Held<Text>>, OutOfMemory>
-    ensures { IfOk result (λ held. held ≡ held_in (view object.now)) }
+// What an object says that is held: a revision, and its page.
+fn held(
+    alloc: Global,
+    object: &Value,
+    behind: Option<&str>,
+) -> Result<Option<Held<Text>>, OutOfMemory>
+    ensures { IfOk result (λ held. held ≡ held_in (option_map (λ s. s.now) behind.entry) (view object.now)) }
 {
-    match (revision(object), page(object)) {
+    match (revision(object), page(object, behind)) {
         (Some(revision), Some(page)) => Ok(Some(Held {
             revision,
             content: Text::new(alloc, page)?,
@@ -223,11 +246,15 @@ fn revision(object: &Value) -> Option<u64>
     object.get("rev")?.as_u64()
 }
 
-// The text of a page.
-fn page(object: &Value) -> Option<&str>
-    ensures { option_map (λ s. s.now) result ≡ at_key as_str (codes "page") (view object.now) }
+// The text of a page: the object's own, or the one behind where it has none.
+fn page<'a>(object: &'a Value, behind: Option<&'a str>) -> Option<&'a str>
+    ensures { option_map (λ s. s.now) result ≡ page_in (option_map (λ s. s.now) behind.entry) (get (codes "page") (view object.now)) }
 {
-    object.get("page")?.as_str()
+    match (behind, object.get("page")) {
+        (None, Some(own)) => own.as_str(),
+        (Some(page), None) => Some(page),
+        _ => None,
+    }
 }
 
 // The line of an entry of the side output.
@@ -256,46 +283,4 @@ fn revision_entry(object: &Value, word: &str) -> Option<Entry>
     let event = event(object.get("event")?)?;
     let rev = object.get("rev")?.as_u64()?;
     Some(Entry::Revision(event, rev, cause))
-}
-
-// The kind of event with that word.
-fn kind_named(text: &str) -> Option<Kind>
-    ensures { result ≡ kind_named text.now }
-{
-    match text {
-        "edit" => Some(Kind::Edit),
-        "delete" => Some(Kind::Delete),
-        "undelete" => Some(Kind::Undelete),
-        "reconcile-deleted" => Some(Kind::ReconcileDeleted),
-        "reconcile-kept" => Some(Kind::ReconcileKept),
-        _ => None,
-    }
-}
-
-// The cause with that word.
-fn cause_named(text: &str) -> Option<Cause>
-    ensures { result ≡ cause_named text.now }
-{
-    match text {
-        "missing" => Some(Cause::Missing),
-        "failed" => Some(Cause::Failed),
-        "unfit-large" => Some(Cause::Unfit(Unfit::Large)),
-        "unfit-deep" => Some(Cause::Unfit(Unfit::Deep)),
-        "unfit-notjson" => Some(Cause::Unfit(Unfit::NotJson)),
-        "unfit-shape" => Some(Cause::Unfit(Unfit::Shape)),
-        "unfit-foreign" => Some(Cause::Unfit(Unfit::Foreign)),
-        _ => None,
-    }
-}
-
-// The mode with that word.
-fn mode_named(text: &str) -> Option<Mode>
-    ensures { result ≡ mode_named text.now }
-{
-    match text {
-        "unknown" => Some(Mode::Unknown),
-        "kept" => Some(Mode::Kept),
-        "deleted" => Some(Mode::Deleted),
-        _ => None,
-    }
 }

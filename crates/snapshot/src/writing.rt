@@ -7,7 +7,7 @@ ghost use Rattle.replay_model.specs.Transcript.{kind_word, cause_word, unfit_wor
 ghost use Rattle.side_output.specs.declared.entry.Entry.TheVariants.{Revision};
 ghost use Rattle.snapshot.specs.declared.line.Line.TheVariants.{End};
 ghost use Rattle.snapshot.specs.Words.{mode_word, version_number};
-ghost use Rattle.snapshot.specs.LineData.{if_some, nat_data, int_data, event_data, event_members, held_data, head_data, record_data, entry_data, line_data};
+ghost use Rattle.snapshot.specs.LineData.{has_line_feed, if_some, nat_data, int_data, event_data, event_members, held_data, head_data, record_data, entry_data, line_data};
 
 use crate::line::{Head, Line};
 use entity_model::{EntityId, Event, Kind, MappingVersion, Unfit};
@@ -17,7 +17,7 @@ use serde_json::{Map, Value};
 use side_output::{Cause, Entry};
 use std::alloc::Global;
 
-/// The value of a line.
+/// The value of a line, but for a page that stands behind a record.
 pub(crate) fn line_value(alloc: Global, line: &Line) -> Result<Value, OutOfMemory>
     ensures { IfOk result (λ v. view v ≡ line_data line.now) }
 {
@@ -44,7 +44,7 @@ fn head_value(alloc: Global, head: &Head) -> Result<Value, OutOfMemory>
     serde_json::put(&mut map, alloc, "mark", mark)?;
     serde_json::put(&mut map, alloc, "matches", Value::from(head.matches))?;
     serde_json::put(&mut map, alloc, "patches", Value::from(head.patches))?;
-    serde_json::put(&mut map, alloc, "snapshot", Value::from(1u64))?;
+    serde_json::put(&mut map, alloc, "snapshot", Value::from(2u64))?;
     Ok(Value::Object(map))
 }
 
@@ -95,7 +95,7 @@ fn record_value(alloc: Global, id: EntityId, kept: &Record<Text>) -> Result<Valu
     Ok(Value::Object(map))
 }
 
-// The value of a page, or null.
+// The value of what is held, or null.
 fn held_or_null(alloc: Global, held: &Option<Held<Text>>) -> Result<Value, OutOfMemory>
     ensures { IfOk result (λ v. view v ≡ if_some held_data held.now) }
 {
@@ -105,15 +105,27 @@ fn held_or_null(alloc: Global, held: &Option<Held<Text>>) -> Result<Value, OutOf
     }
 }
 
-// The value of a page, whose text is one JSON string.
+// The value of what is held: its page is a string where it has a line feed, and else stands behind the record.
 fn held_value(alloc: Global, held: &Held<Text>) -> Result<Value, OutOfMemory>
     ensures { IfOk result (λ v. view v ≡ held_data held.now) }
 {
-    let page = Value::try_from_str(alloc, held.content.as_str())?;
+    let page = held.content.as_str();
     let mut map = Map::new(alloc);
-    serde_json::put(&mut map, alloc, "page", page)?;
+    if has_line_feed(page) {
+        let page = Value::try_from_str(alloc, page)?;
+        serde_json::put(&mut map, alloc, "page", page)?;
+        serde_json::put(&mut map, alloc, "rev", Value::from(held.revision))?;
+        return Ok(Value::Object(map));
+    }
     serde_json::put(&mut map, alloc, "rev", Value::from(held.revision))?;
     Ok(Value::Object(map))
+}
+
+/// Whether a page has a line feed, so that it can't stand in a line as it is.
+pub(crate) fn has_line_feed(page: &str) -> bool
+    ensures { result ≡ has_line_feed page.now }
+{
+    page.as_bytes().contains(&b'\n')
 }
 
 // The value of an event, or null.
