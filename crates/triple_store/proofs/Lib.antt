@@ -1,3 +1,4 @@
+pub mod Adding
 pub mod AtHand
 pub mod ByRank
 pub mod Costs

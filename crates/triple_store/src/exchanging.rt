@@ -18,6 +18,7 @@ ghost use Rattle.triple_store.specs.Stored.{AreKeysOf, IsStored, KeepsKeys, besi
 ghost use Rattle.triple_store.specs.Telling.{TellsIf, if_told};
 
 use crate::StoreFault;
+use crate::added::Added;
 use crate::catalog::Catalog;
 use crate::finding::{Near, known_subject};
 use crate::keys::{KeySlices, Keys, NOWHERE, in_order};
@@ -27,7 +28,6 @@ use block_index::Steps;
 use rdf_term::OutOfMemory;
 use slot_index::Key;
 use std::alloc::Global;
-use std::collections::BTreeSet;
 use std::sync::ledger::Ledger;
 use text_region::Region;
 use triple_texts::TripleTexts;
@@ -37,6 +37,13 @@ use triple_texts::TripleTexts;
 pub(crate) struct Swap<'a> {
     pub(crate) old: KeySlices<'a>,
     pub(crate) new: &'a TripleTexts,
+}
+
+impl<'a> Swap<'a> {
+    // How many more triples there are than keys, about as many as are added.
+    fn more(&self) -> usize {
+        self.new.len().saturating_sub(self.old.rising.len())
+    }
 }
 
 // The keys of the triples that came, one by one, and the index of each among the keys that the owner had.
@@ -154,8 +161,8 @@ impl Catalog {
         ensures few { vec_len met.new.keys ≤ length swap.entry.new.now }
         ensures cost { Costs (map.len self.old.index) (map.len self.new.index) (length swap.entry.new.now) 0 steps.old steps.new }
     {
-        let mut added = BTreeSet::new(self.alloc);
-        let mut seen = Seen::new();
+        let mut added = Added::new(self.alloc, swap.more());
+        let mut seen = Seen::new(self.alloc, swap.more());
         let mut last = None;
         let mut next = 0;
         for index in 0..swap.new.len() {

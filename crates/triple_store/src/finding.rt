@@ -1,20 +1,21 @@
 // Where the keys of the triples that come are found.
 
-ghost use Rattle.std.specs.Prelude.{◌≡◌, ◌<◌, ◌++◌, true, false, length, Some, IfSome, IfErr, IfOk};
+ghost use Rattle.std.specs.Prelude.{◌≡◌, ◌<◌, true, false, length, Some, IfSome, IfErr, IfOk};
 ghost use Rattle.rising.specs.Rising.{IsRising, has};
 ghost use Rattle.term_pool.specs.Pool.{LiesIn, text_in_slot};
 ghost use Rattle.slot_index.specs.declared.key.Key.{Key as TheKey};
 ghost use Rattle.slot_index.specs.Keys.{key_cmp};
+ghost use Rattle.triple_store.specs.Added.{is_held};
 ghost use Rattle.triple_store.specs.Interning.{AreHints, IsOfSubject, IsOfTripleBefore};
 ghost use Rattle.triple_store.specs.Slots.{HasTexts};
 ghost use Rattle.triple_store.specs.Stored.{IsStored};
 
+use crate::added::Added;
 use crate::catalog::Catalog;
 use crate::interning::Hints;
 use crate::keys::{KeySlices, NOWHERE, narrowed};
 use crate::seen::Seen;
 use slot_index::Key;
-use std::collections::BTreeSet;
 use term_pool::Pool;
 use text_region::Region;
 use triple_texts::{TripleText, TripleTexts};
@@ -52,14 +53,14 @@ impl Catalog {
         region: &Region,
         texts: &TripleText<'_>,
         near: Near<'_>,
-        added: &BTreeSet<Key>,
+        added: &Added,
     ) -> Result<Found, Hints>
         requires stored { IsStored self.now region.now }
         requires rising { IsRising key_cmp near.old.rising.now }
         requires known { IfSome near.subject (λ slot. text_in_slot self.now.pool region.now slot ≡ Some texts.now.subject.now) }
         ensures texts { IfOk result (λ found. HasTexts self.now.pool region.now found.key texts.now) }
-        ensures held { IfOk result (λ found. has key_cmp found.key (near.entry.old.rising.now ++ added.now.keys) ≡ true) }
-        ensures none { IfErr result (λ _. (key : TheKey) → HasTexts self.now.pool region.now key texts.now → has key_cmp key (near.entry.old.rising.now ++ added.now.keys) ≡ false) }
+        ensures held { IfOk result (λ found. is_held near.entry.old.rising.now added.now found.key ≡ true) }
+        ensures none { IfErr result (λ _. (key : TheKey) → HasTexts self.now.pool region.now key texts.now → is_held near.entry.old.rising.now added.now key ≡ false) }
         ensures hints { IfErr result (λ hints. AreHints self.now.pool region.now hints texts.now) }
     {
         if let Some(found) = self.find_again(region, texts, near) {

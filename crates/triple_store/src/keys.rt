@@ -6,6 +6,7 @@ ghost use Rattle.slot_index.specs.declared.key.Key.{Key as TheKey};
 ghost use Rattle.slot_index.specs.Keys.{key_cmp};
 ghost use Rattle.triple_store.specs.Keys.{marked};
 
+use crate::added::{BUCKETS, bucket_of};
 use crate::releasing::find_from;
 use rdf_term::OutOfMemory;
 use slot_index::Key;
@@ -168,11 +169,12 @@ fn walk_of(
     requires { IsRising key_cmp rising.now }
 {
     let moved = moved_indices(alloc, old, rising)?;
+    let places = places_of(alloc, old, rising)?;
     let mut walk = Vec::with_capacity(alloc, met.len())?;
     for (index, key) in met.iter().enumerate() {
         let new_index = match new_index_of(moved.as_slice(), old_indices.get(index)) {
             Some(new_index) => new_index,
-            None => index_in(rising, *key),
+            None => index_in(rising, places.as_slice(), *key),
         };
         walk.push(new_index)?;
     }
@@ -202,8 +204,29 @@ fn new_index_of(moved: &[u32], old: Option<&u32>) -> Option<u32> {
     Some(*index)
 }
 
-// The index of a key by a search.
-fn index_in(rising: &[Key], key: Key) -> u32 {
+// The last index of a key in each bucket, where there were no old keys: these alone are many.
+fn places_of(alloc: Global, old: &[Key], rising: &[Key]) -> Result<Vec<u32>, OutOfMemory> {
+    let mut places = Vec::new(alloc);
+    if old.is_empty() {
+        places.resize(rising.len().saturating_mul(BUCKETS), NOWHERE)?;
+        for (index, key) in rising.iter().enumerate() {
+            if let Some(place) = places.get_mut(bucket_of(key, places.len())) {
+                *place = narrowed(index);
+            }
+        }
+    }
+    Ok(places)
+}
+
+// The index of a key, which is tried where its bucket tells and else searched.
+fn index_in(rising: &[Key], places: &[u32], key: Key) -> u32
+    requires { IsRising key_cmp rising.now }
+{
+    if let Some(place) = places.get(bucket_of(&key, places.len())) {
+        if rising.get(*place as usize) == Some(&key) {
+            return *place;
+        }
+    }
     match rising.binary_search(&key) {
         Ok(index) => narrowed(index),
         Err(_) => NOWHERE,

@@ -3,12 +3,13 @@
 //! `store` has the store: a catalog of what is stored, and the region with the texts of the terms, each once, and with texts of the
 //! caller's own beside them. `updates` and `queries` have its other calls, each with its steps counted and without. What they call over
 //! the region stands below: `catalog` is a pool of terms and an index of triples of slots. `interning` uses the terms of a triple once
-//! more, all or none, and once less. `keys` has the keys of one owner, in order and as its triples came. On these `changing` gives a
+//! more, all or none, and once less. `keys` has the keys of one owner, in order and as its triples came, and `added` those that an exchange adds. On these `changing` gives a
 //! triple one owner more or less; triple by triple `exchanging` puts the triples of one owner in the place of others, whose keys `finding` finds (`seen` has slots of terms that came a short time ago), `releasing` takes
 //! them away, and `patching` applies a patch. `telling` finds what an exchange changed, in its middle. `rows` finds the triples that agree with a pattern, as slices of their texts, and `ranking` puts all
 //! triples in order; `reading` reads triples back from these. `matching` counts the owners of a triple, and `room` says how many terms there are.
 #![tactic(auto)]
 
+mod added;
 mod catalog;
 mod changing;
 mod exchanging;

@@ -1,16 +1,18 @@
-use Rattle.std.proofs.Common.{◌≡◌, false, is_ok, ◌++◌, ap, subst, sym, ◌∙◌}
-use Rattle.rising.specs.Rising.{has}
+use Rattle.std.proofs.Common.{◌≡◌, false, is_ok, ap, subst, sym, ◌∙◌}
+use Rattle.rising.proofs.Bools.{or_false}
+use Rattle.rising.proofs.Sorting.{found}
 use Rattle.slot_index.specs.declared.key.Key.{Key}
-use Rattle.slot_index.specs.Keys.{key_cmp}
-use Rattle.triple_store.proofs.AtHand.{held_old, not_held}
+use Rattle.slot_index.specs.Keys.{key_cmp-total}
+use Rattle.triple_store.specs.Added.{is_held}
 use Rattle.triple_store.proofs.Standing.{one_of_texts}
+use Rattle.triple_store.proofs.Taking.{or_left}
 use Rattle.triple_store.proofs.catalog.Catalog.find_held.Goals as goal
 
 pub returns-in-Ok-binary_search-clause-held : goal.returns-in-Ok-binary_search-clause-held
-returns-in-Ok-binary_search-clause-held c = held_old c.args.near.old.rising.now c.args.added.now.keys c.in-Ok.key c.binary_search.result c.requires.rising c.binary_search.ensures.bound c.binary_search.ensures.position (ap is_ok c.in-Ok-binary_search.is)
+returns-in-Ok-binary_search-clause-held c = or_left _ _ (sym (found key_cmp-total c.args.near.old.rising.now c.in-Ok.key c.binary_search.result c.requires.rising c.binary_search.ensures.bound c.binary_search.ensures.position) ∙ ap is_ok c.in-Ok-binary_search.is)
 
 pub returns-else-contains-clause-none : goal.returns-else-contains-clause-none
 returns-else-contains-clause-none c key texts =
-    subst (λ (k : Key). has key_cmp k (c.args.near.old.rising.now ++ c.args.added.now.keys) ≡ false)
+    subst (λ (k : Key). is_held c.args.near.old.rising.now c.args.added.now k ≡ false)
     (one_of_texts _ _ c.requires.stored.lies _ _ _ c.in-Ok.ensures.found texts)
-    (not_held c.args.near.old.rising.now c.args.added.now.keys c.in-Ok.key c.binary_search.result c.requires.rising c.binary_search.ensures.bound c.binary_search.ensures.position (ap is_ok c.in_default-binary_search.is) (sym c.contains.ensures ∙ c.if-contains.false))
+    (or_false _ _ (sym (found key_cmp-total c.args.near.old.rising.now c.in-Ok.key c.binary_search.result c.requires.rising c.binary_search.ensures.bound c.binary_search.ensures.position) ∙ ap is_ok c.in_default-binary_search.is) (sym c.contains.ensures ∙ c.if-contains.false))

@@ -4,6 +4,7 @@ use Rattle.std.specs.FinMap as map
 use Rattle.rising.specs.Rising.{has}
 use Rattle.slot_index.specs.declared.key.Key.{Key}
 use Rattle.slot_index.specs.Keys.{key_cmp}
+use Rattle.triple_store.specs.Added.{AreApart, is_held}
 use Rattle.triple_store.specs.Costs.{Costs}
 use Rattle.triple_store.specs.Interning.{IsOfTripleBefore}
 use Rattle.triple_store.specs.Moves.{TakesIn}
@@ -18,5 +19,6 @@ invariant-loop-index g l = record {
   indexed : vec_len l.met.old_indices ≡ l.index;
   room_for_indices : length l.swap.new.now ≤ vec_capacity l.met.old_indices;
   last : IfSome l.last (λ key. IsOfTripleBefore l.self.pool l.region key l.swap.new.now l.index);
-  held : (key : Key) → has key_cmp key (l.swap.old.rising.now ++ l.added.keys) ≡ has key_cmp key (l.swap.old.rising.now ++ l.met.keys.items);
+  held : (key : Key) → is_held l.swap.old.rising.now l.added key ≡ has key_cmp key (l.swap.old.rising.now ++ l.met.keys.items);
+  apart : AreApart l.added;
 }
