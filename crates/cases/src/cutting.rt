@@ -30,7 +30,7 @@ const MOST_LINES: usize = 64;
 // The commands whose runs are cut.
 const COMMANDS: [&str; 3] = ["replay", "patches", "split"];
 
-// Whether a case is cut: a run of these commands that ends well and isn't saved, none of whose reads and writes fails.
+// Whether a case is cut: a run of these commands that ends with Ok and isn't saved, none of whose reads and writes fails.
 pub fn is_cut(case: &Case, given: &Given, expected: &Expected) -> bool {
     let named = FILES
         .iter()
@@ -135,8 +135,8 @@ fn second_part(alloc: Global, given: &Given, cut: usize, left: &Left) -> Result<
     Ok(part)
 }
 
-// What the second part must leave: the rest of the output behind the first part's answers, and all else as the whole; None where the first
-// part printed something else.
+// What the second part must leave: the rest of the output after the first part's answers, and everything else as the whole; None where the
+// first part printed something else.
 fn rest(alloc: Global, whole: &Expected, first: &Left) -> Result<Option<Expected>> {
     let answers = before_graphs(alloc, first.out.bytes())?;
     let Some(out) = whole.out.as_slice().strip_prefix(answers.as_slice()) else {

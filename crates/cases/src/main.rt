@@ -1,8 +1,8 @@
 //! Runs the cases of a folder: whole runs of the top call over memory, and what they must show.
 //!
-//! The crate case_file reads the cases. `running` makes one run, and `seen` says what it left; `comparing` finds the first difference; `trying`
-//! tries a case, once or with each call failing in turn, and `cutting` cut after each of its lines, saved and resumed; `trial` is what came of it.
-//! `statuses` prints the texts of the statuses. README.md of crates/cases says how a case is written.
+//! The crate case_file reads the cases. `running` makes one run, and `seen` says what it left; `comparing` finds the first difference;
+//! `trying` tries a case once, or with each call failing in turn; `cutting` cuts it after each of its lines, saves and resumes; `trial` has
+//! the result. `statuses` prints the texts of the statuses. README.md of crates/cases says how a case is written.
 #![tactic(auto)]
 
 mod comparing;

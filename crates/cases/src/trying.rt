@@ -140,7 +140,7 @@ fn tried_with_writes(
     })
 }
 
-// Tries each write of the snapshot failing in turn, and then none: all else was printed, and what the writes before it took stands.
+// Tries each write of the snapshot failing in turn, and then none: everything else was printed, and what the writes before it took stands.
 fn tried_with_saves(
     alloc: Global,
     keys: RandomState,

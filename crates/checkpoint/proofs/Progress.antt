@@ -73,7 +73,7 @@ nothing_read limit max_line start = record {
     same_length None = refl
     same_length (Some bytes) = ap Some (let n : 0 + length bytes ≡ length bytes = omega arith in n)
 
--- one line more behind the others
+-- one more line after the others
 lines_grow : (start known next : Option (List (List ℕ))) (done : List (List ℕ)) (line : List ℕ) →
     start ≡ option_map (λ (ls : List (List ℕ)). done ++ ls) known → known ≡ before_lines line next → start ≡ option_map (λ (ls : List (List ℕ)). (done ++ line ∷ []) ++ ls) next
 lines_grow start known None done line are first = rw (are, first) refl

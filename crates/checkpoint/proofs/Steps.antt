@@ -50,7 +50,7 @@ all_by-empty Two =
     let none : length (map.keys nothing_played.records) ≡ 0 = length-map (map.entries nothing_played.records) (λ e. e.0) ∙ sym (map.len-entries nothing_played.records) ∙ map.len-empty _ _ in
     ap (λ (ids : List EntityId). filter (is_holder nothing_played.records) ids) (no_entries _ none)
 
--- what follows from two facts on a call that ended well
+-- what follows from two facts on a call that ended with Ok
 pub on_ok_both : {T E P Q R : Type 0} (r : Result T E) → OnOk r P → OnOk r Q → (P → Q → R) → OnOk r R
 on_ok_both (Ok x) first second then = then first second
 on_ok_both (Err e) first second then = tt

@@ -47,7 +47,7 @@ begins room start w stage is ready limit = record {
   ended = λ never. cc;
 }
 
--- one line more
+-- one more line
 pub goes_on : (room : ℕ) (start left left_next : Option (List ℕ)) (reader next : Reading) (w w2 : WorldState) (stage stage2 : Stage) (given number n m : ℕ) (text : List ℕ)
     → UnderWay room start reader left w stage given n → IsNextLine text reader next left left_next → GoesOn reader next text → number ≡ given + 1
     → (next.ended ≡ true → IsAtEnd left_next)

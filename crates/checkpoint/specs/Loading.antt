@@ -66,20 +66,23 @@ HasReachedFailed mark side = (e : Event) → has event_cmp e (failed_events side
 abbrev pub HoldsDocuments : Records → Type 0
 HoldsDocuments records = (x : EntityId) → HoldsDocument unfit_of x (record_of records x).held
 
--- a world between two lines of an input, as a replay may have it, with counts that are within: of the events that it remembers those wait
--- that the mark hasn't reached, every page is mapped by the version in force, fetches failed for such events alone that were applied, each
--- entity holds what its state wants exactly where no entry tells otherwise, and what is held are documents
+-- a world that a replay may have between two lines of its input
 pub record IsLoadable (w : WorldState) (numbers : Numbers) : Type 0 where
+  -- the remembered events that wait are those that the mark hasn't reached
   pub rests : IsAtRest w.replay.buffer
   pub fits : IsFitSaved (saved_of w numbers)
+  -- every page is mapped by the version in force
   pub by_one : w.by_two ≡ all_by w.mapping w.replay.played.records
+  -- fetches failed only for applied events
   pub applied : (e : Event) → has event_cmp e (failed_events w.replay.played.side) ≡ true → is_applied w.replay e ≡ true
+  -- each entity holds what its state wants exactly if no entry tells otherwise
   pub holds : HoldsUnlessOpen w.replay.played
+  -- what is held are documents
   pub documents : HoldsDocuments w.replay.played.records
   pub within : AreWithin numbers
 
--- the world took so many lines, and may take more: every page is mapped by the version in force, no event is due, fetches failed for
--- such events alone that the mark reached, what is held are documents and has room, and the counts are within
+-- the world took so many lines, and may take more: every page is mapped by the version in force, no event is due, fetches failed only for
+-- events that the mark reached, what is held are documents and has room, and the counts are within
 pub record IsReady (w : WorldState) (stage : Stage) (n : ℕ) : Type 0 where
   pub fresh : IsFresh w stage n
   pub by_one : w.by_two ≡ all_by w.mapping w.replay.played.records

@@ -15,9 +15,9 @@ ghost use Rattle.checkpoint.specs.Saved.{numbers_of, saved_of, world_of};
 
 use snapshot::snapshots_read_back;
 
-/// Of the bytes that were written of such a world as a replay may have between two lines, no line is refused, and none is missing; and
-/// there is no room for a line only where there is none for the triples of the world. So a loading of these bytes ends well where they can be
-/// read, are no more than a file may have, and there is room and memory.
+/// No line of what was written is refused or missing, if the world is one that a replay may have between two lines; and a line lacks room
+/// only if the world's triples do. So a loading of these bytes ends with Ok if they can be read and are no more than a file may have, and
+/// there is room and memory.
 pub fn no_line_of_a_saved_world_is_refused()
     ensures lines { (w : WorldState) (numbers : TheNumbers) (n : ℕ) → IsLoadable w numbers → ¬ (IsNoSnapshot (file_text (saved_of w numbers)) n) }
     ensures room { (w : WorldState) (numbers : TheNumbers) (room : ℕ) → IsLoadable w numbers → IsFileOverfull room (file_text (saved_of w numbers)) →

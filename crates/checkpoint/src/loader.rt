@@ -145,7 +145,7 @@ fn note(world: &mut World, entry: Entry, number: u64) -> Result<(), LoadFault>
     }
 }
 
-// Whether an entry of the side output may stand beside this mark: a fetch fails for such an event alone that the mark reached.
+// Whether an entry of the side output may stand beside this mark: only events that the mark reached have failed fetches.
 fn may_note(mark: Option<i64>, entry: &Entry) -> bool
     ensures { result ≡ may_note mark entry.now }
 {

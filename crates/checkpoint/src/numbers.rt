@@ -6,7 +6,7 @@ ghost use Rattle.checkpoint.specs.Saved.{AreWithin, numbers_of};
 
 use snapshot::Head;
 
-/// The most that each count may be where a run goes on with it, so that there is a number for each question and each record that it tells of.
+/// The greatest count with which a run may go on: it leaves a number for each question and record to come.
 const MOST: u64 = 9_223_372_036_854_775_808;
 
 /// The counts of a run that the next one goes on with.

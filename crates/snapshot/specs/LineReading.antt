@@ -24,7 +24,7 @@ nat_in d = option_and_then as_u64 (as_number d)
 abbrev pub int_in : Data → Option ℤ
 int_in d = option_and_then as_i64 (as_number d)
 
--- none for null, and else what f reads
+-- none for null, and what f reads otherwise
 abbrev pub if_there : {A : Type 0} → (Data → Option A) → Data → Option (Option A)
 if_there f d = if is_some (as_null d) then Some None else option_map Some (f d)
 

@@ -38,8 +38,8 @@ pub fn snapshots_read_back()
     ensures bytes_cut { (s : Saved) (k : ℕ) → IsFitSaved s → k < length (file_text s) → saved_in_bytes (take k (file_text s)) ≡ None }
 {}
 
-/// The state after any deliveries can be saved; and of the events that it remembers those wait that the mark hasn't reached, so that
-/// taking them again makes its buffer.
+/// The state after any deliveries can be saved; and the remembered events that wait are those that the mark hasn't reached, so that taking
+/// them again makes its buffer.
 pub fn replays_can_be_saved()
     ensures fits { (s : Saved) (h : Option ℕ) (replies : Replies) (ds : List Delivery) → s.state ≡ following h replies ds → s.asks < 2 ^ 64 → s.matches < 2 ^ 64 → s.patches < 2 ^ 64 →
         IfSome h (λ n. n < 2 ^ 64) → Each IsFitDelivery ds → length (lines_before_end s) < 2 ^ 64 → IsFitSaved s }

@@ -25,7 +25,7 @@ pub struct Head {
 /// One line of a snapshot.
 #[derive(Debug, Drop)]
 pub enum Line {
-    /// What is said once, before all else.
+    /// What is said once, before everything else.
     Head(Head),
     /// An event that is remembered. It waits to be applied where the mark hasn't reached its time.
     Remembered(Event),

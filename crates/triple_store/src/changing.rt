@@ -27,9 +27,9 @@ use text_region::Region;
 use triple_texts::TripleText;
 
 impl Catalog {
-    // The triple of slots with these texts, where each of them is there; the triple need not be stored. The slot of the subject may be
-    // known. Else subject and predicate are tried first in the slots that they have in a triple near by, since triples that follow
-    // each other mostly share one of them. Where one isn't there, the slots of those before it. Takes no memory.
+    // The triple of slots with these texts, if each of them is there; the triple need not be stored. The slot of the subject may be known.
+    // Otherwise subject and predicate are tried first in the slots that they have in a triple near by, since triples that follow each other
+    // mostly share one of them. If one has no slot, the answer is the slots of those before it. Takes no memory.
     pub(crate) fn find_key(
         &self,
         region: &Region,
