@@ -121,9 +121,15 @@ fn name_of(part: &[u8]) -> Option<&[u8]> {
     part.get(..end)
 }
 
-// Whether a member has the name of the member before it.
+// Whether a member has the name of the member before it. Mostly the first bytes of both names tell.
 fn repeats(last: &[u8], part: &[u8]) -> bool {
-    part.starts_with(b",") && last.get(..8) == part.get(..8) && name_of(last) == name_of(part)
+    let [_, first, second, third, ..] = last else {
+        return false;
+    };
+    let [b',', quote, letter, next, ..] = part else {
+        return false;
+    };
+    first == quote && second == letter && third == next && name_of(last) == name_of(part)
 }
 
 // Both texts behind a part that one of them has alone, or that is another one in each.
@@ -186,11 +192,11 @@ fn step<'a>(walk: Walk<'a>, depth: usize, most: usize) -> Option<Walk<'a>> {
     Some(past_own(walk, gone, came))
 }
 
-// Whether half of the second text's bytes are in parts that the first one has at the same place, but for a few, before a quarter of them are in
+// Whether half of the second text's bytes are in parts that the first one has at the same place, but for a few, before a fifth of them are in
 // others. Parts are the members of the objects that stand so many levels below the outermost one, and of those above them.
 pub(crate) fn are_alike(depth: usize, old: &[u8], new: &[u8]) -> bool {
     let depth = depth.saturating_add(1);
-    let most = new.len() / 4;
+    let most = new.len() / 5;
     let enough = new.len() / 2;
     let mut walk = Walk {
         old: start_of(old),

@@ -27,7 +27,7 @@ use Rattle.replay_model.specs.Records.{Bytes, Records}
 use Rattle.triple_store.specs.PartUpdates.{Becomes}
 use Rattle.world.specs.declared.comparing.ChangedTexts.{ChangedTexts}
 use Rattle.world.specs.declared.comparing.KnownPage.{KnownPage}
-use Rattle.world.specs.Compared.{AreChanged, AreTextsOfParts, HasEntity, IsChangeOf, IsKnownPage}
+use Rattle.world.specs.Compared.{AreChanged, AreTextsOfParts, HasEntity, IsChangeOfHeld, IsKnownPage}
 
 -- lists that balance, by how many times each triple comes
 becomes_by : (new gone old come : List Triple) → Balance new gone old come → IsWithin gone old → Becomes old new gone come
@@ -85,7 +85,7 @@ known_has records by_two version x (Some page) h = h.has_entity
 pub change_of : (records : Records) (by_two : List EntityId) (version : MappingVersion) (x : EntityId) (rev : ℕ) (page : KnownPage) (bytes : Bytes) (texts : ChangedTexts)
     → IsKnownPage records by_two version x page
     → ((old : Entity) → document_of x page.bytes.now ≡ Some (AnEntity old) → page.counts ≡ counts_of old → AreChanged version x page.rev rev old bytes texts)
-    → IsChangeOf records by_two version x rev bytes texts
+    → IsChangeOfHeld records by_two version x rev bytes texts
 change_of records by_two version x rev page bytes texts known changes = record {
   before = record { revision = page.rev; content = page.bytes.now };
   held = known.held;
@@ -109,6 +109,6 @@ module _ (version : MappingVersion) (x : EntityId) (rev : ℕ) (page : KnownPage
 
   -- and this is what they change of the page, if it is held
   pub compared_changes : (records : Records) (by_two : List EntityId) (compared : Option ChangedTexts) → IsKnownPage records by_two version x page → IfSome compared TellsChange
-      → IfSome compared (IsChangeOf records by_two version x rev bytes)
+      → IfSome compared (IsChangeOfHeld records by_two version x rev bytes)
   compared_changes records by_two None known tells = tt
   compared_changes records by_two (Some texts) known tells = change_of records by_two version x rev page bytes texts known tells

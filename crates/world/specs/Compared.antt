@@ -45,8 +45,8 @@ pub record AreTextsOfParts (version : MappingVersion) (x : EntityId) (old_rev re
   pub gone : texts.gone ≡ counted_kept version x old_rev was changed.gone
   pub come : texts.come ≡ counted_kept version x rev texts.counts changed.come
 
--- the old document is that of the page that x holds
-pub record IsChangeOf (records : Records) (by_two : List EntityId) (version : MappingVersion) (x : EntityId) (rev : ℕ) (bytes : Bytes) (texts : ChangedTexts) : Type 0 where
+-- the old document is that of the page that x holds, which is mapped by the version
+pub record IsChangeOfHeld (records : Records) (by_two : List EntityId) (version : MappingVersion) (x : EntityId) (rev : ℕ) (bytes : Bytes) (texts : ChangedTexts) : Type 0 where
   pub before : Held Bytes
   pub held : (record_of records x).held ≡ Some before
   pub by_version : version_at by_two x ≡ version

@@ -17,7 +17,7 @@ use Rattle.world.specs.declared.comparing.ChangedPage.{ChangedPage}
 use Rattle.world.specs.declared.fetching.FetchedPage.{FetchedPage}
 use Rattle.world.specs.declared.fetching.FetchedPage.TheVariants.{Whole, Changed}
 use Rattle.world.specs.declared.fetching.Page.{Page}
-use Rattle.world.specs.Compared.{IsChangeOf}
+use Rattle.world.specs.Compared.{IsChangeOfHeld}
 use Rattle.world.specs.Listed.{IsListed}
 use Rattle.world.specs.Meaning.{meaning}
 
@@ -53,7 +53,7 @@ pub record IsPageOf (mapping : MappingVersion) (x : EntityId) (rev : ℕ) (page 
 
 -- the page changes this of the one that x holds, which is mapped by this version; its bytes fit a block of the region
 pub record IsChangedPage (records : Records) (by_two : List EntityId) (mapping : MappingVersion) (x : EntityId) (rev : ℕ) (page : ChangedPage) : Type 0 where
-  pub change : IsChangeOf records by_two mapping x rev page.bytes page.texts
+  pub change : IsChangeOfHeld records by_two mapping x rev page.bytes page.texts
   pub short : length page.bytes ≤ 33554432
 
 -- the page has all its triples, or those that it changes

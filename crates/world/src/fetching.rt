@@ -11,7 +11,7 @@ ghost use Rattle.revisions.specs.Revisions.{counted};
 ghost use Rattle.replay_model.specs.Records.{Records};
 ghost use Rattle.entity_model.specs.declared.id.EntityId.{EntityId as TheId};
 ghost use Rattle.world.specs.Applying.{IsJudged, IsReply, IsShown, outcome_of_reply};
-ghost use Rattle.world.specs.Compared.{HasEntity, IsChangeOf, IsKnownPage};
+ghost use Rattle.world.specs.Compared.{HasEntity, IsChangeOfHeld, IsKnownPage};
 ghost use Rattle.world.specs.Fetched.{IsMeant, IsPageOf, IsWhy, bytes_of, reply_of, reply_of_whole};
 ghost use Rattle.world.specs.Listed.{IsListed, counts_if};
 ghost use Rattle.subgraph.specs.declared.routes.Route.{Route};
@@ -152,7 +152,7 @@ fn compare(alloc: Global, wanted: Wanted, bytes: &[u8], beside: Beside<'_>) -> O
     ensures document { IfSome result (λ _. unfit_of wanted.id bytes.now ≡ None) }
     ensures routes { IfSome result (λ _. option_copied beside.entry.routes ≡ None) }
     ensures changes { (records : Records) (by_two : List TheId) → IfSome beside.entry.known (IsKnownPage records by_two wanted.version wanted.id) →
-        IfSome result (λ texts. IsChangeOf records by_two wanted.version wanted.id wanted.rev bytes.now texts) }
+        IfSome result (λ texts. IsChangeOfHeld records by_two wanted.version wanted.id wanted.rev bytes.now texts) }
 {
     if beside.routes.is_some() {
         return None;

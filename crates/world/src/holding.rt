@@ -32,8 +32,7 @@ use triple_store::{Change, Store, StoreFault, Telling};
 impl Holdings {
     /// Sets the record of an entity, which holds this page from now on, by the version that it is mapped by, and tells the change of the
     /// stored triples if asked to. After a fault nothing has changed. The fault is `Full` if its triples, with those of all that is held,
-    /// have more distinct terms than the limit.
-    /// Where the page says what it changes of the one that is held, the store exchanges that alone.
+    /// have more distinct terms than the limit. If the page says what it changes of the held one, the store exchanges that alone.
     pub fn hold(
         &mut self,
         id: EntityId,
