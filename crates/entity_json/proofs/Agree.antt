@@ -52,7 +52,7 @@ steps-sound step R walks (x ∷ xs) out new e =
       is = rest.is ∙ ap (λ z. z ++ rest.more) here.is ∙ append_assoc out here.more rest.more;
     }
 
-steps-complete : {X A : Type 0} (step : X → List A → Option (List A)) (R : X → List A → Type 0) → Walks step R
+pub steps-complete : {X A : Type 0} (step : X → List A → Option (List A)) (R : X → List A → Type 0) → Walks step R
     → (xs : List X) (out more : List A) → Joined R xs more → steps step xs out ≡ Some (out ++ more)
 steps-complete step R walks [] out more h = ap Some (sym (append-nil out)) ∙ ap (λ ys. Some (out ++ ys)) (sym h)
 steps-complete step R walks (x ∷ xs) out more h =

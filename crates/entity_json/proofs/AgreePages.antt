@@ -49,7 +49,7 @@ link-complete t x h =
     let badges = item_ids-complete (codes "badges") t x.badges h.badges in
     rw (h.site, h.title, badges) refl
 
-link_walks : Walks link_step (One (λ member x. IsLink member.1 x))
+pub link_walks : Walks link_step (One (λ member x. IsLink member.1 x))
 link_walks =
     put_walks (λ member. link_of member.1) (λ member x. IsLink member.1 x)
     (record { sound = λ m x. link-sound m.1 x; complete = λ m x. link-complete m.1 x })

@@ -151,13 +151,13 @@ statement-complete key p t x key_is h =
 abbrev statement_in : List ℕ → EntityId → ℕ × Tree → Option Statement
 statement_in key p item = statement_of key p item.1
 
-abbrev IsStatementIn : EntityId → ℕ × Tree → Statement → Type 0
+abbrev pub IsStatementIn : EntityId → ℕ × Tree → Statement → Type 0
 IsStatementIn p value x = IsStatement p value.1 x
 
 statement_agrees : (key : List ℕ) (p : EntityId) → key ≡ id_text p → Agree (statement_in key p) (IsStatementIn p)
 statement_agrees key p is = record { sound = λ i x. statement-sound key p i.1 x is; complete = λ i x. statement-complete key p i.1 x is }
 
-statements_walk : Walks statements_step (UnderProperty IsStatementIn)
+pub statements_walk : Walks statements_step (UnderProperty IsStatementIn)
 unfolding statements_step
 statements_walk = under_walks statement_in IsStatementIn statement_agrees
 

@@ -22,7 +22,7 @@ pub tagged-complete : (name : List ℕ) (t : Tree) (x : Tagged) → IsTagged nam
 unfolding tagged_under
 tagged-complete name t x h = rw (h.language, h.text) refl
 
-label_walks : Walks label_step (One (λ member x. IsTagged (codes "value") member.1 x))
+pub label_walks : Walks label_step (One (λ member x. IsTagged (codes "value") member.1 x))
 label_walks =
     put_walks (λ member. tagged_under (codes "value") member.1) (λ member x. IsTagged (codes "value") member.1 x)
     (record { sound = λ m x. tagged-sound (codes "value") m.1 x; complete = λ m x. tagged-complete (codes "value") m.1 x })
@@ -38,10 +38,10 @@ labels-complete name t xs h = map-complete label_step (One (λ member x. IsTagge
 alias_agrees : Agree {X = ℕ × Tree} (λ item. tagged_under (codes "value") item.1) (λ item x. IsTagged (codes "value") item.1 x)
 alias_agrees = record { sound = λ i x. tagged-sound (codes "value") i.1 x; complete = λ i x. tagged-complete (codes "value") i.1 x }
 
-abbrev AreAliasesUnder : List ℕ × Tree → List Tagged → Type 0
+abbrev pub AreAliasesUnder : List ℕ × Tree → List Tagged → Type 0
 AreAliasesUnder member ys = InList (λ value x. IsTagged (codes "value") value.1 x) (list_of member.1) ys
 
-aliases_walk : Walks aliases_step AreAliasesUnder
+pub aliases_walk : Walks aliases_step AreAliasesUnder
 unfolding aliases_step
 aliases_walk = record {
   sound = λ m out new e. list-sound (λ item. tagged_under (codes "value") item.1) (λ item x. IsTagged (codes "value") item.1 x) alias_agrees (list_of m.1) out new e;

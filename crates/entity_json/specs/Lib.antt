@@ -18,3 +18,4 @@ pub mod Statements
 pub mod Links
 pub mod Pages
 pub mod Unfit
+pub mod Changed

@@ -13,7 +13,7 @@ use json_spell::read;
 use std::alloc::Global;
 
 // How many bytes a page may have.
-const PAGE_LIMIT: usize = 8_388_608;
+pub const PAGE_LIMIT: usize = 8_388_608;
 
 // The document of a page, where it is that of the entity.
 fn own_document<'a>(id: EntityId, page: Page<'a>) -> Result<Document<'a>, DocumentFault>

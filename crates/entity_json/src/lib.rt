@@ -2,9 +2,10 @@
 //!
 //! `documents` has the call, and `page` the page of a tree: a redirect, an item or property of `entity`, or a lexeme of
 //! `lexeme`, with the parts that `terms`, `statements`, `snaks`, `values`, `links` and `items` read. All of these read leaves by `leaf` and `number`, maps by
-//! `map`, and lists by the loops of `each`. `part` and `fault` have what a part and a page are refused for.
+//! `map`, and lists by the loops of `each`. `changed` reads two pages of an entity, and tells what each has of its own. `part` and `fault` have what a part and a page are refused for.
 #![tactic(auto)]
 
+mod changed;
 mod documents;
 mod each;
 mod entity;
@@ -23,6 +24,7 @@ mod statements;
 mod terms;
 mod values;
 
+pub use changed::{Changed, read_changed};
 pub use documents::document;
 pub use fault::DocumentFault;
 pub use laws::{

@@ -5,3 +5,6 @@ pub mod Fit
 pub mod Labels
 pub mod Direct
 pub mod Keeping
+pub mod Balance
+pub mod Counting
+pub mod PartFit

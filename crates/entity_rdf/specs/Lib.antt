@@ -3,3 +3,5 @@ pub mod Property
 pub mod Dump
 pub mod Gives
 pub mod Keeps
+pub mod Counted
+pub mod Changing

@@ -30,7 +30,7 @@ pub(crate) fn emit_dataset<S: TripleSink>(
 }
 
 // Emits how many site links an item has.
-fn emit_link_count<S: TripleSink>(
+pub(crate) fn emit_link_count<S: TripleSink>(
     setting: Setting,
     kind: IdKind,
     dataset: &TermRef<'_>,

@@ -66,6 +66,7 @@ pub fn direct_texts(
 ) -> Result<TripleTexts, OutOfMemory>
     requires { IsDocumentOf id document.now }
     ensures value { IfOk result (λ texts. sorted triple_cmp texts ≡ munge id (sorted triple_cmp (dump setting.version id rev document.now))) }
+    ensures list { IfOk result (λ texts. texts ≡ flat_map (munged id) (dump setting.version id rev document.now)) }
 
     // The terms are fit and short where the document is small.
     ensures fit { IsSmall document.now → IfOk result (AllByRecursion HasFitAndShortTerms) }

@@ -84,7 +84,7 @@ fn emit_spoken<S: TripleSink>(
     emit_property(setting, id, entity.datatype.as_ref(), out)
 }
 
-fn emit_articles<S: TripleSink>(
+pub(crate) fn emit_articles<S: TripleSink>(
     setting: Setting,
     id: EntityId,
     links: &[Link],
@@ -99,7 +99,7 @@ fn emit_articles<S: TripleSink>(
     Ok(())
 }
 
-fn emit_texts<S: TripleSink>(
+pub(crate) fn emit_texts<S: TripleSink>(
     setting: Setting,
     id: EntityId,
     entity: &Entity,

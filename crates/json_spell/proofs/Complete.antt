@@ -3,12 +3,13 @@ use Rattle.std.proofs.Common.{◌≡◌, ℕ, zero, suc, ◌+◌, ◌≤◌, Boo
 use Rattle.std.specs.Char.{is_ascii_digit}
 use Rattle.std.proofs.lemmas.Bool.Decides.{nat_tests}
 use Rattle.json_spell.specs.Tree.{Tree, null, boolean, number, string, array, object, Trees, no_trees, tree, Pairs, no_pairs, pair}
+use Rattle.json_spell.specs.Closed.{ends_itself}
 use Rattle.json_spell.specs.Number.{is_minus, IsOptional, IsInt, IsNumber}
 use Rattle.json_spell.specs.Text.{IsString, all_spelled}
 use Rattle.json_spell.specs.Grammar.{is_ws, Spaced, Within, Then, IsValue, AreValues, AreMoreValues, AreMembers, AreMoreMembers, Reads, null_name, true_name, false_name}
-use Rattle.json_spell.specs.Reading.{Parse, read_map, skip, after_byte, content_at, literal_at, spaced, list_by, name_at, member_by, add_pair, values, members, number_at, scalar_at, value_by, value, value_at}
+use Rattle.json_spell.specs.Reading.{Parse, read_map, skip, after_byte, content_at, literal_at, spaced, list_by, name_at, member_by, add_pair, values, members, number_at, scalar_at, value_by, value, value_at, before}
 use Rattle.json_spell.proofs.Opened.{some_is}
-use Rattle.json_spell.proofs.Skips.{stops, skip-all}
+use Rattle.json_spell.proofs.Skips.{stops, skip-all, before-append}
 use Rattle.json_spell.proofs.Numbers.{in_number, digit1_9-digit, number_at-complete}
 use Rattle.json_spell.proofs.ContentSteps.{content_at-complete}
 use Rattle.json_spell.proofs.Lists.{Ends, Complete, Next, spaced-sound, spaced-complete, parts-complete, list-empty, list-parts}
@@ -236,3 +237,34 @@ text-complete bytes t h =
 -- a text has at most one tree
 pub one_tree : (bytes : List ℕ) (t u : Tree) → Reads bytes t → Reads bytes u → t ≡ u
 one_tree bytes t u h k = ap (λ p. p.0) (some_is (sym (text-complete bytes t h) ∙ text-complete bytes u k))
+
+-- what stands in brackets or in quotation marks ends by itself, whatever follows it
+pub closed-complete : (n : ℕ) (t : Tree) (x r : List ℕ) → ends_itself t ≡ true → IsValue t x → length x ≤ n → value (suc n) (x ++ r) ≡ Some (t, r)
+unfolding value
+closed-complete zero t x r closed h short = absurd (omega (arith, value-long t x h))
+closed-complete (suc n) null x r closed h short = absurd cc
+closed-complete (suc n) (boolean b) x r closed h short = absurd cc
+closed-complete (suc n) (number s) x r closed h short = absurd cc
+closed-complete (suc n) (string m) x r closed h short = string-complete (values (value (suc n)) (suc (suc n))) (members (value (suc n)) (suc (suc n))) m x r h
+closed-complete (suc n) (array ts) x r closed h short =
+    ap (value (suc (suc n))) (within-text 0x5B 0x5D (AreValues ts) x r h)
+    ∙ ap (read_map array) (array-complete (value (suc n)) n (value-complete n) ts h.inside r h.holds (omega (arith, within-long 0x5B 0x5D (AreValues ts) x h)))
+closed-complete (suc n) (object ps) x r closed h short =
+    ap (value (suc (suc n))) (within-text 0x7B 0x7D (AreMembers ps) x r h)
+    ∙ ap (read_map object) (object-complete (value (suc n)) n (value-complete n) ps h.inside r h.holds (omega (arith, within-long 0x7B 0x7D (AreMembers ps) x h)))
+
+-- so where its text stands, it is read
+pub known_value : (t : Tree) (x r : List ℕ) → ends_itself t ≡ true → IsValue t x → value_at (x ++ r) ≡ Some (t, r)
+unfolding value_at
+known_value t x r closed h = closed-complete (length (x ++ r)) t x r closed h (omega (arith, length-append x r))
+
+-- with white space around it
+pub known_spaced : (t : Tree) (x s r : List ℕ) → ends_itself t ≡ true → IsValue t x → skip is_ws s ≡ x ++ r → spaced value_at s ≡ Some (t, skip is_ws r)
+known_spaced t x s r closed h e = rw (e, known_value t x r closed h) refl
+
+-- the text of a value that was read is what stands before the rest
+pub value_span : (s : List ℕ) (t : Tree) (r : List ℕ) → value_at s ≡ Some (t, r) → IsValue t (before r s) × (s ≡ before r s ++ r)
+value_span s t r e =
+    let f = value_at-sound s t r e in
+    let same : before r s ≡ f.text = ap (before r) f.is ∙ before-append f.text r in
+    (subst (λ (q : List ℕ). IsValue t q) (sym same) f.holds, f.is ∙ ap (λ q. q ++ r) (sym same))

@@ -19,6 +19,11 @@ pub mod Utf8Texts
 pub mod Scans
 pub mod Shallow
 pub mod Levels
+pub mod SpelledLists
+pub mod Owning
+pub mod Apart
+pub mod Turning
+pub mod Founds
 pub mod Nested
 pub mod Lanes
 pub mod PlainRuns

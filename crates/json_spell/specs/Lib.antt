@@ -13,3 +13,7 @@ pub mod Weight
 pub mod Parses
 pub mod Scan
 pub mod Runs
+pub mod Closed
+pub mod Spelled
+pub mod Differing
+pub mod Found

@@ -3,20 +3,27 @@
 //! `json` has the values and the look-up of a member, `fault` what a text is refused for, and `reader` the reader of
 //! a whole text. It stands on `deep`, which counts brackets, and on `value`, which reads the value; `number` and
 //! `string` read those two, `bytes` steps over white space, digits and the like, and `runs` over the plain bytes of
-//! strings, sixteen at a time. `laws` has what holds of the grammar itself.
+//! strings, sixteen at a time. `differing` reads two texts, and tells what each has of its own; `spelled` reads the members of their maps,
+//! `known` those that are spelled the same, and `own` parts the others; `alike` tells by the bytes whether this is worth it. `laws` has what holds of the grammar itself.
 #![tactic(auto)]
 
+mod alike;
 mod bytes;
 mod deep;
+mod differing;
 mod fault;
 mod json;
+mod known;
 mod laws;
 mod number;
+mod own;
 mod reader;
 mod runs;
+mod spelled;
 mod string;
 mod value;
 
+pub use differing::{Differing, read_differing};
 pub use fault::JsonFault;
 pub use json::{Json, Member};
 pub use laws::{

@@ -10,7 +10,7 @@ use crate::value::read_spaced;
 use bumpalo::Bump;
 
 // How many levels arrays and objects may nest.
-const LEVELS: usize = 64;
+pub(crate) const LEVELS: usize = 64;
 
 // The value of a whole text that nests no deeper than allowed.
 fn read_whole<'b, 'a: 'b>(arena: &'b Bump, bytes: &'a [u8]) -> Result<Json<'b, 'a>, JsonFault>

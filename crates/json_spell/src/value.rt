@@ -62,7 +62,10 @@ fn read_other_name<'b, 'a: 'b>(
 
 // A name with white space around it. Rare cases have functions of their own, here and below, which are inlined.
 #[inline(always)]
-fn read_name<'b, 'a: 'b>(arena: &'b Bump, bytes: &'a [u8]) -> Result<(&'b str, &'a [u8]), JsonFault>
+pub(crate) fn read_name<'b, 'a: 'b>(
+    arena: &'b Bump,
+    bytes: &'a [u8],
+) -> Result<(&'b str, &'a [u8]), JsonFault>
     ensures read { Parses (λ p. (p.0.now, p.1.now)) result (spaced name_at bytes.now) }
     ensures no_longer { IfOk result (λ p. length p.1.now ≤ length bytes.now) }
 {
@@ -126,7 +129,7 @@ fn read_ended<'b, 'a: 'b>(
 // A value.
 #[cycle(read)]
 #[inline(never)]
-fn read_value<'b, 'a: 'b>(
+pub(crate) fn read_value<'b, 'a: 'b>(
     arena: &'b Bump,
     levels: usize,
     bytes: &'a [u8],

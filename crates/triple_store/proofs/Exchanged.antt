@@ -80,7 +80,7 @@ module _ (st : Catalog) (r : Texts) (stored : IsStored st r) where
       subst (λ (u : Triple). has triple_cmp u (triples_at st r (difference key_cmp xs ys)) ≡ true) one.2
       (has-triples_at m (difference key_cmp xs ys) one.0 (has-difference key_cmp-total one.0 xs ys ∙ both_pass _ _ (ap not apart_) one.1)))
 
-mapped_alike : (f g : Key → Triple) (keys : List Key) → ((k : Key) → has key_cmp k keys ≡ true → f k ≡ g k) → mapped f keys ≡ mapped g keys
+pub mapped_alike : (f g : Key → Triple) (keys : List Key) → ((k : Key) → has key_cmp k keys ≡ true → f k ≡ g k) → mapped f keys ≡ mapped g keys
 mapped_alike f g [] h = refl
 mapped_alike f g (k ∷ keys) h = ap (λ t. t ∷ mapped f keys) (h k (has_itself key_cmp-total k keys)) ∙ ap (λ ts. g k ∷ ts) (mapped_alike f g keys (λ x there. h x (or_true _ _ there)))
 

@@ -26,3 +26,13 @@ pub mod Stocked
 pub mod Storing
 pub mod Taking
 pub mod Unchanged
+pub mod Parts
+pub mod Timed
+pub mod Becoming
+pub mod Lasting
+pub mod Again
+pub mod Searching
+pub mod Afterwards
+pub mod Multitude
+pub mod Along
+pub mod Counted

@@ -84,7 +84,7 @@ live_counted p r c lies enough = record {
 }
 
 -- two triples of slots are equal where the triples that they stand for are
-same_tests : (p : Pool) (r : Texts) (k l : Key) (t u : Triple) → LiesIn p r → HasTriple p r k t → HasTriple p r l u → same_triple t u ≡ same_key k l
+pub same_tests : (p : Pool) (r : Texts) (k l : Key) (t u : Triple) → LiesIn p r → HasTriple p r k t → HasTriple p r l u → same_triple t u ≡ same_key k l
 same_tests p r k l t u lies h g =
     both_ways (same_triple t u) (same_key k l)
     (λ e. let same = triple_cmp-IsAntisymmetric t u (equal _ e) in

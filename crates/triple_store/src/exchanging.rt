@@ -12,7 +12,7 @@ ghost use Rattle.slot_index.specs.declared.key.Key.{Key as TheKey};
 ghost use Rattle.slot_index.specs.Keys.{key_cmp};
 ghost use Rattle.triple_store.specs.Costs.{Costs};
 ghost use Rattle.triple_store.specs.Counts.{Exchanges, count_of};
-ghost use Rattle.triple_store.specs.Moves.{TakesIn};
+ghost use Rattle.triple_store.specs.Moves.{TakesIn, triples_at};
 ghost use Rattle.triple_store.specs.Room.{room_for};
 ghost use Rattle.triple_store.specs.Stored.{AreKeysOf, IsStored, KeepsKeys, beside, counts_in, is_key, limit_of};
 ghost use Rattle.triple_store.specs.Telling.{TellsIf, if_told};
@@ -48,9 +48,9 @@ impl<'a> Swap<'a> {
 
 // The keys of the triples that came, one by one, and the index of each among the keys that the owner had.
 #[derive(Drop)]
-struct Met {
-    keys: Vec<Key>,
-    old_indices: Vec<u32>,
+pub(crate) struct Met {
+    pub(crate) keys: Vec<Key>,
+    pub(crate) old_indices: Vec<u32>,
 }
 
 impl Catalog {
@@ -138,7 +138,7 @@ impl Catalog {
 
     // Puts the keys of the triples at the end of a list that has room. Each triple is counted once more, but for those of
     // the keys that the owner had. After a fault the keys tell how far it came.
-    fn take_in<L: Ledger>(
+    pub(crate) fn take_in<L: Ledger>(
         &mut self,
         region: &mut Region,
         swap: Swap<'_>,
@@ -155,6 +155,7 @@ impl Catalog {
         requires no_old_indices { vec_len met.old.old_indices ≡ 0 }
         requires room_for_indices { length swap.new.now ≤ vec_capacity met.old.old_indices }
         ensures takes { TakesIn self.old region.old self.new region.new swap.entry.old.rising.now met.new.keys.items (take (vec_len met.new.keys) swap.entry.new.now) }
+        ensures along { triples_at self.new region.new met.new.keys.items ≡ take (vec_len met.new.keys) swap.entry.new.now }
         ensures whole { OnOk result (vec_len met.new.keys ≡ length swap.entry.new.now) }
         ensures full { result ≡ Err StoreFault.Full → limit_of self.old < room_for (counts_in self.old region.old) swap.entry.new.now }
         ensures free { swap.entry.new.now ≡ [] → IsOk result }
@@ -205,7 +206,7 @@ impl Catalog {
 }
 
 // No keys, with room for so many.
-fn no_keys_met(alloc: Global, room: usize) -> Result<Met, OutOfMemory>
+pub(crate) fn no_keys_met(alloc: Global, room: usize) -> Result<Met, OutOfMemory>
     ensures none { IfOk result (λ met. met.keys.items ≡ []) }
     ensures room { IfOk result (λ met. room ≤ vec_capacity met.keys) }
     ensures no_old_indices { IfOk result (λ met. vec_len met.old_indices ≡ 0) }

@@ -5,11 +5,13 @@
 //! the region stands below: `catalog` is a pool of terms and an index of triples of slots. `interning` uses the terms of a triple once
 //! more, all or none, and once less. `keys` has the keys of one owner, in order and as its triples came, and `added` those that an exchange adds. On these `changing` gives a
 //! triple one owner more or less; triple by triple `exchanging` puts the triples of one owner in the place of others, whose keys `finding` finds (`seen` has slots of terms that came a short time ago), `releasing` takes
-//! them away, and `patching` applies a patch. `telling` finds what an exchange changed, in its middle. `rows` finds the triples that agree with a pattern, as slices of their texts, and `ranking` puts all
+//! them away, and `patching` applies a patch. `times` counts how many times each triple of an owner comes; by these counts `parting` takes what is gone out of what an
+//! owner had, while the keys that are left stay (`beside`), and `part_updates` has the store's calls for that. `telling` finds what an exchange changed, in its middle. `rows` finds the triples that agree with a pattern, as slices of their texts, and `ranking` puts all
 //! triples in order; `reading` reads triples back from these. `matching` counts the owners of a triple, and `room` says how many terms there are.
 #![tactic(auto)]
 
 mod added;
+mod beside;
 mod catalog;
 mod changing;
 mod exchanging;
@@ -17,6 +19,8 @@ mod finding;
 mod interning;
 mod keys;
 mod matching;
+mod part_updates;
+mod parting;
 mod patching;
 mod queries;
 mod ranking;
@@ -27,9 +31,11 @@ mod rows;
 mod seen;
 mod store;
 mod telling;
+mod times;
 mod updates;
 
 pub use keys::{KeySlices, Keys};
+pub use part_updates::{PartSwap, TimedExchange};
 pub use rows::Rows;
 pub use store::Store;
 pub use telling::{Change, Exchange, Telling, TripleLines};

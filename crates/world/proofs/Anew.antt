@@ -55,7 +55,7 @@ put_same records x there = by (map.get records x) refl
 pub keys_set : (kept : KeptRecords) (x : EntityId) (b : Record Kept) (h : Held Kept) (keys : Keys) (gone n : Record Kept) (one two : KeptRecords)
     → map.get kept x ≡ Some b → b.held ≡ Some h
     → one ≡ map.insert kept x gone → two ≡ map.insert one x n
-    → n ≡ record { state = b.state; held = Some (record { revision = h.revision; content = record { piece = h.content.piece; keys = keys } }); reconciled = b.reconciled }
+    → n ≡ record { state = b.state; held = Some (record { revision = h.revision; content = record { piece = h.content.piece; keys = keys; times = None } }); reconciled = b.reconciled }
     → two ≡ map.insert kept x (with_keys (kept_of kept x) keys)
 keys_set kept x b h keys gone n one two was held put_one put_two is =
     let there : kept_of kept x ≡ b = ap (λ o. unwrap_or o blank) was in

@@ -28,7 +28,12 @@ use Rattle.revisions.specs.Revisions.{Contents}
 use Rattle.side_output.specs.declared.entry.Cause.{Cause}
 use Rattle.replay_model.specs.Replies.{GivesDocument}
 use Rattle.world.specs.Applying.{IsReply}
-use Rattle.world.specs.Fetched.{IsPageOf}
+use Rattle.std.specs.Prelude.{IfSome}
+use Rattle.entity_rdf.specs.declared.counted.Counts.{Counts}
+use Rattle.world.specs.declared.fetching.FetchedPage.{FetchedPage}
+use Rattle.world.specs.declared.fetching.FetchedPage.TheVariants.{Whole, Changed}
+use Rattle.world.specs.Fetched.{IsFetched, IsPageOf, bytes_of}
+use Rattle.world.specs.Listed.{IsListed}
 use Rattle.world.specs.Meaning.{document_triples, meaning, triples_if}
 
 -- the triples of a small document
@@ -67,14 +72,21 @@ page_short x bytes fit = by (nat_lt page_limit (length bytes)) refl _ fit
     by false small found e = let few : length bytes ≤ 8388608 = ltb-false page_limit (length bytes) small in omega arith
 
 -- texts of the triples that the bytes mean are those of a page
-pub page_of : (v : MappingVersion) (x : EntityId) (rev : ℕ) (bytes other : List ℕ) (ts : List Triple) (graph : Option ℕ) → other ≡ bytes → sorted triple_cmp ts ≡ meaning v x rev bytes → AllByRecursion HasFitAndShortTerms ts → length bytes ≤ 33554432
-    → IsPageOf v x rev (record { bytes = other; triples = ts; graph = graph })
-page_of v x rev bytes other ts graph is meant fit short = record {
+pub page_of : (v : MappingVersion) (x : EntityId) (rev : ℕ) (bytes other : List ℕ) (ts : List Triple) (counts : Option Counts) (graph : Option ℕ) → other ≡ bytes → sorted triple_cmp ts ≡ meaning v x rev bytes → AllByRecursion HasFitAndShortTerms ts → length bytes ≤ 33554432
+    → IfSome counts (λ known. IsListed v x rev (document_of x bytes) known ts)
+    → IsPageOf v x rev (record { bytes = other; triples = ts; counts = counts; graph = graph })
+page_of v x rev bytes other ts counts graph is meant fit short listed = record {
   set = meant ∙ ap (meaning v x rev) (sym is);
   meant = λ t. sym (has-sorted triple_cmp-total t ts) ∙ ap (has triple_cmp t) (meant ∙ ap (meaning v x rev) (sym is));
   fit = fit;
   short = subst (λ (b : List ℕ). length b ≤ 33554432) (sym is) short;
+  listed = subst (λ (b : List ℕ). IfSome counts (λ known. IsListed v x rev (document_of x b) known ts)) (sym is) listed;
 }
+
+-- a page that was fetched has few bytes
+pub fetched_short : (records : Records) (by_two : List EntityId) (v : MappingVersion) (x : EntityId) (rev : ℕ) (page : FetchedPage) → IsFetched records by_two v x rev page → length (bytes_of page) ≤ 33554432
+fetched_short records by_two v x rev (Whole page) is = is.short
+fetched_short records by_two v x rev (Changed page) is = is.short
 
 -- a reply of a source that gives bytes gives a document
 pub reply_gives : (known : Option Contents) (folder : List ℕ) (x : EntityId) (rev : ℕ) (reply : Result Bytes Cause) → IsReply known folder x rev reply → GivesDocument unfit_of x reply

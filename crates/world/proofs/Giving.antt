@@ -1,23 +1,24 @@
 -- An application gives back the page that it stored.
-use Rattle.std.proofs.Common.{◌≡◌, ℕ, Bool, true, false, cond, List, Option, None, Some, IfSome, Result, Ok, Err, unwrap_or, refl, sym, ◌∙◌, ap, subst}
+use Rattle.std.proofs.Common.{◌≡◌, ℕ, Bool, true, false, cond, List, Option, None, Some, IfSome, Result, Ok, Err, is_some, true≢false, unwrap_or, refl, sym, ◌∙◌, ap, subst}
 use Rattle.std.specs.FinMap as map
-use Rattle.std.specs.Ordering.{eq_by_cmp}
 use Rattle.std.specs.Cmp.{eq_by_cmp_equiv}
 use Rattle.entity_model.specs.declared.event.Event.{Event}
+use Rattle.entity_model.specs.declared.id.EntityId.{EntityId}
 use Rattle.entity_model.specs.declared.mapping.MappingVersion.{MappingVersion}
-use Rattle.entity_model.specs.EntityId.{entity_cmp, entity_cmp_total}
+use Rattle.entity_model.specs.EntityId.{entity_cmp_total}
 use Rattle.entity_state.specs.declared.record.Held.{Held}
 use Rattle.entity_state.specs.declared.record.Record.{Record}
 use Rattle.entity_state.specs.Record.{blank, held_revision, wants}
 use Rattle.entity_state.specs.State.{is_deleted, state_after}
-use Rattle.replay_model.specs.Play.{Played, apply, held_after, held_after_fetch, record_after, records_after}
+use Rattle.replay_model.specs.Play.{Played, apply, held_after_fetch, record_after, records_after}
 use Rattle.replay_model.specs.Records.{Bytes, Records, record_of}
 use Rattle.side_output.specs.declared.entry.Cause.{Cause}
 use Rattle.subgraph.specs.declared.routes.Route.{Route}
 use Rattle.world.specs.declared.applied.Outcome.{Outcome}
 use Rattle.world.specs.declared.applied.Outcome.TheVariants.{Same, Stored, Dropped, Sided}
 use Rattle.world.specs.declared.applied.RoutedPage.{RoutedPage}
-use Rattle.world.specs.declared.fetching.Page.{Page}
+use Rattle.world.specs.declared.fetching.FetchedPage.{FetchedPage}
+use Rattle.world.specs.declared.fetching.FetchedPage.TheVariants.{Whole, Changed}
 use Rattle.world.specs.Applying.{outcome_after, outcome_of_reply}
 use Rattle.world.specs.Fetched.{AreMeant, reply_or_any}
 use Rattle.world.specs.Routed.{AreRouted, GivesPage, routed_by, with_route}
@@ -29,25 +30,26 @@ recorded records e reply =
     (map.get-insert entity_cmp_total records e.entity (record_after (λ _ _. reply) e (record_of records e.entity)) e.entity
     ∙ ap (λ b. cond b (Some (record_after (λ _ _. reply) e (record_of records e.entity))) (map.get records e.entity)) ((eq_by_cmp_equiv entity_cmp_total).refl e.entity))
 
-module _ (known : List Route) (v : MappingVersion) (records : Records) (e : Event) where
+module _ (known : List Route) (v : MappingVersion) (records : Records) (by_two : List EntityId) (e : Event) where
   abbrev rev : ℕ
   rev = (state_after (record_of records e.entity).state e).rev
 
   abbrev held : Option (Held Bytes)
   held = (record_of records e.entity).held
 
-  given_by : (b d : Bool) (reply : Option (Result Page Cause)) → AreMeant v e.entity rev reply → AreRouted (Some known) e.entity reply
+  given_by : (b d : Bool) (reply : Option (Result FetchedPage Cause)) → AreMeant records by_two v e.entity rev reply → AreRouted (Some known) e.entity reply
       → Stored ≡ cond b (outcome_of_reply (reply_or_any reply)) (cond d Dropped Same)
       → GivesPage known v e.entity Stored (cond b (held_after_fetch rev (reply_or_any reply) held) (cond d None held)) (routed_by reply)
-  given_by true d (Some (Ok page)) meant routed is =
+  given_by true d (Some (Ok (Whole page))) meant routed is =
       subst (λ (g : Option ℕ). GivesPage known v e.entity Stored (Some (record { revision = rev; content = page.bytes })) (with_route g page.triples)) (sym routed)
       (record { graph = refl; triples_are = record { meant = meant.set; fit = meant.fit } })
+  given_by true d (Some (Ok (Changed page))) meant routed is = absurd (true≢false (sym (ap is_some routed)))
   given_by true d (Some (Err cause)) meant routed is = cc
   given_by true d None meant routed is = cc
   given_by false true reply meant routed is = cc
   given_by false false reply meant routed is = cc
 
-  given_of : (outcome : Outcome) (reply : Option (Result Page Cause)) → AreMeant v e.entity rev reply → AreRouted (Some known) e.entity reply
+  given_of : (outcome : Outcome) (reply : Option (Result FetchedPage Cause)) → AreMeant records by_two v e.entity rev reply → AreRouted (Some known) e.entity reply
       → outcome ≡ outcome_after (record_of records e.entity) e (reply_or_any reply)
       → GivesPage known v e.entity outcome (record_of (records_after (λ _ _. reply_or_any reply) records e) e.entity).held (routed_by reply)
   given_of Same reply meant routed is = tt
@@ -58,12 +60,12 @@ module _ (known : List Route) (v : MappingVersion) (records : Records) (e : Even
       (given_by (wants (state_after (record_of records e.entity).state e) (held_revision held)) (is_deleted (state_after (record_of records e.entity).state e).mode) reply meant routed is)
 
 -- the page that an application stored is given back with its graph, where there are routes
-pub page_given : (routes : Option (List Route)) (v : MappingVersion) (before after : Played) (e : Event) (reply : Option (Result Page Cause)) (outcome : Outcome) (page : Option RoutedPage)
-    → AreMeant v e.entity (state_after (record_of before.records e.entity).state e).rev reply → AreRouted routes e.entity reply
+pub page_given : (routes : Option (List Route)) (by_two : List EntityId) (v : MappingVersion) (before after : Played) (e : Event) (reply : Option (Result FetchedPage Cause)) (outcome : Outcome) (page : Option RoutedPage)
+    → AreMeant before.records by_two v e.entity (state_after (record_of before.records e.entity).state e).rev reply → AreRouted routes e.entity reply
     → after ≡ apply (λ _ _. reply_or_any reply) before e → outcome ≡ outcome_after (record_of before.records e.entity) e (reply_or_any reply) → page ≡ routed_by reply
     → IfSome routes (λ known. GivesPage known v e.entity outcome (record_of after.records e.entity).held page)
-page_given None v before after e reply outcome page meant routed applied is given = tt
-page_given (Some known) v before after e reply outcome page meant routed applied is given =
+page_given None by_two v before after e reply outcome page meant routed applied is given = tt
+page_given (Some known) by_two v before after e reply outcome page meant routed applied is given =
     subst (λ (p : Played). GivesPage known v e.entity outcome (record_of p.records e.entity).held page) (sym applied)
     (subst (λ (g : Option RoutedPage). GivesPage known v e.entity outcome (record_of (records_after (λ _ _. reply_or_any reply) before.records e) e.entity).held g) (sym given)
-    (given_of known v before.records e outcome reply meant routed is))
+    (given_of known v before.records by_two e outcome reply meant routed is))

@@ -1,10 +1,12 @@
 pub mod Anew
 pub mod ByVersion
 pub mod Changing
+pub mod ChangedPages
 pub mod Entries
 pub mod Fit
 pub mod Giving
 pub mod Laying
+pub mod Listing
 pub mod Means
 pub mod Moving
 pub mod OneSet
@@ -16,4 +18,6 @@ pub mod Replacing
 pub mod Rooming
 pub mod Starting
 pub mod Stepping
+pub mod Exchanging
+pub mod Timing
 pub mod Values

@@ -43,7 +43,7 @@ exchanged_through c c1 d1 d gone ts us before after same h = record {
 }
 
 -- keys go on standing for their triples through steps that keep all of them, the middle one those that go on being stored
-keeps_through : (s s1 s2 s3 : StoreState)
+pub keeps_through : (s s1 s2 s3 : StoreState)
     → ((key : Key) (t : Triple) → HasKey s key t → HasKey s1 key t)
     → KeepsKeys s1 s2
     → counts_in s3 ≡ counts_in s2
@@ -125,7 +125,7 @@ module _ (m m2 : Meaning Triple) (x : EntityId) (agree : (y : EntityId) → y �
   page_text : beside s3 content.piece ≡ Some bytes
   page_text = new_text m m2 x agree s s2 s3 kept (with_page state reconciled rev content) h page_middle page_fresh freed content.piece refl ∙ texts content.piece ∙ placed.is
 
-  page_held : held_with (beside s3) (Some (record { revision = rev; content = content })) ≡ Some (record { revision = rev; content = bytes })
+  pub page_held : held_with (beside s3) (Some (record { revision = rev; content = content })) ≡ Some (record { revision = rev; content = bytes })
   page_held = ap (λ (o : Option Bytes). Some (record { revision = rev; content = unwrap_or o [] })) page_text
 
   -- the records after a page came

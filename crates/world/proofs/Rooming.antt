@@ -71,6 +71,12 @@ distinct_same ts us same =
     ∙ list_any-sorted triple_cmp triple_cmp-IsAntisymmetric (λ t. has term_cmp q (terms_of t)) us
     ∙ sym (has_term q us)))
 
+-- triples of one set need the same room
+pub room_same : (c : Counts) (ts us : List Triple) → ((t : Triple) → has triple_cmp t ts ≡ has triple_cmp t us) → room_for c ts ≡ room_for c us
+room_same c ts us same =
+    distinct_same (map.keys c ++ ts) (map.keys c ++ us)
+    (λ t. has-append triple_cmp t (map.keys c) ts ∙ ap (λ b. has triple_cmp t (map.keys c) || b) (same t) ∙ sym (has-append triple_cmp t (map.keys c) us))
+
 -- the room that triples need beside the stored ones
 pub room_is : (m : Meaning Triple) (s : StoreState) (kept : KeptRecords) → IsKept m s kept → (c : Counts) → c ≡ counts_in s → (ts us : List Triple)
     → ((t : Triple) → has triple_cmp t ts ≡ has triple_cmp t us) → room_for c ts ≡ room_with m (seen s kept) us

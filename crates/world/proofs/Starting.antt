@@ -16,6 +16,8 @@ use Rattle.replay_model.specs.Records.{Bytes, Records, record_of}
 use Rattle.replay_model.specs.Replies.{HoldsDocument}
 use Rattle.world.specs.declared.kept.Kept.{Kept}
 use Rattle.world.specs.InStep.{CountsOwners, IsKept}
+use Rattle.replay_model.specs.Versions.{version_at}
+use Rattle.world.specs.Timed.{AreTimed, IsTimedHeld}
 use Rattle.world.specs.Keeping.{KeptRecords, held_with, kept_of, keys_held, piece_at, piece_held, record_with, seen}
 use Rattle.replay_model.specs.Union.{Meaning, triples_held}
 use Rattle.world.proofs.Owning.{none_counted}
@@ -65,3 +67,8 @@ none_by ids kept no_ids none =
 -- and no document
 pub no_documents : (x : EntityId) → HoldsDocument unfit_of x (record_of map.empty x).held
 no_documents x = subst (λ (r : Record Bytes). HoldsDocument unfit_of x r.held) (sym (ap (λ o. unwrap_or o blank) (map.get-empty entity_cmp x))) tt
+
+-- and nothing is known
+pub none_timed : (s : StoreState) (by_two : List EntityId) (kept : KeptRecords) → kept ≡ map.empty → AreTimed s by_two kept
+none_timed s by_two kept none =
+    subst (AreTimed s by_two) (sym none) (λ x. subst (λ (was : Record Kept). IsTimedHeld (version_at by_two x) s (beside s) x was.held) (sym (none_kept x)) tt)

@@ -1,5 +1,6 @@
 -- Pages, store and region stay in step with the entities that hold by each version.
-use Rattle.std.proofs.Common.{◌≡◌, ◌≢◌, ℕ, true, List, [], Option, Some, None, is_some, refl, sym, ◌∙◌, ap, subst}
+use Rattle.std.proofs.Common.{◌≡◌, ◌≢◌, ℕ, ◌<◌, true, List, [], Option, Some, None, is_some, unwrap_or, refl, sym, ◌∙◌, ap, subst}
+use Rattle.std.specs.Prelude.{IfSome}
 use Rattle.std.specs.FinMap as map
 use Rattle.rising.specs.Rising.{has}
 use Rattle.rdf_term.specs.declared.triple.Triple.{Triple}
@@ -14,10 +15,10 @@ use Rattle.entity_state.specs.declared.record.Record.{Record}
 use Rattle.text_region.specs.declared.piece.Piece.{Piece}
 use Rattle.slot_index.specs.declared.key.Key.{Key}
 use Rattle.triple_store.specs.declared.keys.Keys.{Keys}
-use Rattle.triple_store.specs.Counts.{Exchanges}
+use Rattle.triple_store.specs.Counts.{Exchanges, count_of}
 use Rattle.triple_store.specs.StoreState.{AreKeysOf, HasKey, IsSound, KeepsKeys, StoreState, beside, counts_in, limit_of}
 use Rattle.triple_store.specs.Stored.{Changes}
-use Rattle.replay_model.specs.Records.{Bytes}
+use Rattle.replay_model.specs.Records.{Bytes, Records, record_of}
 use Rattle.replay_model.specs.Union.{Meaning, triples_held}
 use Rattle.replay_model.specs.Versions.{is_holder, meaning_by, version_at, with_version}
 use Rattle.world.specs.declared.kept.Kept.{Kept}
@@ -25,13 +26,20 @@ use Rattle.world.specs.Holders.{AreBy, ByVersion}
 use Rattle.world.specs.InStep.{AreInStep, IsKept}
 use Rattle.world.specs.Keeping.{FreesPiece, KeptRecords, held_keys, held_with, kept_of, keys_held, piece_at, seen, with_keys}
 use Rattle.world.specs.Meaning.{meaning}
+use Rattle.world.specs.Timed.{AreTimed, IsTimed}
 use Rattle.world.proofs.Anew.{anew_kept, anew_seen}
 use Rattle.world.specs.Roomed.{HasRoom}
 use Rattle.world.specs.WorldState.{AreHolders}
-use Rattle.world.proofs.ByVersion.{by_drop, by_keep, by_put, meaning_other, moved_out, moved_by_two, moved_to, by_two_holds, version_own}
-use Rattle.world.proofs.Moving.{seen_of}
+use Rattle.world.proofs.ByVersion.{by_drop, by_keep, by_put, meaning_other, moved_out, moved_by_two, moved_to, by_two_holds, version_other, version_own}
+use Rattle.world.proofs.Moving.{kept_here, seen_of}
 use Rattle.world.proofs.Rooming.{room_held}
-use Rattle.world.proofs.Replacing.{came, came_seen, stayed, went, went_seen, with_bytes, with_page}
+use Rattle.world.proofs.Replacing.{came, came_seen, keeps_through, kept_refused, page_held, placed_freed, stayed, stayed_seen, went, went_seen, with_bytes, with_page}
+use Rattle.world.proofs.Timing.{if_moved, owned_kept, record_other, timed_put, timed_same, unknown_keys}
+
+-- the bytes of what is held
+abbrev content_of : Option (Held Bytes) → Bytes
+content_of None = []
+content_of (Some h) = h.content
 
 some_keys : (h : Option (Held Kept)) (keys : Keys) → is_some h ≡ true → is_some (held_keys h keys) ≡ true
 some_keys None keys is = is
@@ -55,11 +63,16 @@ module _ (s : StoreState) (ids : ByVersion) (kept : KeptRecords) (x : EntityId) 
   own_held v None = refl
   own_held v (Some held) = ap (λ w. meaning w x held.revision held.content) (own v)
 
-  stepped : (ids2 : ByVersion) (v : MappingVersion) (s2 : StoreState) (all : KeptRecords) → ids2 ≡ moved_to ids x v → IsKept (after v) s2 all → AreBy (moved_to ids x v) all → AreInStep s2 ids2 all
-  stepped ids2 v s2 all is now by =
+  versions : (v : MappingVersion) (y : EntityId) → y ≢ x → version_at (with_version v x ids.by_two) y ≡ version_at ids.by_two y
+  versions v = version_other ids.by_two h.by.by_two_rises x v
+
+  stepped : (ids2 : ByVersion) (v : MappingVersion) (s2 : StoreState) (all : KeptRecords) → ids2 ≡ moved_to ids x v → IsKept (after v) s2 all → AreBy (moved_to ids x v) all
+      → AreTimed s2 (with_version v x ids.by_two) all → AreInStep s2 ids2 all
+  stepped ids2 v s2 all is now by timed =
       subst (λ i. AreInStep s2 i all) (sym is) (record {
         kept = subst (λ (s : List EntityId). IsKept (meaning_by meaning s) s2 all) (sym (moved_by_two ids x v)) now;
         by = by;
+        timed = subst (λ (s : List EntityId). AreTimed s2 s all) (sym (moved_by_two ids x v)) timed;
       })
 
   module _ (s1 s2 s3 : StoreState)
@@ -76,19 +89,40 @@ module _ (s : StoreState) (ids : ByVersion) (kept : KeptRecords) (x : EntityId) 
     pub page_seen : seen s3 (map.insert kept x (with_page state reconciled rev content)) ≡ map.insert (seen s kept) x (with_bytes state reconciled rev bytes)
     page_seen = came_seen before (after v) x (agree v) s s1 s2 s3 kept state reconciled rev content bytes ts old h.kept placed place_kept place_counts keeps texts counts put_kept freed
 
+    -- its times
+    page_timed : IsKept (after v) s3 (map.insert kept x (with_page state reconciled rev content)) → IfSome content.times (IsTimed v s2 x rev bytes content.keys.rising.items)
+        → AreTimed s3 (with_version v x ids.by_two) (map.insert kept x (with_page state reconciled rev content))
+    page_timed now timed =
+        let own_text : unwrap_or (beside s3 content.piece) [] ≡ bytes =
+        ap content_of (page_held before (after v) x (agree v) s s1 s2 s3 kept state reconciled rev content bytes ts old h.kept placed place_kept place_counts keeps texts counts put_kept freed) in
+        let owned : (t : Triple) → has triple_cmp t (meaning v x rev bytes) ≡ true → 0 < count_of (counts_in s3) t = λ t there.
+        owned_kept (after v) s3 (map.insert kept x (with_page state reconciled rev content)) now x t
+        (ap (λ (r : Record Kept). has triple_cmp t (triples_held (after v) x (held_with (beside s3) r.held))) (kept_here kept x (with_page state reconciled rev content))
+        ∙ ap (λ (b : Bytes). has triple_cmp t (after v x rev b)) own_text
+        ∙ ap (λ (w : MappingVersion). has triple_cmp t (meaning w x rev bytes)) (own v) ∙ there) in
+        timed_put s s3 ids.by_two (with_version v x ids.by_two) kept x (with_page state reconciled rev content) h.timed now
+        (keeps_through s s1 s2 s3 place_kept keeps counts put_kept) (versions v)
+        (λ y other. ap (λ (records : Records). record_of records y) page_seen ∙ record_other (seen s kept) x (with_bytes state reconciled rev bytes) y other)
+        (subst (λ (w : MappingVersion). IfSome content.times (IsTimed w s3 x rev (unwrap_or (beside s3 content.piece) []) content.keys.rising.items)) (sym (own v))
+        (subst (λ (b : Bytes). IfSome content.times (IsTimed v s3 x rev b content.keys.rising.items)) (sym own_text)
+        (if_moved v s2 s3 x (record { kept = λ key t is _. put_kept key t is }) rev bytes content.keys.rising.items content.times owned timed)))
+
     -- a page came, mapped by the version
     pub page_step : (ids2 : ByVersion) → ids2 ≡ moved_to ids x v
+        → IfSome content.times (IsTimed v s2 x rev bytes content.keys.rising.items)
         → IsSound s3
         → old ≡ keys_held (kept_of kept x).held
         → ((gone : List Triple) → AreKeysOf s1 old gone → Exchanges (counts_in s1) (counts_in s2) gone ts)
         → AreKeysOf s2 content.keys.rising.items ts
         → ((t : Triple) → has triple_cmp t ts ≡ has triple_cmp t (meaning v x rev bytes))
         → AreInStep s3 ids2 (map.insert kept x (with_page state reconciled rev content))
-    page_step ids2 is sound were exchanges keyed meant =
-        stepped ids2 v s3 (map.insert kept x (with_page state reconciled rev content)) is
-        (came before (after v) x (agree v) s s1 s2 s3 kept state reconciled rev content bytes ts old h.kept placed place_kept place_counts keeps texts counts put_kept freed
-        sound were exchanges keyed (λ t. meant t ∙ ap (λ w. has triple_cmp t (meaning w x rev bytes)) (sym (own v))))
+    page_step ids2 is timed sound were exchanges keyed meant =
+        let now : IsKept (after v) s3 (map.insert kept x (with_page state reconciled rev content)) =
+        came before (after v) x (agree v) s s1 s2 s3 kept state reconciled rev content bytes ts old h.kept placed place_kept place_counts keeps texts counts put_kept freed
+        sound were exchanges keyed (λ t. meant t ∙ ap (λ w. has triple_cmp t (meaning w x rev bytes)) (sym (own v))) in
+        stepped ids2 v s3 (map.insert kept x (with_page state reconciled rev content)) is now
         (by_put ids kept x v (with_page state reconciled rev content) h.by refl)
+        (page_timed now timed)
 
   module _ (s2 s3 : StoreState) (state : State) (reconciled : Option Event)
       (texts : (p : Piece) → beside s2 p ≡ beside s p)
@@ -110,17 +144,27 @@ module _ (s : StoreState) (ids : ByVersion) (kept : KeptRecords) (x : EntityId) 
         → ((key : Key) (t : Triple) → HasKey s2 key t → HasKey s3 key t)
         → AreInStep s3 ids2 (map.insert kept x without)
     gone_step ids2 old is sound were exchanges keeps counts put_kept =
+        let now : IsKept (after One) s3 (map.insert kept x without) =
+        went before (after One) x (agree One) s s2 s3 kept state reconciled h.kept texts freed old sound were exchanges keeps counts put_kept in
         subst (λ i. AreInStep s3 i (map.insert kept x without)) (sym is) (record {
-          kept = went before (after One) x (agree One) s s2 s3 kept state reconciled h.kept texts freed old sound were exchanges keeps counts put_kept;
+          kept = now;
           by = by_drop ids kept x without h.by refl;
+          timed = timed_put s s3 ids.by_two (with_version One x ids.by_two) kept x without h.timed now (keeps_through s s s2 s3 (λ _ _ is. is) keeps counts put_kept) (versions One)
+              (λ y other. ap (λ (records : Records). record_of records y) gone_seen ∙ record_other (seen s kept) x (record { state = state; held = None; reconciled = reconciled }) y other)
+              tt;
         })
 
   -- the page stays
   pub stay_step : (state : State) (reconciled : Option Event) → AreInStep s ids (map.insert kept x (record { state = state; held = (kept_of kept x).held; reconciled = reconciled }))
-  stay_step state reconciled = record {
-    kept = stayed before s kept x state reconciled h.kept;
-    by = by_keep ids kept x (record { state = state; held = (kept_of kept x).held; reconciled = reconciled }) h.by refl;
-  }
+  stay_step state reconciled =
+      let same : Record Kept = record { state = state; held = (kept_of kept x).held; reconciled = reconciled } in
+      record {
+        kept = stayed before s kept x state reconciled h.kept;
+        by = by_keep ids kept x same h.by refl;
+        timed = timed_put s s ids.by_two ids.by_two kept x same h.timed (stayed before s kept x state reconciled h.kept) (record { kept = λ _ _ is _. is }) (λ _ _. refl)
+            (λ y other. ap (λ (records : Records). record_of records y) (stayed_seen before s kept x state reconciled h.kept) ∙ record_other (seen s kept) x (record { state = state; held = (record_of (seen s kept) x).held; reconciled = reconciled }) y other)
+            (h.timed x);
+      }
 
   module _ (s2 : StoreState) (keys : Keys) (v : MappingVersion)
       (there : is_some (kept_of kept x).held ≡ true)
@@ -139,10 +183,39 @@ module _ (s : StoreState) (ids : ByVersion) (kept : KeptRecords) (x : EntityId) 
         → ((t : Triple) → has triple_cmp t ts ≡ has triple_cmp t (triples_held (meaning v) x (held_with (beside s) (kept_of kept x).held)))
         → AreInStep s2 ids2 (map.insert kept x (with_keys (kept_of kept x) keys))
     again_step ids2 old ts is sound were exchanges keeps keyed meant =
-        stepped ids2 v s2 (map.insert kept x (with_keys (kept_of kept x) keys)) is
-        (anew_kept before (after v) x (agree v) s s2 kept keys h.kept there texts old ts sound were exchanges keeps keyed
-        (λ t. meant t ∙ ap (has triple_cmp t) (sym (own_held v (held_with (beside s) (kept_of kept x).held)))))
+        let now : IsKept (after v) s2 (map.insert kept x (with_keys (kept_of kept x) keys)) =
+        anew_kept before (after v) x (agree v) s s2 kept keys h.kept there texts old ts sound were exchanges keeps keyed
+        (λ t. meant t ∙ ap (has triple_cmp t) (sym (own_held v (held_with (beside s) (kept_of kept x).held)))) in
+        stepped ids2 v s2 (map.insert kept x (with_keys (kept_of kept x) keys)) is now
         (by_put ids kept x v (with_keys (kept_of kept x) keys) h.by (some_keys (kept_of kept x).held keys there))
+        (timed_put s s2 ids.by_two (with_version v x ids.by_two) kept x (with_keys (kept_of kept x) keys) h.timed now keeps (versions v)
+        (λ y other. ap (λ (records : Records). record_of records y) again_seen)
+        (unknown_keys (version_at (with_version v x ids.by_two) x) s2 (beside s2) x (kept_of kept x).held keys))
+
+-- nothing comes
+pub refused_step : (s : StoreState) (ids : ByVersion) (kept : KeptRecords) → AreInStep s ids kept → (s2 : StoreState) → IsSound s2 → counts_in s2 ≡ counts_in s → KeepsKeys s s2 → ((p : Piece) → beside s2 p ≡ beside s p)
+    → AreInStep s2 ids kept
+refused_step s ids kept h s2 sound counts keeps texts =
+    let now : IsKept (meaning_by meaning ids.by_two) s2 kept = kept_refused (meaning_by meaning ids.by_two) s s2 kept h.kept sound counts keeps texts in
+    record { kept = now; by = h.by; timed = timed_same s s2 ids.by_two kept h.timed now keeps texts }
+
+-- a page can't come, and the piece that was placed for it is freed
+pub undone_step : (s : StoreState) (ids : ByVersion) (kept : KeptRecords) → AreInStep s ids kept → (s1 s2 s3 : StoreState) (piece : Piece) (bytes : Bytes)
+    → Changes (beside s) (beside s1) piece None (Some bytes)
+    → ((key : Key) (t : Triple) → HasKey s key t → HasKey s1 key t)
+    → counts_in s1 ≡ counts_in s
+    → KeepsKeys s1 s2
+    → ((p : Piece) → beside s2 p ≡ beside s1 p)
+    → counts_in s2 ≡ counts_in s1
+    → IsSound s3
+    → counts_in s3 ≡ counts_in s2
+    → ((key : Key) (t : Triple) → HasKey s2 key t → HasKey s3 key t)
+    → Changes (beside s2) (beside s3) piece (beside s2 piece) None
+    → AreInStep s3 ids kept
+undone_step s ids kept h s1 s2 s3 piece bytes placed place_kept place_counts keeps texts err sound counts put_kept freed =
+    refused_step s ids kept h s3 sound (counts ∙ err ∙ place_counts)
+    (keeps_through s s1 s2 s3 place_kept keeps counts put_kept)
+    (placed_freed (beside s) (beside s1) (beside s2) (beside s3) piece bytes placed texts freed)
 
 -- the entities that hold, among the records that are seen
 pub links : (s : StoreState) (kept : KeptRecords) (x : EntityId) → is_holder (seen s kept) x ≡ is_some (kept_of kept x).held

@@ -12,6 +12,7 @@ use Rattle.replay_model.specs.Versions.{meaning_by}
 use Rattle.world.specs.Holders.{AreBy, ByVersion}
 use Rattle.world.specs.Keeping.{KeptRecords, PieceTexts, held_with, kept_of, keys_held, piece_at, seen}
 use Rattle.world.specs.Meaning.{meaning}
+use Rattle.world.specs.Timed.{AreTimed}
 
 -- the count of each triple is the number of the entities that hold it
 pub record CountsOwners (m : Meaning Triple) (counts : Counts) (records : Records) : Type 0 where
@@ -35,7 +36,9 @@ pub record IsKept (m : Meaning Triple) (store : StoreState) (kept : KeptRecords)
   pub held : IsHeld (beside store) (piece_at kept)
   pub keyed : (x : EntityId) → AreKeysOf store (keys_held (kept_of kept x).held) (triples_kept m (beside store) kept x)
 
--- the same where each document means what it means by the version that its entity is named by
+-- the same where each document means what it means by the version that its entity is named by; what is known of how often its triples
+-- come is so
 pub record AreInStep (store : StoreState) (ids : ByVersion) (entities : KeptRecords) : Type 0 where
   pub kept : IsKept (meaning_by meaning ids.by_two) store entities
   pub by : AreBy ids entities
+  pub timed : AreTimed store ids.by_two entities

@@ -56,10 +56,10 @@ abbrev pub keys_held : Option (Held Kept) → List Key
 keys_held None = []
 keys_held (Some h) = h.content.keys.rising.items
 
--- what is held, with other keys
+-- what is held, with other keys, of whose triples it isn't known how often they come
 abbrev pub held_keys : Option (Held Kept) → Keys → Option (Held Kept)
 held_keys None keys = None
-held_keys (Some h) keys = Some (record { revision = h.revision; content = record { piece = h.content.piece; keys = keys } })
+held_keys (Some h) keys = Some (record { revision = h.revision; content = record { piece = h.content.piece; keys = keys; times = None } })
 
 abbrev pub with_keys : Record Kept → Keys → Record Kept
 with_keys r keys = record { state = r.state; held = held_keys r.held keys; reconciled = r.reconciled }

@@ -18,7 +18,9 @@ use Rattle.subgraph.specs.Routing.{route_of}
 use Rattle.world.specs.declared.applied.Outcome.{Outcome}
 use Rattle.world.specs.declared.applied.Outcome.TheVariants.{Same, Stored, Dropped, Sided}
 use Rattle.world.specs.declared.applied.RoutedPage.{RoutedPage}
-use Rattle.world.specs.declared.fetching.Page.{Page}
+use Rattle.world.specs.declared.fetching.FetchedPage.{FetchedPage}
+use Rattle.world.specs.declared.fetching.FetchedPage.TheVariants.{Whole, Changed}
+use Rattle.world.specs.Fetched.{bytes_of}
 use Rattle.world.specs.Meaning.{meaning}
 
 -- the graph that a document is routed to; the last graph where there is none
@@ -34,13 +36,18 @@ route_of_page routes x bytes = route_if routes (document_of x bytes)
 abbrev pub route_by : Option (List Route) → EntityId → Bytes → Option ℕ
 route_by routes x bytes = option_map (λ (r : List Route). route_of_page r x bytes) routes
 
+-- the graph that is told of a page: none is of one that has those triples alone that it changes
+abbrev pub graph_of : FetchedPage → Option ℕ
+graph_of (Whole page) = page.graph
+graph_of (Changed page) = None
+
 -- a reply that has a page has its graph
-abbrev pub IsReplyRouted : Option (List Route) → EntityId → Result Page Cause → Type 0
-IsReplyRouted routes x (Ok page) = page.graph ≡ route_by routes x page.bytes
+abbrev pub IsReplyRouted : Option (List Route) → EntityId → Result FetchedPage Cause → Type 0
+IsReplyRouted routes x (Ok page) = graph_of page ≡ route_by routes x (bytes_of page)
 IsReplyRouted routes x (Err cause) = ⊤
 
 -- the same, where a fetch was made
-abbrev pub AreRouted : Option (List Route) → EntityId → Option (Result Page Cause) → Type 0
+abbrev pub AreRouted : Option (List Route) → EntityId → Option (Result FetchedPage Cause) → Type 0
 AreRouted routes x None = ⊤
 AreRouted routes x (Some reply) = IsReplyRouted routes x reply
 
@@ -48,10 +55,15 @@ AreRouted routes x (Some reply) = IsReplyRouted routes x reply
 abbrev pub with_route : Option ℕ → List Triple → Option RoutedPage
 with_route graph triples = option_map (λ (g : ℕ). record { graph = g; triples = triples }) graph
 
+-- the same of a page that was fetched
+abbrev pub routed_page : FetchedPage → Option RoutedPage
+routed_page (Whole page) = with_route page.graph page.triples
+routed_page (Changed page) = None
+
 -- the same of the page that a reply has
-abbrev pub routed_by : Option (Result Page Cause) → Option RoutedPage
+abbrev pub routed_by : Option (Result FetchedPage Cause) → Option RoutedPage
 routed_by None = None
-routed_by (Some (Ok page)) = with_route page.graph page.triples
+routed_by (Some (Ok page)) = routed_page page
 routed_by (Some (Err cause)) = None
 
 -- the triples are those that what x holds means by this version, though one may stand there twice; their terms are fit and short

@@ -11,11 +11,11 @@ ghost use Rattle.world.specs.Changing.{Tells};
 ghost use Rattle.world.specs.Fetched.{AreMeant, reply_or_any};
 ghost use Rattle.world.specs.Meaning.{meaning};
 ghost use Rattle.world.specs.Roomed.{HasRoom, Overfills, room_with, triples_of_reply};
-ghost use Rattle.world.specs.Routed.{routed_by, with_route};
+ghost use Rattle.world.specs.Routed.{routed_by, routed_page};
 ghost use Rattle.world.specs.WorldState.{AreHolders, played_of, by_two_after, stored_in};
 
 use crate::applied::{Effect, Handling, Outcome, RoutedPage};
-use crate::fetching::{Page, Reply};
+use crate::fetching::{FetchedPage, Reply};
 use crate::holdings::Holdings;
 use entity_model::Event;
 use side_output::{Entry, Side};
@@ -32,7 +32,7 @@ impl Holdings {
         how: Handling,
     ) -> Result<Effect, StoreFault>
         requires wanted { is_some reply ≡ standing_wants (standing_after (standing_of (record_of self.old.records event.entity)) event) }
-        requires meant { AreMeant how.version event.entity (standing_after (standing_of (record_of self.old.records event.entity)) event).state.rev reply }
+        requires meant { AreMeant self.old.records self.old.by_two how.version event.entity (standing_after (standing_of (record_of self.old.records event.entity)) event).state.rev reply }
         requires room { HasRoom (meaning_by meaning self.old.by_two) self.old.limit self.old.records }
         requires holding { AreHolders self.old.by_two self.old.records }
         ensures applied { OnOk result (played_of self.new side.new.entries ≡ played (λ _ _. reply_or_any reply) (played_of self.old side.old.entries) event) }
@@ -84,12 +84,17 @@ impl Holdings {
 }
 
 // What is given back of a page that was stored, where it is routed.
-fn routed(page: Page) -> Option<RoutedPage>
-    ensures { result ≡ with_route page.graph page.triples }
+fn routed(page: FetchedPage) -> Option<RoutedPage>
+    ensures { result ≡ routed_page page }
 {
-    let graph = page.graph?;
-    Some(RoutedPage {
-        graph,
-        triples: page.triples,
-    })
+    match page {
+        FetchedPage::Whole(page) => {
+            let graph = page.graph?;
+            Some(RoutedPage {
+                graph,
+                triples: page.triples,
+            })
+        }
+        FetchedPage::Changed(_) => None,
+    }
 }

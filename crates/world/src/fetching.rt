@@ -1,23 +1,29 @@
 // The fetch of a revision, judged as a page of its entity.
 
-ghost use Rattle.std.specs.Prelude.{◌≡◌, ◌≤◌, List, None, IfErr, IfOk, length, option_copied, option_map};
+ghost use Rattle.std.specs.Prelude.{◌≡◌, ◌≤◌, List, None, Some, IfErr, IfOk, IfSome, length, option_copied, option_map};
 ghost use Rattle.std.specs.List.{AllByRecursion};
 ghost use Rattle.rising.specs.Rising.{sorted};
 ghost use Rattle.rdf_term.specs.Fit.{HasFitAndShortTerms};
 ghost use Rattle.rdf_term.specs.Order.{triple_cmp};
 ghost use Rattle.entity_model.specs.Document.{IsDocumentOf, IsSmall};
-ghost use Rattle.entity_json.specs.Document.{unfit_of};
+ghost use Rattle.entity_json.specs.Document.{document_of, unfit_of};
 ghost use Rattle.revisions.specs.Revisions.{counted};
+ghost use Rattle.replay_model.specs.Records.{Records};
+ghost use Rattle.entity_model.specs.declared.id.EntityId.{EntityId as TheId};
 ghost use Rattle.world.specs.Applying.{IsJudged, IsReply, IsShown, outcome_of_reply};
-ghost use Rattle.world.specs.Fetched.{IsMeant, IsWhy, reply_of};
+ghost use Rattle.world.specs.Compared.{HasEntity, IsChangeOfHeld, IsKnownPage};
+ghost use Rattle.world.specs.Fetched.{IsMeant, IsPageOf, IsWhy, bytes_of, reply_of, reply_of_whole};
+ghost use Rattle.world.specs.Listed.{IsListed, counts_if};
 ghost use Rattle.subgraph.specs.declared.routes.Route.{Route};
 ghost use Rattle.subgraph.specs.Routing.{route_of};
 ghost use Rattle.world.specs.Meaning.{document_triples, meaning};
 ghost use Rattle.world.specs.Routed.{IsReplyRouted, route_by};
 
+use crate::comparing::{ChangedPage, ChangedTexts, KnownPage, changed_texts};
 use crate::meaning::document_texts;
 use entity_json::{DocumentFault, document};
 use entity_model::{Document, EntityId, MappingVersion};
+use entity_rdf::Counts;
 use rdf_term::{List, OutOfMemory};
 use revisions::{NoRevision, Revisions};
 use side_output::Cause;
@@ -25,20 +31,51 @@ use std::alloc::Global;
 use subgraph::{Routes, route};
 use triple_texts::TripleTexts;
 
-/// A document as it was fetched: its bytes, the texts of the triples that they mean by a version of the mapping, and the graph that it is
-/// routed to, where there are routes.
+/// A document as it was fetched: its bytes, the texts of the triples that they mean by a version of the mapping, its counts, if it is that
+/// of an item or a property, and the graph that it is routed to, where there are routes.
 #[derive(Drop)]
 pub struct Page {
     pub bytes: List<u8>,
     pub triples: TripleTexts,
+    pub counts: Option<Counts>,
     pub graph: Option<usize>,
 }
 
-/// The texts of the triples of a document, and the graph that it is routed to, where there are routes.
+/// The texts of the triples of a document, its counts, if it is that of an item or a property, and the graph that it is routed to, where
+/// there are routes.
 #[derive(Drop)]
 pub struct Mapped {
     pub triples: TripleTexts,
+    pub counts: Option<Counts>,
     pub graph: Option<usize>,
+}
+
+/// A document as it was fetched, with all its triples, or with those that it changes of what its entity holds.
+#[derive(Drop)]
+pub enum FetchedPage {
+    /// All of them.
+    Whole(Page),
+    /// What it changes.
+    Changed(ChangedPage),
+}
+
+impl FetchedPage {
+    /// The bytes of the document.
+    pub fn bytes(&self) -> &[u8]
+        ensures { result.now ≡ bytes_of self.now }
+    {
+        match self {
+            FetchedPage::Whole(page) => page.bytes.as_slice(),
+            FetchedPage::Changed(page) => page.bytes.as_slice(),
+        }
+    }
+}
+
+/// What a fetched page is judged beside: the routes, if there are some, and the page that its entity holds, if it may be compared with that.
+#[derive(Clone, Copy)]
+pub struct Beside<'a> {
+    pub routes: Option<&'a Routes>,
+    pub known: Option<KnownPage<'a>>,
 }
 
 /// The revision of an entity that is to be fetched, and the version of the mapping by which it is mapped.
@@ -50,20 +87,23 @@ pub struct Wanted {
 }
 
 /// A document, or why there is none.
-pub type Reply = Result<Page, Cause>;
+pub type Reply = Result<FetchedPage, Cause>;
 
 /// Fetches the revision once, and says whether its bytes are a document of the entity. They are read once, for that and for
-/// their triples by the version, and for their graph by the routes, where there are some.
+/// their triples by the version, and for their graph by the routes, where there are some. Where they may be compared with the page that
+/// the entity holds, what differs alone is mapped.
 pub fn fetch<R: Revisions>(
     alloc: Global,
     revisions: &mut R,
     folder: &str,
     wanted: Wanted,
-    routes: Option<&Routes>,
+    beside: Beside<'_>,
 ) -> Result<Reply, OutOfMemory>
+    requires { IfSome beside.known (HasEntity wanted.id) }
     ensures reply { IfOk result (λ reply. IsReply (R.contents revisions.old) folder.now wanted.id wanted.rev (reply_of reply)) }
-    ensures meant { IfOk result (IsMeant wanted.version wanted.id wanted.rev) }
-    ensures routed { IfOk result (IsReplyRouted (option_copied routes.entry) wanted.id) }
+    ensures meant { (records : Records) (by_two : List TheId) → IfSome beside.entry.known (IsKnownPage records by_two wanted.version wanted.id) →
+        IfOk result (IsMeant records by_two wanted.version wanted.id wanted.rev) }
+    ensures routed { IfOk result (IsReplyRouted (option_copied beside.entry.routes) wanted.id) }
     ensures shown { IfOk result (λ reply. IsShown (outcome_of_reply (reply_of reply))
         (R.misses revisions.old) (R.misses revisions.new) (R.faults revisions.old) (R.faults revisions.new)) }
     ensures told { R.contents revisions.new ≡ R.contents revisions.old }
@@ -73,11 +113,51 @@ pub fn fetch<R: Revisions>(
     ensures most { R.most_faults revisions.new ≡ R.most_faults revisions.old }
 {
     match revisions.fetch(alloc, folder, wanted.rev) {
-        Ok(bytes) => judge(alloc, wanted, bytes, routes),
+        Ok(bytes) => judge_beside(alloc, wanted, bytes, beside),
         Err(NoRevision::Missing) => Ok(Err(Cause::Missing)),
         Err(NoRevision::Failed) => Ok(Err(Cause::Failed)),
         Err(NoRevision::OutOfMemory) => Err(OutOfMemory),
     }
+}
+
+// Whether the bytes are a document of the entity, and what it changes of the page that the entity holds, or else all its triples, and its
+// graph.
+fn judge_beside(
+    alloc: Global,
+    wanted: Wanted,
+    bytes: Vec<u8>,
+    beside: Beside<'_>,
+) -> Result<Reply, OutOfMemory>
+    requires { IfSome beside.known (HasEntity wanted.id) }
+    ensures judged { IfOk result (λ reply. IsJudged wanted.id bytes.items (reply_of reply)) }
+    ensures meant { (records : Records) (by_two : List TheId) → IfSome beside.entry.known (IsKnownPage records by_two wanted.version wanted.id) →
+        IfOk result (IsMeant records by_two wanted.version wanted.id wanted.rev) }
+    ensures routed { IfOk result (IsReplyRouted (option_copied beside.entry.routes) wanted.id) }
+{
+    if let Some(texts) = compare(alloc, wanted, bytes.as_slice(), beside) {
+        let bytes = List::from_vec(bytes);
+        return Ok(Ok(FetchedPage::Changed(ChangedPage { bytes, texts })));
+    }
+    match judge(alloc, wanted, bytes, beside.routes) {
+        Ok(Ok(page)) => Ok(Ok(FetchedPage::Whole(page))),
+        Ok(Err(cause)) => Ok(Err(cause)),
+        Err(OutOfMemory) => Err(OutOfMemory),
+    }
+}
+
+// What the page changes of the one that its entity holds, where it may be compared with that: not where there are routes, since these ask for all
+// that a page says.
+fn compare(alloc: Global, wanted: Wanted, bytes: &[u8], beside: Beside<'_>) -> Option<ChangedTexts>
+    requires { IfSome beside.known (HasEntity wanted.id) }
+    ensures document { IfSome result (λ _. unfit_of wanted.id bytes.now ≡ None) }
+    ensures routes { IfSome result (λ _. option_copied beside.entry.routes ≡ None) }
+    ensures changes { (records : Records) (by_two : List TheId) → IfSome beside.entry.known (IsKnownPage records by_two wanted.version wanted.id) →
+        IfSome result (λ texts. IsChangeOfHeld records by_two wanted.version wanted.id wanted.rev bytes.now texts) }
+{
+    if beside.routes.is_some() {
+        return None;
+    }
+    changed_texts(alloc, wanted, beside.known?, bytes)
 }
 
 /// Whether the bytes are a document of the entity, its triples, and its graph. The document borrows the bytes, so it goes before they are
@@ -87,15 +167,22 @@ pub fn judge(
     wanted: Wanted,
     bytes: Vec<u8>,
     routes: Option<&Routes>,
-) -> Result<Reply, OutOfMemory>
-    ensures judged { IfOk result (λ reply. IsJudged wanted.id bytes.items (reply_of reply)) }
-    ensures meant { IfOk result (IsMeant wanted.version wanted.id wanted.rev) }
-    ensures routed { IfOk result (IsReplyRouted (option_copied routes.entry) wanted.id) }
+) -> Result<Result<Page, Cause>, OutOfMemory>
+    ensures judged { IfOk result (λ reply. IsJudged wanted.id bytes.items (reply_of_whole reply)) }
+    ensures meant { IfOk result (λ reply. IfOk reply (IsPageOf wanted.version wanted.id wanted.rev)) }
+    ensures routed { IfOk result (λ reply. IfOk reply (λ page. page.graph ≡ route_by (option_copied routes.entry) wanted.id page.bytes)) }
 {
     match texts_in(alloc, wanted, bytes.as_slice(), routes) {
-        Ok(Mapped { triples, graph }) => Ok(Ok(Page {
+        Ok(
+            Mapped {
+                triples,
+                counts,
+                graph,
+            },
+        ) => Ok(Ok(Page {
             bytes: List::from_vec(bytes),
             triples,
+            counts,
             graph,
         })),
         Err(DocumentFault::Unfit(unfit)) => Ok(Err(Cause::Unfit(unfit))),
@@ -103,7 +190,7 @@ pub fn judge(
     }
 }
 
-/// The triples of the document of the wanted entity that the bytes are, and its graph, or why they are none.
+/// The triples of the document of the wanted entity that the bytes are, its counts, and its graph, or why they are none.
 pub fn texts_in(
     alloc: Global,
     wanted: Wanted,
@@ -112,6 +199,7 @@ pub fn texts_in(
 ) -> Result<Mapped, DocumentFault>
     ensures document { IfOk result (λ _. unfit_of wanted.id bytes.now ≡ None) }
     ensures meant { IfOk result (λ mapped. sorted triple_cmp mapped.triples ≡ meaning wanted.version wanted.id wanted.rev bytes.now) }
+    ensures listed { IfOk result (λ mapped. IfSome mapped.counts (λ counts. IsListed wanted.version wanted.id wanted.rev (document_of wanted.id bytes.now) counts mapped.triples)) }
     ensures fit { IfOk result (λ mapped. AllByRecursion HasFitAndShortTerms mapped.triples) }
     ensures short { IfOk result (λ _. length bytes.now ≤ 33554432) }
     ensures routed { IfOk result (λ mapped. mapped.graph ≡ route_by (option_copied routes.entry) wanted.id bytes.now) }
@@ -126,7 +214,7 @@ pub fn texts_in(
     }
 }
 
-// The triples of a document of the wanted entity, and its graph.
+// The triples of a document of the wanted entity, its counts, and its graph.
 fn map_document(
     alloc: Global,
     wanted: Wanted,
@@ -135,12 +223,27 @@ fn map_document(
 ) -> Result<Mapped, OutOfMemory>
     requires { IsDocumentOf wanted.id document.now }
     ensures meant { IfOk result (λ mapped. sorted triple_cmp mapped.triples ≡ document_triples wanted.version wanted.id wanted.rev document.now) }
+    ensures listed { IfOk result (λ mapped. IfSome mapped.counts (λ counts. IsListed wanted.version wanted.id wanted.rev (Some document.now) counts mapped.triples)) }
     ensures fit { IsSmall document.now → IfOk result (λ mapped. AllByRecursion HasFitAndShortTerms mapped.triples) }
     ensures routed { IfOk result (λ mapped. mapped.graph ≡ option_map (λ (r : List Route). route_of r document.now) (option_copied routes.entry)) }
 {
     let triples = document_texts(alloc, wanted.id, wanted.rev, document, wanted.version)?;
     let graph = graph_of(alloc, document, routes)?;
-    Ok(Mapped { triples, graph })
+    Ok(Mapped {
+        triples,
+        counts: counts_in(document),
+        graph,
+    })
+}
+
+// The counts of the document of an item or a property.
+fn counts_in(document: &Document) -> Option<Counts>
+    ensures { result ≡ counts_if document.now }
+{
+    match document {
+        Document::Entity(entity) => Some(Counts::of(entity)),
+        Document::Redirect(_) | Document::Lexeme(_) => None,
+    }
 }
 
 // The graph that a document is routed to, where there are routes.

@@ -11,46 +11,47 @@ ghost use Rattle.entity_model.specs.declared.mapping.MappingVersion.TheVariants.
 ghost use Rattle.replay_model.specs.Records.{record_of};
 ghost use Rattle.replay_model.specs.Versions.{meaning_by, with_version};
 ghost use Rattle.world.specs.Changing.{Tells};
-ghost use Rattle.world.specs.Fetched.{IsPageOf};
-ghost use Rattle.world.specs.Keeping.{FreesPiece, kept_of, keys_held, piece_at};
+ghost use Rattle.world.specs.Fetched.{IsFetched, bytes_of};
+ghost use Rattle.world.specs.Keeping.{FreesPiece, kept_of, piece_at};
 ghost use Rattle.world.specs.Meaning.{meaning};
 ghost use Rattle.world.specs.Roomed.{HasRoom, room_with};
 ghost use Rattle.world.specs.Standing.{unfetched_outcome, unless_deleted};
 ghost use Rattle.world.specs.WorldState.{AreHolders, by_two_after, stored_in};
 
 use crate::applied::{Effect, Handling, Outcome};
-use crate::fetching::Page;
+use crate::fetching::FetchedPage;
 use crate::holders::other;
 use crate::holdings::{Holdings, make_room};
-use crate::kept::Kept;
+use crate::kept::{Kept, had, keys_of};
+use crate::swapping::{PageExchange, SwapSetting, exchange_page};
 use entity_model::{EntityId, MappingVersion};
 use entity_state::{Held, Mode, Record, Standing, Table};
 use rdf_term::OutOfMemory;
-use triple_store::{Change, Exchange, KeySlices, Store, StoreFault, Telling};
+use triple_store::{Change, Store, StoreFault, Telling};
 
 impl Holdings {
     /// Sets the record of an entity, which holds this page from now on, by the version that it is mapped by, and tells the change of the
     /// stored triples if asked to. After a fault nothing has changed. The fault is `Full` if its triples, with those of all that is held,
-    /// have more distinct terms than the limit.
+    /// have more distinct terms than the limit. If the page says what it changes of the held one, the store exchanges that alone.
     pub fn hold(
         &mut self,
         id: EntityId,
         after: Standing,
-        page: &Page,
+        page: &FetchedPage,
         how: Handling,
     ) -> Result<Option<Change>, StoreFault>
-        requires { IsPageOf how.version id after.state.rev page.now }
+        requires { IsFetched self.old.records self.old.by_two how.version id after.state.rev page.now }
         ensures ok { OnOk result (self.new.records ≡ map.insert self.old.records id (record {
           state = after.state;
-          held = Some (record { revision = after.state.rev; content = page.now.bytes });
+          held = Some (record { revision = after.state.rev; content = bytes_of page.now });
           reconciled = after.reconciled;
         })) }
         ensures by_two { OnOk result (self.new.by_two ≡ with_version how.version id self.old.by_two) }
         ensures change { IfOk result (Tells how.telling (stored_in self.old) (stored_in self.new)) }
         ensures limit { self.new.limit ≡ self.old.limit }
         ensures err { OnErr result (self.new ≡ self.old) }
-        ensures full { result ≡ Err Full → self.old.limit < room_with (meaning_by meaning self.old.by_two) self.old.records (meaning how.version id after.state.rev page.now.bytes) }
-        ensures within { OnOk result (room_with (meaning_by meaning self.old.by_two) self.old.records (meaning how.version id after.state.rev page.now.bytes) ≤ self.old.limit) }
+        ensures full { result ≡ Err Full → self.old.limit < room_with (meaning_by meaning self.old.by_two) self.old.records (meaning how.version id after.state.rev (bytes_of page.now)) }
+        ensures within { OnOk result (room_with (meaning_by meaning self.old.by_two) self.old.records (meaning how.version id after.state.rev (bytes_of page.now)) ≤ self.old.limit) }
         ensures held { HasRoom (meaning_by meaning self.new.by_two) self.new.limit self.new.records }
         ensures holders { AreHolders self.new.by_two self.new.records }
     {
@@ -63,18 +64,22 @@ impl Holdings {
         let Ok(added) = self.holders.add(id, how.version) else {
             return Err(StoreFault::OutOfMemory);
         };
-        let Ok(piece) = self.store.place(page.bytes.as_slice()) else {
+        let Ok(piece) = self.store.place(page.bytes()) else {
             self.holders.take_back(id, how.version, added);
             return Err(StoreFault::OutOfMemory);
         };
-        match self
-            .store
-            .exchange_with(keys_of(&self.table, id), &page.triples, how.telling)
-        {
-            Ok(Exchange { keys, change }) => {
+        let setting = SwapSetting::new(self.alloc, id, after.state.rev, how);
+        match exchange_page(&mut self.store, had(&self.table, id), page, setting) {
+            Ok(
+                PageExchange {
+                    keys,
+                    times,
+                    change,
+                },
+            ) => {
                 let held = Held {
                     revision: after.state.rev,
-                    content: Kept { piece, keys },
+                    content: Kept { piece, keys, times },
                 };
                 replace(&mut self.store, &mut self.table, id, after, Some(held));
                 self.holders.remove(id, other(how.version));
@@ -247,18 +252,5 @@ fn keep_record(table: &mut Table<Kept>, id: EntityId, after: Standing)
             reconciled: after.reconciled,
         };
         let _ = table.put(id, record);
-    }
-}
-
-/// The keys of the triples of what an entity holds.
-pub fn keys_of(table: &Table<Kept>, id: EntityId) -> KeySlices<'_>
-    ensures { result.rising.now ≡ keys_held (kept_of table.now.records id).held }
-{
-    let Some(record) = table.get(id) else {
-        return KeySlices::none();
-    };
-    match &record.held {
-        Some(held) => held.content.keys.slices(),
-        None => KeySlices::none(),
     }
 }

@@ -1,20 +1,24 @@
 // What the entities hold.
 
-ghost use Rattle.std.specs.Prelude.{◌≡◌, ◌≤◌, [], IfOk, IsTrue, MatchOption, OnOk};
+ghost use Rattle.std.specs.Prelude.{◌≡◌, ◌≤◌, [], Some, IfOk, IfSome, IsSome, IsTrue, MatchOption, OnOk};
 ghost use Rattle.std.specs.FinMap as map;
 ghost use Rattle.entity_state.specs.Standing.{standing_of};
 ghost use Rattle.entity_state.specs.Table.{has_room};
 ghost use Rattle.replay_model.specs.Records.{record_of};
 ghost use Rattle.replay_model.specs.Versions.{meaning_by};
-ghost use Rattle.world.specs.Keeping.{kept_of};
+ghost use Rattle.world.specs.Compared.{HasEntity, IsKnownPage};
+ghost use Rattle.world.specs.Keeping.{held_with, kept_of, piece_at};
 ghost use Rattle.world.specs.Laid.{IsLaid};
 ghost use Rattle.world.specs.Meaning.{meaning};
+ghost use Rattle.triple_store.specs.StoreState.{beside};
 ghost use Rattle.world.specs.Roomed.{HasRoom, room_with};
+ghost use Rattle.world.specs.Timed.{counts_held};
 
+use crate::comparing::KnownPage;
 use crate::holders::Holders;
-use crate::kept::Kept;
+use crate::kept::{Kept, counts_of, times_of};
 use crate::remapping::held_in;
-use entity_model::EntityId;
+use entity_model::{EntityId, MappingVersion};
 use entity_state::{Record, Standing, Table};
 use rdf_term::{List, OutOfMemory};
 use std::alloc::Global;
@@ -89,6 +93,20 @@ impl Holdings {
         held_in(&self.store, &self.table, id)
     }
 
+    /// The page that an entity holds, where it is that of an item or a property, is mapped by the version, and it is known how many times
+    /// each of its triples comes. It takes no memory.
+    pub fn known_page(&self, id: EntityId, version: MappingVersion) -> Option<KnownPage<'_>>
+        ensures known { IfSome result (IsKnownPage self.now.records self.now.by_two version id) }
+        ensures entity { IfSome result (HasEntity id) }
+    {
+        let named = self.holders.has(id, version);
+        if named {
+            known_in(&self.store, &self.table, id)
+        } else {
+            None
+        }
+    }
+
     /// The ids of the entities with a record, in rising order.
     pub fn entities(&self) -> Result<List<EntityId>, OutOfMemory>
         ensures { IfOk result (λ ids. ids ≡ map.keys self.now.records) }
@@ -110,6 +128,22 @@ impl Holdings {
     {
         self.store.terms()
     }
+}
+
+// The page that an entity holds, with the counts that are known of it, where it is known how many times each of its triples comes.
+fn known_in<'a>(store: &'a Store, table: &Table<Kept>, id: EntityId) -> Option<KnownPage<'a>>
+    requires { IfSome (piece_at table.now.records id) (λ piece. IsSome (beside store.now piece)) }
+    ensures counts { IfSome result (λ page. Some page.counts ≡ counts_held (kept_of table.now.records id).held) }
+    ensures held { IfSome result (λ page. held_with (beside store.now) (kept_of table.now.records id).held ≡ Some (record { revision = page.rev; content = page.bytes.now })) }
+{
+    if times_of(table, id).is_empty() {
+        return None;
+    }
+    let counts = counts_of(table, id)?;
+    let Some((rev, bytes)) = held_in(store, table, id) else {
+        return None;
+    };
+    Some(KnownPage { rev, bytes, counts })
 }
 
 // What stands of an entity's record.

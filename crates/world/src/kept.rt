@@ -1,11 +1,84 @@
 // What is kept of a page that an entity holds.
 
-use text_region::Piece;
-use triple_store::Keys;
+ghost use Rattle.std.specs.Prelude.{◌≡◌};
+ghost use Rattle.world.specs.Keeping.{kept_of, keys_held};
+ghost use Rattle.world.specs.Timed.{counts_held, times_held};
 
-/// Where the bytes of a document lie in the region, and the keys of its triples in the store.
+use crate::swapping::Had;
+use entity_model::EntityId;
+use entity_rdf::Counts;
+use entity_state::Table;
+use text_region::Piece;
+use triple_store::{KeySlices, Keys};
+
+/// Where the bytes of a document lie in the region, the keys of its triples in the store, and what is known of how often these come.
 #[derive(Debug, Drop)]
 pub struct Kept {
     pub piece: Piece,
     pub keys: Keys,
+    pub times: Option<PageTimes>,
+}
+
+/// What is known of the page of an item or a property: its counts, and how many times the triple of each key comes, in the order of the
+/// keys. The times are empty where they aren't known.
+#[derive(Debug, Drop)]
+pub struct PageTimes {
+    pub counts: Counts,
+    pub times: Vec<u16>,
+}
+
+/// The keys of the triples of what an entity holds.
+pub fn keys_of(table: &Table<Kept>, id: EntityId) -> KeySlices<'_>
+    ensures { result.rising.now ≡ keys_held (kept_of table.now.records id).held }
+{
+    let Some(record) = table.get(id) else {
+        return KeySlices::none();
+    };
+    match &record.held {
+        Some(held) => held.content.keys.slices(),
+        None => KeySlices::none(),
+    }
+}
+
+/// How many times the triple of each of these keys comes, or nothing where that isn't known.
+pub fn times_of(table: &Table<Kept>, id: EntityId) -> &[u16]
+    ensures { result.now ≡ times_held (kept_of table.now.records id).held }
+{
+    let Some(record) = table.get(id) else {
+        return &[];
+    };
+    let Some(held) = &record.held else {
+        return &[];
+    };
+    match &held.content.times {
+        Some(known) => known.times.as_slice(),
+        None => &[],
+    }
+}
+
+/// The counts that are known of the page that an entity holds.
+pub fn counts_of(table: &Table<Kept>, id: EntityId) -> Option<Counts>
+    ensures { result ≡ counts_held (kept_of table.now.records id).held }
+{
+    let Some(record) = table.get(id) else {
+        return None;
+    };
+    let Some(held) = &record.held else {
+        return None;
+    };
+    match &held.content.times {
+        Some(known) => Some(known.counts),
+        None => None,
+    }
+}
+
+/// What an entity has: the keys of its triples, and their times.
+pub fn had(table: &Table<Kept>, id: EntityId) -> Had<'_>
+    ensures keys { result.keys.rising.now ≡ keys_held (kept_of table.now.records id).held }
+    ensures times { result.times.now ≡ times_held (kept_of table.now.records id).held }
+{
+    Had {
+        keys: keys_of(table, id),
+        times: times_of(table, id),
+    }
 }

@@ -1,11 +1,13 @@
 // The triples of a page.
 
 ghost use Rattle.std.specs.Prelude.{◌≡◌, IfOk};
-ghost use Rattle.std.specs.List.{AllByRecursion};
+ghost use Rattle.std.specs.List.{AllByRecursion, flat_map};
 ghost use Rattle.rising.specs.Rising.{sorted};
 ghost use Rattle.rdf_term.specs.Fit.{HasFitAndShortTerms};
 ghost use Rattle.rdf_term.specs.Order.{triple_cmp};
 ghost use Rattle.entity_model.specs.Document.{IsDocumentOf, IsSmall};
+ghost use Rattle.entity_rdf.specs.Dump.{dump};
+ghost use Rattle.munger.specs.Munging.{munged};
 ghost use Rattle.world.specs.Meaning.{document_triples};
 
 use entity_model::{Document, EntityId, MappingVersion};
@@ -25,6 +27,7 @@ pub fn document_texts(
 ) -> Result<TripleTexts, OutOfMemory>
     requires { IsDocumentOf id document.now }
     ensures value { IfOk result (λ texts. sorted triple_cmp texts ≡ document_triples version id rev document.now) }
+    ensures list { IfOk result (λ texts. texts ≡ flat_map (munged id) (dump version id rev document.now)) }
     ensures fit { IsSmall document.now → IfOk result (AllByRecursion HasFitAndShortTerms) }
 {
     let setting = Setting { alloc, version };

@@ -21,9 +21,8 @@ ghost use Rattle.world.specs.WorldState.{AreHolders, stored_in};
 use crate::applied::Remapped;
 use crate::fetching::{Wanted, texts_in};
 use crate::holders::other;
-use crate::holding::keys_of;
 use crate::holdings::Holdings;
-use crate::kept::Kept;
+use crate::kept::{Kept, keys_of};
 use entity_json::DocumentFault;
 use entity_model::{EntityId, MappingVersion};
 use entity_state::{Held, Record, Table};
@@ -121,7 +120,7 @@ pub fn held_in<'a>(store: &'a Store, table: &Table<Kept>, id: EntityId) -> Optio
     }
 }
 
-// Sets the keys of the triples of what an entity holds.
+// Sets the keys of the triples of what an entity holds. How often these come isn't known then.
 fn set_keys(table: &mut Table<Kept>, id: EntityId, keys: Keys)
     requires { is_some (kept_of table.old.records id).held ≡ true }
     ensures { table.new.records ≡ map.insert table.old.records id (with_keys (kept_of table.old.records id) keys) }
@@ -140,6 +139,7 @@ fn set_keys(table: &mut Table<Kept>, id: EntityId, keys: Keys)
     let content = Kept {
         piece: held.content.piece,
         keys,
+        times: None,
     };
     let anew = Record {
         state,

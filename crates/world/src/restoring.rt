@@ -18,7 +18,7 @@ ghost use Rattle.world.specs.WorldState.{AreHolders};
 ghost use Rattle.world.specs.declared.restoring.RestoreFault.TheVariants.{Full, Unsound, OutOfMemory as Refused};
 
 use crate::applied::Handling;
-use crate::fetching::{Page, Wanted, judge};
+use crate::fetching::{FetchedPage, Page, Wanted, judge};
 use crate::holdings::Holdings;
 use crate::world::World;
 use entity_model::{EntityId, Event, MappingVersion};
@@ -208,7 +208,7 @@ impl Holdings {
             version: wanted.version,
             telling: Telling::Nothing,
         };
-        match self.hold(wanted.id, there, &page, how) {
+        match self.hold(wanted.id, there, &FetchedPage::Whole(page), how) {
             Ok(_) => {
                 self.set_standing(wanted.id, after);
                 Ok(())

@@ -10,8 +10,8 @@ ghost use Rattle.replay_model.specs.Union.{owners, triples_held, union};
 ghost use Rattle.replay_model.specs.Versions.{meaning_by};
 ghost use Rattle.world.specs.Meaning.{meaning};
 
-use crate::holding::keys_of;
 use crate::holdings::Holdings;
+use crate::kept::keys_of;
 use crate::world::World;
 use entity_model::EntityId;
 use rdf_term::{OutOfMemory, Pattern, Triple, TripleSet};

@@ -22,7 +22,7 @@ ghost use Rattle.world.specs.declared.applied.Outcome.TheVariants.{Stored};
 ghost use Rattle.world.specs.declared.applied.WorldFault.TheVariants.{Full, Nothing as NothingDue};
 
 use crate::applied::{Application, Applied, Effect, Handling, WorldFault};
-use crate::fetching::{Reply, Wanted, fetch};
+use crate::fetching::{Beside, Reply, Wanted, fetch};
 use crate::holdings::Holdings;
 use entity_model::{Event, MappingVersion};
 use rdf_term::OutOfMemory;
@@ -261,7 +261,7 @@ impl World {
             ≡ standing_wants (standing_after (standing_of (record_of self.now.replay.played.records event.now.entity)) event.now)) }
         ensures reply { IfOk result (λ reply. IsReply (R.contents revisions.old) folder.now event.now.entity
             (state_after (record_of self.now.replay.played.records event.now.entity).state event.now).rev (reply_or_any reply)) }
-        ensures meant { IfOk result (AreMeant self.now.mapping event.now.entity
+        ensures meant { IfOk result (AreMeant self.now.replay.played.records self.now.by_two self.now.mapping event.now.entity
             (standing_after (standing_of (record_of self.now.replay.played.records event.now.entity)) event.now).state.rev) }
         ensures routed { IfOk result (AreRouted (option_copied routes.entry) event.now.entity) }
         ensures told { R.contents revisions.new ≡ R.contents revisions.old }
@@ -283,7 +283,14 @@ impl World {
             rev: after.state.rev,
             version: self.mapping,
         };
-        let reply = fetch(self.alloc, revisions, folder, wanted, routes)?;
+        let known = self.holdings.known_page(event.entity, self.mapping);
+        let reply = fetch(
+            self.alloc,
+            revisions,
+            folder,
+            wanted,
+            Beside { routes, known },
+        )?;
         Ok(Some(reply))
     }
 }

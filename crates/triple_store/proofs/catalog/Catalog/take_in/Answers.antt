@@ -1,5 +1,6 @@
 use Rattle.std.proofs.Common.{◌≡◌, ◌+◌, ◌<◌, arith, length, take, vec_len, refl, sym, ◌∙◌}
 use Rattle.triple_store.proofs.Adding.{held_with}
+use Rattle.triple_store.proofs.Along.{along_held, along_later, along_new}
 use Rattle.triple_store.proofs.AtHand.{held_again, on_ok}
 use Rattle.triple_store.proofs.Costs.{at_most, both}
 use Rattle.triple_store.proofs.Rooming.{same_fault}
@@ -18,6 +19,7 @@ loop-index-preserved-in-Ok g c =
     let low : c.loop-index.index < length c.args.swap.new.now = omega arith in
     record {
       takes = rw c.push_reserved.ensures.items (next_held _ _ _ _ c.args.swap.old.rising.now c.loop-index.met.keys.items c.loop-index.met.keys.items c.args.swap.new.now c.loop-index.index c.get-texts.result low c.get-texts.ensures c.requires.stored c.requires.there c.loop-index.invariant.takes (λ k. refl) c.in-Ok.found.key c.in-Ok.ensures.texts (sym (c.loop-index.invariant.held c.in-Ok.found.key) ∙ c.in-Ok.ensures.held));
+      along = rw c.push_reserved.ensures.items (along_held c.loop-index.self c.loop-index.region c.loop-index.met.keys.items c.args.swap.new.now c.loop-index.index c.get-texts.result low c.get-texts.ensures c.in-Ok.found.key c.in-Ok.ensures.texts c.loop-index.invariant.along);
       cost = at_most _ _ c.loop-index.index (c.loop-index.index + 1) 0 0 _ _ (omega arith) (omega arith) c.loop-index.invariant.cost;
       done = omega (arith, c.push_reserved.ensures.len, c.loop-index.invariant.done);
       room = omega (arith, c.push_reserved.ensures.capacity, c.loop-index.invariant.room);
@@ -57,6 +59,7 @@ loop-index-preserved g c =
     let low : c.loop-index.index < length c.args.swap.new.now = omega arith in
     record {
       takes = rw c.push_reserved-in-loop-index.ensures.items (next_new _ _ _ _ c.args.swap.old.rising.now c.loop-index.met.keys.items c.loop-index.met.keys.items c.args.swap.new.now c.loop-index.index c.get-texts.result low c.get-texts.ensures c.requires.stored c.requires.there c.loop-index.invariant.takes (λ k. refl) (λ k is. sym (c.loop-index.invariant.held k) ∙ c.in-Err.ensures.none k is) _ _ c.in-Ok-add.key c.in-Ok-add.ensures.stored c.in-Ok-add.ensures.ok c.in-Ok-add.ensures.key c.in-Ok-add.ensures.kept c.in-Ok-add.ensures.beside c.in-Ok-add.ensures.limit);
+      along = rw c.push_reserved-in-loop-index.ensures.items (along_new _ _ _ _ c.args.swap.old.rising.now c.loop-index.met.keys.items c.args.swap.new.now c.loop-index.index c.get-texts.result low c.get-texts.ensures c.loop-index.invariant.takes _ _ c.in-Ok-add.ensures.kept c.in-Ok-add.key c.in-Ok-add.ensures.key c.loop-index.invariant.along);
       cost = both _ _ _ c.loop-index.index 1 0 0 _ _ _ c.loop-index.invariant.cost c.in-Ok-add.ensures.cost;
       done = omega (arith, c.push_reserved-in-loop-index.ensures.len, c.loop-index.invariant.done);
       room = omega (arith, c.push_reserved-in-loop-index.ensures.capacity, c.loop-index.invariant.room);
@@ -76,3 +79,12 @@ pub returns-then-is_err-clause-cost : goal.returns-then-is_err-clause-cost
 returns-then-is_err-clause-cost g c =
     let low : c.loop-index.index < length c.args.swap.new.now = omega arith in
     at_most _ _ (c.loop-index.index + 1) (length c.args.swap.new.now) 0 0 _ _ (omega arith) (omega arith) (both _ _ _ c.loop-index.index 1 0 0 _ _ _ c.loop-index.invariant.cost c.in-Ok-add.ensures.cost)
+
+pub returns-in-Err-add-clause-along : goal.returns-in-Err-add-clause-along
+returns-in-Err-add-clause-along g c = rw c.loop-index.invariant.done (along_later _ _ _ _ c.args.swap.old.rising.now c.loop-index.met.keys.items _ c.loop-index.invariant.takes _ _ c.in-Err-add.ensures.kept ∙ c.loop-index.invariant.along)
+
+pub returns-then-is_err-clause-along : goal.returns-then-is_err-clause-along
+returns-then-is_err-clause-along g c =
+    let low : c.loop-index.index < length c.args.swap.new.now = omega arith in
+    let done : vec_len c.push_reserved-in-loop-index.new.self ≡ c.loop-index.index + 1 = omega (arith, c.push_reserved-in-loop-index.ensures.len, c.loop-index.invariant.done) in
+    rw (c.push_reserved-in-loop-index.ensures.items, done) (along_new _ _ _ _ c.args.swap.old.rising.now c.loop-index.met.keys.items c.args.swap.new.now c.loop-index.index c.get-texts.result low c.get-texts.ensures c.loop-index.invariant.takes _ _ c.in-Ok-add.ensures.kept c.in-Ok-add.key c.in-Ok-add.ensures.key c.loop-index.invariant.along)

@@ -7,12 +7,13 @@ use Rattle.slot_index.specs.Keys.{key_cmp}
 use Rattle.triple_store.specs.Added.{AreApart, is_held}
 use Rattle.triple_store.specs.Costs.{Costs}
 use Rattle.triple_store.specs.Interning.{IsOfTripleBefore}
-use Rattle.triple_store.specs.Moves.{TakesIn}
+use Rattle.triple_store.specs.Moves.{TakesIn, triples_at}
 use Rattle.triple_store.proofs.catalog.Catalog.take_in.Given as goal
 
 abbrev pub invariant-loop-index : goal.invariant-loop-index
 invariant-loop-index g l = record {
   takes : TakesIn l.initial.self l.initial.region l.self l.region l.swap.old.rising.now l.met.keys.items (take l.index l.swap.new.now);
+  along : triples_at l.self l.region l.met.keys.items ≡ take l.index l.swap.new.now;
   cost : Costs (map.len l.initial.self.index) (map.len l.self.index) l.index 0 l.initial.steps l.steps;
   done : vec_len l.met.keys ≡ l.index;
   room : length l.swap.new.now ≤ vec_capacity l.met.keys;

@@ -3,7 +3,7 @@ use Rattle.std.proofs.Common.{ap}
 use Rattle.entity_state.specs.Tabled.{Tabled}
 use Rattle.world.specs.declared.kept.Kept.{Kept}
 use Rattle.world.specs.Holders.{ByVersion}
-use Rattle.world.proofs.Starting.{none_by, started, starts}
+use Rattle.world.proofs.Starting.{none_by, none_timed, started, starts}
 use Rattle.replay_model.specs.Versions.{meaning_by}
 use Rattle.world.specs.Meaning.{meaning}
 use Rattle.world.proofs.holdings.Holdings.new.Goals as goal
@@ -13,6 +13,7 @@ invariant_of-result c = record {
   kept = starts (meaning_by meaning c.new-3.result.by_two) c.in_ok-store.store c.in_ok-table.table.records c.in_ok-store.ensures.sound c.in_ok-store.ensures.counts c.in_ok-store.ensures.beside
       (ap (λ (t : Tabled Kept). t.records) c.in_ok-table.ensures);
   by = none_by c.new-3.result c.in_ok-table.table.records c.new-3.ensures (ap (λ (t : Tabled Kept). t.records) c.in_ok-table.ensures);
+  timed = none_timed c.in_ok-store.store c.new-3.result.by_two c.in_ok-table.table.records (ap (λ (t : Tabled Kept). t.records) c.in_ok-table.ensures);
 }
 
 pub returns : goal.returns

@@ -17,9 +17,8 @@ use Rattle.world.specs.Meaning.{meaning}
 use Rattle.world.proofs.ByVersion.{moves, undone}
 use Rattle.world.proofs.Changing.{step_tells}
 use Rattle.world.proofs.Moving.{are_stored, held_is, seen_again}
-use Rattle.world.proofs.Replacing.{kept_refused}
 use Rattle.world.proofs.Rooming.{countable_kept, room_is}
-use Rattle.world.proofs.Stepping.{again_seen, again_step, are_holders, has_room, links}
+use Rattle.world.proofs.Stepping.{again_seen, again_step, are_holders, has_room, links, refused_step}
 use Rattle.world.proofs.holdings.Holdings.remap.Goals as goal
 
 pub exchange_with-requires-clause-may_come : goal.exchange_with-requires-clause-may_come
@@ -47,11 +46,8 @@ invariant_of-self-in-Ok-exchange_with c = (let in_step : AreInStep c.exchange_wi
 
 pub invariant_of-self-in-Err-exchange_with : goal.invariant_of-self-in-Err-exchange_with
 invariant_of-self-in-Err-exchange_with c =
-    subst (λ (i : ByVersion). AreInStep c.exchange_with.new.self i c.self.inside.table.records) (sym (undone c.self.inside.holders c.add.new.self c.take_back.new.self c.self.inside.table.records c.args.id c.args.version c.in-Ok-add.added c.self.invariant.by c.in-Ok-add.ensures.ok c.in-Ok-add.ensures.added c.take_back.ensures)) (record {
-      kept = kept_refused (meaning_by meaning c.self.inside.holders.by_two) c.self.inside.store c.exchange_with.new.self c.self.inside.table.records
-          c.self.invariant.kept c.exchange_with.ensures.rest.sound c.in-Err.ensures.exchanged.err c.exchange_with.ensures.rest.keeps c.exchange_with.ensures.rest.beside;
-      by = c.self.invariant.by;
-    })
+    subst (λ (i : ByVersion). AreInStep c.exchange_with.new.self i c.self.inside.table.records) (sym (undone c.self.inside.holders c.add.new.self c.take_back.new.self c.self.inside.table.records c.args.id c.args.version c.in-Ok-add.added c.self.invariant.by c.in-Ok-add.ensures.ok c.in-Ok-add.ensures.added c.take_back.ensures)) (refused_step c.self.inside.store c.self.inside.holders c.self.inside.table.records c.self.invariant c.exchange_with.new.self
+    c.exchange_with.ensures.rest.sound c.in-Err.ensures.exchanged.err c.exchange_with.ensures.rest.keeps c.exchange_with.ensures.rest.beside)
 
 pub returns-in_default-clause-held : goal.returns-in_default-clause-held
 returns-in_default-clause-held c = rw (← c.self.view_is) (has_room _ _ _ c.self.invariant)
@@ -121,19 +117,13 @@ returns-in-Err-clause-full c = rw (← c.self.view_is) (λ is.
 
 pub returns-in-Err-clause-held : goal.returns-in-Err-clause-held
 returns-in-Err-clause-held c = has_room _ _ _ (let in_step : AreInStep c.exchange_with.new.self c.take_back.new.self c.self.inside.table.records =
-    subst (λ (i : ByVersion). AreInStep c.exchange_with.new.self i c.self.inside.table.records) (sym (undone c.self.inside.holders c.add.new.self c.take_back.new.self c.self.inside.table.records c.args.id c.args.version c.in-Ok-add.added c.self.invariant.by c.in-Ok-add.ensures.ok c.in-Ok-add.ensures.added c.take_back.ensures)) (record {
-      kept = kept_refused (meaning_by meaning c.self.inside.holders.by_two) c.self.inside.store c.exchange_with.new.self c.self.inside.table.records
-          c.self.invariant.kept c.exchange_with.ensures.rest.sound c.in-Err.ensures.exchanged.err c.exchange_with.ensures.rest.keeps c.exchange_with.ensures.rest.beside;
-      by = c.self.invariant.by;
-    }) in in_step)
+    subst (λ (i : ByVersion). AreInStep c.exchange_with.new.self i c.self.inside.table.records) (sym (undone c.self.inside.holders c.add.new.self c.take_back.new.self c.self.inside.table.records c.args.id c.args.version c.in-Ok-add.added c.self.invariant.by c.in-Ok-add.ensures.ok c.in-Ok-add.ensures.added c.take_back.ensures)) (refused_step c.self.inside.store c.self.inside.holders c.self.inside.table.records c.self.invariant c.exchange_with.new.self
+    c.exchange_with.ensures.rest.sound c.in-Err.ensures.exchanged.err c.exchange_with.ensures.rest.keeps c.exchange_with.ensures.rest.beside) in in_step)
 
 pub returns-in-Err-clause-holders : goal.returns-in-Err-clause-holders
 returns-in-Err-clause-holders c = are_holders _ _ _ (let in_step : AreInStep c.exchange_with.new.self c.take_back.new.self c.self.inside.table.records =
-    subst (λ (i : ByVersion). AreInStep c.exchange_with.new.self i c.self.inside.table.records) (sym (undone c.self.inside.holders c.add.new.self c.take_back.new.self c.self.inside.table.records c.args.id c.args.version c.in-Ok-add.added c.self.invariant.by c.in-Ok-add.ensures.ok c.in-Ok-add.ensures.added c.take_back.ensures)) (record {
-      kept = kept_refused (meaning_by meaning c.self.inside.holders.by_two) c.self.inside.store c.exchange_with.new.self c.self.inside.table.records
-          c.self.invariant.kept c.exchange_with.ensures.rest.sound c.in-Err.ensures.exchanged.err c.exchange_with.ensures.rest.keeps c.exchange_with.ensures.rest.beside;
-      by = c.self.invariant.by;
-    }) in in_step)
+    subst (λ (i : ByVersion). AreInStep c.exchange_with.new.self i c.self.inside.table.records) (sym (undone c.self.inside.holders c.add.new.self c.take_back.new.self c.self.inside.table.records c.args.id c.args.version c.in-Ok-add.added c.self.invariant.by c.in-Ok-add.ensures.ok c.in-Ok-add.ensures.added c.take_back.ensures)) (refused_step c.self.inside.store c.self.inside.holders c.self.inside.table.records c.self.invariant c.exchange_with.new.self
+    c.exchange_with.ensures.rest.sound c.in-Err.ensures.exchanged.err c.exchange_with.ensures.rest.keeps c.exchange_with.ensures.rest.beside) in in_step)
 
 pub returns-in-Ok-exchange_with-clause-triples : goal.returns-in-Ok-exchange_with-clause-triples
 returns-in-Ok-exchange_with-clause-triples c = rw (← c.self.view_is) (record {

@@ -42,5 +42,5 @@ returns-in-Ok-clause-change g c = rw (← c.self.view_is) c.in-Ok.ensures.change
 
 pub returns-in-Ok-clause-routed : goal.returns-in-Ok-clause-routed
 returns-in-Ok-clause-routed g c = rw (← c.self.view_is)
-    (page_given (option_copied c.args.routes) c.self.inside.mapping (played_of c.self.inside.holdings c.self.inside.side.entries) (played_of c.apply.new.self c.apply.new.side.entries) c.in-Some.event c.in_ok-reply.reply
+    (page_given (option_copied c.args.routes) c.self.inside.holdings.by_two c.self.inside.mapping (played_of c.self.inside.holdings c.self.inside.side.entries) (played_of c.apply.new.self c.apply.new.side.entries) c.in-Some.event c.in_ok-reply.reply
     c.in-Ok.field-0.outcome c.in-Ok.field-0.routed (rw (← c.self.view_is) at c.in_ok-reply.ensures.meant) c.in_ok-reply.ensures.routed c.in-Ok.ensures.applied c.in-Ok.ensures.outcome c.in-Ok.ensures.routed)

@@ -1,0 +1,221 @@
+// How many times each triple of one owner comes.
+
+ghost use Rattle.std.specs.Prelude.{◌≡◌, ◌<◌, ℕ, true, false, length, get_or, replicate, slice_get, Some, IfNone, IfSome, IfOk};
+ghost use Rattle.rising.specs.Rising.{IsRising, has};
+ghost use Rattle.slot_index.specs.declared.key.Key.{Key as TheKey};
+ghost use Rattle.slot_index.specs.Keys.{key_cmp};
+ghost use Rattle.triple_store.specs.Slots.{HasTexts};
+ghost use Rattle.triple_store.specs.Stored.{IsStored, is_key};
+ghost use Rattle.triple_store.specs.Times.{AddKeys, AddTimes, count_beside, counted_keys};
+
+use crate::catalog::Catalog;
+use crate::keys::{KeySlices, narrowed};
+use rdf_term::OutOfMemory;
+use slot_index::Key;
+use std::alloc::Global;
+use text_region::Region;
+use triple_texts::{TripleText, TripleTexts};
+
+impl Catalog {
+    // The counts of the keys after these triples came, or what is left of them after the triples are gone. None where a triple has none of the
+    // keys, a count would be too large or too small, or memory is refused. The walk is a hint: where it comes to a triple's key, this takes no
+    // look-up.
+    pub(crate) fn add_times(
+        &self,
+        region: &Region,
+        keys: KeySlices<'_>,
+        counts: Vec<u16>,
+        triples: &TripleTexts,
+    ) -> Option<Vec<u16>>
+        requires stored { IsStored self.now region.now }
+        requires rising { IsRising key_cmp keys.rising.now }
+        requires there { (key : TheKey) → has key_cmp key keys.rising.now ≡ true → is_key self.now key ≡ true }
+        requires as_many { length counts.items ≡ length keys.rising.now }
+        ensures { IfSome result (λ added. AddTimes self.now region.now keys.entry.rising.now counts.items added.items triples.now) }
+    {
+        let mut counts = counts;
+        for index in 0..triples.len() {
+            let texts = triples.get(index);
+            let at = self.index_of(region, keys, &texts, index)?;
+            counts[at] = counts[at].checked_add(1)?;
+        }
+        Some(counts)
+    }
+
+    // The counts of the keys before these triples came.
+    pub(crate) fn less_times(
+        &self,
+        region: &Region,
+        keys: KeySlices<'_>,
+        counts: Vec<u16>,
+        triples: &TripleTexts,
+    ) -> Option<Vec<u16>>
+        requires stored { IsStored self.now region.now }
+        requires rising { IsRising key_cmp keys.rising.now }
+        requires there { (key : TheKey) → has key_cmp key keys.rising.now ≡ true → is_key self.now key ≡ true }
+        requires as_many { length counts.items ≡ length keys.rising.now }
+        ensures { IfSome result (λ left. AddTimes self.now region.now keys.entry.rising.now left.items counts.items triples.now) }
+    {
+        let mut left = counts;
+        for index in 0..triples.len() {
+            let texts = triples.get(index);
+            let at = self.index_of(region, keys, &texts, index)?;
+            left[at] = left[at].checked_sub(1)?;
+        }
+        Some(left)
+    }
+
+    // The index of the key of a triple, by its texts. Where the walk comes to it at the place, this takes no look-up.
+    fn index_of(
+        &self,
+        region: &Region,
+        keys: KeySlices<'_>,
+        texts: &TripleText<'_>,
+        place: usize,
+    ) -> Option<usize>
+        requires stored { IsStored self.now region.now }
+        requires rising { IsRising key_cmp keys.rising.now }
+        ensures within { IfSome result (λ index. index < length keys.entry.rising.now) }
+        ensures texts { IfSome result (λ index. (other : TheKey) → HasTexts self.now.pool region.now (get_or keys.entry.rising.now index other) texts.now) }
+    {
+        if let Some(index) = hinted(keys, place) {
+            if self.has_texts(region, keys.rising[index], texts, None) {
+                return Some(index);
+            }
+        }
+        let key = self.key_of_texts(region, texts)?;
+        index_from(keys.rising, key, place)
+    }
+
+    // The triple of slots with these texts.
+    fn key_of_texts(&self, region: &Region, texts: &TripleText<'_>) -> Option<Key>
+        requires { IsStored self.now region.now }
+        ensures { IfSome result (λ key. HasTexts self.now.pool region.now key texts.now) }
+    {
+        let first = self.pool.find_text(region, texts.subject)?;
+        let second = self.pool.find_text(region, texts.predicate)?;
+        let third = self.pool.find_text(region, texts.object)?;
+        Some(Key {
+            first: first.number,
+            second: second.number,
+            third: third.number,
+        })
+    }
+}
+
+// The index that the walk has at a place.
+fn hinted(keys: KeySlices<'_>, place: usize) -> Option<usize>
+    ensures { IfSome result (λ index. index < length keys.entry.rising.now) }
+{
+    let index = *keys.walk.get(place)? as usize;
+    (index < keys.rising.len()).then_some(index)
+}
+
+// The index of a key in a rising list. The index that is tried first saves the search where it is right.
+fn index_from(keys: &[Key], key: Key, first: usize) -> Option<usize>
+    requires { IsRising key_cmp keys.now }
+    ensures found { IfSome result (λ index. slice_get keys.now index ≡ Some key) }
+    ensures none { IfNone result (has key_cmp key keys.now ≡ false) }
+{
+    if first < keys.len() && keys[first] == key {
+        return Some(first);
+    }
+    match keys.binary_search(&key) {
+        Ok(index) => Some(index),
+        Err(_) => None,
+    }
+}
+
+// The counts of the keys after these came, one by one. None where one has none of the keys, or a count would be too large. The walk is a
+// hint: where it has the index of a key, this takes no search.
+pub(crate) fn add_keys(keys: KeySlices<'_>, counts: Vec<u16>, met: &[Key]) -> Option<Vec<u16>>
+    requires rising { IsRising key_cmp keys.rising.now }
+    requires as_many { length counts.items ≡ length keys.rising.now }
+    ensures { IfSome result (λ added. AddKeys keys.entry.rising.now counts.items added.items met.now) }
+{
+    let mut counts = counts;
+    for (place, key) in met.iter().enumerate() {
+        let first = hinted(keys, place).unwrap_or(0);
+        let at = index_from(keys.rising, *key, first)?;
+        counts[at] = counts[at].checked_add(1)?;
+    }
+    Some(counts)
+}
+
+// The counts of the new keys: those that they had among the old ones.
+pub(crate) fn moved_counts(
+    alloc: Global,
+    old: &[Key],
+    counts: &[u16],
+    new: &[Key],
+) -> Result<Vec<u16>, OutOfMemory>
+    requires rising { IsRising key_cmp old.now }
+    requires as_many { length counts.now ≡ length old.now }
+    ensures as_many { IfOk result (λ moved. length moved.items ≡ length new.now) }
+    ensures counts { IfOk result (λ moved. (index : ℕ) (other : TheKey) → index < length new.now → get_or moved.items index 0 ≡ count_beside old.now counts.now (get_or new.now index other)) }
+{
+    let mut moved = Vec::with_capacity(alloc, new.len())?;
+    let mut next = 0;
+    for key in new {
+        let (count, behind) = count_from(old, counts, *key, next);
+        moved.push(count)?;
+        next = behind;
+    }
+    Ok(moved)
+}
+
+// The count beside a key, and the index behind it, where the next key mostly stands. An index is tried first.
+fn count_from(keys: &[Key], counts: &[u16], key: Key, first: usize) -> (u16, usize)
+    requires rising { IsRising key_cmp keys.now }
+    requires as_many { length counts.now ≡ length keys.now }
+    ensures { result.0 ≡ count_beside keys.now counts.now key }
+{
+    match index_from(keys, key, first) {
+        Some(index) => (counts[index], index.saturating_add(1)),
+        None => (0, first),
+    }
+}
+
+// Keys that stay, and their indices.
+#[derive(Drop)]
+pub(crate) struct Stays {
+    pub(crate) keys: Vec<Key>,
+    pub(crate) indices: Vec<u32>,
+}
+
+// The keys whose counts aren't 0.
+pub(crate) fn staying(alloc: Global, keys: &[Key], counts: &[u16]) -> Result<Stays, OutOfMemory>
+    requires { length counts.now ≡ length keys.now }
+    ensures { IfOk result (λ stays. stays.keys.items ≡ counted_keys keys.now counts.now) }
+{
+    let mut stays = Vec::with_capacity(alloc, keys.len())?;
+    let mut indices = Vec::with_capacity(alloc, keys.len())?;
+    for (index, key) in keys.iter().enumerate() {
+        if counts[index] != 0 {
+            stays.push(*key)?;
+            indices.push(narrowed(index))?;
+        }
+    }
+    Ok(Stays {
+        keys: stays,
+        indices,
+    })
+}
+
+// As many counts of 0.
+pub(crate) fn no_counts(alloc: Global, len: usize) -> Result<Vec<u16>, OutOfMemory>
+    ensures { IfOk result (λ counts. counts.items ≡ replicate len 0) }
+{
+    let mut counts = Vec::new(alloc);
+    counts.resize(len, 0)?;
+    Ok(counts)
+}
+
+// A copy of the counts.
+pub(crate) fn copied(alloc: Global, counts: &[u16]) -> Result<Vec<u16>, OutOfMemory>
+    ensures { IfOk result (λ copy. copy.items ≡ counts.now) }
+{
+    let mut copy = Vec::with_capacity(alloc, counts.len())?;
+    copy.extend_from_slice(counts)?;
+    Ok(copy)
+}

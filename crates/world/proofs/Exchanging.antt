@@ -1,0 +1,271 @@
+-- The triples of a page came in the place of those that its entity had.
+use Rattle.std.proofs.Common.{◌≡◌, ℕ, ◌+◌, ◌<◌, ◌≤◌, Bool, true, false, List, [], Option, Some, None, cond, length, is_some, unwrap_or, refl, sym, ◌∙◌, ap, subst, true≢false, arith}
+use Rattle.std.specs.Prelude.{IfSome, option_map}
+use Rattle.rising.specs.Rising.{has}
+use Rattle.rising.proofs.Rising.{has-sorted}
+use Rattle.rdf_term.specs.declared.triple.Triple.{Triple}
+use Rattle.rdf_term.specs.Order.{triple_cmp, triple_cmp-total}
+use Rattle.entity_json.specs.Document.{document_of}
+use Rattle.entity_model.specs.declared.document.Document.{Document}
+use Rattle.entity_model.specs.declared.document.Document.TheVariants.{Entity as AnEntity, Redirect, Lexeme as ALexeme}
+use Rattle.entity_model.specs.declared.entity.Entity.{Entity}
+use Rattle.entity_model.specs.declared.id.EntityId.{EntityId}
+use Rattle.entity_model.specs.declared.mapping.MappingVersion.{MappingVersion}
+use Rattle.entity_model.specs.declared.mapping.MappingVersion.TheVariants.{One, Two}
+use Rattle.entity_model.specs.EntityId.{entity_cmp}
+use Rattle.entity_rdf.specs.declared.counted.Counts.{Counts as PageCounts}
+use Rattle.entity_rdf.specs.Changing.{kept_list}
+use Rattle.entity_state.specs.declared.record.Held.{Held}
+use Rattle.replay_model.specs.Records.{Bytes}
+use Rattle.replay_model.specs.Union.{triples_held}
+use Rattle.replay_model.specs.Versions.{meaning_by, version_at}
+use Rattle.slot_index.specs.declared.key.Key.{Key}
+use Rattle.slot_index.specs.Keys.{key_cmp}
+use Rattle.term_pool.specs.Pool.{one_if}
+use Rattle.triple_store.specs.declared.part_updates.TimedExchange.{TimedExchange}
+use Rattle.triple_store.specs.declared.telling.Telling.{Telling}
+use Rattle.triple_store.specs.Counts.{Exchanges, count_of}
+use Rattle.triple_store.specs.PartUpdates.{AreTimesIfKnown, AreTimesOf, Becomes, HasExchanged}
+use Rattle.triple_store.specs.Room.{room_for}
+use Rattle.triple_store.specs.StoreState.{AreKeysOf, HasKey, IsSound, KeepsKeys, StoreState, beside, counts_in, limit_of}
+use Rattle.triple_store.specs.Telling.{TellsIf}
+use Rattle.triple_store.specs.Updates.{KeepsRest}
+use Rattle.triple_store.proofs.Exchanged.{same_test}
+use Rattle.triple_store.proofs.Lasting.{no_times_known, times_last_if_known}
+use Rattle.triple_store.proofs.Live.{tells}
+use Rattle.world.specs.declared.comparing.ChangedPage.{ChangedPage}
+use Rattle.world.specs.declared.comparing.ChangedTexts.{ChangedTexts}
+use Rattle.world.specs.declared.comparing.KnownPage.{KnownPage}
+use Rattle.world.specs.declared.fetching.FetchedPage.{FetchedPage}
+use Rattle.world.specs.declared.fetching.FetchedPage.TheVariants.{Whole, Changed}
+use Rattle.world.specs.declared.fetching.Wanted.{Wanted}
+use Rattle.world.specs.declared.kept.Kept.{Kept}
+use Rattle.world.specs.declared.kept.PageTimes.{PageTimes}
+use Rattle.world.specs.declared.swapping.PageExchange.{PageExchange}
+use Rattle.world.specs.Compared.{AreChanged, HasEntity, IsKnownPage}
+use Rattle.world.specs.Fetched.{IsFetched}
+use Rattle.world.specs.Holders.{AreBy, ByVersion, held_by}
+use Rattle.world.specs.InStep.{AreInStep}
+use Rattle.world.specs.Keeping.{KeptRecords, PieceTexts, held_with, kept_of, keys_held, seen}
+use Rattle.world.specs.Listed.{AreTextsOf, IsListed}
+use Rattle.world.specs.Meaning.{meaning}
+use Rattle.world.specs.Swapped.{HasSwapped, MaySwap, MaySwapParts, wanted_meaning, with_counts}
+use Rattle.world.specs.Timed.{IsTimed, IsTimedHeld, counts_held, times_held, times_known}
+use Rattle.world.proofs.Listing.{listed_meant}
+use Rattle.world.proofs.Moving.{held_is, keys_same}
+use Rattle.world.proofs.Rooming.{room_same}
+use Rattle.world.proofs.Timing.{own_meaning, owned_kept}
+
+-- two lists that have the same keys have the same triples
+keys_tell : (s : StoreState) (keys : List Key) (ts us : List Triple) → AreKeysOf s keys ts → AreKeysOf s keys us → (t : Triple) → has triple_cmp t ts ≡ true → has triple_cmp t us ≡ true
+keys_tell s keys ts us h k t there =
+    let one : (key : Key) × HasKey s key t × (has key_cmp key keys ≡ true) = h.all t there in
+    let two : (u : Triple) × HasKey s one.0 u × (has triple_cmp u us ≡ true) = k.each one.0 one.2 in
+    let same : t ≡ two.0 = sym (tells s.catalog.pool s.texts one.0 t one.1.has) ∙ tells s.catalog.pool s.texts one.0 two.0 two.1.has in
+    ap (λ (u : Triple). has triple_cmp u us) same ∙ two.2
+
+-- so what comes in the place of the one comes in the place of the other
+exchanged_for : (s s2 : StoreState) (keys : List Key) (before triples after came : List Triple) → AreKeysOf s keys before → AreKeysOf s keys triples
+    → ((t : Triple) → has triple_cmp t after ≡ has triple_cmp t came)
+    → Exchanges (counts_in s) (counts_in s2) before after → Exchanges (counts_in s) (counts_in s2) triples came
+exchanged_for s s2 keys before triples after came h k same moves = record {
+  counts = λ t.
+      ap (λ b. count_of (counts_in s2) t + one_if b) (same_test (has triple_cmp t triples) (has triple_cmp t before) (keys_tell s keys triples before k h t) (keys_tell s keys before triples h k t))
+      ∙ moves.counts t ∙ ap (λ b. count_of (counts_in s) t + one_if b) (same t);
+}
+
+module _ (telling : Telling) (old new : StoreState) (gone : List Key) (wanted : Wanted) (bytes : Bytes) where
+  texts_meant : (triples : List Triple) (counts : Option PageCounts) → AreTextsOf wanted.version wanted.id wanted.rev bytes counts triples
+      → (t : Triple) → has triple_cmp t triples ≡ has triple_cmp t (wanted_meaning wanted bytes)
+  texts_meant triples counts texts t = sym (has-sorted triple_cmp-total t triples) ∙ ap (has triple_cmp t) texts.set
+
+  pub whole_room : (triples : List Triple) (counts : Option PageCounts) → AreTextsOf wanted.version wanted.id wanted.rev bytes counts triples → room_for (counts_in old) triples ≡ room_for (counts_in old) (wanted_meaning wanted bytes)
+  whole_room triples counts texts = room_same (counts_in old) triples (wanted_meaning wanted bytes) (texts_meant triples counts texts)
+
+  -- all triples of the page came
+  pub whole_swapped : (triples : List Triple) (counts : Option PageCounts) (done : TimedExchange) (swapped : PageExchange)
+      → AreTextsOf wanted.version wanted.id wanted.rev bytes counts triples
+      → ((had : List Triple) → AreKeysOf old gone had → Exchanges (counts_in old) (counts_in new) had triples)
+      → TellsIf telling (counts_in old) (counts_in new) done.change
+      → AreKeysOf new done.keys.rising.items triples
+      → AreTimesIfKnown new done.keys.rising.items done.times.items triples
+      → room_for (counts_in old) triples ≤ limit_of old
+      → swapped ≡ with_counts counts done
+      → HasSwapped telling old new gone wanted bytes swapped
+  whole_swapped triples counts done swapped texts exchanges told keyed times within is = subst (HasSwapped telling old new gone wanted bytes) (sym is) (record {
+    counts = λ had h. record { counts = λ t. (exchanges had h).counts t ∙ ap (λ b. count_of (counts_in old) t + one_if b) (texts_meant triples counts texts t) };
+    told = told;
+    keys_are = keys_same new done.keys.rising.items triples (wanted_meaning wanted bytes) (texts_meant triples counts texts) keyed;
+    timed = by counts texts.listed;
+    within = subst (λ n. n ≤ limit_of old) (whole_room triples counts texts) within;
+  })
+    where
+      by : (counts : Option PageCounts) → IfSome counts (λ c. IsListed wanted.version wanted.id wanted.rev (document_of wanted.id bytes) c triples)
+          → IfSome (with_counts counts done).times (IsTimed wanted.version new wanted.id wanted.rev bytes done.keys.rising.items)
+      by None listed = tt
+      by (Some c) listed = record { triples = triples; listed = listed; times_are = times }
+
+  module _ (old_rev : ℕ) (was : Entity) (texts : ChangedTexts) (h : AreChanged wanted.version wanted.id old_rev wanted.rev was bytes texts) where
+    abbrev before : List Triple
+    before = kept_list wanted.version wanted.id old_rev was
+
+    abbrev after : List Triple
+    after = kept_list wanted.version wanted.id wanted.rev h.new
+
+    listed : IsListed wanted.version wanted.id wanted.rev (document_of wanted.id bytes) texts.counts after
+    listed = record { entity = h.new; is_entity = h.document; counts_are = h.counts_are; triples_are = refl }
+
+    after_meant : (t : Triple) → has triple_cmp t after ≡ has triple_cmp t (wanted_meaning wanted bytes)
+    after_meant = listed_meant wanted.version wanted.id wanted.rev (document_of wanted.id bytes) texts.counts after listed
+
+    pub parts_room : room_for (counts_in old) after ≡ room_for (counts_in old) (wanted_meaning wanted bytes)
+    parts_room = room_same (counts_in old) after (wanted_meaning wanted bytes) after_meant
+
+    -- the triples that the page changes came and went
+    parts_moved : (times : List ℕ) (done : TimedExchange) → AreTimesOf old gone times before → HasExchanged telling old new before after done
+        → HasSwapped telling old new gone wanted bytes (with_counts (Some texts.counts) done)
+    parts_moved times done its moved = record {
+      counts = λ triples k. exchanged_for old new gone before triples after (wanted_meaning wanted bytes) its.keys_of k after_meant moved.counts;
+      told = moved.told;
+      keys_are = keys_same new done.keys.rising.items after (wanted_meaning wanted bytes) after_meant moved.keys;
+      timed = record { triples = after; listed = listed; times_are = moved.times };
+      within = subst (λ n. n ≤ limit_of old) parts_room moved.within;
+    }
+
+-- what came and went by parts, where the times are known
+pub parts_swapped : (telling : Telling) (old new : StoreState) (gone : List Key) (times : List ℕ) (wanted : Wanted) (page : ChangedPage) (done : TimedExchange) (swapped : PageExchange)
+    → MaySwapParts old gone times wanted page → 0 < length times
+    → ((before after : List Triple) → AreTimesOf old gone times before → Becomes before after page.texts.gone page.texts.come → HasExchanged telling old new before after done)
+    → swapped ≡ with_counts (Some page.texts.counts) done
+    → HasSwapped telling old new gone wanted page.bytes swapped
+parts_swapped telling old new gone times wanted page done swapped h some moved is =
+    subst (HasSwapped telling old new gone wanted page.bytes) (sym is)
+    (parts_moved telling old new gone wanted page.bytes h.old_rev h.old page.texts h.changed times done (h.times_are some)
+    (moved (kept_list wanted.version wanted.id h.old_rev h.old) (kept_list wanted.version wanted.id wanted.rev h.changed.new) (h.times_are some) h.changed.becomes))
+
+-- and where there is no room
+pub parts_over : (telling : Telling) (old new : StoreState) (gone : List Key) (times : List ℕ) (wanted : Wanted) (page : ChangedPage) → MaySwapParts old gone times wanted page → 0 < length times
+    → ((before after : List Triple) → AreTimesOf old gone times before → Becomes before after page.texts.gone page.texts.come → limit_of old < room_for (counts_in old) after)
+    → limit_of old < room_for (counts_in old) (wanted_meaning wanted page.bytes)
+parts_over telling old new gone times wanted page h some over =
+    subst (λ n. limit_of old < n) (parts_room telling old new gone wanted page.bytes h.old_rev h.old page.texts h.changed)
+    (over (kept_list wanted.version wanted.id h.old_rev h.old) (kept_list wanted.version wanted.id wanted.rev h.changed.new) (h.times_are some) h.changed.becomes)
+
+-- a store that stays as it is keeps all
+pub rest_same : (s : StoreState) → IsSound s → KeepsRest s s
+rest_same s sound = record { keeps = record { kept = λ key t is _. is }; beside = λ p. refl; limit = refl; sound = sound }
+
+-- ---- what an entity holds, as it is compared with a page
+
+entity_same : (d : Option Document) (e f : Entity) → d ≡ Some (AnEntity e) → d ≡ Some (AnEntity f) → e ≡ f
+entity_same d e f one two = ap inside (sym one ∙ two)
+  where
+    inside : Option Document → Entity
+    inside None = e
+    inside (Some (AnEntity g)) = g
+    inside (Some (Redirect y)) = e
+    inside (Some (ALexeme l)) = e
+
+abbrev content_of : Option (Held Bytes) → Bytes
+content_of None = []
+content_of (Some h) = h.content
+
+abbrev revision_of : Option (Held Bytes) → ℕ
+revision_of None = 0
+revision_of (Some h) = h.revision
+
+-- the times of a held page are those of its triples, where the store keeps its keys
+times_there : (version : MappingVersion) (s s2 : StoreState) (f : PieceTexts) (x : EntityId) (held : Option (Held Kept)) (before : Held Bytes) (old : Entity)
+    → IsTimedHeld version s f x held → held_with f held ≡ Some before → document_of x before.content ≡ Some (AnEntity old)
+    → ((t : Triple) → has triple_cmp t (triples_held (meaning version) x (held_with f held)) ≡ true → 0 < count_of (counts_in s2) t)
+    → KeepsKeys s s2
+    → AreTimesIfKnown s2 (keys_held held) (times_held held) (kept_list version x before.revision old)
+times_there version s s2 f x None before old timed is document owned keeps = no_times_known s2 [] (kept_list version x before.revision old)
+times_there version s s2 f x (Some h) before old timed is document owned keeps = by h.content.times timed
+  where
+    by : (known : Option PageTimes) → IfSome known (IsTimed version s x h.revision (unwrap_or (f h.content.piece) []) h.content.keys.rising.items)
+        → AreTimesIfKnown s2 h.content.keys.rising.items (times_known known) (kept_list version x before.revision old)
+    by None timed = no_times_known s2 h.content.keys.rising.items (kept_list version x before.revision old)
+    by (Some known) timed =
+        let bytes : Bytes = unwrap_or (f h.content.piece) [] in
+        let entity : timed.listed.entity ≡ old =
+        entity_same (document_of x bytes) timed.listed.entity old timed.listed.is_entity (ap (document_of x) (ap content_of is) ∙ document) in
+        let list : timed.triples ≡ kept_list version x before.revision old =
+        timed.listed.triples_are ∙ ap (λ (e : Entity). kept_list version x h.revision e) entity ∙ ap (λ n. kept_list version x n old) (ap revision_of is) in
+        subst (AreTimesIfKnown s2 h.content.keys.rising.items known.times.items) list
+        (times_last_if_known s s2 h.content.keys.rising.items known.times.items timed.triples timed.times_are keeps
+        (λ t there. owned t (sym (listed_meant version x h.revision (document_of x bytes) known.counts timed.triples timed.listed t) ∙ there)))
+
+-- what is known of a held page
+has_entity : (version : MappingVersion) (s : StoreState) (f : PieceTexts) (x : EntityId) (held : Option (Held Kept)) (page : KnownPage)
+    → IsTimedHeld version s f x held → Some page.counts ≡ counts_held held → held_with f held ≡ Some (record { revision = page.rev; content = page.bytes.now }) → HasEntity x page
+has_entity version s f x None page timed counted is = absurd (true≢false (ap is_some counted))
+has_entity version s f x (Some h) page timed counted is = by h.content.times timed counted
+  where
+    by : (known : Option PageTimes) → IfSome known (IsTimed version s x h.revision (unwrap_or (f h.content.piece) []) h.content.keys.rising.items)
+        → Some page.counts ≡ option_map (λ (k : PageTimes). k.counts) known → HasEntity x page
+    by None timed counted = absurd (true≢false (ap is_some counted))
+    by (Some known) timed counted = record {
+      entity = timed.listed.entity;
+      document = ap (document_of x) (sym (ap content_of is)) ∙ timed.listed.is_entity;
+      counts_are = ap (λ o. unwrap_or o page.counts) counted ∙ timed.listed.counts_are;
+    }
+
+-- an entity that is named by a version holds by it
+version_named : (ids : ByVersion) (kept : KeptRecords) (x : EntityId) (version : MappingVersion) → AreBy ids kept → has entity_cmp x (held_by ids version) ≡ true → version_at ids.by_two x ≡ version
+version_named ids kept x Two h there = ap (λ b. cond b Two One) there
+version_named ids kept x One h there = by (has entity_cmp x ids.by_two) refl
+  where
+    by : (b : Bool) → has entity_cmp x ids.by_two ≡ b → version_at ids.by_two x ≡ One
+    by true is = absurd (true≢false (sym there ∙ h.once x is))
+    by false is = ap (λ b. cond b Two One) is
+
+pub known_is : (s : StoreState) (ids : ByVersion) (kept : KeptRecords) (x : EntityId) (version : MappingVersion) (page : KnownPage) → AreInStep s ids kept
+    → has entity_cmp x (held_by ids version) ≡ true → Some page.counts ≡ counts_held (kept_of kept x).held
+    → held_with (beside s) (kept_of kept x).held ≡ Some (record { revision = page.rev; content = page.bytes.now })
+    → IsKnownPage (seen s kept) ids.by_two version x page
+known_is s ids kept x version page h there counted is = record {
+  held = held_is s kept x ∙ is;
+  by_version = version_named ids kept x version h.by there;
+  has_entity = has_entity (version_at ids.by_two x) s (beside s) x (kept_of kept x).held page (h.timed x) counted is;
+}
+
+-- the same of a page, if there is one
+pub known_if : (s : StoreState) (ids : ByVersion) (kept : KeptRecords) (x : EntityId) (version : MappingVersion) (known : Option KnownPage) → AreInStep s ids kept
+    → has entity_cmp x (held_by ids version) ≡ true
+    → IfSome known (λ page. Some page.counts ≡ counts_held (kept_of kept x).held)
+    → IfSome known (λ page. held_with (beside s) (kept_of kept x).held ≡ Some (record { revision = page.rev; content = page.bytes.now }))
+    → IfSome known (IsKnownPage (seen s kept) ids.by_two version x)
+known_if s ids kept x version None h there counted is = tt
+known_if s ids kept x version (Some page) h there counted is = known_is s ids kept x version page h there counted is
+
+-- a page that was fetched may come once it has a place
+pub may_swap : (s s1 : StoreState) (ids : ByVersion) (kept : KeptRecords) (x : EntityId) (version : MappingVersion) (rev : ℕ) (wanted : Wanted) (page : FetchedPage) (keys : List Key) (times : List ℕ)
+    → AreInStep s ids kept → ((key : Key) (t : Triple) → HasKey s key t → HasKey s1 key t) → counts_in s1 ≡ counts_in s
+    → wanted ≡ record { id = x; rev = rev; version = version } → keys ≡ keys_held (kept_of kept x).held → times ≡ times_held (kept_of kept x).held
+    → IsFetched (seen s kept) ids.by_two version x rev page → MaySwap s1 keys times wanted page
+may_swap s s1 ids kept x version rev wanted page keys times h place_kept place_counts is keys_are times_are fetched =
+    subst (λ (w : Wanted). MaySwap s1 keys times w page) (sym is) (by page fetched)
+  where
+    by : (page : FetchedPage) → IsFetched (seen s kept) ids.by_two version x rev page → MaySwap s1 keys times (record { id = x; rev = rev; version = version }) page
+    by (Whole page) fetched = fetched
+    by (Changed page) fetched =
+        let change = fetched.change in
+        let held = (kept_of kept x).held in
+        let m = meaning_by meaning ids.by_two in
+        let owned : (t : Triple) → has triple_cmp t (triples_held (meaning version) x (held_with (beside s) held)) ≡ true → 0 < count_of (counts_in s1) t = λ t there.
+        let count : count_of (counts_in s1) t ≡ count_of (counts_in s) t = ap (λ c. count_of c t) place_counts in
+        let means : triples_held m x (held_with (beside s) held) ≡ triples_held (meaning version) x (held_with (beside s) held) =
+        own_meaning ids.by_two x (held_with (beside s) held) ∙ ap (λ (v : MappingVersion). triples_held (meaning v) x (held_with (beside s) held)) change.by_version in
+        let some : 0 < count_of (counts_in s) t = owned_kept m s kept h.kept x t (ap (has triple_cmp t) means ∙ there) in
+        omega arith in
+        record {
+          old_rev = change.before.revision;
+          old = change.old;
+          changed = change.changed;
+          times_are = subst (λ (ks : List Key). AreTimesIfKnown s1 ks times (kept_list version x change.before.revision change.old)) (sym keys_are)
+              (subst (λ (ns : List ℕ). AreTimesIfKnown s1 (keys_held held) ns (kept_list version x change.before.revision change.old)) (sym times_are)
+              (times_there version s s1 (beside s) x held change.before change.old
+              (subst (λ (v : MappingVersion). IsTimedHeld v s (beside s) x held) change.by_version (h.timed x))
+              (sym (held_is s kept x) ∙ change.held) change.document owned (record { kept = λ key t has _. place_kept key t has })));
+        }
