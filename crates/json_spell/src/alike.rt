@@ -4,6 +4,7 @@
 ghost use Rattle.std.specs.Prelude.{◌≤◌, length};
 
 use crate::bytes::{before, past, skip_ws};
+use crate::shared::shared_bytes;
 use std::simd::prelude::*;
 
 // How many bytes are looked at together.
@@ -192,9 +193,24 @@ fn step<'a>(walk: Walk<'a>, depth: usize, most: usize) -> Option<Walk<'a>> {
     Some(past_own(walk, gone, came))
 }
 
-// Whether half of the second text's bytes are in parts that the first one has at the same place, but for a few, before a fifth of them are in
-// others. Parts are the members of the objects that stand so many levels below the outermost one, and of those above them.
+// Whether half of the bytes of each text are in a few long stretches that both have.
+fn stretch_alike(old: &[u8], new: &[u8]) -> bool {
+    let enough = old.len().max(new.len()) / 2;
+    shared_bytes(old, new) > enough
+}
+
+// Whether half of the second text's bytes are in a few long stretches that the first one has, or else in parts that the first one has at the
+// same place, but for a few, before a fifth of them are in others. Parts are the members of the objects that stand so many levels below the
+// outermost one, and of those above them.
 pub(crate) fn are_alike(depth: usize, old: &[u8], new: &[u8]) -> bool {
+    if stretch_alike(old, new) {
+        return true;
+    }
+    walk_alike(depth, old, new)
+}
+
+// The same by the parts alone.
+fn walk_alike(depth: usize, old: &[u8], new: &[u8]) -> bool {
     let depth = depth.saturating_add(1);
     let most = new.len() / 5;
     let enough = new.len() / 2;

@@ -4,7 +4,7 @@
 //! a whole text. It stands on `deep`, which counts brackets, and on `value`, which reads the value; `number` and
 //! `string` read those two, `bytes` steps over white space, digits and the like, and `runs` over the plain bytes of
 //! strings, sixteen at a time. `differing` reads two texts, and tells what each has of its own; `spelled` reads the members of their maps,
-//! `known` those that are spelled the same, and `own` parts the others; `alike` tells by the bytes whether this is worth it. `laws` has what holds of the grammar itself.
+//! `known` those that are spelled the same, and `own` parts the others; `alike` and `shared` tell by the bytes whether this is worth it. `laws` has what holds of the grammar itself.
 #![tactic(auto)]
 
 mod alike;
@@ -19,6 +19,7 @@ mod number;
 mod own;
 mod reader;
 mod runs;
+mod shared;
 mod spelled;
 mod string;
 mod value;

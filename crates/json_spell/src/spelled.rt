@@ -172,7 +172,16 @@ fn behind(first: usize, twin: Option<usize>) -> usize {
     }
 }
 
-// The members of an object, after its opening brace, and what follows it. A value that is spelled as that of a member of the other object
+// Whether the member has the name of the last one before it.
+fn repeats(members: &[Spelled<'_, '_>], spelled: &Spelled<'_, '_>) -> bool {
+    match members {
+        [.., last] => last.member.key == spelled.member.key,
+        [] => false,
+    }
+}
+
+// The members of an object, after its opening brace, and what follows it. Where a name comes twice in a row they aren't read on: two such
+// objects aren't read in step. A value that is spelled as that of a member of the other object
 // with the same name isn't read again where that member stands near the twin of the member before.
 pub(crate) fn read_spelled_members<'b, 'a: 'b>(
     arena: &'b Bump,
@@ -195,6 +204,9 @@ pub(crate) fn read_spelled_members<'b, 'a: 'b>(
     let mut first = 0;
     loop {
         let (member, rest) = read_spelled_member(arena, levels, left, known, first)?;
+        if repeats(&members, &member) {
+            return Err(JsonFault::NotJson);
+        }
         first = behind(first, member.twin);
         members.push(member)?;
         let Some((byte, rest)) = next(rest) else {
