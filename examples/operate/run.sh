@@ -128,11 +128,17 @@ told "one replay over all, without watermarks and reconciliations, gives the sam
 
 # --- Questions over a named pipe ---
 
+label='<http://www.wikidata.org/entity/Q1> <http://www.w3.org/2000/01/rdf-schema#label> '
 {
   echo '{"ask":["<http://www.wikidata.org/entity/Q1>","<http://www.w3.org/2000/01/rdf-schema#label>","?"]}'
   echo '{"ask":["?","?","?"]}'
 } | ./ask.sh "$work/pages" "$work/events.jsonl" > "$work/answers.txt"
-grep -q "^# ask 2: $(wc -l < "$work/export.txt") triples" "$work/answers.txt" && grep -v '^#' "$work/answers.txt" | tail -n +2 | cmp -s - "$work/export.txt"
+{
+  echo "# ask 1: $(grep -cF "$label" "$work/export.txt") triples"
+  grep -F "$label" "$work/export.txt"
+  echo "# ask 2: $(wc -l < "$work/export.txt") triples"
+  cat "$work/export.txt"
+} | cmp -s - "$work/answers.txt"
 told "ask.sh answers at once: $(head -n 1 "$work/answers.txt")" $?
 
 # --- Step by step into a SPARQL store ---
