@@ -1,9 +1,10 @@
 # shellcheck shell=bash
 # How ./wdq builds the program of a checkout. ./wdq reads this file, and sets `here` and `program` before.
 # `is_built` tells whether the program is there and no source is newer; `build` makes it, and ends the script where that fails.
-# A build is a run of `rt ci` over a copy of the crates that the program stands on, without their must-fail edits. So rt chooses how many
-# proofs run side by side, by the processors and the memory that are free, and keeps each crate that it proved beside the toolchain: what a
-# build or a gate proved in one checkout, no other proves again.
+# There are two ways to build. A kit that keeps beside the toolchain what `rt ci` proved (rattle-kit-13f and later) runs `rt ci` over a copy
+# of the crates that the program stands on, without their must-fail edits. It chooses how many proofs run side by side, by the processors and
+# the memory that are free; what a build or a gate proved in one checkout, no other proves again. With an earlier kit that would prove all
+# crates each time, so `rt all check` proves them in the checkout, over what stands in their folders out/.
 : "${here:?}" "${program:?}"
 log=$here/build.log
 order=()
@@ -31,6 +32,11 @@ is_built() {
   [ -z "$(find "$here/crates.txt" "${folders[@]}" -newer "$program" -print -quit)" ]
 }
 
+# Whether the kit keeps beside the toolchain what `rt ci` proved.
+keeps_proofs() {
+  [[ $(rt version 2>/dev/null) > rattle-kit-13e ]]
+}
+
 # Copies the crates of the program into the folder `copy`, as a repository of its own.
 copy_crates() {
   local crate entry
@@ -45,11 +51,31 @@ copy_crates() {
   done
 }
 
+# Prints how much memory is available, in bytes: that of the machine, or less where a control group has a limit.
+available_memory() {
+  local group=/sys/fs/cgroup free limit used
+  free=$(awk '/^MemAvailable:/ { print $2 }' /proc/meminfo)
+  free=$((free * 1024))
+  if { read -r limit <"$group/memory.max" && read -r used <"$group/memory.current"; } 2>/dev/null && [ "$limit" != max ]; then
+    ((limit - used < free)) && free=$((limit - used))
+  fi
+  echo "$free"
+}
+
+# Prints how many crates `rt all check` proves side by side: WDQ_JOBS, or one a processor and at most one for each 3 GB of available memory.
+count_jobs() {
+  local jobs room
+  jobs=$(nproc)
+  room=$(($(available_memory) / 3000000000))
+  ((room < jobs)) && jobs=$room
+  echo "${WDQ_JOBS:-$((jobs < 1 ? 1 : jobs))}"
+}
+
 # Says how far the build is by the log: at a terminal on one line that is written over, elsewhere on a line each minute.
 tell_progress() {
   local minutes=$((SECONDS / 60)) unit=minutes finished text
   [ "$minutes" != 1 ] || unit=minute
-  finished=$(grep -cE '^rt: [a-z0-9_]+ (proved$|is kept: )' "$log")
+  finished=$(awk '/^== [a-z0-9_]+$/ && $2 != "summary" { seen[$2] } /^rt: [a-z0-9_]+ (proved$|is kept: )/ { seen[$2] } END { for (name in seen) n++; print n + 0 }' "$log")
   text="wdq: $finished of ${#order[@]} crates, $minutes $unit"
   if [ -t 2 ]; then
     printf '\r%s' "$text" >&2
@@ -71,14 +97,14 @@ interrupt_build() {
   wait "$builder" 2>/dev/null
   end_progress
   say 'the build was interrupted; the next one goes on where it stopped'
-  rm -rf "$copy"
+  [ -z "$copy" ] || rm -rf "$copy"
   trap - "$1"
   kill -s "$1" $$
 }
 
-# Proves and links the copy, with what rt says in the log, and says how far it is.
-prove_copy() {
-  (cd "$copy" && exec rt ci) </dev/null >>"$log" 2>&1 &
+# Runs rt with these words in a folder, with its output in the log, and says how far the build is.
+run_rt() {
+  (cd "$1" && shift && exec rt "$@") </dev/null >>"$log" 2>&1 &
   builder=$!
   trap 'interrupt_build INT' INT
   trap 'interrupt_build TERM' TERM
@@ -91,15 +117,31 @@ prove_copy() {
   wait "$builder"
 }
 
+# Proves and links the program in a copy of its crates.
+build_copy() {
+  copy=$(TMPDIR=${TMPDIR:-/var/tmp} mktemp -d) || give_up 'there is no room for a temporary folder'
+  [ -z "${WDQ_JOBS-}" ] || export RT_JOBS=$WDQ_JOBS
+  copy_crates && run_rt "$copy" ci && mkdir -p "${program%/*}" && mv "$copy/crates/wdq/out/wdq" "$program" || return 1
+  rm -rf "$copy"
+}
+
+# Proves and links the program in the checkout. `rt run` proves and links the program's own crate at once, so `rt all check` proves those
+# below it.
+build_here() {
+  run_rt "$here/crates/${order[-2]}" all check --jobs "$(count_jobs)" && run_rt "$here/crates/wdq" run -- replay && echo '== wdq' >>"$log"
+}
+
 # Ends after a build that failed, with the end of what rt said of the first crate that failed.
 give_up_build() {
   local crate
-  sed -i "s,$copy,$here,g" "$log"
-  rm -rf "$copy"
+  if [ -n "$copy" ]; then
+    sed -i "s,$copy,$here,g" "$log"
+    rm -rf "$copy"
+  fi
   end_progress
-  crate=$(sed -n 's/^rt: \([a-z0-9_]*\) NOT PROVED$/\1/p' "$log" | head -n 1)
+  crate=$(sed -nE 's/^rt: ([a-z0-9_]+) NOT PROVED$/\1/p; s/^([a-z0-9_]+): failed \(.*\)$/\1/p' "$log" | head -n 1)
   if [ -n "$crate" ]; then
-    sed -n "/^== $crate\$/,/^rt: $crate NOT PROVED\$/p" "$log" | tail -n 15 >&2
+    sed -nE "/^== $crate\$/,/^(rt: $crate NOT PROVED|== .*)\$/p" "$log" | grep -v '^== ' | tail -n 15 >&2
   else
     tail -n 15 "$log" >&2
   fi
@@ -107,20 +149,21 @@ give_up_build() {
 }
 
 build() {
-  local begun copy builder told=none jobs=
+  local begun copy='' builder told=none jobs=
   begun=$(date +%s.%N)
   command -v rt >/dev/null 2>&1 || give_up "the Rattle toolchain's command 'rt' is not on PATH; README.md names the kit"
   if [ -n "${WDQ_JOBS-}" ]; then
     [[ $WDQ_JOBS =~ ^[1-9][0-9]{0,3}$ ]] || give_up "WDQ_JOBS is a number from 1 to 9999, and not '$WDQ_JOBS'"
-    export RT_JOBS=$WDQ_JOBS
     jobs=", $WDQ_JOBS at a time"
   fi
   : >"$log" || give_up "$log can't be written"
-  copy=$(TMPDIR=${TMPDIR:-/var/tmp} mktemp -d) || give_up 'there is no room for a temporary folder'
   say "building: ${#order[@]} crates are proved$jobs"
   SECONDS=0
-  { copy_crates && prove_copy && mkdir -p "${program%/*}" && mv "$copy/crates/wdq/out/wdq" "$program"; } >>"$log" || give_up_build
-  rm -rf "$copy"
+  if keeps_proofs; then
+    build_copy || give_up_build
+  else
+    build_here || give_up_build
+  fi
   tell_progress
   end_progress
   # What was edited while it was built is newer than the program.

@@ -33,10 +33,25 @@ esac
 exit "$STAND_IN_STATUS"
 END
 
-# rt writes down its words, its jobs, and what the copy holds that it is run in. As RT_FAILS says, a crate isn't proved (crate), the program
-# doesn't run well (run), or the build sleeps.
+# rt says that it is of the kit RT_KIT, or one that keeps what `rt ci` proved. It writes down its words, its jobs, and what the copy holds
+# that it is run in. As RT_FAILS says, a crate isn't proved (crate), the program doesn't run well (run), or the build sleeps.
 cat >"$room/bin/rt" <<'END'
 #!/usr/bin/env bash
+if [ "$1" = version ]; then
+  echo "${RT_KIT:-rattle-kit-13f} logic 0"
+  exit
+fi
+if [ "$1" != ci ]; then
+  echo "${PWD##*/}: $*" >>"${ROOM:?}/calls"
+  [ "${RT_FAILS-}" != sleep ] || exec sleep 60
+  if [ "$1" = all ] && [ "${RT_FAILS-}" = crate ]; then
+    printf '== lower\n== upper\nlost in src\n== summary\nlower: ok\nupper: failed (1)\n1 of 2 crates ok\n'
+    exit 1
+  fi
+  [ "$1" = all ] && printf '== lower\n== upper\n== summary\nlower: ok\nupper: ok\n2 of 2 crates ok\n'
+  [ "$1" = run ] && mkdir -p out && cp "$ROOM/program" out/wdq
+  exit 0
+fi
 printf '%s\n' "$* ${RT_JOBS-any}" "$(cut -d: -f1 crates.txt | tr '\n' ' ')$(ls -d .git HANDLES crates/*/*  | tr '\n' ' ')" >>"${ROOM:?}/calls"
 pwd >"$ROOM/copy"
 case ${RT_FAILS-} in
@@ -333,6 +348,22 @@ wants 'the copy of a stopped build is gone' no "$([ -e "$(cat "$room/copy")" ] &
 in_interrupted_terminal "$room/calls" "RT_FAILS=sleep '$checkout/wdq' replay"
 wants 'Ctrl-C stops a build' 130 "${shown##*status }"
 shows 'Ctrl-C in a build' 'the build was interrupted'
+# A kit that keeps nothing of `rt ci`.
+export RT_KIT=rattle-kit-13b
+drop_program
+WDQ_JOBS=2 "$checkout/wdq" replay <events.jsonl >out 2>err
+wants 'a build in the checkout' '0 {"kind":"edit"}' "$? $(cat out)"
+wants 'how a build in the checkout calls rt' $'upper: all check --jobs 2\nwdq: run -- replay' "$(cat "$room/calls")"
+drop_program
+RT_FAILS=crate "$checkout/wdq" replay </dev/null >out 2>err
+wants 'a crate is not proved in the checkout' $'70 lost in src\nwdq: upper could not be built; the whole log is build.log' "$? $(tail -n 2 err)"
+drop_program
+RT_FAILS='sleep' "$checkout/wdq" replay </dev/null >out 2>err &
+wait_for "$room/calls"
+kill $!
+wait $!
+wants 'a build in the checkout is stopped' '143 wdq: the build was interrupted; the next one goes on where it stopped' "$? $(tail -n 1 err)"
+unset RT_KIT
 PATH=/usr/bin:/bin "$checkout/wdq" replay </dev/null >out 2>err
 wants 'there is no rt' '70 1' "$? $(grep -c "command 'rt' is not on PATH" err)"
 
