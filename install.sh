@@ -1,7 +1,7 @@
 #!/usr/bin/env bash
 # Installs wdq, and takes it away again:
 #   ./install.sh [PREFIX]            puts bin/wdq, libexec/wdq/wdq and share/man/man1/wdq.1 below PREFIX, /usr/local without one;
-#                                    builds the program first where it isn't built
+#                                    builds the program first if needed
 #   ./install.sh --remove [PREFIX]   takes these three files away
 here=$(cd "$(dirname "$(readlink -f "${BASH_SOURCE[0]}")")" && pwd) || exit 2
 files=(bin/wdq libexec/wdq/wdq share/man/man1/wdq.1)
@@ -12,7 +12,7 @@ refuse() {
 }
 
 install_files() {
-  # The smallest drill builds the program where it isn't built, and shows that it runs.
+  # The smallest drill builds the program if needed, and shows that it runs.
   "$here/wdq" drill --size 1 >/dev/null || refuse 'wdq was not built, or does not run' 1
   {
     install -D -m 755 "$here/wdq" "$prefix/bin/wdq" &&

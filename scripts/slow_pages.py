@@ -82,7 +82,7 @@ def repeated_key():
 
 
 def deep():
-    """nested as deep as pages may be, and anew and anew"""
+    """nested as deep as pages may be, again and again"""
     one = '[' * 61 + ']' * 61
     return '{"type":"item","id":"Q1","more":[' + ','.join([one] * (SIZE // (len(one) + 1))) + ']}'
 

@@ -1,6 +1,7 @@
 #!/bin/sh
 # The whole path of docs/FEEDING.md without a network: a stream of page changes becomes an event file, wdq replays it, what its side
 # output leaves in doubt is reconciled, and wdq replays again. Needs jq. Compares with expected.txt and says so.
+case ${1-} in -h | --help) sed -n '2,3s/^# \{0,1\}//p' "$0"; exit 0 ;; esac
 cd "$(dirname "$0")" || exit 2
 work=$(mktemp -d) || exit 2
 trap 'rm -rf "$work"' EXIT

@@ -2,6 +2,7 @@
 # Tries the scripts of this folder over a stream of 20,031 events (stream.awk): what parts give together is what one replay gives. It
 # says each step, and what is missing; needs jq, and Debian's package python3-distributed for the steps with Dask.
 # shellcheck disable=SC2086 # `words` is split into its words.
+case ${1-} in -h | --help) sed -n '2,3s/^# \{0,1\}//p' "$0"; exit 0 ;; esac
 cd "$(dirname "$0")" || exit 2
 wdq=$(readlink -f "${WDQ:-../../wdq}")
 work=$(mktemp -d) || exit 2

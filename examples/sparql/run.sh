@@ -8,7 +8,7 @@
 # this repository's wdq. Ends with 1 where a step went wrong.
 # shellcheck disable=SC2059,SC2086,SC2317 # words are split, formats have triples, and steps are called by name.
 cd "$(dirname "$0")" || exit 2
-case ${1-} in '') ;; *) sed -n '2,8s/^# \{0,1\}//p' run.sh; [ "$1" = -h ]; exit ;; esac
+case ${1-} in '') ;; *) sed -n '2,8s/^# \{0,1\}//p' run.sh; case $1 in -h | --help) exit 0 ;; *) exit 1 ;; esac ;; esac
 wdq=$(readlink -f "${WDQ:-../../wdq}")
 work=$(mktemp -d) || exit 2
 store=
