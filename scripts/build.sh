@@ -2,8 +2,8 @@
 # How ./wdq builds the program of a checkout. ./wdq reads this file, and sets `here` and `program` before.
 # `is_built` tells whether the program is there and no source is newer; `build` makes it, and ends the script where that fails.
 # A build is a run of `rt ci` over a copy of the crates that the program stands on, without their must-fail edits. So rt chooses how many
-# proofs run side by side, by the processors and the memory that are free, and keeps each crate that it proved beside the toolchain: what a
-# build or a gate proved in one checkout, no other proves again.
+# proofs run side by side, by the processors and the memory that are free. Kit 13f keeps each crate that it proved beside the toolchain: what a
+# build or a gate proved in one checkout, no other proves again. Kit 13b keeps nothing.
 : "${here:?}" "${program:?}"
 log=$here/build.log
 order=()
@@ -70,7 +70,7 @@ interrupt_build() {
   kill "$builder" 2>/dev/null
   wait "$builder" 2>/dev/null
   end_progress
-  say 'the build was interrupted; the next one goes on where it stopped'
+  say 'the build was interrupted'
   rm -rf "$copy"
   trap - "$1"
   kill -s "$1" $$

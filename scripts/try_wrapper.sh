@@ -328,7 +328,7 @@ RT_FAILS='sleep' "$checkout/wdq" replay </dev/null >out 2>err &
 wait_for "$room/calls"
 kill $!
 wait $!
-wants 'a build is stopped' '143 wdq: the build was interrupted; the next one goes on where it stopped' "$? $(tail -n 1 err)"
+wants 'a build is stopped' '143 wdq: the build was interrupted' "$? $(tail -n 1 err)"
 wants 'the copy of a stopped build is gone' no "$([ -e "$(cat "$room/copy")" ] && echo yes || echo no)"
 in_interrupted_terminal "$room/calls" "RT_FAILS=sleep '$checkout/wdq' replay"
 wants 'Ctrl-C stops a build' 130 "${shown##*status }"
