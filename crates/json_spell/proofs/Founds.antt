@@ -14,21 +14,24 @@ use Rattle.json_spell.specs.Reading.{after_byte, list_by, member_by, members_at,
 use Rattle.json_spell.specs.Nesting.{Nests}
 use Rattle.json_spell.specs.Differing.{AreApart, AreLess, Inside}
 use Rattle.json_spell.specs.Found.{AreDiffering, AreFound, AreNamed, MemberFound, MembersFound}
+use Rattle.json_spell.specs.Readable.{HasMember, HasMembers, HasValue}
 use Rattle.json_spell.specs.Spelled.{SpelledNests, spelled_view}
 use Rattle.json_spell.proofs.Complete.{text-sound}
 use Rattle.json_spell.proofs.Levels.{reads_low}
+use Rattle.json_spell.proofs.Readables.{member_has, object_has}
 use Rattle.json_spell.proofs.SpelledLists.{members_nest}
 use Rattle.json_spell.proofs.ValueSteps.{value_at-object}
 
 -- two maps, each less the members that both have
-pub less_found : (levels : ℕ) (inside : Texts) (found : Found) (olds news : List Spelled) (gone come : List Member)
+pub less_found : (levels : ℕ) (inside : Texts) (found : Found) (olds news own_old own_new : List Spelled) (gone come : List Member)
     → list_by no_pairs 0x7D members_at inside.old.now ≡ Some (pairs_of (map spelled_view olds), found.rests.old.now)
     → list_by no_pairs 0x7D members_at inside.new.now ≡ Some (pairs_of (map spelled_view news), found.rests.new.now)
     → json_view found.old ≡ object (pairs_of (map member_view gone)) → json_view found.new ≡ object (pairs_of (map member_view come))
     → AreApart (map spelled_view olds) → AreApart (map spelled_view news)
-    → Changes (map spelled_view olds) (map spelled_view news) (map member_view gone) (map member_view come) → All (SpelledNests levels) news
+    → Changes (map spelled_view olds) (map spelled_view news) (map spelled_view own_old) (map spelled_view own_new)
+    → map member_view gone ≡ map spelled_view own_old → map member_view come ≡ map spelled_view own_new → All (SpelledNests levels) news
     → MembersFound AreLess levels inside found
-less_found levels inside found olds news gone come old_read new_read gone_is come_is old_apart new_apart changes nest =
+less_found levels inside found olds news own_old own_new gone come old_read new_read gone_is come_is old_apart new_apart changes gone_read come_read nest =
     record {
       olds = pairs_of (map spelled_view olds);
       news = pairs_of (map spelled_view news);
@@ -41,12 +44,12 @@ less_found levels inside found olds news gone come old_read new_read gone_is com
       holds = record {
         old = map spelled_view olds;
         new = map spelled_view news;
-        gone = map member_view gone;
-        come = map member_view come;
+        gone = map spelled_view own_old;
+        come = map spelled_view own_new;
         old_is = refl;
         new_is = refl;
-        gone_is = refl;
-        come_is = refl;
+        gone_is = ap pairs_of gone_read;
+        come_is = ap pairs_of come_read;
         changes = changes;
         old_apart = old_apart;
         new_apart = new_apart;
@@ -75,9 +78,10 @@ object-read s inside ps r opened read =
 
 -- two objects, by what their members have of their own; `ended` is what was found, without the white space behind it
 pub object_found : (depth levels n : ℕ) (texts inside : Texts) (found ended : Found) → levels ≡ suc n → skip is_ws texts.old.now ≡ 0x7B ∷ inside.old.now → skip is_ws texts.new.now ≡ 0x7B ∷ inside.new.now
-    → MembersFound (Inside depth) n inside found → json_view ended.old ≡ json_view found.old → json_view ended.new ≡ json_view found.new
-    → ended.rests.old.now ≡ skip is_ws found.rests.old.now → ended.rests.new.now ≡ skip is_ws found.rests.new.now → AreFound depth levels texts ended
-object_found depth levels n texts inside found ended deeper old_opened new_opened f old_is new_is old_rest new_rest =
+    → (HasMembers n inside.old.now → MembersFound (Inside depth) n inside found) → json_view ended.old ≡ json_view found.old → json_view ended.new ≡ json_view found.new
+    → ended.rests.old.now ≡ skip is_ws found.rests.old.now → ended.rests.new.now ≡ skip is_ws found.rests.new.now → HasValue levels texts.old.now → AreFound depth levels texts ended
+object_found depth levels n texts inside found ended deeper old_opened new_opened told old_is new_is old_rest new_rest has =
+    let f = told (object_has n texts.old.now inside.old.now old_opened (subst (λ (m : ℕ). HasValue m texts.old.now) deeper has)) in
     record {
       old = object f.olds;
       new = object f.news;
@@ -101,10 +105,11 @@ object_found depth levels n texts inside found ended deeper old_opened new_opene
 member-read : (s r rest q name : List ℕ) (t : Tree) → spaced name_at s ≡ Some (name, r) → after_byte 0x3A r ≡ Some rest → spaced value_at rest ≡ Some (t, q) → member_by value_at s ≡ Some ((name, t), q)
 member-read s r rest q name t named colon read = rw (named, colon, read) refl
 
-pub member_found : (depth levels : ℕ) (texts : Texts) (named : Named) (found : Found) (paired : Paired) → AreNamed texts named → AreFound depth levels named.rests found
+pub member_found : (depth levels : ℕ) (texts : Texts) (named : Named) (found : Found) (paired : Paired) → AreNamed texts named → (HasValue levels named.rests.old.now → AreFound depth levels named.rests found)
     → member_view paired.old ≡ (named.name.now, json_view found.old) → member_view paired.new ≡ (named.name.now, json_view found.new)
-    → paired.rests.old.now ≡ found.rests.old.now → paired.rests.new.now ≡ found.rests.new.now → MemberFound depth levels texts paired
-member_found depth levels texts named found paired n f old_is new_is old_rest new_rest =
+    → paired.rests.old.now ≡ found.rests.old.now → paired.rests.new.now ≡ found.rests.new.now → HasMember levels texts.old.now → MemberFound depth levels texts paired
+member_found depth levels texts named found paired n told old_is new_is old_rest new_rest has =
+    let f = told (member_has levels texts.old.now n.old_rest named.rests.old.now named.name.now n.old_name n.old_colon has) in
     record {
       name = named.name.now;
       old = f.old;

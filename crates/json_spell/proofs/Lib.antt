@@ -27,3 +27,7 @@ pub mod Founds
 pub mod Nested
 pub mod Lanes
 pub mod PlainRuns
+pub mod Lows
+pub mod Skims
+pub mod SpelledTexts
+pub mod Readables

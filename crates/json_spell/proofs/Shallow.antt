@@ -41,7 +41,7 @@ step x o c r stays low = rw low (ap (λ p. deep_from p (o + cond (is_opening x) 
 abbrev pub calm : ℕ → Bool
 calm x = not ((x == 0x22) || (is_opening x || is_closing x))
 
-none-of : (a b c : Bool) → not (a || (b || c)) ≡ true → (a ≡ false) × (b ≡ false) × (c ≡ false)
+pub none-of : (a b c : Bool) → not (a || (b || c)) ≡ true → (a ≡ false) × (b ≡ false) × (c ≡ false)
 none-of false false false e = (refl, refl, refl)
 none-of true b c e = absurd cc
 none-of false true c e = absurd cc
@@ -55,10 +55,6 @@ passes-byte n x quiet o c r low =
     let stays : position_after Outside x ≡ Outside = rw (no.0) refl in
     let below : nat_lt (c + cond (is_closing x) 1 0 + 64) (o + cond (is_opening x) 1 0) ≡ false = grind (arith, nat_tests, opens, closes, low) in
     record { opened = o + cond (is_opening x) 1 0; closed = c + cond (is_closing x) 1 0; same = omega (arith, opens, closes); is = step x o c r stays below }
-
-pub passes-each : (test : ℕ → Bool) → ((x : ℕ) → test x ≡ true → calm x ≡ true) → (n : ℕ) (xs : List ℕ) → EachPasses test xs → Passes n xs
-passes-each test quiet n [] h = passes-none n
-passes-each test quiet n (x ∷ xs) h = passes-append n (x ∷ []) xs (passes-byte n x (quiet x h.0)) (passes-each test quiet n xs h.1)
 
 -- a text in brackets takes one level
 pub passes-brackets : (a b n : ℕ) (x : List ℕ) → position_after Outside a ≡ Outside → position_after Outside b ≡ Outside → ◌≡◌ {A = ℕ} (cond (is_opening a) 1 0) 1 → ◌≡◌ {A = ℕ} (cond (is_closing a) 1 0) 0
@@ -85,33 +81,35 @@ inside-step x o c r h =
     let stays : position_after Inside x ≡ Inside = rw (no_mark, no_backslash) refl in
     ap (λ p. deep_from p o c r) stays
 
-inside-run : (xs : List ℕ) (o c : ℕ) (r : List ℕ) → EachPasses is_unescaped xs → deep_from Inside o c (xs ++ r) ≡ deep_from Inside o c r
-inside-run [] o c r h = refl
-inside-run (x ∷ xs) o c r h = inside-step x o c (xs ++ r) h.0 ∙ inside-run xs o c r h.1
-
-digit-unescaped : (x : ℕ) → is_digit x 16 ≡ true → is_unescaped x ≡ true
-digit-unescaped x h = grind (arith, nat_tests)
-
 escaped-byte : (x o c : ℕ) (r : List ℕ) → deep_from Inside o c (0x5C ∷ x ∷ r) ≡ deep_from Inside o c r
 unfolding deep_from
 escaped-byte x o c r = refl
 
-inside-unit : (a b d e u o c : ℕ) (r : List ℕ) → code_unit a b d e ≡ Some u → deep_from Inside o c (0x5C ∷ 0x75 ∷ a ∷ b ∷ d ∷ e ∷ r) ≡ deep_from Inside o c r
-unfolding code_unit
-inside-unit a b d e u o c r is =
-    let digits = all-four (is_digit a 16) (is_digit b 16) (is_digit d 16) (is_digit e 16) (guarded _ is).0 in
-    escaped-byte 0x75 o c (a ∷ b ∷ d ∷ e ∷ r)
-    ∙ inside-run (a ∷ b ∷ d ∷ e ∷ []) o c r (digit-unescaped a digits.0, (digit-unescaped b digits.1, (digit-unescaped d digits.2, (digit-unescaped e digits.3, tt))))
+digit-unescaped : (x : ℕ) → is_digit x 16 ≡ true → is_unescaped x ≡ true
+digit-unescaped x h = grind (arith, nat_tests)
 
-inside-char : (p : Char) (o c : ℕ) (r : List ℕ) → IsChar p → deep_from Inside o c (spelled p ++ r) ≡ deep_from Inside o c r
-inside-char (unescaped k) o c r h = inside-run (encode_utf8 k) o c r (unescaped-bytes k h.1)
-inside-char (short x k) o c r h = escaped-byte x o c r
-inside-char (unicode a b d e u) o c r h = inside-unit a b d e u o c r h.0
-inside-char (surrogates a b d e u f g k l v) o c r h = inside-unit a b d e u o c (0x5C ∷ 0x75 ∷ f ∷ g ∷ k ∷ l ∷ r) h.0 ∙ inside-unit f g k l v o c r h.2
+-- what goes over the bytes that stand for themselves, and over a backslash with the byte after it, goes over the content of a string
+module _ {A : Type 0} (f : List ℕ → A) (plain : (x : ℕ) (r : List ℕ) → is_unescaped x ≡ true → f (x ∷ r) ≡ f r) (escaped : (x : ℕ) (r : List ℕ) → f (0x5C ∷ x ∷ r) ≡ f r) where
+  inside-run : (xs r : List ℕ) → EachPasses is_unescaped xs → f (xs ++ r) ≡ f r
+  inside-run [] r h = refl
+  inside-run (x ∷ xs) r h = plain x (xs ++ r) h.0 ∙ inside-run xs r h.1
 
-inside-chars : (ps : List Char) (o c : ℕ) (r : List ℕ) → AreChars ps → deep_from Inside o c (all_spelled ps ++ r) ≡ deep_from Inside o c r
-inside-chars [] o c r h = refl
-inside-chars (p ∷ ps) o c r h = ap (deep_from Inside o c) (append_assoc (spelled p) (all_spelled ps) r) ∙ inside-char p o c (all_spelled ps ++ r) h.0 ∙ inside-chars ps o c r h.1
+  inside-unit : (a b d e u : ℕ) (r : List ℕ) → code_unit a b d e ≡ Some u → f (0x5C ∷ 0x75 ∷ a ∷ b ∷ d ∷ e ∷ r) ≡ f r
+  unfolding code_unit
+  inside-unit a b d e u r is =
+      let digits = all-four (is_digit a 16) (is_digit b 16) (is_digit d 16) (is_digit e 16) (guarded _ is).0 in
+      escaped 0x75 (a ∷ b ∷ d ∷ e ∷ r)
+      ∙ inside-run (a ∷ b ∷ d ∷ e ∷ []) r (digit-unescaped a digits.0, (digit-unescaped b digits.1, (digit-unescaped d digits.2, (digit-unescaped e digits.3, tt))))
+
+  inside-char : (p : Char) (r : List ℕ) → IsChar p → f (spelled p ++ r) ≡ f r
+  inside-char (unescaped k) r h = inside-run (encode_utf8 k) r (unescaped-bytes k h.1)
+  inside-char (short x k) r h = escaped x r
+  inside-char (unicode a b d e u) r h = inside-unit a b d e u r h.0
+  inside-char (surrogates a b d e u g k l m v) r h = inside-unit a b d e u (0x5C ∷ 0x75 ∷ g ∷ k ∷ l ∷ m ∷ r) h.0 ∙ inside-unit g k l m v r h.2
+
+  pub inside-chars : (ps : List Char) (r : List ℕ) → AreChars ps → f (all_spelled ps ++ r) ≡ f r
+  inside-chars [] r h = refl
+  inside-chars (p ∷ ps) r h = ap f (append_assoc (spelled p) (all_spelled ps) r) ∙ inside-char p (all_spelled ps ++ r) h.0 ∙ inside-chars ps r h.1
 
 -- the marks of a string
 mark-opens : (o c : ℕ) (r : List ℕ) → o ≤ c + 64 → deep_from Outside o c (0x22 ∷ r) ≡ deep_from Inside (o + 0) (c + 0) r
@@ -131,6 +129,6 @@ passes-string n m x h o c r low =
       is = ap (λ q. deep_from Outside o c (q ++ r)) h.text_is
           ∙ ap (λ q. deep_from Outside o c (0x22 ∷ q)) (append_assoc (all_spelled h.chars) (0x22 ∷ []) r)
           ∙ mark-opens o c (all_spelled h.chars ++ 0x22 ∷ r) (omega (arith, low))
-          ∙ inside-chars h.chars (o + 0) (c + 0) (0x22 ∷ r) h.are_chars
+          ∙ inside-chars (deep_from Inside (o + 0) (c + 0)) (λ x q. inside-step x (o + 0) (c + 0) q) (λ x q. escaped-byte x (o + 0) (c + 0) q) h.chars (0x22 ∷ r) h.are_chars
           ∙ mark-closes (o + 0) (c + 0) r;
     }

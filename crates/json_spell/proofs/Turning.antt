@@ -11,10 +11,12 @@ use Rattle.json_spell.specs.View.{json_view, member_view, pairs_of}
 use Rattle.json_spell.specs.Grammar.{is_ws}
 use Rattle.json_spell.specs.Reading.{add_pair, after_byte, closed, list_by, member_by, members_at, read_map, skip, value_at}
 use Rattle.json_spell.specs.Nesting.{MembersNest}
+use Rattle.json_spell.specs.Readable.{HasMembers, HasMore}
 use Rattle.json_spell.specs.Differing.{Differ, InTurn, Row}
 use Rattle.json_spell.specs.Found.{MemberFound, MembersFound}
 use Rattle.json_spell.proofs.ListSteps.{onto, so-closed, so-more}
 use Rattle.json_spell.proofs.Nested.{members-push}
+use Rattle.json_spell.proofs.Readables.{open_has}
 use Rattle.json_spell.proofs.SpelledLists.{pairs-onto}
 use Rattle.json_spell.proofs.ValueSteps.{members_at-is}
 
@@ -52,7 +54,7 @@ nothing-before : {L : Type 0} (o : Option (L × List ℕ)) → read_map (λ (l :
 nothing-before None = refl
 nothing-before (Some p) = refl
 
-pub turns_none : (depth levels : ℕ) (inside : Texts) → Turns depth levels inside inside [] []
+turns_none : (depth levels : ℕ) (inside : Texts) → Turns depth levels inside inside [] []
 turns_none depth levels inside =
     record {
       rows = [];
@@ -63,6 +65,11 @@ turns_none depth levels inside =
       holds = tt;
       nest = tt;
     }
+
+-- before the first member
+pub turns_begin : (depth levels : ℕ) (inside : Texts) → after_byte 0x7D (skip is_ws inside.old.now) ≡ None → HasMembers levels inside.old.now
+    → Turns depth levels inside inside [] [] × HasMore levels inside.old.now
+turns_begin depth levels inside more has = (turns_none depth levels inside, open_has levels inside.old.now more has)
 
 -- a list that doesn't close at once
 pub open-list : (s : List ℕ) → after_byte 0x7D (skip is_ws s) ≡ None → list_by no_pairs 0x7D members_at s ≡ members_at s

@@ -17,3 +17,5 @@ pub mod Closed
 pub mod Spelled
 pub mod Differing
 pub mod Found
+pub mod Brackets
+pub mod Readable

@@ -1,18 +1,32 @@
 -- Members of an object with the texts of their values, beside those of another object.
-use Rattle.std.specs.Prelude.{◌≡◌, ℕ, ◌<◌, List, length, get_or, Option, Some, None}
+use Rattle.std.specs.Prelude.{◌≡◌, ℕ, ◌<◌, List, length, get_or, true, IsTrue, Option, Some, None}
 use Rattle.json_spell.specs.declared.spelled.Spelled.{Spelled}
-use Rattle.json_spell.specs.Tree.{Tree}
+use Rattle.json_spell.specs.Tree.{Tree, null}
+use Rattle.json_spell.specs.Closed.{ends_itself}
 use Rattle.json_spell.specs.Grammar.{IsValue}
 use Rattle.json_spell.specs.Nesting.{Nests}
-use Rattle.json_spell.specs.View.{member_view}
+use Rattle.json_spell.specs.Reading.{spaced, value_at}
+
+-- what was read, or `null` where nothing was
+abbrev pub read_or_null : Option (Tree × List ℕ) → Tree
+read_or_null None = null
+read_or_null (Some p) = p.0
+
+-- the value that a text begins with, or `null` where it begins with none
+unfoldable pub tree_of : List ℕ → Tree
+tree_of text = read_or_null (spaced value_at text)
 
 -- the name of a member, and the tree of its value
 abbrev pub spelled_view : Spelled → List ℕ × Tree
-spelled_view s = member_view s.member
+spelled_view s = (s.key.now, tree_of s.text.now)
 
--- the text is that of the value
-abbrev pub IsSpelled : Spelled → Type 0
-IsSpelled s = IsValue (spelled_view s).1 s.text.now
+-- the text is that of a value, which ends by itself
+abbrev pub IsEnclosed : List ℕ → Type 0
+IsEnclosed text = (ends_itself (tree_of text) ≡ true) × IsValue (tree_of text) text
+
+-- so it is where the member says so
+abbrev pub IsKnown : Spelled → Type 0
+IsKnown s = IsTrue s.closed → IsEnclosed s.text.now
 
 -- the value nests no more levels than so many
 abbrev pub SpelledNests : ℕ → Spelled → Type 0

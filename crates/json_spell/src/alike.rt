@@ -3,12 +3,9 @@
 
 ghost use Rattle.std.specs.Prelude.{◌≤◌, length};
 
-use crate::bytes::{before, past, skip_ws};
+use crate::brackets::to_mark;
+use crate::bytes::{before, skip_ws};
 use crate::shared::shared_bytes;
-use std::simd::prelude::*;
-
-// How many bytes are looked at together.
-const LANES: usize = 16;
 
 // Where a text goes on, the part before, and how many brackets are open there. A part is a member with the comma before it, or a closing bracket.
 #[derive(Clone, Copy)]
@@ -25,47 +22,6 @@ struct Walk<'a> {
     new: Place<'a>,
     shared: usize,
     own: usize,
-}
-
-// Which of the first sixteen bytes are quotation marks or backslashes, each as a bit.
-#[inline(always)]
-fn marks(bytes: &[u8]) -> u64
-    requires { 16 ≤ length bytes.now }
-{
-    let lanes = u8x16::from_slice(bytes);
-    let found = lanes.simd_eq(u8x16::splat(b'"')) | lanes.simd_eq(u8x16::splat(b'\\'));
-    found.to_bitmask()
-}
-
-// The same as below, a byte at a time.
-#[inline(never)]
-fn to_mark_slowly(bytes: &[u8]) -> &[u8]
-    ensures { length result.now ≤ length bytes.now }
-{
-    let mut left = bytes;
-    while let [byte, rest @ ..] = left {
-        if *byte == b'"' || *byte == b'\\' {
-            return left;
-        }
-        left = rest;
-    }
-    left
-}
-
-// The bytes from the first quotation mark or backslash on.
-#[inline(always)]
-fn to_mark(bytes: &[u8]) -> &[u8]
-    ensures { length result.now ≤ length bytes.now }
-{
-    let mut left = bytes;
-    while left.len() >= LANES {
-        let found = marks(left);
-        if found != 0 {
-            return past(left, (found.trailing_zeros() as usize).min(LANES));
-        }
-        left = past(left, LANES);
-    }
-    to_mark_slowly(left)
 }
 
 // What follows a string, after its opening quotation mark, and strings right behind it that a colon parts, or a comma where it ends no part.

@@ -25,7 +25,7 @@ impl Position {
     }
 }
 
-fn is_opening(byte: u8) -> bool
+pub(crate) fn is_opening(byte: u8) -> bool
     ensures { result ≡ is_opening byte }
 {
     byte == b'[' || byte == b'{'

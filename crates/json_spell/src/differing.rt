@@ -6,13 +6,18 @@ ghost use Rattle.json_spell.specs.Found.{AreDiffering, AreFound, AreNamed, Membe
 ghost use Rattle.json_spell.specs.Reading.{after_byte, skip, spaced, value_at};
 ghost use Rattle.json_spell.specs.Grammar.{is_ws};
 ghost use Rattle.json_spell.specs.Nesting.{Nests};
+ghost use Rattle.json_spell.specs.Readable.{HasMember, HasMembers, HasValue};
+ghost use Rattle.json_spell.specs.Tree.{Tree};
+ghost use Rattle.json_spell.specs.Deep.{IsDeep};
+ghost use Rattle.json_spell.specs.Grammar.{Reads};
 ghost use Rattle.json_spell.specs.View.{json_view, member_view};
 
 use crate::alike::are_alike;
 use crate::bytes::{after_byte, next, skip_ws};
 use crate::json::{Json, Member};
-use crate::own::{are_apart, own_members};
+use crate::own::{are_apart, own_members, read_own};
 use crate::reader::LEVELS;
+use crate::scanned::scan_members;
 use crate::spelled::read_spelled_members;
 use crate::value::{read_name, read_spaced};
 use bumpalo::Bump;
@@ -107,10 +112,10 @@ fn less_members<'b, 'a: 'b>(
     levels: usize,
     inside: Texts<'a>,
 ) -> Option<Found<'b, 'a>>
-    ensures found { IfSome result (MembersFound AreLess levels inside.entry) }
+    ensures found { HasMembers levels inside.entry.old.now → IfSome result (MembersFound AreLess levels inside.entry) }
     ensures no_longer { IfSome result (λ found. length found.rests.new.now ≤ length inside.entry.new.now) }
 {
-    let (olds, old_rest) = read_spelled_members(arena, levels, inside.old, &[]).ok()?;
+    let (olds, old_rest) = scan_members(arena, levels, inside.old).ok()?;
     if !are_apart(alloc, olds).ok()? {
         return None;
     }
@@ -119,13 +124,15 @@ fn less_members<'b, 'a: 'b>(
         return None;
     }
     let own = own_members(arena, olds, news).ok()?;
+    let gone = read_own(arena, levels, own.gone)?;
+    let come = read_own(arena, levels, own.come)?;
     let rests = Texts {
         old: old_rest,
         new: new_rest,
     };
     Some(Found {
-        old: Json::Members(own.gone),
-        new: Json::Members(own.come),
+        old: Json::Members(gone),
+        new: Json::Members(come),
         rests,
     })
 }
@@ -195,7 +202,7 @@ fn pair_member<'b, 'a: 'b>(
     levels: usize,
     texts: Texts<'a>,
 ) -> Option<Paired<'b, 'a>>
-    ensures found { IfSome result (MemberFound depth levels texts.entry) }
+    ensures found { HasMember levels texts.entry.old.now → IfSome result (MemberFound depth levels texts.entry) }
     ensures no_longer { IfSome result (λ paired. length paired.rests.new.now ≤ length texts.entry.new.now) }
 {
     let named = name_of_both(arena, texts)?;
@@ -204,7 +211,7 @@ fn pair_member<'b, 'a: 'b>(
 }
 
 // The members of two objects, after their opening braces. Both have the same names in the same order.
-#[tactic(auto, using(crate::proofs::Turning::turns_none))]
+#[tactic(auto, using(crate::proofs::Turning::turns_begin))]
 #[cycle(pair)]
 fn pair_members<'b, 'a: 'b>(
     arena: &'b Bump,
@@ -213,7 +220,7 @@ fn pair_members<'b, 'a: 'b>(
     levels: usize,
     inside: Texts<'a>,
 ) -> Option<Found<'b, 'a>>
-    ensures found { IfSome result (MembersFound (InTurn (Differs (Inside depth))) levels inside.entry) }
+    ensures found { HasMembers levels inside.entry.old.now → IfSome result (MembersFound (InTurn (Differs (Inside depth))) levels inside.entry) }
     ensures no_longer { IfSome result (λ found. length found.rests.new.now ≤ length inside.entry.new.now) }
 {
     if closes(inside.old) || closes(inside.new) {
@@ -250,7 +257,7 @@ fn pair_inside<'b, 'a: 'b>(
     levels: usize,
     inside: Texts<'a>,
 ) -> Option<Found<'b, 'a>>
-    ensures found { IfSome result (MembersFound (Inside depth) levels inside.entry) }
+    ensures found { HasMembers levels inside.entry.old.now → IfSome result (MembersFound (Inside depth) levels inside.entry) }
     ensures no_longer { IfSome result (λ found. length found.rests.new.now ≤ length inside.entry.new.now) }
 {
     if depth == 0 {
@@ -269,7 +276,7 @@ fn pair_value<'b, 'a: 'b>(
     levels: usize,
     texts: Texts<'a>,
 ) -> Option<Found<'b, 'a>>
-    ensures found { IfSome result (AreFound depth levels texts.entry) }
+    ensures found { HasValue levels texts.entry.old.now → IfSome result (AreFound depth levels texts.entry) }
     ensures no_longer { IfSome result (λ found. length found.rests.new.now ≤ length texts.entry.new.now) }
 {
     let Some(inside) = opened(texts) else {
@@ -283,9 +290,11 @@ fn pair_value<'b, 'a: 'b>(
 }
 
 /// The values of two texts, each without the members that both have in their maps: in the objects that stand so many levels below the
-/// outermost one. A member is left out where both maps have it in one order, with a value of the same spelling; all else stays.
-/// None where the texts share less than about half of their bytes in such members, where a text isn't read, where an object above the maps
-/// has other names or another order of them in the second text, where a map has a name twice, or where memory is refused. What of the values isn't a part of a text is put into the arena.
+/// outermost one. A member is left out where both maps have it in one order, with a value of the same spelling; all else stays. What stands in
+/// brackets in the maps of the first text is gone over and not read, so nothing is promised where that text has no value, or one that is deep.
+/// None where the texts share less than about half of their bytes, where what is read is no value, where an object above the maps has other
+/// names or another order of them in the second text, where a map has a name twice, where most of a map changes, or where memory is refused.
+/// What of the values isn't a part of a text is put into the arena.
 pub fn read_differing<'b, 'a: 'b>(
     arena: &'b Bump,
     alloc: Global,
@@ -293,7 +302,7 @@ pub fn read_differing<'b, 'a: 'b>(
     old: &'a [u8],
     new: &'a [u8],
 ) -> Option<Differing<'b, 'a>>
-    ensures { IfSome result (AreDiffering depth old.now new.now) }
+    ensures { (t : Tree) → Reads old.now t → ¬ (IsDeep old.now) → IfSome result (AreDiffering depth old.now new.now) }
 {
     if !are_alike(depth, old, new) {
         return None;

@@ -1,14 +1,12 @@
 // Values that a text may have as another text has them.
 
-ghost use Rattle.std.specs.Prelude.{◌≡◌, ◌≤◌, length, true, Some, IfSome, IsTrue};
+ghost use Rattle.std.specs.Prelude.{◌≡◌, ◌≤◌, length, true, Some, IfSome};
 ghost use Rattle.json_spell.specs.Tree.{Tree};
 ghost use Rattle.json_spell.specs.Closed.{ends_itself};
 ghost use Rattle.json_spell.specs.Grammar.{IsValue};
 ghost use Rattle.json_spell.specs.Reading.{spaced, value_at};
-ghost use Rattle.json_spell.specs.View.{json_view};
 
 use crate::bytes::skip_ws;
-use crate::json::Json;
 
 // What follows a value with white space around it that is spelled as `known`: an array, an object or a string, whole. What such
 // a text is a value of is what the text has there.
@@ -18,14 +16,4 @@ pub(crate) fn after_known<'a>(bytes: &'a [u8], known: &[u8]) -> Option<&'a [u8]>
 {
     let rest = skip_ws(bytes).strip_prefix(known)?;
     Some(skip_ws(rest))
-}
-
-// Whether the value's text ends by itself, whatever follows.
-pub(crate) fn ends_itself(json: &Json<'_, '_>) -> bool
-    ensures { IsTrue result → ends_itself (json_view json.now) ≡ true }
-{
-    match json {
-        Json::Str(_) | Json::Made(_) | Json::Items(_) | Json::Members(_) => true,
-        Json::Null | Json::Bool(_) | Json::Number(_) => false,
-    }
 }

@@ -4,10 +4,11 @@ ghost use Rattle.std.specs.Prelude.{All, ◌≡◌, ◌<◌, ◌≤◌, true, le
 ghost use Rattle.merging.specs.Merging.{Changes, Merges};
 ghost use Rattle.json_spell.specs.Differing.{AreApart, Members, has_name};
 ghost use Rattle.json_spell.specs.Spelled.{HasTwin, spelled_view};
-ghost use Rattle.json_spell.specs.View.{member_view};
+ghost use Rattle.json_spell.specs.View.{json_view, member_view};
 
-use crate::json::Member;
+use crate::json::{Json, Member};
 use crate::spelled::Spelled;
+use crate::value::read_spaced;
 use base::OutOfMemory;
 use bumpalo::Bump;
 use bumpalo::collections::into_bump_slice;
@@ -20,15 +21,15 @@ const FEW: usize = 32;
 // The members of each object that the other doesn't have.
 #[derive(Clone, Copy)]
 pub(crate) struct Own<'b, 'a> {
-    pub(crate) gone: &'b [Member<'b, 'a>],
-    pub(crate) come: &'b [Member<'b, 'a>],
+    pub(crate) gone: &'b [Spelled<'b, 'a>],
+    pub(crate) come: &'b [Spelled<'b, 'a>],
 }
 
 // The name of a member.
 fn name_of<'b>(spelled: &Spelled<'b, '_>) -> &'b str
     ensures { result.now ≡ (spelled_view spelled.now).0 }
 {
-    spelled.member.key
+    spelled.key
 }
 
 // Whether some member has the name.
@@ -37,7 +38,7 @@ fn has_name(members: &[Spelled<'_, '_>], name: &str) -> bool
 {
     let mut left = members;
     while let [spelled, rest @ ..] = left {
-        if spelled.member.key == name {
+        if spelled.key == name {
             return true;
         }
         left = rest;
@@ -87,17 +88,17 @@ fn many_are_apart(alloc: Global, members: &[Spelled<'_, '_>]) -> Result<bool, Ou
 
 // Puts the members from an index up to another at the end: they are gone.
 fn push_gone<'b, 'a>(
-    gone: &mut Vec<Member<'b, 'a>, &'b Bump>,
+    gone: &mut Vec<Spelled<'b, 'a>, &'b Bump>,
     olds: &[Spelled<'b, 'a>],
     first: usize,
     end: usize,
 ) -> Result<(), OutOfMemory>
     requires rises { first ≤ end }
     requires within { end ≤ length olds.now }
-    ensures { OnOk result ((common : Members) → Merges common (map member_view gone.old.items) (map spelled_view (take first olds.now)) → Merges common (map member_view gone.new.items) (map spelled_view (take end olds.now))) }
+    ensures { OnOk result ((common : Members) → Merges common (map spelled_view gone.old.items) (map spelled_view (take first olds.now)) → Merges common (map spelled_view gone.new.items) (map spelled_view (take end olds.now))) }
 {
     for index in first..end {
-        gone.push(olds[index].member)?;
+        gone.push(olds[index])?;
     }
     Ok(())
 }
@@ -110,7 +111,7 @@ pub(crate) fn own_members<'b, 'a>(
     news: &[Spelled<'b, 'a>],
 ) -> Result<Own<'b, 'a>, OutOfMemory>
     requires { All (HasTwin olds.now) news.now }
-    ensures { IfOk result (λ own. Changes (map spelled_view olds.now) (map spelled_view news.now) (map member_view own.gone.now) (map member_view own.come.now)) }
+    ensures { IfOk result (λ own. Changes (map spelled_view olds.now) (map spelled_view news.now) (map spelled_view own.gone.now) (map spelled_view own.come.now)) }
 {
     let mut gone = Vec::new(arena);
     let mut come = Vec::new(arena);
@@ -122,7 +123,7 @@ pub(crate) fn own_members<'b, 'a>(
                 push_gone(&mut gone, olds, first, index)?;
                 first = index + 1;
             }
-            None => come.push(spelled.member)?,
+            None => come.push(spelled)?,
         }
     }
     push_gone(&mut gone, olds, first, olds.len())?;
@@ -138,4 +139,43 @@ fn twin_from(first: usize, end: usize, twin: Option<usize>) -> Option<usize>
 {
     let index = twin?;
     (first <= index && index < end).then_some(index)
+}
+
+// A member of the name and the value.
+fn member_as<'b, 'a>(key: &'b str, value: Json<'b, 'a>) -> Member<'b, 'a>
+    ensures { member_view result ≡ (key.now, json_view value.entry) }
+{
+    Member { key, value }
+}
+
+// The member with its value.
+fn read_one<'b, 'a: 'b>(
+    arena: &'b Bump,
+    levels: usize,
+    spelled: &Spelled<'b, 'a>,
+) -> Option<Member<'b, 'a>>
+    ensures { IfSome result (λ member. member_view member ≡ spelled_view spelled.now) }
+{
+    let Ok((value, _rest)) = read_spaced(arena, levels, spelled.text) else {
+        return None;
+    };
+    Some(member_as(spelled.key, value))
+}
+
+// The members with their values. None where one isn't read.
+pub(crate) fn read_own<'b, 'a: 'b>(
+    arena: &'b Bump,
+    levels: usize,
+    spelled: &[Spelled<'b, 'a>],
+) -> Option<&'b [Member<'b, 'a>]>
+    ensures { IfSome result (λ members. map member_view members.now ≡ map spelled_view spelled.now) }
+{
+    let mut members = Vec::new(arena);
+    for at in 0..spelled.len() {
+        let member = read_one(arena, levels, &spelled[at])?;
+        let Ok(()) = members.push(member) else {
+            return None;
+        };
+    }
+    Some(into_bump_slice(members))
 }

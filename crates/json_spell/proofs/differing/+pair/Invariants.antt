@@ -1,5 +1,6 @@
 -- The depth falls along the calls. In the loop, the members so far and what is left make those of all.
 use Rattle.std.proofs.Common.{◌+◌, ◌*◌, ◌≤◌, length}
+use Rattle.json_spell.specs.Readable.{HasMembers, HasMore}
 use Rattle.json_spell.proofs.Turning.{Turns}
 use Rattle.json_spell.proofs.differing.+pair.Given as goal
 
@@ -17,7 +18,7 @@ decreases-pair_member l = 4 * l.depth + 4
 
 abbrev pub invariant-pair_members-loop-news : goal.invariant-pair_members-loop-news
 invariant-pair_members-loop-news l = record {
-  turns : Turns l.depth l.levels l.inside l.left l.olds.items l.news.items;
+  turns : HasMembers l.levels l.inside.old.now → Turns l.depth l.levels l.inside l.left l.olds.items l.news.items × HasMore l.levels l.left.old.now;
   no_longer : length l.left.new.now ≤ length l.inside.new.now;
 }
 

@@ -1,6 +1,6 @@
 -- A twin stands behind those before it, and what is between them is gone.
 use Rattle.std.proofs.Common.{◌+◌, ◌<◌, ◌≤◌, length, List, subst, sym, arith}
-use Rattle.json_spell.specs.declared.json.Member.{Member}
+use Rattle.json_spell.specs.declared.spelled.Spelled.{Spelled}
 use Rattle.json_spell.proofs.Owning.{Owns, owns_all, owns_come, owns_common, twin_at}
 use Rattle.json_spell.proofs.own.own_members.Goals as goal
 use Rattle.json_spell.proofs.own.own_members.Goals.{in-Some+in_ok-push_gone-in-Some, in-None+in_ok-push-in-None}
@@ -18,7 +18,7 @@ loop-at-preserved c =
           (twin_at olds news at _ w.in-Some.index c.requires low w.in-Some.ensures.0) w.in_ok-push_gone-in-Some.ensures)
       | in-None+in_ok-push-in-None w ↦
           rw (w.gone-is, w.come-is, w.first-is)
-          (subst (λ (l : List Member). Owns olds news c.loop-at.gone.items l c.loop-at.first (at + 1)) (sym w.in_ok-push-in-None.ensures.items)
+          (subst (λ (l : List Spelled). Owns olds news c.loop-at.gone.items l c.loop-at.first (at + 1)) (sym w.in_ok-push-in-None.ensures.items)
           (owns_come olds news c.loop-at.gone.items c.loop-at.come.items c.loop-at.first at _ c.loop-at.invariant low))
     ]
 
