@@ -5,10 +5,10 @@ use Rattle.json_spell.specs.declared.deep.Position.TheVariants.{Outside}
 use Rattle.json_spell.specs.Deep.{IsDeep, deep_from, position_after, is_opening, is_closing}
 use Rattle.json_spell.specs.Tree.{Tree, null, boolean, number, string, array, object, Trees, no_trees, tree, Pairs, no_pairs, pair}
 use Rattle.json_spell.specs.Text.{IsString}
-use Rattle.json_spell.specs.Grammar.{IsWs, Spaced, Within, Then, After, IsMember, IsValue, AreValues, AreMoreValues, AreMembers, AreMoreMembers, Reads}
+use Rattle.json_spell.specs.Grammar.{Spaced, IsMember, IsValue, AreValues, AreMoreValues, AreMembers, AreMoreMembers, Reads}
 use Rattle.json_spell.specs.Nesting.{Nests, AllNest, MembersNest}
 use Rattle.json_spell.proofs.Depth.{deep}
-use Rattle.json_spell.proofs.Shallow.{Passes, Passed, passes-byte, passes-append, passes-string}
+use Rattle.json_spell.proofs.Shallow.{Passes, passes-byte, passes-string}
 use Rattle.json_spell.proofs.Levels.{passes, ws-passes, spaced-passes, member-passes, value-passes}
 
 -- where n levels are left and the scan finds nothing deep in what begins with the text, this holds

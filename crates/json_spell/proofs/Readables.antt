@@ -2,7 +2,7 @@
 use Rattle.std.proofs.Common.{◌≡◌, ℕ, suc, Bool, true, false, ◌==◌, cond, List, [], ◌∷◌, map, Option, Some, None, All, Bor, option_map, refl, sym, ap, subst, ◌∙◌}
 use Rattle.std.proofs.lemmas.List.Elements.{All-cons, All-nil}
 use Rattle.json_spell.specs.declared.spelled.Spelled.{Spelled}
-use Rattle.json_spell.specs.Tree.{Tree, object, Pairs, no_pairs, pair}
+use Rattle.json_spell.specs.Tree.{Tree, object, Pairs, no_pairs}
 use Rattle.json_spell.specs.Grammar.{is_ws}
 use Rattle.json_spell.specs.Nesting.{Nests, MembersNest}
 use Rattle.json_spell.specs.Readable.{HasMember, HasMembers, HasMore, HasValue}

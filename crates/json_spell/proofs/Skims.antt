@@ -1,7 +1,7 @@
 -- The scan of brackets passes over each value.
-use Rattle.std.proofs.Common.{◌≡◌, ℕ, zero, suc, ◌+◌, ◌-◌, ◌==◌, Bool, true, false, not, ◌||◌, cond, List, [], ◌∷◌, ◌++◌, drop, Some, refl, sym, ap, subst, ◌∙◌, arith, append_assoc}
+use Rattle.std.proofs.Common.{◌≡◌, ℕ, zero, suc, ◌+◌, ◌-◌, ◌==◌, Bool, true, false, ◌||◌, cond, List, [], ◌∷◌, ◌++◌, drop, Some, refl, sym, ap, subst, ◌∙◌, arith, append_assoc}
 use Rattle.std.proofs.lemmas.Bool.Decides.{nat_tests}
-use Rattle.json_spell.specs.declared.deep.Position.TheVariants.{Outside, Inside, Escaped}
+use Rattle.json_spell.specs.declared.deep.Position.TheVariants.{Outside, Inside}
 use Rattle.json_spell.specs.Deep.{position_after, is_opening, is_closing}
 use Rattle.json_spell.specs.Brackets.{past_from, is_inner}
 use Rattle.json_spell.specs.Closed.{ends_itself}
@@ -9,7 +9,7 @@ use Rattle.json_spell.specs.Tree.{Tree, array, object, Trees, no_trees, Pairs, n
 use Rattle.json_spell.specs.Text.{is_unescaped, all_spelled, IsString}
 use Rattle.json_spell.specs.Grammar.{IsValue}
 use Rattle.json_spell.specs.Nesting.{Nests}
-use Rattle.json_spell.specs.Reading.{after_byte, before, list_by, members_at, read_map, skip, value_at, values_at}
+use Rattle.json_spell.specs.Reading.{after_byte, before, list_by, members_at, skip, value_at, values_at}
 use Rattle.json_spell.proofs.Complete.{value_span}
 use Rattle.json_spell.proofs.Lists.{after_byte-sound}
 use Rattle.json_spell.proofs.Opened.{map_some, some_is}

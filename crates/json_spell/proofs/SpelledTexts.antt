@@ -1,5 +1,5 @@
 -- The value that a text has, by the value that was read.
-use Rattle.std.proofs.Common.{◌≡◌, ℕ, true, List, [], ◌++◌, Some, refl, sym, ap, subst, ◌∙◌, append-nil}
+use Rattle.std.proofs.Common.{◌≡◌, ℕ, true, List, [], Some, refl, sym, ap, subst, ◌∙◌, append-nil}
 use Rattle.json_spell.specs.Tree.{Tree}
 use Rattle.json_spell.specs.Closed.{ends_itself}
 use Rattle.json_spell.specs.Grammar.{is_ws, IsValue, Reads}

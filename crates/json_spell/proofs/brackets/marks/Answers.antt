@@ -1,5 +1,5 @@
 -- A lane is set where its byte is a mark.
-use Rattle.std.proofs.Common.{◌==◌, sym, arith}
+use Rattle.std.proofs.Common.{◌==◌, arith}
 use Rattle.std.proofs.lemmas.Simd.{zip2_splat}
 use Rattle.json_spell.specs.Brackets.{is_mark}
 use Rattle.json_spell.proofs.Lanes.{flag, either, masked}

@@ -1,5 +1,5 @@
 -- One member more.
-use Rattle.std.proofs.Common.{◌≡◌, ◌<◌, ◌≤◌, length, map, ap, ◌∙◌, arith}
+use Rattle.std.proofs.Common.{◌<◌, ◌≤◌, length, map, ap, ◌∙◌, arith}
 use Rattle.json_spell.specs.View.{member_view}
 use Rattle.json_spell.proofs.Owning.{read_all, read_more}
 use Rattle.json_spell.proofs.own.read_own.Goals as goal
