@@ -3,6 +3,7 @@
 #   ./install.sh [PREFIX]            puts bin/wdq, libexec/wdq/wdq and share/man/man1/wdq.1 below PREFIX, /usr/local without one;
 #                                    builds the program first if needed
 #   ./install.sh --remove [PREFIX]   takes these three files away
+case ${1-} in -h | --help) sed -n '2,5s/^# \{0,1\}//p' "$0" && exit 0 ;; esac
 here=$(cd "$(dirname "$(readlink -f "${BASH_SOURCE[0]}")")" && pwd) || exit 2
 files=(bin/wdq libexec/wdq/wdq share/man/man1/wdq.1)
 

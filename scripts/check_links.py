@@ -47,8 +47,9 @@ def missing(page):
 
 def main():
     if len(sys.argv) > 1:
-        print(__doc__.strip(), file=sys.stderr)
-        return 64
+        is_asked = sys.argv[1] in ("-h", "--help")
+        print(__doc__.strip(), file=sys.stdout if is_asked else sys.stderr)
+        return 0 if is_asked else 64
     found = [(page.relative_to(TOP), target) for page in pages() for target in missing(page)]
     for page, target in found:
         print(f"{page} names what isn't there: {target}")

@@ -75,8 +75,9 @@ def facts():
 
 def main():
     if len(sys.argv) > 1:
-        print(__doc__.strip(), file=sys.stderr)
-        return 64
+        is_asked = sys.argv[1] in ("-h", "--help")
+        print(__doc__.strip(), file=sys.stdout if is_asked else sys.stderr)
+        return 0 if is_asked else 64
     page = f" {read_man_page()} "
     wanted = list(dict.fromkeys(facts()))
     lacking = [(fact, what) for fact, what in wanted if fact and fact not in page]

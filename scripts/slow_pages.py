@@ -136,6 +136,9 @@ def seconds(program, folder, revisions):
 
 
 def main():
+    if len(sys.argv) < 2 or sys.argv[1] in ('-h', '--help'):
+        print(__doc__.strip(), file=sys.stdout if len(sys.argv) > 1 else sys.stderr)
+        return 0 if len(sys.argv) > 1 else 64
     program = os.path.abspath(sys.argv[1])
     wanted = sys.argv[2:]
     print(f'{"shape":20} {"bytes":>9} {"stored":>8} {"edited":>8}  side output')
@@ -150,6 +153,7 @@ def main():
             one, said = seconds(program, folder, 1)
             two, _ = seconds(program, folder, 2)
         print(f'{shape.__name__:20} {len(text):9} {one:8.2f} {two - one:8.2f}  {said}', flush=True)
+    return 0
 
 
-main()
+sys.exit(main())

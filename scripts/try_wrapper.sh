@@ -1,6 +1,7 @@
 #!/usr/bin/env bash
 # Tries ./wdq and ./install.sh over stand-ins for the program and for the toolchain's rt, in files and in terminals, which `script`
 # (util-linux) makes. It proves and builds nothing, and takes half a minute. Its last line counts what passed.
+case ${1-} in -h | --help) sed -n '2,3s/^# \{0,1\}//p' "$0" && exit 0 ;; esac
 top=$(cd "$(dirname "$(readlink -f "${BASH_SOURCE[0]}")")/.." && pwd) || exit 2
 room=$(mktemp -d) || exit 2
 trap 'rm -rf "$room"' EXIT
@@ -393,6 +394,10 @@ wants 'a removal where no folder is' "1 install.sh: nothing is installed below $
 for words in --prefix '--remove --remove' 'a b' "''"; do
   eval "'$checkout/install.sh' $words" >out 2>err
   wants "install.sh $words" '2 install.sh: the words are [--remove] [PREFIX]' "$? $(cat err)"
+done
+for words in -h --help; do
+  "$checkout/install.sh" "$words" >out 2>err
+  wants "install.sh $words" '0 Installs wdq, and takes it away again:' "$? $(cat err; head -1 out)"
 done
 
 # --- What has to agree ---
