@@ -1,6 +1,6 @@
 #!/bin/sh
-# The whole path of docs/FEEDING.md without a network: a stream of page changes becomes an event file, wdq replays it, what its side
-# output leaves in doubt is reconciled, and wdq replays again. Needs jq. Compares with expected.txt and says so.
+# Tries the whole path of docs/FEEDING.md without a network: it makes a stream of page changes an event file, wdq replays it, the script
+# reconciles what the side output leaves in doubt, and wdq replays again. It needs jq, and says whether the output is that of expected.txt.
 case ${1-} in -h | --help) sed -n '2,3s/^# \{0,1\}//p' "$0"; exit 0 ;; esac
 cd "$(dirname "$0")" || exit 2
 work=$(mktemp -d) || exit 2

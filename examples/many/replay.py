@@ -2,12 +2,12 @@
 """Replays an event file in parts, one process of wdq a part, and prints what they give together.
 
 Each event goes to the part that its entity's number gives modulo the number of parts, and each watermark, question and version of the
-mapping goes to every part (route.jq). Dask runs the parts as tasks: on this machine, or on the workers of a scheduler. Then the answers
-to each question and the exports are merged, each triple once, and counted anew; the states are merged in the order of the ids; the side
-output is that of part 0, then that of part 1, and so on. A match can't be answered so, since its triples may lie in different parts.
+mapping goes to every part (route.jq). Dask runs the parts as tasks: on this machine, or on the workers of a scheduler. Then the script
+merges the answers to each question and the exports, each triple once, and counts them again; it merges the states in the order of the ids,
+and prints the side output of part 0, then that of part 1, and so on. It can't answer a match, whose triples may lie in different parts.
 
-Where a process is killed, or its worker is lost, Dask runs the part again. Where wdq ends with a status other than 0, the whole ends with
-that status, names the part, and prints nothing.
+If a process is killed, or its worker is lost, Dask runs the part again. If wdq ends with a status other than 0, the script ends with that
+status, names the part, and prints nothing.
 
 With --scheduler the folder of the pages, the program and --work are at the same paths on every machine.
 """

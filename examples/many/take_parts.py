@@ -6,7 +6,7 @@ lines, gives them to `wdq patches`, which goes on from the part's snapshot, and 
 the lease, also while wdq runs. The lease of a process that died ends, so another process takes the part over and goes on from its snapshot.
 
 A snapshot's name is the id of the last entry that it knows, so snapshot and offset change at once. A record's number is its id in
-`records:K`, and Redis refuses an id that isn't above the last one: where a process is killed between its records and its snapshot, the
+`records:K`, and Redis refuses an id that isn't above the last one: if a process is killed between its records and its snapshot, the
 next one makes the same records again, and none is added twice. The entry `{"end":true}` ends a part.
 
 Status 0: all parts have ended. 1: wdq or Redis failed. 69: Debian's package python3-redis is missing.

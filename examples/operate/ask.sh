@@ -6,7 +6,7 @@
 # The events go into the pipe first, then a watermark later than all of them, so that no question misses what waits. Then each line of
 # standard input goes in. A question's answer is printed before the next line is read, so that a terminal or another program may ask.
 # The input has no end, so wdq gets the greatest --max-bytes. WDQ names the program; without it, it is this repository's wdq.
-# Status: that of wdq, 2 where it refuses a line.
+# Status: that of wdq, 2 if it refuses a line.
 case ${1-} in -h | --help | '') sed -n '2,9s/^# \{0,1\}//p' "$0"; [ $# -gt 0 ]; exit ;; esac
 if [ ! -d "$1" ] || [ $# -lt 2 ]; then
   echo "ask.sh: a folder of pages and event files are needed; -h says more" >&2

@@ -4,11 +4,11 @@
     ./follow_stream.py --agent "mirror/1.0 (jane@example.org)" --into batches --since 2024-05-01T10:00:00Z
 
 The files are 000001.jsonl, 000002.jsonl and so on; one after the other they are an event file. A file is whole or not there. The file
-`place` beside them has the id of the last event that they hold: run again, the script goes on behind it. Where it was killed between the
-two, some events come again, which wdq counts once. Where the connection breaks it connects again, after growing pauses.
+`place` beside them has the id of the last event that they hold: if you run the script again, it goes on from there. If it is killed before
+it writes `place`, some events come again, which wdq counts once. If the connection breaks, it connects again after growing pauses.
 
-Items, properties and lexemes of Wikidata alone are taken, as examples/feed/events.jq takes them. A watermark follows the greatest time so
-far by --delay seconds.
+It takes only changes of Wikidata's items, properties and lexemes, as examples/feed/events.jq does. A watermark is --delay seconds before
+the greatest time so far.
 """
 
 import argparse

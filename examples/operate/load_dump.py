@@ -4,9 +4,9 @@
     ./load_dump.py --into pages --began 2024-05-01T00:00:00Z latest-all.json.gz > events.jsonl
 
 Each entity's bytes are written as they stand, as the page of its `lastrevid`: a filter that read and printed them would respell numbers,
-and so change the names of nodes. Its line is an edit at the time `modified`. Behind all lines stands a watermark at --began, the time at
-which the dump was begun: follow the stream from there, so that nothing that changed meanwhile is late. Other entities than items,
-properties and lexemes are counted and left out. A dump has no redirects.
+and so change the names of nodes. Its line is an edit at the time `modified`. The last line is a watermark at --began, the time at which the
+dump was begun: follow the stream from there, so that nothing that changed meanwhile is late. The script leaves out and counts entities that
+are no items, properties or lexemes. A dump has no redirects.
 
 The file may be packed by gzip or bzip2; - is standard input, unpacked. Status 0: each line was taken or is of another kind of entity;
 1: some lines are no entities, and are named.

@@ -3,8 +3,8 @@
 
     ./measure.py FILE COMMAND [WORD ..]
 
-FILE gets a line of JSON, `{"seconds":1.5,"peak_bytes":70000000}`; what this script has itself, some 14 MB, is the least. The status is the
-command's.
+FILE gets a line of JSON, `{"seconds":1.5,"peak_bytes":70000000}`. The memory is never less than what this script has itself, some 14 MB.
+The status is the command's.
 """
 
 import json

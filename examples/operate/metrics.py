@@ -3,7 +3,7 @@
 
     ./metrics.py --home FOLDER --batch 12 [--before 11] [--seconds S] [--textfile FILE]
 
-It reads the batch's events, side output and records in the folder of step.sh. Of a batch there is one line, however often this is run.
+It reads the batch's events, side output and records in the folder of step.sh. A batch has one line, however often this is run.
 FILE is one of the folder that node_exporter's textfile collector reads, as wdq.prom.
 """
 

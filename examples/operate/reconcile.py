@@ -3,10 +3,10 @@
 
     ./reconcile.py --agent "mirror/1.0 (jane@example.org)" --after 2024-05-01T10:00:08Z output.txt >> events.jsonl
 
-The input is what `wdq replay --side` printed, with --state too where there are deleted pages: the wiki tells no revision of these, so the
-greatest one that the output names is taken. Fifty entities go into a request. --after is the greatest watermark so far: a reconciliation
-is as early as it may be, just later. So every event that the wiki's answer may lack, as its clock is ahead or a copy of its database late,
-comes later and is applied. With --batch, an entity whose page was fetched in vain again is asked for after growing pauses.
+The input is what `wdq replay --side` printed, with --state too if there are deleted pages: the wiki tells no revision of these, so the
+script takes the greatest one that the output names. It asks for fifty entities at once. --after is the greatest watermark so far; the
+reconciliations come right after it. So every event that the wiki's answer may lack, as its clock is ahead or a copy of its database late,
+comes later and is applied. With --batch, the script asks after growing pauses for an entity whose page can't be fetched.
 
 Status 1: the wiki didn't answer, and nothing is printed.
 """

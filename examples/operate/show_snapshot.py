@@ -3,7 +3,7 @@
 
     ./show_snapshot.py home/snapshots/000012
 
-The lines are those of `wdq replay --resume home/snapshots/000012 --save scratch --state --side < /dev/null`, which maps all pages anew
+The lines are those of `wdq replay --resume home/snapshots/000012 --save scratch --state --side < /dev/null`, which maps all pages again
 and so takes much longer. The format is that of docs/SNAPSHOTS.md. Status 1: the file is no whole snapshot.
 """
 

@@ -5,8 +5,8 @@
 #   ./step.sh --home FOLDER --agent "mirror/1.0 (jane@example.org)" --post http://127.0.0.1:8890/sparql
 #
 # FOLDER has pages and batches, as load_dump.py (batches/000000.jsonl) and follow_stream.py write them, and gets records, snapshots, sides
-# (the states and the side output after a batch), metrics.jsonl and `done`, the number of the last batch. Where a step fails or is killed,
-# run it again: it goes on where it was, and leaves the same. Two steps never run at once.
+# (the states and the side output after a batch), metrics.jsonl and `done`, the number of the last batch. If a step fails or is killed, run
+# it again: it goes on where it was, and the result is the same. Two steps never run at once.
 #
 #   --all            take batches until none is left
 #   --post URL       where the store takes updates; without it, records are only written
@@ -14,7 +14,7 @@
 #   --graph IRI      the graph of the triples; without it, the default graph
 #   --counts         count the values, for stores that spell them their own way (docs/QUERY_SERVICE.md)
 #   --textfile FILE  the last line of metrics.jsonl for node_exporter
-#   --keep N         remove pages and batches that are more than N batches old; records stay, to make a store anew
+#   --keep N         remove pages and batches that are more than N batches old; records stay, to make a new store
 #   --horizon N, --max-terms N       for wdq
 #   --site URL, --tries N, --pause S for fetch_pages.py and reconcile.py
 #

@@ -5,7 +5,7 @@
 
 It asks the store for all triples of the graph, and takes two objects for equal where updates.py counts them as one: numbers by value,
 points by their coordinates, language tags without case. A date's year may lack leading zeros, as Virtuoso writes it before Christ. The
-store must hold each value once. Ends with 1 where they differ, and with 3 where the store can't be reached.
+store must hold each value once. Ends with 1 if they differ, and with 3 if the store can't be reached.
 """
 
 import argparse

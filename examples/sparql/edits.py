@@ -3,7 +3,7 @@
 
     edits.py --size 2000 --pages FOLDER > EVENTS
 
-The pages of 40 items are edited in turn, and now and then one is deleted. Behind each event stands a watermark. Each edit changes one
+The pages of 40 items are edited in turn, and now and then one is deleted. A watermark follows each event. Each edit changes one
 part of a page: its label, amounts, time or point. Amounts change between `+5`, `+5.00`, `5.0` and others, some of them at once on one
 page; labels have characters that need escapes; there are dates before Christ, points on the Earth and on Mars, and numbers too long for
 64 bits.

@@ -5,7 +5,7 @@
 # `wdq replay --export` prints. Then the 2,000 edits again, with updates.py killed in the middle and started again, and as a file that
 # grows. The stores are rdflib (Debian's python3-rdflib) and Virtuoso (virtuoso-opensource-7), each started here on the loopback address
 # and stopped at the end. What is missing is named, and its steps are passed over; some need jq. WDQ names the program; without it, it is
-# this repository's wdq. Ends with 1 where a step went wrong.
+# this repository's wdq. Ends with 1 if a step went wrong.
 # shellcheck disable=SC2059,SC2086,SC2317 # words are split, formats have triples, and steps are called by name.
 cd "$(dirname "$0")" || exit 2
 case ${1-} in '') ;; *) sed -n '2,8s/^# \{0,1\}//p' run.sh; case $1 in -h | --help) exit 0 ;; *) exit 1 ;; esac ;; esac

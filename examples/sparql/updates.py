@@ -6,12 +6,12 @@ come, then those of the triples that go. The numbers rise by one. Each update fi
 its last record: <urn:wdq:stream> <urn:wdq:applied> NUMBER, in the graph <urn:wdq:stream>. With --post the script asks the store for this
 number first and passes over the records up to it, so it can be stopped at any time and started again over the same stream. An update
 that a store took in part is sent again whole, which does no harm: it only says which triples are there in the end and which aren't.
-With the number goes a digest of all records up to it: a stream is refused that begins otherwise than the one that the store has.
+With the number goes a digest of all records up to it, so the script refuses a stream that begins otherwise than the store's.
 
 --counts is for stores that spell numbers, points and language tags their own way, so that two triples of the stream are one there. It
 counts the triples of each value in an SQLite file, and a value goes with its last triple. Objects that such stores refuse or cut (points
 on other globes, long numbers and IRIs) are sent as texts of the datatype <urn:wdq:unread>. Records that the store has and the file
-doesn't are only counted, so where the file is lost, read the stream from record 1.
+doesn't are only counted, so if the file is lost, read the stream from record 1.
 
 Statuses: 0 all records are applied; 1 a line is no part of a record; 2 the words are wrong; 3 the store or the file of counts failed or
 can't be reached; 4 the next record is missing, the stream ends before the store's number, the store's records were others, or the counts
