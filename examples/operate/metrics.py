@@ -21,7 +21,7 @@ CAUSES = {"late": "late", "missing": "missing", "failed": "failed"}
 TOTALS = {
     "events": "event lines, repeats too",
     "late": "late deliveries",
-    "vain": "fetches in vain",
+    "vain": "fetches that gave no usable page",
     "records": "records of changes",
     "adds": "triples that came",
     "removes": "triples that went",
