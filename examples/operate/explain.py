@@ -9,6 +9,7 @@ names. Status 0: wdq refuses none; 1: it refuses some; 2: the file can't be read
 """
 
 import argparse
+import signal
 import sys
 
 from event_lines import lines_of, refusal_of
@@ -51,4 +52,6 @@ def main():
 
 
 if __name__ == "__main__":
+    # A reader that stops early, as head does, ends the script.
+    signal.signal(signal.SIGPIPE, signal.SIG_DFL)
     sys.exit(main())

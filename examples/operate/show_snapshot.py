@@ -9,6 +9,7 @@ and so takes much longer. The format is that of docs/SNAPSHOTS.md. Status 1: the
 
 import argparse
 import json
+import signal
 import sys
 
 KINDS = ["edit", "delete", "undelete", "reconcile-deleted", "reconcile-kept"]
@@ -80,4 +81,6 @@ def main():
 
 
 if __name__ == "__main__":
+    # A reader that stops early, as head does, ends the script.
+    signal.signal(signal.SIGPIPE, signal.SIG_DFL)
     sys.exit(main())
