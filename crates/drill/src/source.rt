@@ -6,6 +6,7 @@ ghost use Rattle.drill.specs.Drill.{IsSize, contents_of};
 ghost use Rattle.drill.specs.Source.{Explains, after_fetch};
 
 use crate::pages::page;
+use base::OutOfMemory;
 use revisions::{NoRevision, Revisions};
 use std::alloc::Global;
 use std::marker::Model;
@@ -79,7 +80,10 @@ impl Revisions for DrillRevisions {
         if !self.has(rev) {
             return Err(self.miss());
         }
-        Ok(page(alloc, rev)?.into_bytes())
+        match page(alloc, rev) {
+            Ok(text) => Ok(text.into_bytes()),
+            Err(OutOfMemory) => Err(NoRevision::OutOfMemory),
+        }
     }
 
     ghost within_most = { λ _. Prim.search rules };

@@ -7,6 +7,7 @@ use Rattle.entity_model.specs.declared.id.IdKind.{IdKind}
 use Rattle.entity_model.specs.declared.id.IdKind.TheVariants.{P, Q, L}
 use Rattle.entity_model.specs.declared.value.Tagged.{Tagged}
 use Rattle.entity_model.specs.declared.entity.Entity.{Entity}
+use Rattle.rdf_vocabulary.specs.declared.predicate.Predicate.{Predicate}
 use Rattle.rdf_vocabulary.specs.declared.predicate.Predicate.TheVariants as Say
 use Rattle.rdf_vocabulary.specs.declared.resource.Resource.{Resource}
 use Rattle.rdf_vocabulary.specs.declared.resource.Resource.TheVariants.{Item, Property, Lexeme}
@@ -24,6 +25,10 @@ class_of L = Lexeme
 
 abbrev pub class_triples : EntityId → List Triple
 class_triples x = class_triple (entity_term x) (class_of x.kind) ∷ []
+
+-- a text of an entity that has one predicate
+abbrev pub tagged_triples : Predicate → Term → Tagged → List Triple
+tagged_triples predicate entity t = about entity predicate (tagged_term t) ∷ []
 
 -- a label, a description and an alias
 abbrev pub label_triples : Term → Tagged → List Triple

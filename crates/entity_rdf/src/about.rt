@@ -4,25 +4,32 @@ ghost use Rattle.std.specs.Prelude.{◌≡◌, OnOk};
 ghost use Rattle.std.specs.List.{flat_map};
 ghost use Rattle.triple_sink.specs.Gains.{Gains, KeepsFront};
 ghost use Rattle.triple_sink.specs.TermRef.{meant};
-ghost use Rattle.entity_rdf.specs.About.{alias_triples, class_of, class_triples, description_triples, label_triples};
+ghost use Rattle.entity_rdf.specs.About.{class_of, label_triples, tagged_triples};
+ghost use Rattle.entity_rdf.specs.Dump.{text_triples};
 
-use entity_model::{EntityId, IdKind, Tagged};
+use entity_model::{Entity, EntityId, IdKind, Tagged};
 use page_rdf::text_ref;
 use rdf_term::OutOfMemory;
 use rdf_vocabulary::{Predicate, Prefix, Resource};
 use triple_sink::{Setting, TermRef, TripleSink, emit_about, emit_class};
 
-/// Emits the class of the entity.
-pub(crate) fn emit_entity_class<S: TripleSink>(
+/// Emits the class and the texts of the entity.
+pub(crate) fn emit_texts<S: TripleSink>(
     setting: Setting,
     id: EntityId,
+    entity: &Entity,
     out: &mut S,
 ) -> Result<(), OutOfMemory>
-    ensures gains { OnOk result (Gains S.items S.keeps out.old out.new (class_triples id)) }
+    ensures gains { OnOk result (Gains S.items S.keeps out.old out.new (text_triples id entity.now)) }
     ensures front { KeepsFront S.items out.old out.new }
 {
-    let entity = TermRef::Id(Prefix::Wd, id);
-    emit_class(setting.alloc, &entity, class_of(id.kind), out)
+    let subject = TermRef::Id(Prefix::Wd, id);
+    emit_class(setting.alloc, &subject, class_of(id.kind), out)?;
+    emit_labels(setting, &subject, entity.labels.as_slice(), out)?;
+    let descriptions = entity.descriptions.as_slice();
+    emit_tagged(setting, &subject, Predicate::Description, descriptions, out)?;
+    let aliases = entity.aliases.as_slice();
+    emit_tagged(setting, &subject, Predicate::AltLabel, aliases, out)
 }
 
 // The class of an entity, by the letter of its id.
@@ -36,24 +43,8 @@ fn class_of(kind: IdKind) -> Resource
     }
 }
 
-// Emits a label, which has three predicates.
-fn emit_label<S: TripleSink>(
-    setting: Setting,
-    entity: &TermRef<'_>,
-    label: &Tagged,
-    out: &mut S,
-) -> Result<(), OutOfMemory>
-    ensures gains { OnOk result (Gains S.items S.keeps out.old out.new (label_triples (meant entity.now) label.now)) }
-    ensures front { KeepsFront S.items out.old out.new }
-{
-    let text = text_ref(label);
-    emit_about(setting.alloc, entity, Predicate::Label, &text, out)?;
-    emit_about(setting.alloc, entity, Predicate::PrefLabel, &text, out)?;
-    emit_about(setting.alloc, entity, Predicate::Name, &text, out)
-}
-
-/// Emits the labels.
-pub(crate) fn emit_labels<S: TripleSink>(
+// Emits the labels, each of which has three predicates.
+fn emit_labels<S: TripleSink>(
     setting: Setting,
     entity: &TermRef<'_>,
     labels: &[Tagged],
@@ -63,41 +54,27 @@ pub(crate) fn emit_labels<S: TripleSink>(
     ensures front { KeepsFront S.items out.old out.new }
 {
     for label in labels {
-        emit_label(setting, entity, label, out)?;
+        let text = text_ref(label);
+        emit_about(setting.alloc, entity, Predicate::Label, &text, out)?;
+        emit_about(setting.alloc, entity, Predicate::PrefLabel, &text, out)?;
+        emit_about(setting.alloc, entity, Predicate::Name, &text, out)?;
     }
     Ok(())
 }
 
-/// Emits the descriptions.
-pub(crate) fn emit_descriptions<S: TripleSink>(
+// Emits texts that have one predicate: the descriptions or the aliases.
+fn emit_tagged<S: TripleSink>(
     setting: Setting,
     entity: &TermRef<'_>,
-    descriptions: &[Tagged],
+    predicate: Predicate,
+    texts: &[Tagged],
     out: &mut S,
 ) -> Result<(), OutOfMemory>
-    ensures gains { OnOk result (Gains S.items S.keeps out.old out.new (flat_map (description_triples (meant entity.now)) descriptions.now)) }
+    ensures gains { OnOk result (Gains S.items S.keeps out.old out.new (flat_map (tagged_triples predicate (meant entity.now)) texts.now)) }
     ensures front { KeepsFront S.items out.old out.new }
 {
-    for description in descriptions {
-        let text = text_ref(description);
-        emit_about(setting.alloc, entity, Predicate::Description, &text, out)?;
-    }
-    Ok(())
-}
-
-/// Emits the aliases.
-pub(crate) fn emit_aliases<S: TripleSink>(
-    setting: Setting,
-    entity: &TermRef<'_>,
-    aliases: &[Tagged],
-    out: &mut S,
-) -> Result<(), OutOfMemory>
-    ensures gains { OnOk result (Gains S.items S.keeps out.old out.new (flat_map (alias_triples (meant entity.now)) aliases.now)) }
-    ensures front { KeepsFront S.items out.old out.new }
-{
-    for alias in aliases {
-        let text = text_ref(alias);
-        emit_about(setting.alloc, entity, Predicate::AltLabel, &text, out)?;
+    for text in texts {
+        emit_about(setting.alloc, entity, predicate, &text_ref(text), out)?;
     }
     Ok(())
 }

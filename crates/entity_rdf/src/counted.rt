@@ -1,22 +1,16 @@
 // What a document says where the counts of its parts are given.
 
-ghost use Rattle.std.specs.Prelude.{◌≡◌, ◌+◌, ◌++◌, IfOk, IfSome, OnOk};
+ghost use Rattle.std.specs.Prelude.{◌≡◌, ◌+◌, ◌++◌, IfOk, IfSome};
 ghost use Rattle.std.specs.List.{flat_map};
 ghost use Rattle.munger.specs.Munging.{munged};
-ghost use Rattle.triple_sink.specs.Gains.{Gains, KeepsFront};
-ghost use Rattle.triple_sink.specs.TermRef.{meant};
-ghost use Rattle.page_rdf.specs.Dataset.{identifiers, is_identifier};
-ghost use Rattle.entity_rdf.specs.Counted.{AreAfter, counted_dataset, counted_kept, counted_numbers, counted_spoken, counted_triples, counts_of};
+ghost use Rattle.entity_rdf.specs.Counted.{AreAfter, counted_kept, counted_triples, counts_of};
 
-use crate::dataset::emit_link_count;
-use crate::property::emit_property;
-use crate::walk::{emit_articles, emit_texts};
-use entity_model::{Entity, EntityId, Statement};
+use crate::walk::emit_entity;
+use entity_model::{Entity, EntityId};
 use munger::{Munged, Page};
-use page_rdf::{emit_change, emit_number, emit_page, emit_statements};
+use page_rdf::identifiers;
 use rdf_term::OutOfMemory;
-use rdf_vocabulary::{Predicate, Prefix};
-use triple_sink::{Setting, TermRef, TripleSink};
+use triple_sink::{Setting, TripleSink};
 use triple_texts::TripleTexts;
 
 /// How many statements a page has, how many of them are identifiers in other databases, and how many site links it has.
@@ -53,24 +47,6 @@ impl Counts {
             links: changed(self.links, gone.links, come.links)?,
         })
     }
-}
-
-// How many statements are identifiers in other databases.
-fn identifiers(statements: &[Statement]) -> usize
-    ensures { result ≡ identifiers statements.now }
-{
-    statements
-        .iter()
-        .filter(|statement| is_identifier(statement))
-        .count()
-}
-
-// Whether the statement is an identifier in another database.
-#[tactic(auto, unfolding(page_rdf::specs::Dataset::external_id))]
-fn is_identifier(statement: &Statement) -> bool
-    ensures { result ≡ is_identifier statement.now }
-{
-    statement.main.datatype.as_str() == "external-id"
 }
 
 // A count after some are gone and others came.
@@ -116,73 +92,6 @@ fn munge_counted_into<S: TripleSink + Drop>(
         page: Page::new(setting.alloc, id)?,
         inner,
     };
-    emit_counted(setting, id, counted, &mut out)?;
+    emit_entity(setting, id, counted, &mut out)?;
     Ok(out.inner)
-}
-
-// Emits what the part says.
-fn emit_counted<S: TripleSink>(
-    setting: Setting,
-    id: EntityId,
-    counted: Counted<'_, '_>,
-    out: &mut S,
-) -> Result<(), OutOfMemory>
-    ensures gains { OnOk result (Gains S.items S.keeps out.old out.new (counted_triples setting.version id counted.entry.rev counted.entry.counts counted.entry.entity.now)) }
-    ensures front { KeepsFront S.items out.old out.new }
-{
-    emit_counted_spoken(setting, id, counted, out)?;
-    emit_articles(setting, id, counted.entity.links.as_slice(), out)?;
-    let subject = TermRef::Id(Prefix::Wd, id);
-    emit_statements(setting, &subject, &counted.entity.statements, out)
-}
-
-// Emits what the part says but for its site links and statements.
-fn emit_counted_spoken<S: TripleSink>(
-    setting: Setting,
-    id: EntityId,
-    counted: Counted<'_, '_>,
-    out: &mut S,
-) -> Result<(), OutOfMemory>
-    ensures gains { OnOk result (Gains S.items S.keeps out.old out.new (counted_spoken id counted.entry.rev counted.entry.counts counted.entry.entity.now)) }
-    ensures front { KeepsFront S.items out.old out.new }
-{
-    emit_texts(setting, id, counted.entity, out)?;
-    emit_counted_dataset(setting, id, counted, out)?;
-    emit_property(setting, id, counted.entity.datatype.as_ref(), out)
-}
-
-// Emits what is said of the dataset.
-fn emit_counted_dataset<S: TripleSink>(
-    setting: Setting,
-    id: EntityId,
-    counted: Counted<'_, '_>,
-    out: &mut S,
-) -> Result<(), OutOfMemory>
-    ensures gains { OnOk result (Gains S.items S.keeps out.old out.new (counted_dataset id counted.entry.rev counted.entry.counts counted.entry.entity.now)) }
-    ensures front { KeepsFront S.items out.old out.new }
-{
-    let dataset = TermRef::Id(Prefix::Data, id);
-    let counts = counted.counts;
-    emit_page(setting, id, out)?;
-    emit_counted_numbers(setting, counted.rev, &dataset, counts, out)?;
-    emit_link_count(setting, id.kind, &dataset, counts.links, out)?;
-    emit_change(setting, &dataset, counted.entity.modified.as_ref(), out)
-}
-
-// Emits the revision and the counts of statements.
-fn emit_counted_numbers<S: TripleSink>(
-    setting: Setting,
-    rev: u64,
-    dataset: &TermRef<'_>,
-    counts: Counts,
-    out: &mut S,
-) -> Result<(), OutOfMemory>
-    ensures gains { OnOk result (Gains S.items S.keeps out.old out.new (counted_numbers (meant dataset.now) rev counts)) }
-    ensures front { KeepsFront S.items out.old out.new }
-{
-    emit_number(setting, dataset, Predicate::Version, rev, out)?;
-    let count = counts.statements as u64;
-    emit_number(setting, dataset, Predicate::Statements, count, out)?;
-    let count = counts.identifiers as u64;
-    emit_number(setting, dataset, Predicate::Identifiers, count, out)
 }

@@ -3,10 +3,12 @@
 ghost use Rattle.std.specs.Prelude.{OnOk};
 ghost use Rattle.triple_sink.specs.Gains.{Gains, KeepsFront};
 ghost use Rattle.triple_sink.specs.TermRef.{meant};
-ghost use Rattle.entity_rdf.specs.About.{dataset_triples, link_count};
+ghost use Rattle.entity_rdf.specs.About.{link_count};
+ghost use Rattle.entity_rdf.specs.Counted.{counted_dataset, counted_numbers};
 
-use entity_model::{Entity, EntityId, IdKind};
-use page_rdf::{emit_change, emit_number, emit_numbers, emit_page};
+use crate::counted::{Counted, Counts};
+use entity_model::{EntityId, IdKind};
+use page_rdf::{emit_change, emit_number, emit_page};
 use rdf_term::OutOfMemory;
 use rdf_vocabulary::{Predicate, Prefix};
 use triple_sink::{Setting, TermRef, TripleSink};
@@ -15,22 +17,40 @@ use triple_sink::{Setting, TermRef, TripleSink};
 pub(crate) fn emit_dataset<S: TripleSink>(
     setting: Setting,
     id: EntityId,
-    rev: u64,
-    entity: &Entity,
+    counted: Counted<'_, '_>,
     out: &mut S,
 ) -> Result<(), OutOfMemory>
-    ensures gains { OnOk result (Gains S.items S.keeps out.old out.new (dataset_triples id rev entity.now)) }
+    ensures gains { OnOk result (Gains S.items S.keeps out.old out.new (counted_dataset id counted.entry.rev counted.entry.counts counted.entry.entity.now)) }
     ensures front { KeepsFront S.items out.old out.new }
 {
     let dataset = TermRef::Id(Prefix::Data, id);
+    let counts = counted.counts;
     emit_page(setting, id, out)?;
-    emit_numbers(setting, rev, &dataset, entity.statements.as_slice(), out)?;
-    emit_link_count(setting, id.kind, &dataset, entity.links.len(), out)?;
-    emit_change(setting, &dataset, entity.modified.as_ref(), out)
+    emit_counts(setting, counted.rev, &dataset, counts, out)?;
+    emit_link_count(setting, id.kind, &dataset, counts.links, out)?;
+    emit_change(setting, &dataset, counted.entity.modified.as_ref(), out)
+}
+
+// Emits the revision and the counts of statements.
+fn emit_counts<S: TripleSink>(
+    setting: Setting,
+    rev: u64,
+    dataset: &TermRef<'_>,
+    counts: Counts,
+    out: &mut S,
+) -> Result<(), OutOfMemory>
+    ensures gains { OnOk result (Gains S.items S.keeps out.old out.new (counted_numbers (meant dataset.now) rev counts)) }
+    ensures front { KeepsFront S.items out.old out.new }
+{
+    emit_number(setting, dataset, Predicate::Version, rev, out)?;
+    let count = counts.statements as u64;
+    emit_number(setting, dataset, Predicate::Statements, count, out)?;
+    let count = counts.identifiers as u64;
+    emit_number(setting, dataset, Predicate::Identifiers, count, out)
 }
 
 // Emits how many site links an item has.
-pub(crate) fn emit_link_count<S: TripleSink>(
+fn emit_link_count<S: TripleSink>(
     setting: Setting,
     kind: IdKind,
     dataset: &TermRef<'_>,

@@ -6,7 +6,7 @@ ghost use Rattle.std.specs.List.{flat_map, list_all, slice_split};
 ghost use Rattle.rdf_term.specs.Grammar.{is_word};
 ghost use Rattle.triple_sink.specs.Gains.{Gains, KeepsFront};
 ghost use Rattle.triple_sink.specs.TermRef.{meant};
-ghost use Rattle.entity_rdf.specs.Property.{capitalized, datatype_triples, is_datatype_char, is_hyphen, other_predicates, predicate_triple, property_triples, type_name, type_triples, value_predicates};
+ghost use Rattle.entity_rdf.specs.Property.{capitalized, datatype_triples, is_datatype_char, is_hyphen, other_predicates, predicate_triple, property_triples, type_name, value_predicates};
 
 use entity_model::{EntityId, IdKind};
 use rdf_term::{CowText, OutOfMemory};
@@ -79,25 +79,7 @@ fn split_first(text: &str) -> Option<(char, &str)>
     Some((first, rest.as_str()))
 }
 
-// Emits the type of properties of the datatype.
-fn emit_type<S: TripleSink>(
-    setting: Setting,
-    entity: &TermRef<'_>,
-    datatype: &str,
-    out: &mut S,
-) -> Result<(), OutOfMemory>
-    ensures gains { OnOk result (Gains S.items S.keeps out.old out.new (type_triples (meant entity.now) datatype.now)) }
-    ensures front { KeepsFront S.items out.old out.new }
-{
-    if !has_type(datatype.as_bytes()) {
-        return Ok(());
-    }
-    let name = type_name(setting.alloc, datatype)?;
-    let class = TermRef::Named(Prefix::Wikibase, name.as_str());
-    emit_about(setting.alloc, entity, Predicate::PropertyType, &class, out)
-}
-
-// Emits the type of properties of the datatype that the page says.
+// Emits the type of properties of the datatype, if the page says one that has a type.
 fn emit_datatype<S: TripleSink>(
     setting: Setting,
     entity: &TermRef<'_>,
@@ -108,8 +90,12 @@ fn emit_datatype<S: TripleSink>(
     ensures front { KeepsFront S.items out.old out.new }
 {
     match datatype {
-        Some(datatype) => emit_type(setting, entity, datatype.as_str(), out),
-        None => Ok(()),
+        Some(datatype) if has_type(datatype.as_bytes()) => {
+            let name = type_name(setting.alloc, datatype.as_str())?;
+            let class = TermRef::Named(Prefix::Wikibase, name.as_str());
+            emit_about(setting.alloc, entity, Predicate::PropertyType, &class, out)
+        }
+        _ => Ok(()),
     }
 }
 

@@ -5,12 +5,14 @@ ghost use Rattle.std.specs.List.{flat_map};
 ghost use Rattle.entity_model.specs.Document.{IsDocumentOf};
 ghost use Rattle.sitelinks.specs.Article.{article_triples};
 ghost use Rattle.triple_sink.specs.Gains.{Gains, KeepsFront};
-ghost use Rattle.entity_rdf.specs.Dump.{dump, entity_triples, redirect_triples, spoken_triples, text_triples};
+ghost use Rattle.entity_rdf.specs.Counted.{counted_spoken, counted_triples};
+ghost use Rattle.entity_rdf.specs.Dump.{dump, redirect_triples};
 
-use crate::about::{emit_aliases, emit_descriptions, emit_entity_class, emit_labels};
+use crate::about::emit_texts;
+use crate::counted::{Counted, Counts};
 use crate::dataset::emit_dataset;
 use crate::property::emit_property;
-use entity_model::{Document, Entity, EntityId, Link};
+use entity_model::{Document, EntityId, Link};
 use lexeme_rdf::emit_lexeme;
 use page_rdf::emit_statements;
 use rdf_term::OutOfMemory;
@@ -32,7 +34,19 @@ pub fn emit_dump<S: TripleSink>(
     ensures front { KeepsFront S.items out.old out.new }
 {
     match document {
-        Document::Entity(entity) => emit_entity(setting, id, rev, entity, out),
+        Document::Entity(entity) => {
+            let counts = Counts::of(entity);
+            emit_entity(
+                setting,
+                id,
+                Counted {
+                    rev,
+                    counts,
+                    entity,
+                },
+                out,
+            )
+        }
         Document::Redirect(target) => emit_redirect(setting, id, *target, out),
         Document::Lexeme(lexeme) => emit_lexeme(setting, id, rev, lexeme, out),
     }
@@ -52,39 +66,39 @@ fn emit_redirect<S: TripleSink>(
     emit_about(setting.alloc, &entity, Predicate::SameAs, &target, out)
 }
 
-fn emit_entity<S: TripleSink>(
+/// Emits what a part of a document says, or the whole of one: the class and the texts, the dataset with the counts of the whole, the
+/// predicates of a property, the site links and the statements.
+pub(crate) fn emit_entity<S: TripleSink>(
     setting: Setting,
     id: EntityId,
-    rev: u64,
-    entity: &Entity,
+    counted: Counted<'_, '_>,
     out: &mut S,
 ) -> Result<(), OutOfMemory>
-    ensures gains { OnOk result (Gains S.items S.keeps out.old out.new (entity_triples setting.version id rev entity.now)) }
+    ensures gains { OnOk result (Gains S.items S.keeps out.old out.new (counted_triples setting.version id counted.entry.rev counted.entry.counts counted.entry.entity.now)) }
     ensures front { KeepsFront S.items out.old out.new }
 {
-    emit_spoken(setting, id, rev, entity, out)?;
-    emit_articles(setting, id, entity.links.as_slice(), out)?;
+    emit_spoken(setting, id, counted, out)?;
+    emit_articles(setting, id, counted.entity.links.as_slice(), out)?;
     let subject = TermRef::Id(Prefix::Wd, id);
-    emit_statements(setting, &subject, &entity.statements, out)
+    emit_statements(setting, &subject, &counted.entity.statements, out)
 }
 
-// Emits what the page says but for its site links and statements.
+// Emits what it says but for its site links and statements.
 fn emit_spoken<S: TripleSink>(
     setting: Setting,
     id: EntityId,
-    rev: u64,
-    entity: &Entity,
+    counted: Counted<'_, '_>,
     out: &mut S,
 ) -> Result<(), OutOfMemory>
-    ensures gains { OnOk result (Gains S.items S.keeps out.old out.new (spoken_triples id rev entity.now)) }
+    ensures gains { OnOk result (Gains S.items S.keeps out.old out.new (counted_spoken id counted.entry.rev counted.entry.counts counted.entry.entity.now)) }
     ensures front { KeepsFront S.items out.old out.new }
 {
-    emit_texts(setting, id, entity, out)?;
-    emit_dataset(setting, id, rev, entity, out)?;
-    emit_property(setting, id, entity.datatype.as_ref(), out)
+    emit_texts(setting, id, counted.entity, out)?;
+    emit_dataset(setting, id, counted, out)?;
+    emit_property(setting, id, counted.entity.datatype.as_ref(), out)
 }
 
-pub(crate) fn emit_articles<S: TripleSink>(
+fn emit_articles<S: TripleSink>(
     setting: Setting,
     id: EntityId,
     links: &[Link],
@@ -97,20 +111,4 @@ pub(crate) fn emit_articles<S: TripleSink>(
         emit_article(setting, id, link, out)?;
     }
     Ok(())
-}
-
-pub(crate) fn emit_texts<S: TripleSink>(
-    setting: Setting,
-    id: EntityId,
-    entity: &Entity,
-    out: &mut S,
-) -> Result<(), OutOfMemory>
-    ensures gains { OnOk result (Gains S.items S.keeps out.old out.new (text_triples id entity.now)) }
-    ensures front { KeepsFront S.items out.old out.new }
-{
-    let subject = TermRef::Id(Prefix::Wd, id);
-    emit_entity_class(setting, id, out)?;
-    emit_labels(setting, &subject, entity.labels.as_slice(), out)?;
-    emit_descriptions(setting, &subject, entity.descriptions.as_slice(), out)?;
-    emit_aliases(setting, &subject, entity.aliases.as_slice(), out)
 }

@@ -5,6 +5,7 @@ pub mod Gives
 pub mod Keeps
 pub mod Page
 pub mod Part
+pub mod Parts
 pub mod Sense
 pub mod Statements
 pub mod Texts

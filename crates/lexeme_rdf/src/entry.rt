@@ -2,9 +2,8 @@
 
 ghost use Rattle.std.specs.Prelude.{OnOk};
 ghost use Rattle.triple_sink.specs.Gains.{Gains, KeepsFront};
-ghost use Rattle.lexeme_rdf.specs.Entry.{entry_triples, lemma_triples};
+ghost use Rattle.lexeme_rdf.specs.Entry.{entry_triples};
 
-use crate::texts::emit_texts;
 use entity_model::{EntityId, Lexeme};
 use rdf_term::OutOfMemory;
 use rdf_vocabulary::{Predicate, Prefix, Resource};
@@ -33,19 +32,4 @@ pub(crate) fn emit_entry<S: TripleSink>(
         &category,
         out,
     )
-}
-
-/// Emits the lemmas.
-pub(crate) fn emit_lemmas<S: TripleSink>(
-    setting: Setting,
-    id: EntityId,
-    lexeme: &Lexeme,
-    out: &mut S,
-) -> Result<(), OutOfMemory>
-    ensures gains { OnOk result (Gains S.items S.keeps out.old out.new (lemma_triples id lexeme.now)) }
-    ensures front { KeepsFront S.items out.old out.new }
-{
-    let entity = TermRef::Id(Prefix::Wd, id);
-    let lemmas = lexeme.lemmas.as_slice();
-    emit_texts(setting, &entity, Predicate::Lemma, lemmas, out)
 }

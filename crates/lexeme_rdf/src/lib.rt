@@ -1,16 +1,15 @@
 //! The RDF of the pages of lexemes, after the mapping that Wikibase documents for its extension of lexemes.
 //!
-//! Each rule of the dump has a module: `entry` the lexeme and its lemmas, `page` the page itself, `form` a form, `sense`
-//! a sense, and `statements` the statements of the lexeme and of its parts; `texts` has what three of them share. `walk`
-//! puts the rules together, `dump` has the set of what munging leaves, and `laws` what holds of the rules.
+//! The rules of the dump by modules: `entry` the lexeme, `texts` its lemmas and the texts of its parts, `page` the page itself,
+//! `parts` a form or a sense, and `statements` the statements of the lexeme and of its parts. `walk` puts the rules together,
+//! `dump` has the set of what munging leaves, and `laws` what holds of the rules.
 #![tactic(auto)]
 
 mod dump;
 mod entry;
-mod form;
 mod laws;
 mod page;
-mod sense;
+mod parts;
 mod statements;
 mod texts;
 mod walk;

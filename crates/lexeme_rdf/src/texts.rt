@@ -24,23 +24,9 @@ pub(crate) fn emit_texts<S: TripleSink>(
     ensures front { KeepsFront S.items out.old out.new }
 {
     for text in texts {
-        emit_text(setting, node, predicate, text, out)?;
+        let text = text_ref(text);
+        emit_about(setting.alloc, node, predicate, &text, out)?;
+        emit_about(setting.alloc, node, Predicate::Label, &text, out)?;
     }
     Ok(())
-}
-
-// Emits a text of the node.
-fn emit_text<S: TripleSink>(
-    setting: Setting,
-    node: &TermRef<'_>,
-    predicate: Predicate,
-    text: &Tagged,
-    out: &mut S,
-) -> Result<(), OutOfMemory>
-    ensures gains { OnOk result (Gains S.items S.keeps out.old out.new (text_triples predicate (meant node.now) text.now)) }
-    ensures front { KeepsFront S.items out.old out.new }
-{
-    let text = text_ref(text);
-    emit_about(setting.alloc, node, predicate, &text, out)?;
-    emit_about(setting.alloc, node, Predicate::Label, &text, out)
 }

@@ -2,16 +2,16 @@
 
 ghost use Rattle.std.specs.Prelude.{OnOk};
 ghost use Rattle.triple_sink.specs.Gains.{Gains, KeepsFront};
-ghost use Rattle.lexeme_rdf.specs.Dump.{lexdump, part_triples, spoken_triples};
+ghost use Rattle.lexeme_rdf.specs.Dump.{lexdump};
 
-use crate::entry::{emit_entry, emit_lemmas};
-use crate::form::emit_forms;
+use crate::entry::emit_entry;
 use crate::page::emit_lexeme_page;
-use crate::sense::emit_senses;
+use crate::parts::{PartKind, emit_parts};
 use crate::statements::emit_all_statements;
+use crate::texts::emit_texts;
 use entity_model::{EntityId, Lexeme};
 use rdf_term::OutOfMemory;
-use rdf_vocabulary::Prefix;
+use rdf_vocabulary::{Predicate, Prefix};
 use triple_sink::{Setting, TermRef, TripleSink};
 
 /// Emits the triples that the rules of the dump give for the lexeme of a revision of `id`, one rule after the other. A
@@ -27,38 +27,13 @@ pub fn emit_lexeme<S: TripleSink>(
     ensures gains { OnOk result (Gains S.items S.keeps out.old out.new (lexdump setting.version id rev lexeme.now)) }
     ensures front { KeepsFront S.items out.old out.new }
 {
-    emit_spoken(setting, id, rev, lexeme, out)?;
-    emit_parts(setting, id, lexeme, out)?;
-    emit_all_statements(setting, id, lexeme, out)
-}
-
-// Emits what the page says of the lexeme and of itself.
-fn emit_spoken<S: TripleSink>(
-    setting: Setting,
-    id: EntityId,
-    rev: u64,
-    lexeme: &Lexeme,
-    out: &mut S,
-) -> Result<(), OutOfMemory>
-    ensures gains { OnOk result (Gains S.items S.keeps out.old out.new (spoken_triples id rev lexeme.now)) }
-    ensures front { KeepsFront S.items out.old out.new }
-{
-    emit_entry(setting, id, lexeme, out)?;
-    emit_lemmas(setting, id, lexeme, out)?;
-    emit_lexeme_page(setting, id, rev, lexeme, out)
-}
-
-// Emits the forms and the senses, without their statements.
-fn emit_parts<S: TripleSink>(
-    setting: Setting,
-    id: EntityId,
-    lexeme: &Lexeme,
-    out: &mut S,
-) -> Result<(), OutOfMemory>
-    ensures gains { OnOk result (Gains S.items S.keeps out.old out.new (part_triples id lexeme.now)) }
-    ensures front { KeepsFront S.items out.old out.new }
-{
     let entity = TermRef::Id(Prefix::Wd, id);
-    emit_forms(setting, &entity, lexeme.forms.as_slice(), out)?;
-    emit_senses(setting, &entity, lexeme.senses.as_slice(), out)
+    emit_entry(setting, id, lexeme, out)?;
+    let lemmas = lexeme.lemmas.as_slice();
+    emit_texts(setting, &entity, Predicate::Lemma, lemmas, out)?;
+    emit_lexeme_page(setting, id, rev, lexeme, out)?;
+    let (forms, senses) = (lexeme.forms.as_slice(), lexeme.senses.as_slice());
+    emit_parts(setting, &entity, PartKind::Form, forms, out)?;
+    emit_parts(setting, &entity, PartKind::Sense, senses, out)?;
+    emit_all_statements(setting, id, lexeme, out)
 }

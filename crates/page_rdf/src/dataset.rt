@@ -68,8 +68,8 @@ pub fn emit_number<S: TripleSink>(
     emit_about(setting.alloc, dataset, predicate, &number, out)
 }
 
-// How many statements are identifiers in other databases.
-fn identifiers(statements: &[Statement]) -> usize
+/// How many statements are identifiers in other databases.
+pub fn identifiers(statements: &[Statement]) -> usize
     ensures { result ≡ identifiers statements.now }
 {
     statements

@@ -8,6 +8,6 @@ mod dataset;
 mod statements;
 mod texts;
 
-pub use dataset::{emit_change, emit_number, emit_numbers, emit_page};
+pub use dataset::{emit_change, emit_number, emit_numbers, emit_page, identifiers};
 pub use statements::emit_statements;
 pub use texts::text_ref;

@@ -1,7 +1,8 @@
 //! What a replay means: which deliveries are accepted, late and due, which state each entity has, what is held
 //! and named in the side output, what the store's triples are and what is printed.
 //!
-//! The definitions are in `specs/`. They go over whole lists, and the code of the crates above never does.
+//! The definitions are in `specs/`. They go over whole lists, and the code of the crates above never does. `words` has the words that are
+//! printed of events and causes.
 #![tactic(auto)]
 
 mod horizon_laws;
@@ -10,6 +11,7 @@ mod source_laws;
 mod step_laws;
 mod union_laws;
 mod version_laws;
+mod words;
 
 pub use horizon_laws::{
     buffer_answers_by_calls, buffer_answers_by_deliveries, horizon_leaves_records,
@@ -30,3 +32,4 @@ pub use version_laws::{
     documents_are_by_the_version_in_force, one_version_gives_its_union,
     what_is_held_decides_the_union,
 };
+pub use words::{cause_word, kind_word};

@@ -34,14 +34,6 @@ pub enum PatchFault {
     OutOfMemory,
 }
 
-impl From<OutOfMemory> for PatchFault {
-    ghost from_gives = { λ _ e. e ≡ Refused };
-
-    fn from(_refused: OutOfMemory) -> PatchFault {
-        PatchFault::OutOfMemory
-    }
-}
-
 // A record whose first lines were read.
 #[derive(Debug, Drop)]
 struct Begun {

@@ -2,9 +2,7 @@
 
 ghost use Rattle.std.specs.Prelude.{◌≡◌, ℕ, ◌≤◌, Option, Some, IfSome, IfErr, MatchResult};
 ghost use Rattle.revisions.specs.Revisions.{Contents, AgreesWith, HasCause, counted};
-ghost use Rattle.revisions.specs.declared.revisions.NoRevision.TheVariants.{OutOfMemory as Refused};
 
-use base::OutOfMemory;
 use std::alloc::Global;
 use thiserror::Error;
 
@@ -20,14 +18,6 @@ pub enum NoRevision {
     /// A request for memory was refused.
     #[error("out of memory")]
     OutOfMemory,
-}
-
-impl From<OutOfMemory> for NoRevision {
-    ghost from_gives = { λ _ e. e ≡ Refused };
-
-    fn from(_refused: OutOfMemory) -> NoRevision {
-        NoRevision::OutOfMemory
-    }
 }
 
 /// A source of the pages' revisions.

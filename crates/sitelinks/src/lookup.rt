@@ -33,10 +33,11 @@ pub fn site(alloc: Global, id: &str) -> Result<Option<Site<'_>>, OutOfMemory>
 fn special_site(special: SpecialSite) -> Site<'static>
     ensures { result ≡ special_site special }
 {
+    let (base, group) = special.base_and_group();
     Site {
-        base: CowText::borrowed(special.base()),
+        base: CowText::borrowed(base),
         language: CowText::borrowed("en"),
-        group: CowText::borrowed(special.group()),
+        group: CowText::borrowed(group),
     }
 }
 

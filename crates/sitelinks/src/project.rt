@@ -47,19 +47,13 @@ impl Project {
     }
 
     // What the ids of its sites end with.
-    #[tactic(auto, unfolding(crate::specs::Project::project_suffix))]
+    #[tactic(auto, unfolding(crate::specs::Project::project_group, crate::specs::Project::project_suffix))]
     fn suffix(self) -> &'static str
         ensures { result.now ≡ project_suffix self }
     {
         match self {
-            Project::Wikibooks => "wikibooks",
-            Project::Wikinews => "wikinews",
-            Project::Wikiquote => "wikiquote",
-            Project::Wikisource => "wikisource",
-            Project::Wikiversity => "wikiversity",
-            Project::Wikivoyage => "wikivoyage",
-            Project::Wiktionary => "wiktionary",
             Project::Wikipedia => "wiki",
+            _ => self.group(),
         }
     }
 }

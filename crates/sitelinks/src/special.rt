@@ -34,37 +34,21 @@ impl SpecialSite {
         }
     }
 
-    /// What the IRIs of the site begin with.
-    #[tactic(auto, unfolding(crate::specs::Special::special_base))]
-    pub(crate) fn base(self) -> &'static str
-        ensures { result.now ≡ special_base self }
+    /// What the IRIs of the site begin with, and the group of sites that it belongs to.
+    #[tactic(auto, unfolding(crate::specs::Special::special_base, crate::specs::Special::special_group))]
+    pub(crate) fn base_and_group(self) -> (&'static str, &'static str)
+        ensures base { result.0.now ≡ special_base self }
+        ensures group { result.1.now ≡ special_group self }
     {
         match self {
-            SpecialSite::Commons => "https://commons.wikimedia.org/",
-            SpecialSite::Meta => "https://meta.wikimedia.org/",
-            SpecialSite::Species => "https://species.wikimedia.org/",
-            SpecialSite::Outreach => "https://outreach.wikimedia.org/",
-            SpecialSite::MediaWiki => "https://www.mediawiki.org/",
-            SpecialSite::Wikidata => "https://www.wikidata.org/",
-            SpecialSite::Sources => "https://wikisource.org/",
-            SpecialSite::Simple => "https://simple.wikipedia.org/",
-        }
-    }
-
-    /// The group of sites that it belongs to.
-    #[tactic(auto, unfolding(crate::specs::Special::special_group))]
-    pub(crate) fn group(self) -> &'static str
-        ensures { result.now ≡ special_group self }
-    {
-        match self {
-            SpecialSite::Commons => "commons",
-            SpecialSite::Meta => "meta",
-            SpecialSite::Species => "species",
-            SpecialSite::Outreach => "outreach",
-            SpecialSite::MediaWiki => "mediawiki",
-            SpecialSite::Wikidata => "wikidata",
-            SpecialSite::Sources => "sources",
-            SpecialSite::Simple => "wikipedia",
+            SpecialSite::Commons => ("https://commons.wikimedia.org/", "commons"),
+            SpecialSite::Meta => ("https://meta.wikimedia.org/", "meta"),
+            SpecialSite::Species => ("https://species.wikimedia.org/", "species"),
+            SpecialSite::Outreach => ("https://outreach.wikimedia.org/", "outreach"),
+            SpecialSite::MediaWiki => ("https://www.mediawiki.org/", "mediawiki"),
+            SpecialSite::Wikidata => ("https://www.wikidata.org/", "wikidata"),
+            SpecialSite::Sources => ("https://wikisource.org/", "sources"),
+            SpecialSite::Simple => ("https://simple.wikipedia.org/", "wikipedia"),
         }
     }
 }

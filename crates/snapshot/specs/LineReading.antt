@@ -24,9 +24,13 @@ nat_in d = option_and_then as_u64 (as_number d)
 abbrev pub int_in : Data → Option ℤ
 int_in d = option_and_then as_i64 (as_number d)
 
+-- none for null, and what was read otherwise
+abbrev pub or_null : {A : Type 0} → Option A → Data → Option (Option A)
+or_null read d = if is_some (as_null d) then Some None else option_map Some read
+
 -- none for null, and what f reads otherwise
 abbrev pub if_there : {A : Type 0} → (Data → Option A) → Data → Option (Option A)
-if_there f d = if is_some (as_null d) then Some None else option_map Some (f d)
+if_there f d = or_null (f d) d
 
 -- what f reads at a key
 abbrev pub at_key : {A : Type 0} → (Data → Option A) → List ℕ → Data → Option A

@@ -3,7 +3,7 @@
 ghost use Rattle.std.specs.Prelude.{◌≡◌, IfOk, codes, option_map};
 ghost use Rattle.serde_json.specs.View.{view};
 ghost use Rattle.serde_json.specs.Find.{get};
-ghost use Rattle.snapshot.specs.LineReading.{nat_in, int_in, id_in, if_there, at_key, event_in, page_in, held_in, held_or_null, is_format, head_in, state_in, record_in, revision_in, entry_in, entity_in, side_in, line_in};
+ghost use Rattle.snapshot.specs.LineReading.{nat_in, id_in, if_there, or_null, at_key, event_in, page_in, held_in, held_or_null, is_format, head_in, state_in, record_in, revision_in, entry_in, entity_in, side_in, line_in};
 
 use crate::line::{Head, Line};
 use crate::words::{cause_named, kind_named, mode_named, version_numbered};
@@ -46,8 +46,10 @@ fn head(object: &Value, format: &Value) -> Option<Head>
     if !is_format(format.as_u64()?) {
         return None;
     }
-    let mark = int_or_null(object.get("mark")?)?;
-    let horizon = nat_or_null(object.get("horizon")?)?;
+    let mark = object.get("mark")?;
+    let mark = or_null(mark, mark.as_i64())?;
+    let horizon = object.get("horizon")?;
+    let horizon = or_null(horizon, horizon.as_u64())?;
     let mapping = version_numbered(object.get("mapping")?.as_u64()?)?;
     let asks = object.get("asks")?.as_u64()?;
     let matches = object.get("matches")?.as_u64()?;
@@ -69,36 +71,14 @@ fn is_format(number: u64) -> bool
     matches!(number, 1 | 2)
 }
 
-// A number of 64 bits, or null.
-fn nat_or_null(value: &Value) -> Option<Option<u64>>
-    ensures { result ≡ if_there nat_in (view value.now) }
+// What was read of a value, or nothing where the value is null.
+fn or_null<T: Copy>(value: &Value, read: Option<T>) -> Option<Option<T>>
+    ensures { result ≡ or_null read (view value.now) }
 {
     if value.is_null() {
         Some(None)
     } else {
-        Some(Some(value.as_u64()?))
-    }
-}
-
-// A number of 64 bits with a sign, or null.
-fn int_or_null(value: &Value) -> Option<Option<i64>>
-    ensures { result ≡ if_there int_in (view value.now) }
-{
-    if value.is_null() {
-        Some(None)
-    } else {
-        Some(Some(value.as_i64()?))
-    }
-}
-
-// An event, or null.
-fn event_or_null(value: &Value) -> Option<Option<Event>>
-    ensures { result ≡ if_there event_in (view value.now) }
-{
-    if value.is_null() {
-        Some(None)
-    } else {
-        Some(Some(event(value)?))
+        Some(Some(read?))
     }
 }
 
@@ -188,7 +168,8 @@ fn state(object: &Value, word: &Value) -> Option<State>
 fn reconciled(object: &Value) -> Option<Option<Event>>
     ensures { result ≡ at_key (if_there event_in) (codes "reconciled") (view object.now) }
 {
-    event_or_null(object.get("reconciled")?)
+    let value = object.get("reconciled")?;
+    or_null(value, event(value))
 }
 
 // What is held, by the value of the key `held`.

@@ -3,16 +3,16 @@
 ghost use Rattle.std.specs.Prelude.{◌≡◌, IfOk, codes, string_bytes};
 ghost use Rattle.serde_json.specs.Data.{no_members, member, string, object};
 ghost use Rattle.serde_json.specs.View.{view, members_view};
-ghost use Rattle.replay_model.specs.Transcript.{kind_word, cause_word, unfit_word};
 ghost use Rattle.side_output.specs.declared.entry.Entry.TheVariants.{Revision};
 ghost use Rattle.snapshot.specs.declared.line.Line.TheVariants.{End};
 ghost use Rattle.snapshot.specs.Words.{mode_word, version_number};
 ghost use Rattle.snapshot.specs.LineData.{has_line_feed, if_some, nat_data, int_data, event_data, event_members, held_data, head_data, record_data, entry_data, line_data};
 
 use crate::line::{Head, Line};
-use entity_model::{EntityId, Event, Kind, MappingVersion, Unfit};
+use entity_model::{EntityId, Event, MappingVersion};
 use entity_state::{Held, Mode, Record};
 use rdf_term::{OutOfMemory, Text};
+use replay_model::{cause_word, kind_word};
 use serde_json::{Map, Value};
 use side_output::{Cause, Entry};
 use std::alloc::Global;
@@ -206,46 +206,6 @@ fn event_map(alloc: Global, event: &Event) -> Result<Map<String, Value>, OutOfMe
     serde_json::put(&mut map, alloc, "micros", Value::from(event.time))?;
     serde_json::put(&mut map, alloc, "rev", Value::from(event.rev))?;
     Ok(map)
-}
-
-// The word for a kind of event.
-#[tactic(auto, unfolding(replay_model::specs::Transcript::kind_word))]
-fn kind_word(kind: Kind) -> &'static str
-    ensures { result.now ≡ kind_word kind }
-{
-    match kind {
-        Kind::Edit => "edit",
-        Kind::Delete => "delete",
-        Kind::Undelete => "undelete",
-        Kind::ReconcileDeleted => "reconcile-deleted",
-        Kind::ReconcileKept => "reconcile-kept",
-    }
-}
-
-// The word for why a revision isn't held.
-#[tactic(auto, unfolding(replay_model::specs::Transcript::cause_word))]
-fn cause_word(cause: Cause) -> &'static str
-    ensures { result.now ≡ cause_word cause }
-{
-    match cause {
-        Cause::Missing => "missing",
-        Cause::Failed => "failed",
-        Cause::Unfit(unfit) => unfit_word(unfit),
-    }
-}
-
-// The word for why bytes are no document.
-#[tactic(auto, unfolding(replay_model::specs::Transcript::unfit_word))]
-fn unfit_word(unfit: Unfit) -> &'static str
-    ensures { result.now ≡ unfit_word unfit }
-{
-    match unfit {
-        Unfit::Large => "unfit-large",
-        Unfit::Deep => "unfit-deep",
-        Unfit::NotJson => "unfit-notjson",
-        Unfit::Shape => "unfit-shape",
-        Unfit::Foreign => "unfit-foreign",
-    }
 }
 
 // The word for whether a page is there.

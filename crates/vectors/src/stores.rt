@@ -44,17 +44,11 @@ pub(crate) fn triple_of(alloc: Global, words: &str) -> Option<Triple>
 {
     let (subject, rest) = words.split_once(' ')?;
     let (predicate, object) = rest.split_once(' ')?;
-    let subject = term_of(alloc, subject);
-    let predicate = term_of(alloc, predicate);
-    let object = term_of(alloc, object);
-    match (subject, predicate, object) {
-        (Some(subject), Some(predicate), Some(object)) => Some(Triple {
-            subject,
-            predicate,
-            object,
-        }),
-        _ => None,
-    }
+    Some(Triple {
+        subject: term_of(alloc, subject)?,
+        predicate: term_of(alloc, predicate)?,
+        object: term_of(alloc, object)?,
+    })
 }
 
 // The set of one triple; None where memory is refused.

@@ -3,11 +3,10 @@
 ghost use Rattle.std.specs.Prelude.{◌≡◌, ◌+◌, ◌<◌, ◌≤◌, ◌^◌, ◌↔◌, true, false, [], ◌∷◌, ◌++◌, length, take, drop, IsTrue, IfOk, IfErr, IfSome, OnOk, IsErr, is_err, MatchOption, MatchBool, vec_len, position, ◌==◌, ◌≢◌, IsNone, ◌⊎◌};
 ghost use Rattle.wq_io.specs.Streams.{before_known, IsAtEnd, Rose};
 ghost use Rattle.wq_io.specs.Lines.{fresh, taken, room, unread, input_length, GivesLine, GoesOn, HasCause, IsOneLine, IsPartOfLine, IsSound, Leaves, ReadsAsNeeded, TakesBytes, line_feed, longest_line};
-ghost use Rattle.wq_io.specs.Taking.{EndsAt, HasByte, IsEnded, IsLeftHeld, IsUnreadable, ReadsByNeed, Refills, TakesHeld};
+ghost use Rattle.wq_io.specs.Taking.{EndsAt, HasByte, IsEnded, IsLeftHeld, IsUnreadable, ReadsByNeed, TakesHeld};
 ghost use Rattle.wq_io.specs.declared.lines.LineFault.TheVariants.{ReadFault as NotRead, LineLong as OverLong, OutOfMemory as Refused};
 
 use crate::source::Source;
-use base::OutOfMemory;
 use std::marker::Model;
 use thiserror::Error;
 
@@ -32,14 +31,6 @@ pub enum LineFault {
     /// A request for memory was refused.
     #[error("out of memory")]
     OutOfMemory,
-}
-
-impl From<OutOfMemory> for LineFault {
-    ghost from_gives = { λ _ e. e ≡ Refused };
-
-    fn from(_refused: OutOfMemory) -> LineFault {
-        LineFault::OutOfMemory
-    }
 }
 
 /// Splits a source at its line feeds, and reads no further than it has to. It reads only if the bytes that it holds decide neither a line
@@ -186,7 +177,7 @@ impl Lines {
         self.consumed == self.max_bytes
     }
 
-    // Reads where nothing is held, and says whether a byte is held then.
+    // Reads once where nothing is held and the source isn't at its end, and says whether a byte is held then.
     fn has_byte<S: Source>(&mut self, source: &mut S) -> Result<bool, LineFault>
         requires ended { self.old.ended ≡ true → IsAtEnd (S.left source.old) }
         ensures reads { IfOk result (λ more. MatchBool more
@@ -200,48 +191,12 @@ impl Lines {
         ensures sound { IsSound self.new }
         ensures most { S.most_faults source.new ≡ S.most_faults source.old }
     {
-        if self.is_empty() {
-            return self.has_more(source);
+        if !self.is_empty() {
+            return Ok(true);
         }
-        Ok(true)
-    }
-
-    // Reads where the source isn't at its end, and says whether a byte is held then.
-    fn has_more<S: Source>(&mut self, source: &mut S) -> Result<bool, LineFault>
-        requires empty { self.old.held ≡ [] }
-        requires ended { self.old.ended ≡ true → IsAtEnd (S.left source.old) }
-        ensures reads { IfOk result (λ more. MatchBool more
-            (HasByte self.old self.new (S.left source.old) (S.left source.new))
-            (IsEnded self.old self.new (S.left source.old) (S.left source.new))) }
-        ensures later { S.faults source.old ≤ S.faults source.new }
-        ensures cause { IfErr result (λ fault. (fault ≡ NotRead) × Rose (S.faults source.old) (S.faults source.new)) }
-        ensures leaves { IsErr result → IsUnreadable self.old (S.left source.old) (S.left source.new) }
-        ensures by_need { ReadsByNeed self.old self.new (S.left source.old) (S.left source.new) (S.last source.old) (S.last source.new) }
-        ensures others { self.new ≡ record self.old { held = self.new.held; ended = self.new.ended } }
-        ensures sound { IsSound self.new }
-        ensures most { S.most_faults source.new ≡ S.most_faults source.old }
-    {
         if self.ended {
             return Ok(false);
         }
-        self.refill(source)
-    }
-
-    // Reads once.
-    fn refill<S: Source>(&mut self, source: &mut S) -> Result<bool, LineFault>
-        requires empty { self.old.held ≡ [] }
-        requires going { self.old.ended ≡ false }
-        ensures reads { IfOk result (λ more. MatchBool more
-            (HasByte self.old self.new (S.left source.old) (S.left source.new))
-            (IsEnded self.old self.new (S.left source.old) (S.left source.new))) }
-        ensures later { S.faults source.old ≤ S.faults source.new }
-        ensures cause { IfErr result (λ fault. (fault ≡ NotRead) × Rose (S.faults source.old) (S.faults source.new)) }
-        ensures leaves { IsErr result → IsUnreadable self.old (S.left source.old) (S.left source.new) }
-        ensures by_need { Refills self.old self.new (S.left source.old) (S.left source.new) (S.last source.old) (S.last source.new) }
-        ensures others { self.new ≡ record self.old { held = self.new.held; ended = self.new.ended } }
-        ensures sound { IsSound self.new }
-        ensures most { S.most_faults source.new ≡ S.most_faults source.old }
-    {
         let allowed = self.max_bytes + 1 - self.consumed;
         let count = allowed.min(BUFFER as u64) as usize;
         let Ok(read) = source.read(&mut self.buffer[..count]) else {
@@ -357,6 +312,8 @@ fn append(line: &mut Vec<u8>, bytes: &[u8], number: u64, max_line: u64) -> Resul
     if bytes.len() as u64 > max_line - line.len() as u64 {
         return Err(LineFault::LineLong(number));
     }
-    line.extend_from_slice(bytes).map_err(OutOfMemory::from)?;
-    Ok(())
+    match line.extend_from_slice(bytes) {
+        Ok(()) => Ok(()),
+        Err(_) => Err(LineFault::OutOfMemory),
+    }
 }

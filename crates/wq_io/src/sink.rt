@@ -2,9 +2,8 @@
 
 ghost use Rattle.std.specs.Prelude.{◌≡◌, ℕ, ◌<◌, ◌≤◌, List, Option, length, IfOk, IfErr, IfSome};
 ghost use Rattle.wq_io.specs.Streams.{WritePuts, Rose};
-ghost use Rattle.wq_io.specs.declared.sink.NoWrite.TheVariants.{Failed as CallFailed, OutOfMemory as Refused};
+ghost use Rattle.wq_io.specs.declared.sink.NoWrite.TheVariants.{Failed as CallFailed};
 
-use base::OutOfMemory;
 use thiserror::Error;
 
 /// Why a write took nothing.
@@ -16,14 +15,6 @@ pub enum NoWrite {
     /// A request for memory was refused.
     #[error("out of memory")]
     OutOfMemory,
-}
-
-impl From<OutOfMemory> for NoWrite {
-    ghost from_gives = { λ _ e. e ≡ Refused };
-
-    fn from(_refused: OutOfMemory) -> NoWrite {
-        NoWrite::OutOfMemory
-    }
 }
 
 /// What bytes are written to.

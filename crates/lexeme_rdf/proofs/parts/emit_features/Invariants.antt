@@ -4,7 +4,7 @@ use Rattle.std.specs.List.{flat_map}
 use Rattle.triple_sink.specs.Gains.{Gains, KeepsFront}
 use Rattle.triple_sink.specs.TermRef.{meant}
 use Rattle.lexeme_rdf.specs.Form.{feature_triples}
-use Rattle.lexeme_rdf.proofs.form.emit_features.Given as goal
+use Rattle.lexeme_rdf.proofs.parts.emit_features.Given as goal
 
 abbrev pub invariant-loop-feature : goal.invariant-loop-feature
 invariant-loop-feature g l =
