@@ -3,7 +3,7 @@ use Rattle.std.proofs.Common.{flat_map}
 use Rattle.std.proofs.lemmas.Result.{err_from_is_err_and}
 use Rattle.rdf_term.specs.Text.{triple_text}
 use Rattle.text_output.proofs.Parts.{prints_both, prints_first}
-use Rattle.transcript.proofs.triples.print_section.Goals as goal
+use Rattle.triple_output.proofs.triples.print_section.Goals as goal
 
 pub returns-in_err-write_all : goal.returns-in_err-write_all
 returns-in_err-write_all g c =

@@ -1,9 +1,11 @@
 // A section of triples: its head, and the line of each triple.
 
-ghost use Rattle.std.specs.Prelude.{◌≡◌, ◌++◌, ◌<◌, flat_map, length};
+ghost use Rattle.std.specs.Prelude.{◌≡◌, ◌++◌, ◌<◌, IfOk, flat_map, length, string_bytes};
 ghost use Rattle.rdf_term.specs.Text.{triple_text};
+ghost use Rattle.replay_model.specs.Transcript.{export_head, export_section};
 ghost use Rattle.text_output.specs.Printing.{Prints, output};
 
+use rdf_term::OutOfMemory;
 use std::alloc::Global;
 use text_output::{Unwritten, write_all};
 use triple_store::Rows;
@@ -36,4 +38,23 @@ fn print_rows<K: Sink>(alloc: Global, rows: &Rows<'_>, out: &mut K) -> Result<()
         write_all(line.as_slice(), out)?;
     }
     Ok(())
+}
+
+/// Prints the section of an export: how many triples there are, and the line of each.
+///
+/// # Errors
+/// The output could not be written, or memory was refused: then a prefix of the section was written, and nothing else.
+pub fn print_triples<K: Sink>(alloc: Global, rows: &Rows<'_>, out: &mut K) -> Result<(), Unwritten>
+    ensures { Prints (export_section rows.now) (output K.Sink out.old) (output K.Sink out.new) result }
+{
+    let head = export_line(alloc, rows.len())?;
+    print_section(alloc, head.as_str(), rows, out)
+}
+
+// The first line of an export.
+#[tactic(auto, unfolding(replay_model::specs::Transcript::export_head))]
+fn export_line(alloc: Global, count: usize) -> Result<String, OutOfMemory>
+    ensures { IfOk result (λ line. string_bytes line ≡ export_head count) }
+{
+    Ok(format!(in alloc; "# export: {count} triples\n")?)
 }

@@ -4,7 +4,7 @@ use Rattle.std.proofs.lemmas.Result.{err_from_is_err_and}
 use Rattle.rdf_term.specs.Text.{triple_text}
 use Rattle.triple_store.proofs.Lines.{next_line}
 use Rattle.text_output.proofs.Parts.{text_cut_short, text_not_begun, text_printed}
-use Rattle.transcript.proofs.triples.print_rows.Goals as goal
+use Rattle.triple_output.proofs.triples.print_rows.Goals as goal
 
 pub returns-in_err-write : goal.returns-in_err-write
 returns-in_err-write g c =

@@ -2,7 +2,7 @@
 use Rattle.std.proofs.lemmas.Result.{err_from_is_err_and}
 use Rattle.text_output.specs.Printing.{output}
 use Rattle.text_output.proofs.Parts.{cut_short_at_once}
-use Rattle.transcript.proofs.sections.print_triples.Goals as goal
+use Rattle.triple_output.proofs.triples.print_triples.Goals as goal
 
 pub returns-in_err-head : goal.returns-in_err-head
 returns-in_err-head g c =
